@@ -1,0 +1,34 @@
+-- Calls with their bytes.
+use Rattle.std.specs.Prelude.{◌≡◌, ℕ, ◌<◌, List, length}
+use Rattle.scc_base.specs.Heads.{MessageHead, IsHead, IsPostHead}
+use Rattle.scc_base.specs.declared.calls.Call.{Call}
+use Rattle.scc_base.specs.declared.calls.Call.TheVariants as call
+
+-- a call of a rank with the bytes that it moves (RCCE specification 2.0; a post is this project's own)
+pub data DataCall : Type 0 where
+  Send : (to : ℕ) → (head : MessageHead) → (bytes : List ℕ) → DataCall
+  Recv : (from : ℕ) → (head : MessageHead) → (bytes : List ℕ) → DataCall
+  Post : (to : ℕ) → (head : MessageHead) → (bytes : List ℕ) → DataCall
+  Bar : (comm : ℕ) → DataCall
+
+-- the call without its bytes
+abbrev pub call_of : DataCall → Call
+call_of (Send to head bytes) = call.Send to head
+call_of (Recv from head bytes) = call.Recv from head
+call_of (Post to head bytes) = call.Post to head
+call_of (Bar comm) = call.Bar comm
+
+-- the bytes have the head's length
+abbrev pub HasItsBytes : DataCall → Type 0
+HasItsBytes (Send to head bytes) = length bytes ≡ head.len
+HasItsBytes (Recv from head bytes) = length bytes ≡ head.len
+HasItsBytes (Post to head bytes) = length bytes ≡ head.len
+HasItsBytes (Bar comm) = Unit {0}
+
+-- a call that a program can make: between ranks of the chip, with a head of its kind, in one of sixteen
+-- communicators
+abbrev pub IsCall : DataCall → Type 0
+IsCall (Send to head bytes) = (to < 48) × IsHead head
+IsCall (Recv from head bytes) = (from < 48) × IsHead head
+IsCall (Post to head bytes) = (to < 48) × IsPostHead head
+IsCall (Bar comm) = comm < 16

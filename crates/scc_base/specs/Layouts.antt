@@ -1,0 +1,61 @@
+-- The tables of the two layouts of the message passing buffer (this project's profile).
+use Rattle.std.specs.Prelude.{ℕ, ◌+◌, ◌*◌, ◌/◌, ◌%◌}
+use Rattle.scc_base.specs.Places.{FlagPlace}
+use Rattle.scc_base.specs.declared.layouts.Layout.{Layout}
+use Rattle.scc_base.specs.declared.layouts.Layout.TheVariants.{LineFlags, BitFlags}
+
+-- the flag that fills a line
+abbrev pub line_flag : ℕ → FlagPlace
+line_flag line = record { line = line; word = 0; bit = 0 }
+
+-- a flag that is a bit of a word of line 1
+abbrev pub bit_flag : ℕ → ℕ → FlagPlace
+bit_flag word bit = record { line = 1; word = word; bit = bit }
+
+-- a barrier's flag: communicators 0 to 7 have word 0 of eight lines, communicators 8 to 15 word 1 of the same
+abbrev pub barrier_flag : ℕ → ℕ → FlagPlace
+barrier_flag first comm = record { line = first + comm % 8; word = comm / 8; bit = 0 }
+
+-- the flag that tells a receiver's core of a chunk, by the sender's rank
+abbrev pub sent_at : Layout → ℕ → FlagPlace
+sent_at LineFlags from = line_flag (1 + from)
+sent_at BitFlags from = bit_flag 0 from
+
+-- the flag that tells a sender's core that a chunk is taken, by the receiver's rank
+abbrev pub ready_at : Layout → ℕ → FlagPlace
+ready_at LineFlags by = line_flag (49 + by)
+ready_at BitFlags by = bit_flag 1 by
+
+-- the first line of the gather flags, and of the release flags
+abbrev pub first_gather : Layout → ℕ
+first_gather LineFlags = 97
+first_gather BitFlags = 2
+
+abbrev pub first_release : Layout → ℕ
+first_release LineFlags = 105
+first_release BitFlags = 10
+
+-- the flag by which a member has entered a barrier of a communicator, at the member's core
+abbrev pub gather_at : Layout → ℕ → FlagPlace
+gather_at layout comm = barrier_flag (first_gather layout) comm
+
+-- the flag by which a member is let go on from a barrier of a communicator, at the member's core
+abbrev pub release_at : Layout → ℕ → FlagPlace
+release_at layout comm = barrier_flag (first_release layout) comm
+
+-- the chunk buffer goes from this line up to the heap
+abbrev pub first_chunk : Layout → ℕ
+first_chunk LineFlags = 113
+first_chunk BitFlags = 18
+
+-- the first line of the heap, which goes up to the last line
+abbrev pub first_heap : ℕ
+first_heap = 225
+
+-- the lines and the bytes of the chunk buffer
+abbrev pub chunk_lines : Layout → ℕ
+chunk_lines LineFlags = 112
+chunk_lines BitFlags = 207
+
+abbrev pub chunk_size : Layout → ℕ
+chunk_size layout = 32 * chunk_lines layout

@@ -1,0 +1,11 @@
+pub mod Calls
+pub mod Changes
+pub mod Communicators
+pub mod Events
+pub mod Groups
+pub mod Heads
+pub mod Layouts
+pub mod Places
+pub mod Runs
+pub mod Setups
+pub mod Tables

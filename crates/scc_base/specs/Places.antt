@@ -1,0 +1,65 @@
+-- Words, lines and runs of lines of the message passing buffer, as numbers (SCC External Architecture
+-- Specification: 48 cores, 256 lines of 32 bytes a core; the four words of a line are this project's profile).
+use Rattle.std.specs.Prelude.{Bool, ◌==◌, ◌&&◌, ℕ, ◌+◌, ◌<◌, ◌≤◌}
+
+-- a word of the buffer
+pub record WordAt : Type 0 where
+  pub core : ℕ
+  pub line : ℕ
+  pub word : ℕ
+
+-- a line of the buffer
+pub record LineAt : Type 0 where
+  pub core : ℕ
+  pub line : ℕ
+
+-- a run of lines, the same on each core
+pub record LineRun : Type 0 where
+  pub first : ℕ
+  pub lines : ℕ
+
+-- a flag at any core: a bit of a word of a line
+pub record FlagPlace : Type 0 where
+  pub line : ℕ
+  pub word : ℕ
+  pub bit : ℕ
+
+pub record IsPlace (place : WordAt) : Type 0 where
+  pub core_below : place.core < 48
+  pub line_below : place.line < 256
+  pub word_below : place.word < 4
+
+pub record IsLine (line : LineAt) : Type 0 where
+  pub core_below : line.core < 48
+  pub line_below : line.line < 256
+
+-- a buffer that a program may own: at least one line, all of them heap lines
+pub record IsBuf (run : LineRun) : Type 0 where
+  pub some_lines : 1 ≤ run.lines
+  pub from_heap : 225 ≤ run.first
+  pub to_heap : run.first + run.lines ≤ 256
+
+pub record IsFlagPlace (flag : FlagPlace) : Type 0 where
+  pub line_below : flag.line < 256
+  pub word_below : flag.word < 4
+  pub bit_below : flag.bit < 48
+
+-- a word of a line
+abbrev pub word_of_line : LineAt → ℕ → WordAt
+word_of_line line word = record { core = line.core; line = line.line; word = word }
+
+-- the line of a word
+abbrev pub line_of_word : WordAt → LineAt
+line_of_word place = record { core = place.core; line = place.line }
+
+-- the word of a core's buffer that holds a flag
+abbrev pub flag_word : ℕ → FlagPlace → WordAt
+flag_word core flag = record { core = core; line = flag.line; word = flag.word }
+
+-- the place that stands for a core's test-and-set register
+abbrev pub register_place : ℕ → WordAt
+register_place core = record { core = core; line = 0; word = 0 }
+
+-- whether two lines are one
+abbrev pub same_line : LineAt → LineAt → Bool
+same_line a b = a.core == b.core && a.line == b.line
