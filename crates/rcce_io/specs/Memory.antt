@@ -1,0 +1,103 @@
+-- The whole state of the files and of the sink in memory, and what each call answers and leaves. This project's profile.
+use Rattle.std.specs.Prelude.{ℕ, ◌-◌, ◌==◌, ◌||◌, min, Bool, false, if◌then◌else◌, List, [], ◌∷◌, ◌++◌, length, take, drop, Option, Some, None, is_some, unwrap_or, option_map}
+use Rattle.rcce_io.specs.declared.files.Opened.{Opened}
+use Rattle.rcce_io.specs.declared.files.Opened.TheVariants as opened
+use Rattle.rcce_io.specs.declared.files.Got.{Got}
+use Rattle.rcce_io.specs.declared.files.Got.TheVariants as got
+use Rattle.rcce_io.specs.declared.sink.Put.{Put}
+use Rattle.rcce_io.specs.declared.sink.Put.TheVariants as put
+use Rattle.rcce_io.specs.Faults.{next_count}
+use Rattle.rcce_io.specs.Files.{NamedFile, contents_of}
+
+-- how many calls were made, the number of the one that fails, counted from 1, and how many failed
+pub record Calls : Type 0 where
+  pub made : ℕ
+  pub failing : Option ℕ
+  pub faults : ℕ
+
+abbrev pub no_calls : Calls
+no_calls = record { made = 0; failing = None; faults = 0 }
+
+-- whether this is the number of the failing call
+abbrev pub is_failing : Option ℕ → ℕ → Bool
+is_failing None _ = false
+is_failing (Some call) number = call == number
+
+-- whether the next call fails
+abbrev pub fails_next : Calls → Bool
+fails_next calls = is_failing calls.failing (next_count calls.made)
+
+-- the calls after one more, which failed or did not
+abbrev pub after_call : Bool → Calls → Calls
+after_call failed calls = record calls {
+  made = next_count calls.made;
+  faults = if failed then next_count calls.faults else calls.faults;
+}
+
+-- files in memory: in the order of their adding, with the rest of the open one
+pub record FilesState : Type 0 where
+  pub files : List NamedFile
+  pub rest : Option (List ℕ)
+  pub calls : Calls
+
+abbrev pub no_files : FilesState
+no_files = record { files = []; rest = None; calls = no_calls }
+
+-- the same with one more file
+abbrev pub with_file : List ℕ → List ℕ → FilesState → FilesState
+with_file name contents state = record state { files = state.files ++ record { name = name; contents = contents } ∷ [] }
+
+abbrev pub open_answer : FilesState → List ℕ → Opened
+open_answer state name =
+    if fails_next state.calls then opened.Failed else
+    if is_some (contents_of name state.files) then opened.Open else opened.Absent
+
+-- an open closes what was open, also where it fails
+abbrev pub after_open : FilesState → List ℕ → FilesState
+after_open state name = record state {
+  rest = if fails_next state.calls then None else contents_of name state.files;
+  calls = after_call (fails_next state.calls) state.calls;
+}
+
+-- what a read into a buffer of this length answers
+abbrev pub read_answer : FilesState → ℕ → Got
+read_answer state most =
+    let left = length (unwrap_or state.rest []) in
+    if fails_next state.calls then got.Failed else
+    if left == 0 then got.End else got.Bytes (min most left)
+
+abbrev pub after_read : FilesState → ℕ → FilesState
+after_read state most = record state {
+  rest = if fails_next state.calls then state.rest else option_map (drop most) state.rest;
+  calls = after_call (fails_next state.calls) state.calls;
+}
+
+-- a sink in memory: the bytes taken, how many more it takes, how many at one write
+pub record SinkState : Type 0 where
+  pub taken : List ℕ
+  pub room : ℕ
+  pub most : ℕ
+  pub calls : Calls
+
+abbrev pub new_sink : ℕ → ℕ → SinkState
+new_sink room most = record { taken = []; room = room; most = most; calls = no_calls }
+
+-- a write fails where its number is the failing one or no room is left
+abbrev pub write_fails : SinkState → Bool
+write_fails state = fails_next state.calls || state.room == 0
+
+-- how many of so many bytes a write takes that does not fail
+abbrev pub write_count : SinkState → ℕ → ℕ
+write_count state len = min (min len state.most) state.room
+
+abbrev pub write_answer : SinkState → ℕ → Put
+write_answer state len = if write_fails state then put.Failed else put.Took (write_count state len)
+
+abbrev pub after_write : SinkState → List ℕ → SinkState
+after_write state bytes =
+    let count = if write_fails state then 0 else write_count state (length bytes) in
+    record state {
+      taken = state.taken ++ take count bytes;
+      room = state.room - count;
+      calls = after_call (write_fails state) state.calls;
+    }

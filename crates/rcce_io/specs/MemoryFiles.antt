@@ -1,0 +1,25 @@
+-- How the files in memory are kept.
+use Rattle.std.specs.Prelude.{ℕ, ◌<◌, ◌≤◌, List, [], length, drop, map, slice_index_or, option_map, string_bytes}
+use Rattle.rcce_io.specs.declared.memory_files.MemFile.{MemFile}
+use Rattle.rcce_io.specs.declared.memory_files.Place.{Place}
+use Rattle.rcce_io.specs.declared.memory_files.MemFiles.TheInside.{Inside}
+use Rattle.rcce_io.specs.Files.{NamedFile}
+use Rattle.rcce_io.specs.Memory.{FilesState}
+
+abbrev pub named : MemFile → NamedFile
+named file = record { name = string_bytes file.name; contents = file.contents.items }
+
+abbrev pub contents_at : List MemFile → ℕ → List ℕ
+contents_at files k = slice_index_or (map (λ file. file.contents.items) files) k []
+
+abbrev pub state_of : Inside → FilesState
+state_of inside = record {
+  files = map named inside.files.items;
+  rest = option_map (λ place. drop place.at (contents_at inside.files.items place.file)) inside.place;
+  calls = inside.calls;
+}
+
+-- the open file is one of the files, and the place in it is not past its end
+pub record IsWithin (files : List MemFile) (place : Place) : Type 0 where
+  pub file : place.file < length files
+  pub at : place.at ≤ length (contents_at files place.file)

@@ -1,0 +1,25 @@
+//! The outside of a program: files that are read and sinks that take bytes, over the real system and
+//! in memory. Each counts its faults.
+#![tactic(auto)]
+
+mod bytes;
+mod calls;
+mod files;
+mod host;
+mod memory_files;
+mod memory_sink;
+mod reading;
+mod sink;
+mod writing;
+
+pub use bytes::Bytes;
+pub use files::{Files, Got, Opened};
+pub use host::{HostFiles, StdSink};
+pub use memory_files::MemFiles;
+pub use memory_sink::MemSink;
+pub use reading::{ReadEnd, read_all};
+pub use sink::{Put, Sink};
+pub use writing::{WriteFault, write_all};
+
+#[cfg(test)]
+mod tests;

@@ -1,0 +1,89 @@
+ghost use Rattle.std.specs.Prelude.{◌≡◌, ◌<◌, ◌≤◌, Some, length, IfOk};
+ghost use Rattle.rcce_io.specs.Sending.{Writes};
+ghost use Rattle.rcce_io.specs.Memory.{new_sink, write_answer, after_write};
+
+use crate::calls::CallCounter;
+use crate::{Put, Sink};
+use std::alloc::{AllocError, Global};
+use std::marker::Model;
+
+/// A sink in memory, with room for so many bytes in all and so many at one write. One write can be made
+/// to fail.
+#[derive(Drop)]
+pub struct MemSink {
+    bytes: Vec<u8>,
+    room: usize,
+    most: usize,
+    calls: CallCounter,
+}
+
+impl Model for MemSink {
+    ghost use Rattle.std.specs.Prelude.{◌+◌, ◌<◌, ◌≤◌, vec_len, vec_capacity};
+    ghost use Rattle.rcce_io.specs.Memory.{SinkState};
+
+    ghost Value = { SinkState };
+
+    ghost view = { λ s. record { taken = s.bytes.items; room = s.room; most = s.most; calls = s.calls } };
+
+    ghost invariant = { λ s. (vec_len s.bytes + s.room ≤ vec_capacity s.bytes) × (0 < s.most) };
+}
+
+impl MemSink {
+    /// Takes the memory for its whole room.
+    pub fn new(alloc: Global, room: usize, most: usize) -> Result<Self, AllocError>
+        requires { 0 < most }
+        ensures { IfOk result (λ sink. sink ≡ new_sink room most) }
+    {
+        Ok(MemSink {
+            bytes: Vec::with_capacity(alloc, room)?,
+            room,
+            most,
+            calls: CallCounter::new(),
+        })
+    }
+
+    /// Makes the write of this number fail, counted from 1. The last number set counts.
+    pub fn fail_at(&mut self, call: u64)
+        ensures { self.new ≡ record self.old { calls = record self.old.calls { failing = Some call } } }
+    {
+        self.calls.fail_at(call);
+    }
+
+    pub fn bytes(&self) -> &[u8]
+        ensures { result.now ≡ self.now.taken }
+    {
+        self.bytes.as_slice()
+    }
+}
+
+impl Sink for MemSink {
+    ghost use Rattle.std.specs.Prelude.{Some};
+
+    ghost taken = { λ s. Some s.taken };
+
+    ghost faults = { λ s. s.calls.faults };
+
+    fn write(&mut self, bytes: &[u8]) -> Put
+        requires { 0 < length bytes.now }
+        ensures later { self.old.calls.faults ≤ self.new.calls.faults }
+        ensures writes { Writes (Some self.old.taken) (Some self.new.taken) bytes.now self.old.calls.faults self.new.calls.faults result }
+
+        // Exactly the write of the number set fails, and each where no room is left.
+        ensures answers { result ≡ write_answer self.old (length bytes.now) }
+        ensures state { self.new ≡ after_write self.old bytes.now }
+    {
+        let failed = self.calls.fails_next() || self.room == 0;
+        self.calls.count(failed);
+        if failed {
+            return Put::Failed;
+        }
+        let len = bytes.len().min(self.most).min(self.room);
+        match self.bytes.extend_from_slice(&bytes[..len]) {
+            Ok(()) => {
+                self.room -= len;
+                Put::Took(len)
+            }
+            Err(_) => unreachable!(),
+        }
+    }
+}

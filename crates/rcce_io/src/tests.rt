@@ -1,0 +1,166 @@
+use crate::{
+    Files, Got, HostFiles, MemFiles, MemSink, Opened, Put, ReadEnd, Sink, StdSink, WriteFault,
+    read_all, write_all,
+};
+use std::test::Fail;
+
+#[test]
+fn a_text_is_taken_piece_by_piece(rt: HostRuntime) -> Result<(), Fail> {
+    let mut sink = MemSink::new(rt.alloc(), 16, 3)?;
+    assert_eq!(rt; write_all(&mut sink, b"ue 1 y 0102"), Ok(()));
+    assert_eq!(rt; write_all(&mut sink, b"0304\n"), Ok(()));
+    assert_eq!(rt; sink.bytes(), b"ue 1 y 01020304\n".as_slice());
+    Ok(())
+}
+
+#[test]
+fn a_sink_of_one_byte_that_fails_at_its_second_write(rt: HostRuntime) -> Result<(), Fail> {
+    let mut sink = MemSink::new(rt.alloc(), 16, 1)?;
+    sink.fail_at(2);
+    assert_eq!(rt; write_all(&mut sink, b"ue 1"), Err(WriteFault));
+    assert_eq!(rt; sink.bytes(), b"u".as_slice());
+    Ok(())
+}
+
+#[test]
+fn a_sink_fails_where_no_room_is_left(rt: HostRuntime) -> Result<(), Fail> {
+    let mut sink = MemSink::new(rt.alloc(), 3, 8)?;
+    assert_eq!(rt; write_all(&mut sink, b"ue 1"), Err(WriteFault));
+    assert_eq!(rt; sink.bytes(), b"ue ".as_slice());
+    assert_eq!(rt; sink.write(b"1"), Put::Failed);
+    Ok(())
+}
+
+#[test]
+fn the_last_number_set_counts(rt: HostRuntime) -> Result<(), Fail> {
+    let mut sink = MemSink::new(rt.alloc(), 16, 8)?;
+    sink.fail_at(1);
+    sink.fail_at(2);
+    assert_eq!(rt; sink.write(b"a"), Put::Took(1));
+    assert_eq!(rt; sink.write(b"b"), Put::Failed);
+    assert_eq!(rt; sink.write(b"c"), Put::Took(1));
+    Ok(())
+}
+
+#[test]
+fn more_room_than_memory_is_refused(rt: HostRuntime) {
+    assert!(rt; MemSink::new(rt.alloc(), usize::MAX, 1).is_err());
+}
+
+#[test]
+fn a_file_is_read_up_to_one_byte_past_the_limit(rt: HostRuntime) -> Result<(), Fail> {
+    let alloc = rt.alloc();
+    let long = [7; 10_000];
+    let mut files = MemFiles::new(alloc);
+    files.add("long", &long)?;
+    let table = [
+        (10_001, 10_000),
+        (10_000, 10_000),
+        (9_999, 10_000),
+        (9_998, 9_999),
+        (4_096, 4_097),
+        (0, 1),
+    ];
+    for (limit, read) in table {
+        let bytes = read_all(alloc, &mut files, "long", limit)?;
+        assert_eq!(rt; bytes.as_slice().len(), read);
+    }
+    Ok(())
+}
+
+#[test]
+fn each_name_has_its_own_contents(rt: HostRuntime) -> Result<(), Fail> {
+    let alloc = rt.alloc();
+    let mut files = MemFiles::new(alloc);
+    files.add("a", b"one")?;
+    files.add("b", b"")?;
+    assert_eq!(rt;
+        read_all(alloc, &mut files, "a", 9)?.as_slice(),
+        b"one".as_slice()
+    );
+    assert_eq!(rt;
+        read_all(alloc, &mut files, "b", 9)?.as_slice(),
+        b"".as_slice()
+    );
+    assert!(rt; files.has_file("b"));
+    assert!(rt; !files.has_file("c"));
+    Ok(())
+}
+
+#[test]
+fn a_name_that_was_not_added_is_absent(rt: HostRuntime) -> Result<(), Fail> {
+    let alloc = rt.alloc();
+    let mut files = MemFiles::new(alloc);
+    files.add("a", b"one")?;
+    assert_eq!(rt;
+        read_all(alloc, &mut files, "none", 9).err(),
+        Some(ReadEnd::Absent)
+    );
+    Ok(())
+}
+
+#[test]
+fn a_fault_at_each_call_of_a_reading(rt: HostRuntime) -> Result<(), Fail> {
+    let alloc = rt.alloc();
+    for call in 1..4u64 {
+        let mut files = MemFiles::new(alloc);
+        files.add("a", b"one")?;
+        files.fail_at(call);
+        assert_eq!(rt;
+            read_all(alloc, &mut files, "a", 9).err(),
+            Some(ReadEnd::Failed)
+        );
+        assert_eq!(rt;
+            read_all(alloc, &mut files, "a", 9)?.as_slice(),
+            b"one".as_slice()
+        );
+    }
+    Ok(())
+}
+
+#[test]
+fn a_fault_leaves_the_rest_of_the_file(rt: HostRuntime) -> Result<(), Fail> {
+    let mut files = MemFiles::new(rt.alloc());
+    files.add("a", b"one")?;
+    files.fail_at(3);
+    assert_eq!(rt; files.open("a"), Opened::Open);
+    let mut buf = [0; 2];
+    assert_eq!(rt; files.read(&mut buf), Got::Bytes(2));
+    assert_eq!(rt; buf, *b"on");
+    assert_eq!(rt; files.read(&mut buf), Got::Failed);
+    assert_eq!(rt; files.read(&mut buf), Got::Bytes(1));
+    assert_eq!(rt; buf, *b"en");
+    assert_eq!(rt; files.read(&mut buf), Got::End);
+    Ok(())
+}
+
+#[test]
+fn absent_is_what_the_system_does_not_find(rt: HostRuntime) -> Result<(), Fail> {
+    let alloc = rt.alloc();
+    let name_too_long = "n".repeat(alloc, 300)?;
+    let table = [
+        ("no such file", ReadEnd::Absent),
+        (".", ReadEnd::Failed),
+        ("/dev/null/below", ReadEnd::Failed),
+        (name_too_long.as_str(), ReadEnd::Failed),
+    ];
+    let mut files = HostFiles::new(rt);
+    for (name, end) in table {
+        assert_eq!(rt; read_all(alloc, &mut files, name, 9).err(), Some(end));
+    }
+    assert_eq!(rt;
+        read_all(alloc, &mut files, "/dev/null", 9)?.as_slice(),
+        b"".as_slice()
+    );
+    assert_eq!(rt;
+        read_all(alloc, &mut files, "/dev/zero", 9)?.as_slice(),
+        [0; 10].as_slice()
+    );
+    Ok(())
+}
+
+#[test]
+fn the_standard_streams_take_a_text(rt: HostRuntime) {
+    assert_eq!(rt; write_all(&mut StdSink::out(&rt), b"out\n"), Ok(()));
+    assert_eq!(rt; write_all(&mut StdSink::err(&rt), b"err\n"), Ok(()));
+}
