@@ -1,0 +1,33 @@
+-- Lemmas on words, names and places.
+use Rattle.std.proofs.Common.{◌≡◌, ℕ, ◌<◌, ◌≤◌, Bool, true, false, cond, ltb, ◌&&◌, List, length, Some, None, unwrap_or, arith, inl, inr, lit<}
+use Rattle.std.proofs.lemmas.Bool.{cases_lt}
+use Rattle.std.proofs.lemmas.Bool.Decides.{nat_tests}
+use Rattle.std.proofs.lemmas.List.{get_or_past}
+use Rattle.std.proofs.lemmas.List.Elements.{All-get_or}
+use Rattle.std.proofs.lemmas.List.Sums.{AllPass-from_list_all, prefix_len-le-length}
+use Rattle.std.proofs.lemmas.Str.{IsUtf8-from_ascii}
+use Rattle.std.specs.List.{AllPass, position, position_or_len}
+use Rattle.std.specs.Str.{IsAscii, IsUtf8}
+use Rattle.script_reader.specs.Words.{is_name, is_name_byte}
+
+place-unwrapped : (n len : ℕ) → n ≤ len → unwrap_or (cond (ltb n len) (Some n) None) len ≡ n
+place-unwrapped n len h = grind (arith, nat_tests)
+
+-- the first place at which p passes, or the length
+pub unwrapped_position : {X : Type 0} (p : X → Bool) (xs : List X) → unwrap_or (position p xs) (length xs) ≡ position_or_len p xs
+unwrapped_position p xs = place-unwrapped (position_or_len p xs) (length xs) (prefix_len-le-length _ xs)
+
+and-right : (a b : Bool) → (a && b) ≡ true → b ≡ true
+and-right true b h = h
+and-right false b h = cc
+
+name_byte-ascii : (b : ℕ) → is_name_byte b ≡ true → b < 128
+name_byte-ascii b h = grind (arith, nat_tests)
+
+ascii-from_pass : (word : List ℕ) → AllPass is_name_byte word → IsAscii word
+ascii-from_pass word h i =
+    elim (cases_lt i (length word)) [ inl in_word ↦ name_byte-ascii _ (All-get_or (λ b. is_name_byte b ≡ true) word i 0 in_word h) | inr past ↦ rw get_or_past (lit< tt) ]
+
+-- a name is text
+pub IsUtf8-from_name : (word : List ℕ) → is_name word ≡ true → IsUtf8 word
+IsUtf8-from_name word h = IsUtf8-from_ascii word (ascii-from_pass word (AllPass-from_list_all is_name_byte word (and-right _ _ h)))

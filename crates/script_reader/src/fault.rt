@@ -1,0 +1,123 @@
+//! The faults of a script, and why a reading stops.
+
+ghost use Rattle.std.specs.Prelude.{◌≡◌};
+ghost use Rattle.script_reader.specs.Faults.{kind_name};
+
+use std::alloc::{AllocError, AllocFailed};
+
+/// What is wrong in a line. In a line the checks go in this order, and the first that refuses counts. `NotBuilt`
+/// stands for all of them as long as the reader knows only a part of the language.
+#[derive(Clone, Copy, Debug, PartialEq, Eq)]
+pub enum FaultKind {
+    NotText,
+    UnknownStatement,
+    WrongCount,
+    BadNumber,
+    BadHex,
+    BadName,
+    RankRange,
+    SelfMessage,
+    UnknownComm,
+    NotSplit,
+    Unset,
+    Shape,
+    NoSection,
+    UnclosedRepeat,
+    StrayEnd,
+    TooDeep,
+    TooManyOps,
+    TooLong,
+    TooManyNames,
+    NotBuilt,
+}
+
+impl FaultKind {
+    /// The name of the kind, as a program prints it.
+    pub fn name(self) -> &'static str
+        ensures { result.now ≡ kind_name self }
+    {
+        match self {
+            FaultKind::NotText => "NotText",
+            FaultKind::UnknownStatement => "UnknownStatement",
+            FaultKind::WrongCount => "WrongCount",
+            FaultKind::BadNumber => "BadNumber",
+            FaultKind::BadHex => "BadHex",
+            FaultKind::BadName => "BadName",
+            FaultKind::RankRange => "RankRange",
+            FaultKind::SelfMessage => "SelfMessage",
+            FaultKind::UnknownComm => "UnknownComm",
+            FaultKind::NotSplit => "NotSplit",
+            FaultKind::Unset => "Unset",
+            FaultKind::Shape => "Shape",
+            FaultKind::NoSection => "NoSection",
+            FaultKind::UnclosedRepeat => "UnclosedRepeat",
+            FaultKind::StrayEnd => "StrayEnd",
+            FaultKind::TooDeep => "TooDeep",
+            FaultKind::TooManyOps => "TooManyOps",
+            FaultKind::TooLong => "TooLong",
+            FaultKind::TooManyNames => "TooManyNames",
+            FaultKind::NotBuilt => "NotBuilt",
+        }
+    }
+}
+
+/// The first fault of a file. Lines count from 1; line 0 stands for the file as a whole.
+#[derive(Clone, Copy, Debug, PartialEq, Eq)]
+pub struct ReadFault {
+    pub line: u32,
+    pub kind: FaultKind,
+}
+
+/// Why a reading stops: the file has a fault, or no memory is left.
+#[derive(Clone, Copy, Debug, PartialEq, Eq)]
+pub enum ReadStop {
+    Fault(ReadFault),
+    Memory,
+}
+
+/// Why a reading stops inside a line.
+#[derive(Clone, Copy, Debug, PartialEq, Eq)]
+pub(crate) enum LineStop {
+    Kind(FaultKind),
+    Memory,
+}
+
+impl From<FaultKind> for LineStop {
+    ghost use Rattle.script_reader.specs.declared.fault.LineStop.TheVariants.{Kind};
+
+    ghost from_gives = { λ kind stop. stop ≡ Kind kind };
+
+    fn from(kind: FaultKind) -> LineStop {
+        LineStop::Kind(kind)
+    }
+}
+
+impl From<AllocError> for LineStop {
+    ghost use Rattle.script_reader.specs.declared.fault.LineStop.TheVariants.{Memory};
+
+    ghost from_gives = { λ _ stop. stop ≡ Memory };
+
+    fn from(_error: AllocError) -> LineStop {
+        LineStop::Memory
+    }
+}
+
+impl<T: Drop> From<AllocFailed<T>> for LineStop {
+    ghost use Rattle.script_reader.specs.declared.fault.LineStop.TheVariants.{Memory};
+
+    ghost from_gives = { λ _ stop. stop ≡ Memory };
+
+    fn from(_error: AllocFailed<T>) -> LineStop {
+        LineStop::Memory
+    }
+}
+
+impl From<AllocError> for ReadStop {
+    ghost use Rattle.script_reader.specs.declared.fault.ReadStop.TheVariants.{Memory};
+
+    ghost from_gives = { λ _ stop. stop ≡ Memory };
+
+    fn from(_error: AllocError) -> ReadStop {
+        ReadStop::Memory
+    }
+}

@@ -1,0 +1,35 @@
+//! The name of a register.
+
+ghost use Rattle.std.specs.Prelude.{◌≡◌, IfOk};
+
+use std::alloc::{AllocError, Global};
+use std::marker::Model;
+
+/// The name of a register, seen as its bytes.
+#[derive(Debug, Drop)]
+pub(crate) struct Name {
+    text: String,
+}
+
+impl Model for Name {
+    ghost use Rattle.std.specs.Prelude.{List, ℕ, string_bytes};
+
+    ghost Value = { List ℕ };
+
+    ghost view = { λ n. string_bytes n.text };
+}
+
+impl Name {
+    pub(crate) fn new(alloc: Global, text: &str) -> Result<Name, AllocError>
+        ensures { IfOk result (λ n. n ≡ text.now) }
+    {
+        let text = String::from_str(alloc, text)?;
+        Ok(Name { text })
+    }
+
+    pub(crate) fn as_str(&self) -> &str
+        ensures { result.now ≡ self.now }
+    {
+        self.text.as_str()
+    }
+}
