@@ -1,0 +1,5 @@
+pub mod Costs
+pub mod StepLaws
+pub mod ViewLaws
+pub mod PlainLaws
+pub mod ProgramLaws

@@ -1,0 +1,111 @@
+-- Laws of the plain step and of the plain meaning.
+use Rattle.std.proofs.Common.{◌≡◌, ◌++◌, ℕ, suc, ◌+◌, ◌-◌, ◌<◌, Bool, true, false, List, [], ◌∷◌, length, map, drop, Some, None, refl, sym, ap, ◌∙◌, subst, arith, sum_by, slice_get}
+use Rattle.std.specs.List.{range_with_len}
+use Rattle.std.proofs.lemmas.List.{length-map}
+use Rattle.std.proofs.lemmas.List.FromFn.{length-map-range_with_len, map-range_with_len_more}
+use Rattle.scc_base.specs.Heads.{MessageHead}
+use Rattle.scc_base.specs.Calls.{DataCall}
+use Rattle.script_reader.specs.Script.{Script}
+use Rattle.script_plain.specs.declared.prims.Act.{Act}
+use Rattle.script_plain.specs.declared.prims.Act.TheVariants as act
+use Rattle.script_plain.specs.declared.prims.Prim.{Prim}
+use Rattle.script_plain.specs.declared.prims.Standing.{Standing}
+use Rattle.script_plain.specs.declared.prims.Standing.TheVariants as standing
+use Rattle.script_plain.specs.Local.{Local, local_start, local_next, next_by_act, next_by_prim, prim_by_standing, cost_of, runs}
+use Rattle.script_plain.specs.Next.{Next}
+use Rattle.script_plain.specs.Next.Next.{Ends, Goes, Sends, Recvs, Bars}
+use Rattle.script_plain.specs.Step.{lowest, lowest_step, run_on}
+use Rattle.script_plain.specs.Code.{StepsAt, StepsLowest}
+use Rattle.script_plain.specs.Meaning.{State, recorded, next_of, plain_step, plain_end, start_of, steps_left, locals_of}
+use Rattle.script_plain.proofs.Costs.{Lowers, next_map}
+use Rattle.script_plain.proofs.StepLaws
+use Rattle.script_plain.proofs.ViewLaws
+
+lowers_act : (u : Local) (line : ℕ) (a : Act) → length (drop 1 u.left) < length u.left → u.standing ≡ standing.Running → Lowers cost_of (cost_of u) (next_by_act u line a)
+lowers_act u line (act.Set reg content) less running = omega (arith, less)
+lowers_act u line (act.Print reg form) less running = omega (arith, less)
+lowers_act u line (act.Send to reg) less running = omega (arith, less)
+lowers_act u line (act.Recv from reg head) less running =
+    (λ (bytes : List ℕ). omega (arith, less), λ (sent : MessageHead). omega (arith, ap runs running))
+lowers_act u line (act.Bar comm) less running = omega (arith, less)
+
+lowers_left : (u : Local) (l : List Prim) → u.left ≡ l → u.standing ≡ standing.Running → Lowers cost_of (cost_of u) (next_by_prim u (slice_get l 0))
+lowers_left u [] left running = tt
+lowers_left u (prim ∷ rest) left running =
+    lowers_act u prim.line prim.act (rw left (omega arith)) running
+
+lowers_standing : (u : Local) (s : Standing) → u.standing ≡ s → Lowers cost_of (cost_of u) (next_by_prim u (prim_by_standing s u.left))
+lowers_standing u standing.Running is = lowers_left u u.left refl is
+lowers_standing u (standing.Mismatched line from sent asked) is = tt
+
+-- whatever a rank does next, less is left after it
+pub local_lowers : (u : Local) → Lowers cost_of (cost_of u) (local_next u)
+local_lowers u = lowers_standing u u.standing refl
+
+recorded_lowers : (calls : List DataCall) (k : ℕ) (n : Next Local) → Lowers cost_of k n → Lowers (λ (u : State). cost_of u.local) k (recorded calls n)
+recorded_lowers calls k Ends low = tt
+recorded_lowers calls k (Goes after) low = low
+recorded_lowers calls k (Sends to head bytes after) low = low
+recorded_lowers calls k (Recvs from head take refuse) low = low
+recorded_lowers calls k (Bars comm after) low = low
+
+pub state_lowers : (u : State) → Lowers (λ (v : State). cost_of v.local) (cost_of u.local) (next_of u)
+state_lowers u = recorded_lowers u.matched (cost_of u.local) (local_next u.local) (local_lowers u.local)
+
+recorded_seen : (calls : List DataCall) (n : Next Local) → n ≡ next_map (λ (u : State). u.local) (recorded calls n)
+recorded_seen calls Ends = refl
+recorded_seen calls (Goes after) = refl
+recorded_seen calls (Sends to head bytes after) = refl
+recorded_seen calls (Recvs from head take refuse) = refl
+recorded_seen calls (Bars comm after) = refl
+
+state_seen : (u : State) → local_next u.local ≡ next_map (λ (v : State). v.local) (next_of u)
+state_seen u = recorded_seen u.matched (local_next u.local)
+
+-- the end takes no step
+pub plain_end_still : (script : Script) → plain_step (plain_end script) ≡ None
+plain_end_still script =
+    StepLaws.stopped next_of (λ (u : State). cost_of u.local) state_lowers (steps_left (start_of script)) (start_of script) (omega arith)
+
+starts : (script : Script) (ranks : List ℕ) → map (λ (u : State). u.local) (map (λ (rank : ℕ). record { local = local_start script rank; matched = [] }) ranks) ≡ map (local_start script) ranks
+starts script [] = refl
+starts script (rank ∷ ranks) = ap (λ (c : List Local). local_start script rank ∷ c) (starts script ranks)
+
+-- what the ranks hold at the start
+pub locals_of-start_of : (script : Script) → locals_of (start_of script) ≡ map (local_start script) (range_with_len 0 script.nue)
+locals_of-start_of script = starts script (range_with_len 0 script.nue)
+
+-- one rank more at the start
+pub start_more : (script : Script) (number rank : ℕ) (before after : List Local) (u : Local) → before ≡ map (local_start script) (range_with_len 0 number) → rank ≡ number → u ≡ local_start script rank → after ≡ before ++ u ∷ [] → after ≡ map (local_start script) (range_with_len 0 (number + 1))
+start_more script number rank before after u was here made now =
+    now ∙ ap (λ (v : Local). before ++ v ∷ []) (made ∙ ap (local_start script) here)
+    ∙ ap (λ (us : List Local). us ++ local_start script number ∷ []) was
+    ∙ sym (map-range_with_len_more (local_start script) 0 number number (omega arith))
+
+-- what the ranks hold at the end comes of a run over what they hold
+pub locals_of-plain_end : (script : Script) → run_on local_next (sum_by cost_of (locals_of (start_of script))) (locals_of (start_of script)) ≡ locals_of (plain_end script)
+locals_of-plain_end script =
+    ap (λ (n : ℕ). run_on local_next n (locals_of (start_of script))) (ViewLaws.sum_by-map cost_of (λ (u : State). u.local) (start_of script))
+    ∙ ViewLaws.run_on-map (λ (u : State). u.local) next_of local_next state_seen (steps_left (start_of script)) (start_of script)
+
+-- as many ranks as the script runs on
+pub length-plain_end : (script : Script) → length (locals_of (plain_end script)) ≡ script.nue
+length-plain_end script =
+    length-map (plain_end script) (λ (u : State). u.local)
+    ∙ StepLaws.length-run_on next_of (steps_left (start_of script)) (start_of script)
+    ∙ length-map-range_with_len (λ (rank : ℕ). record { local = local_start script rank; matched = [] }) 0 script.nue
+
+-- what an answer of the code says: a step was taken
+pub was_taken : (b : Bool) (old new : List Local) → b ≡ true → StepsLowest b old new → lowest_step local_next old ≡ Some new
+was_taken b old new moved said = let P : Bool → Type 0 = λ t. StepsLowest t old new in subst P moved said
+
+-- or the rank owns none, and the search goes on behind it
+pub was_passed : (b : Bool) (i : ℕ) (old new : List Local) → b ≡ false → StepsAt b i old new → i < length old → lowest local_next old (length old - i) i ≡ lowest_step local_next old → (new ≡ old) × (lowest local_next new (length new - (i + 1)) (i + 1) ≡ lowest_step local_next new)
+was_passed b i old new rested said within left =
+    let P : Bool → Type 0 = λ t. StepsAt t i old new in
+    let none = subst P rested said in
+    let more : length old - i ≡ suc (length old - (i + 1)) = omega (arith, within) in
+    let on : lowest local_next old (length old - (i + 1)) (i + 1) ≡ lowest_step local_next old =
+    sym (StepLaws.lowest_skips local_next old (length old - i) (length old - (i + 1)) i more none.0) ∙ left in
+    let Q : List Local → Type 0 = λ c. lowest local_next c (length c - (i + 1)) (i + 1) ≡ lowest_step local_next c in
+    (none.1, subst Q (sym none.1) on)

@@ -1,0 +1,30 @@
+-- What stands next at a rank: all that the step of a run needs to know of it. `U` is whatever a rank's state is.
+use Rattle.std.specs.Prelude.{ℕ, Bool, true, false, List, Option, Some, None}
+use Rattle.scc_base.specs.Heads.{MessageHead}
+use Rattle.scc_base.specs.declared.calls.Call.{Call}
+use Rattle.scc_base.specs.declared.calls.Call.TheVariants as call
+
+pub data Next (U : Type 0) : Type 0 where
+  -- nothing: the rank's program has ended, or the rank was stopped
+  Ends : Next U
+  -- a statement of this rank alone, and the state after it
+  Goes : (after : U) → Next U
+  -- a send, and the state after it
+  Sends : (to : ℕ) → (head : MessageHead) → (bytes : List ℕ) → (after : U) → Next U
+  -- a receive: the state after taking bytes, and the state after refusing a message with another head
+  Recvs : (from : ℕ) → (head : MessageHead) → (take : List ℕ → U) → (refuse : MessageHead → U) → Next U
+  -- a barrier of a communicator, and the state after it
+  Bars : (comm : ℕ) → (after : U) → Next U
+
+-- the call that stands next
+abbrev pub call_of : {U : Type 0} → Next U → Option Call
+call_of Ends = None
+call_of (Goes after) = None
+call_of (Sends to head bytes after) = Some (call.Send to head)
+call_of (Recvs from head take refuse) = Some (call.Recv from head)
+call_of (Bars comm after) = Some (call.Bar comm)
+
+-- whether a statement of the rank alone stands next
+abbrev pub is_going : {U : Type 0} → Next U → Bool
+is_going (Goes after) = true
+is_going _ = false
