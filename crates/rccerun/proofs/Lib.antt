@@ -1,0 +1,5 @@
+pub mod DeliveryLemmas
+pub mod MeaningLemmas
+pub mod OutputLemmas
+pub mod ReportLemmas
+pub mod TextLemmas

@@ -1,0 +1,9 @@
+pub mod Command
+pub mod Delivery
+pub mod Job
+pub mod Meaning
+pub mod Outcome
+pub mod Pieces
+pub mod Statuses
+pub mod Texts
+pub mod Verdict

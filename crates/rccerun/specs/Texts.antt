@@ -1,0 +1,55 @@
+-- The pieces of printed lines, and the lines (this project's profile of `rccerun`).
+use Rattle.std.specs.Prelude.{ℕ, List, [], ◌∷◌, ◌++◌, codes, decimal}
+use Rattle.hex.specs.Hex.{encode_lower}
+use Rattle.scc_base.specs.declared.kinds.Kind.{Kind}
+use Rattle.scc_base.specs.declared.kinds.Kind.TheVariants.{Plain, Bcast, Reduce, AllUp, AllDown}
+use Rattle.scc_base.specs.Heads.{MessageHead, kind_at}
+use Rattle.script_reader.specs.declared.script.Form.{Form}
+use Rattle.script_reader.specs.declared.script.Form.TheVariants as form
+use Rattle.scc_base.specs.declared.calls.Call.{Call}
+use Rattle.scc_base.specs.declared.calls.Call.TheVariants as call
+
+-- a line of these pieces
+abbrev pub joined : List (List ℕ) → List ℕ
+joined [] = []
+joined (piece ∷ pieces) = piece ++ joined pieces
+
+-- bytes as hex digits in lower case, and `-` for none
+abbrev pub hex_text : List ℕ → List ℕ
+hex_text [] = codes "-"
+hex_text (byte ∷ bytes) = encode_lower (byte ∷ bytes)
+
+-- the name of a kind of message
+abbrev pub kind_text : Kind → List ℕ
+kind_text Plain = codes "plain"
+kind_text Bcast = codes "bcast"
+kind_text Reduce = codes "reduce"
+kind_text AllUp = codes "allup"
+kind_text AllDown = codes "alldown"
+
+-- a head: its kind, its communicator and its length
+abbrev pub head_pieces : MessageHead → List (List ℕ)
+head_pieces head = kind_text (kind_at head.kind) ∷ codes " " ∷ decimal head.comm ∷ codes " " ∷ decimal head.len ∷ []
+
+-- a message that a unit of execution waits with or for: what it does, the other rank and the head
+abbrev pub message_pieces : List ℕ → ℕ → MessageHead → List (List ℕ)
+message_pieces does peer head = does ∷ decimal peer ∷ codes " " ∷ head_pieces head
+
+-- the call that a unit of execution waits in
+abbrev pub call_pieces : Call → List (List ℕ)
+call_pieces (call.Send to head) = message_pieces (codes "send to ") to head
+call_pieces (call.Recv from head) = message_pieces (codes "recv from ") from head
+call_pieces (call.Post to head) = message_pieces (codes "post to ") to head
+call_pieces (call.Bar comm) = codes "barrier " ∷ decimal comm ∷ []
+
+-- a register that a unit of execution printed, by the form that it was printed in
+abbrev pub item_line : ℕ → List ℕ → Form → List ℕ → List ℕ
+item_line rank name form.Hex bytes = joined (codes "ue " ∷ decimal rank ∷ codes " " ∷ name ∷ codes " " ∷ hex_text bytes ∷ codes "\n" ∷ [])
+
+-- a unit of execution that waits at a line of the script
+abbrev pub waiting_line : ℕ → ℕ → List (List ℕ) → List ℕ
+waiting_line rank line pieces = joined ((codes "ue " ∷ decimal rank ∷ codes " waits at line " ∷ decimal line ∷ codes ": " ∷ []) ++ pieces ++ (codes "\n" ∷ []))
+
+-- a unit of execution whose receive met another head than it asked for
+abbrev pub mismatch_line : ℕ → ℕ → ℕ → MessageHead → MessageHead → List ℕ
+mismatch_line rank line from sent asked = joined ((codes "ue " ∷ decimal rank ∷ codes " mismatch at line " ∷ decimal line ∷ codes ": from " ∷ decimal from ∷ codes " sent " ∷ []) ++ head_pieces sent ++ (codes ", asked " ∷ []) ++ head_pieces asked ++ (codes "\n" ∷ []))

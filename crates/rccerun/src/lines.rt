@@ -1,0 +1,190 @@
+//! The lines of units of execution: what each printed, and where one stands that has not finished.
+
+ghost use Rattle.std.specs.Prelude.{◌≡◌, ◌≤◌, [], ◌∷◌, codes, decimal};
+ghost use Rattle.rcce_io.specs.Sending.{Sends};
+ghost use Rattle.scc_base.specs.Heads.{kind_at};
+ghost use Rattle.rccerun.specs.Outcome.{end_text, is_finished};
+ghost use Rattle.rccerun.specs.Texts.{call_pieces, item_line, kind_text, message_pieces, mismatch_line, waiting_line};
+
+use crate::pieces::Piece::{Hex, Number, Text};
+use crate::pieces::write_line;
+use rcce_io::{Sink, WriteFault};
+use scc_base::{Call, Head, Kind, Rank};
+use script_plain::{Printed, UeEnd};
+use script_reader::Form;
+
+/// The name of a message's kind.
+fn kind_text(head: Head) -> &'static str
+    ensures { result.now ≡ kind_text (kind_at head.kind) }
+{
+    match head.kind() {
+        Kind::Plain => "plain",
+        Kind::Bcast => "bcast",
+        Kind::Reduce => "reduce",
+        Kind::AllUp => "allup",
+        Kind::AllDown => "alldown",
+    }
+}
+
+/// Writes the line of a printed register.
+pub fn write_item<'a, S: Sink>(
+    sink: &mut S,
+    rank: Rank,
+    name: &'a str,
+    item: &'a Printed,
+) -> Result<(), WriteFault>
+    ensures later { S.faults sink.old ≤ S.faults sink.new }
+    ensures sends { Sends (S.taken sink.old) (S.taken sink.new) (S.faults sink.old) (S.faults sink.new)
+        (item_line rank name.now item.now.form item.now.bytes) result }
+{
+    let ue = rank.number() as u32;
+    let bytes = item.bytes.as_slice();
+    match item.form {
+        Form::Hex => write_line(
+            sink,
+            &[
+                Text("ue "),
+                Number(ue),
+                Text(" "),
+                Text(name),
+                Text(" "),
+                Hex(bytes),
+                Text("\n"),
+            ],
+        ),
+    }
+}
+
+/// Whether a unit of execution has finished.
+pub fn is_finished(end: &UeEnd) -> bool
+    ensures { result ≡ is_finished end.now }
+{
+    matches!(end, UeEnd::Finished)
+}
+
+/// Writes where a unit of execution stands, a line where it has not finished, else nothing.
+pub fn write_end<S: Sink>(sink: &mut S, rank: Rank, end: &UeEnd) -> Result<(), WriteFault>
+    ensures later { S.faults sink.old ≤ S.faults sink.new }
+    ensures sends { Sends (S.taken sink.old) (S.taken sink.new) (S.faults sink.old) (S.faults sink.new)
+        (end_text rank end.now) result }
+{
+    match end {
+        UeEnd::Finished => Ok(()),
+        UeEnd::Waits { line, call } => write_waiting(sink, rank, *line, call),
+        UeEnd::Mismatch {
+            line,
+            from,
+            sent,
+            asked,
+        } => write_mismatch(sink, rank, *line, *from, *sent, *asked),
+    }
+}
+
+fn write_waiting<S: Sink>(
+    sink: &mut S,
+    rank: Rank,
+    line: u32,
+    call: &Call,
+) -> Result<(), WriteFault>
+    ensures later { S.faults sink.old ≤ S.faults sink.new }
+    ensures sends { Sends (S.taken sink.old) (S.taken sink.new) (S.faults sink.old) (S.faults sink.new)
+        (waiting_line rank line (call_pieces call.now)) result }
+{
+    match call {
+        Call::Send { to, head } => write_message(sink, rank, line, "send to ", *to, *head),
+        Call::Recv { from, head } => write_message(sink, rank, line, "recv from ", *from, *head),
+        Call::Post { to, head } => write_message(sink, rank, line, "post to ", *to, head.head()),
+        Call::Bar { comm } => write_barrier(sink, rank, line, *comm),
+    }
+}
+
+fn write_message<S: Sink>(
+    sink: &mut S,
+    rank: Rank,
+    line: u32,
+    does: &str,
+    peer: Rank,
+    head: Head,
+) -> Result<(), WriteFault>
+    ensures later { S.faults sink.old ≤ S.faults sink.new }
+    ensures sends { Sends (S.taken sink.old) (S.taken sink.new) (S.faults sink.old) (S.faults sink.new)
+        (waiting_line rank line (message_pieces does.now peer head)) result }
+{
+    write_line(
+        sink,
+        &[
+            Text("ue "),
+            Number(rank.number() as u32),
+            Text(" waits at line "),
+            Number(line),
+            Text(": "),
+            Text(does),
+            Number(peer.number() as u32),
+            Text(" "),
+            Text(kind_text(head)),
+            Text(" "),
+            Number(head.comm() as u32),
+            Text(" "),
+            Number(head.len()),
+            Text("\n"),
+        ],
+    )
+}
+
+fn write_barrier<S: Sink>(sink: &mut S, rank: Rank, line: u32, comm: u8) -> Result<(), WriteFault>
+    ensures later { S.faults sink.old ≤ S.faults sink.new }
+    ensures sends { Sends (S.taken sink.old) (S.taken sink.new) (S.faults sink.old) (S.faults sink.new)
+        (waiting_line rank line (codes "barrier " ∷ decimal comm ∷ [])) result }
+{
+    write_line(
+        sink,
+        &[
+            Text("ue "),
+            Number(rank.number() as u32),
+            Text(" waits at line "),
+            Number(line),
+            Text(": "),
+            Text("barrier "),
+            Number(comm as u32),
+            Text("\n"),
+        ],
+    )
+}
+
+fn write_mismatch<S: Sink>(
+    sink: &mut S,
+    rank: Rank,
+    line: u32,
+    from: Rank,
+    sent: Head,
+    asked: Head,
+) -> Result<(), WriteFault>
+    ensures later { S.faults sink.old ≤ S.faults sink.new }
+    ensures sends { Sends (S.taken sink.old) (S.taken sink.new) (S.faults sink.old) (S.faults sink.new)
+        (mismatch_line rank line from sent asked) result }
+{
+    write_line(
+        sink,
+        &[
+            Text("ue "),
+            Number(rank.number() as u32),
+            Text(" mismatch at line "),
+            Number(line),
+            Text(": from "),
+            Number(from.number() as u32),
+            Text(" sent "),
+            Text(kind_text(sent)),
+            Text(" "),
+            Number(sent.comm() as u32),
+            Text(" "),
+            Number(sent.len()),
+            Text(", asked "),
+            Text(kind_text(asked)),
+            Text(" "),
+            Number(asked.comm() as u32),
+            Text(" "),
+            Number(asked.len()),
+            Text("\n"),
+        ],
+    )
+}

@@ -1,0 +1,94 @@
+//! The pieces of a line, written one after the other. No memory is taken.
+
+ghost use Rattle.std.specs.Prelude.{◌≡◌, ◌≤◌, ◌<◌, ◌*◌, length, flat_map, decimal, map};
+ghost use Rattle.hex.specs.Hex.{encode_lower};
+ghost use Rattle.rcce_io.specs.Sending.{Sends};
+ghost use Rattle.rccerun.specs.Texts.{hex_text, joined};
+ghost use Rattle.rccerun.specs.Pieces.{piece_text};
+
+use rcce_io::{Sink, WriteFault, write_all};
+
+/// How many bytes go to the sink as hex digits at a time.
+const HEX_BLOCK: usize = 512;
+
+/// A piece of a line.
+#[derive(Clone, Copy, Debug)]
+pub enum Piece<'a> {
+    Text(&'a str),
+    Number(u32),
+    /// Bytes as hex digits in lower case, and `-` for none.
+    Hex(&'a [u8]),
+}
+
+/// Writes a line of these pieces.
+pub fn write_line<S: Sink>(sink: &mut S, pieces: &[Piece]) -> Result<(), WriteFault>
+    ensures later { S.faults sink.old ≤ S.faults sink.new }
+    ensures sends { Sends (S.taken sink.old) (S.taken sink.new) (S.faults sink.old) (S.faults sink.new)
+        (joined (map piece_text pieces.now)) result }
+{
+    for piece in pieces {
+        write_piece(sink, piece)?;
+    }
+    Ok(())
+}
+
+fn write_piece<S: Sink>(sink: &mut S, piece: &Piece) -> Result<(), WriteFault>
+    ensures later { S.faults sink.old ≤ S.faults sink.new }
+    ensures sends { Sends (S.taken sink.old) (S.taken sink.new) (S.faults sink.old) (S.faults sink.new)
+        (piece_text piece.now) result }
+{
+    match piece {
+        Piece::Text(text) => write_all(sink, text.as_bytes()),
+        Piece::Number(n) => write_number(sink, *n),
+        Piece::Hex(bytes) => write_hex(sink, bytes),
+    }
+}
+
+fn write_number<S: Sink>(sink: &mut S, n: u32) -> Result<(), WriteFault>
+    ensures later { S.faults sink.old ≤ S.faults sink.new }
+    ensures sends { Sends (S.taken sink.old) (S.taken sink.new) (S.faults sink.old) (S.faults sink.new)
+        (decimal n) result }
+{
+    let mut buffer = itoa::Buffer::new();
+    write_all(sink, buffer.format(n).as_bytes())
+}
+
+fn write_hex<S: Sink>(sink: &mut S, bytes: &[u8]) -> Result<(), WriteFault>
+    ensures later { S.faults sink.old ≤ S.faults sink.new }
+    ensures sends { Sends (S.taken sink.old) (S.taken sink.new) (S.faults sink.old) (S.faults sink.new)
+        (hex_text bytes.now) result }
+{
+    if bytes.is_empty() {
+        write_all(sink, b"-")
+    } else {
+        write_digits(sink, bytes)
+    }
+}
+
+fn write_digits<S: Sink>(sink: &mut S, bytes: &[u8]) -> Result<(), WriteFault>
+    ensures later { S.faults sink.old ≤ S.faults sink.new }
+    ensures sends { Sends (S.taken sink.old) (S.taken sink.new) (S.faults sink.old) (S.faults sink.new)
+        (encode_lower bytes.now) result }
+{
+    let mut done = 0;
+    while done < bytes.len() {
+        let end = bytes.len().min(done + HEX_BLOCK);
+        write_block(sink, &bytes[done..end])?;
+        done = end;
+    }
+    Ok(())
+}
+
+fn write_block<S: Sink>(sink: &mut S, bytes: &[u8]) -> Result<(), WriteFault>
+    requires { length bytes.now ≤ HEX_BLOCK }
+    ensures later { S.faults sink.old ≤ S.faults sink.new }
+    ensures sends { Sends (S.taken sink.old) (S.taken sink.new) (S.faults sink.old) (S.faults sink.new)
+        (encode_lower bytes.now) result }
+{
+    let mut digits = [0u8; 2 * HEX_BLOCK];
+    let text = &mut digits[..2 * bytes.len()];
+    match hex::encode_to_slice(bytes, text) {
+        Ok(()) => write_all(sink, text),
+        Err(_) => unreachable!(),
+    }
+}
