@@ -1,0 +1,5 @@
+use Rattle.scc_proto.proofs.LegalMessages.{legal_barriers}
+use Rattle.scc_proto.proofs.laws.barriers_law.Goals as goal
+
+pub returns : goal.returns
+returns c = record { law = legal_barriers }

@@ -1,0 +1,5 @@
+use Rattle.scc_proto.proofs.LegalMessages.{legal_messages}
+use Rattle.scc_proto.proofs.laws.messages_law.Goals as goal
+
+pub returns : goal.returns
+returns c = record { law = legal_messages }

@@ -1,0 +1,5 @@
+use Rattle.scc_proto.proofs.LegalExamples as examples
+use Rattle.scc_proto.proofs.legal_examples.posted_and_received.Goals as goal
+
+pub returns : goal.returns
+returns c = record { legal = examples.posted_and_received }

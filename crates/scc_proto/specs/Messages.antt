@@ -1,0 +1,140 @@
+-- Messages, their chunks, and the words of a buffer that a rank has noted (this project's profile of
+-- RCCE's messages: a header line, and chunks of the size of the chunk buffer).
+use Rattle.std.specs.Prelude.{◌≡◌, ℕ, zero, suc, ◌+◌, ◌-◌, ◌*◌, ◌/◌, ◌%◌, ◌^◌, min, Bool, true, ◌&&◌, ◌==◌, nat_lt, nat_le, if◌then◌else◌, List, [], ◌∷◌, ◌++◌, Option, Some, None, unwrap_or, is_some}
+use Rattle.scc_base.specs.Heads.{MessageHead}
+use Rattle.scc_base.specs.Calls.{DataCall, Send, Recv, Post, Bar}
+
+-- a word with its number in a header line or in a chunk buffer
+pub record Note : Type 0 where
+  pub number : ℕ
+  pub word : ℕ
+
+-- the words that are noted, the newest first
+abbrev pub Notes : Type 0
+Notes = List Note
+
+-- what is noted under a number
+abbrev pub noted : Notes → ℕ → Option ℕ
+noted [] k = None
+noted (note ∷ notes) k = if k == note.number then Some note.word else noted notes k
+
+abbrev pub note_word : ℕ → ℕ → Notes → Notes
+note_word k v notes = record { number = k; word = v } ∷ notes
+
+-- each word that is noted stands in the buffer
+abbrev pub StandsIn : Notes → (ℕ → ℕ) → Type 0
+StandsIn notes buffer = (k v : ℕ) → noted notes k ≡ Some v → buffer k ≡ v
+
+-- the first n words are all noted
+unfoldable pub has_all : Notes → ℕ → Bool
+has_all notes zero = true
+has_all notes (suc n) = is_some (noted notes n) && has_all notes n
+
+-- byte b of the noted words, 0 where its word is not noted
+abbrev pub byte_at : Notes → ℕ → ℕ
+byte_at notes b = unwrap_or (noted notes (b / 8)) 0 / 256 ^ (b % 8) % 256
+
+-- n bytes of the noted words, from byte `start` on
+unfoldable pub bytes_from : Notes → ℕ → ℕ → List ℕ
+bytes_from notes start zero = []
+bytes_from notes start (suc n) = byte_at notes start ∷ bytes_from notes (suc start) n
+
+-- the n bytes from byte `start` on are zero
+unfoldable pub is_zero_from : Notes → ℕ → ℕ → Bool
+is_zero_from notes start zero = true
+is_zero_from notes start (suc n) = (byte_at notes start == 0) && is_zero_from notes (suc start) n
+
+-- word k of a message's header line: its kind, its communicator, its length, and 1 for a posted message
+abbrev pub header_word : MessageHead → Bool → ℕ → ℕ
+header_word head posted zero = head.kind
+header_word head posted (suc zero) = head.comm
+header_word head posted (suc (suc zero)) = head.len
+header_word head posted (suc (suc (suc _))) = if posted then 1 else 0
+
+-- the head that the noted header words say
+abbrev pub head_of : Notes → MessageHead
+head_of notes = record { kind = unwrap_or (noted notes 0) 0; comm = unwrap_or (noted notes 1) 0; len = unwrap_or (noted notes 2) 0 }
+
+-- a head that a message may have
+abbrev pub is_head : MessageHead → Bool
+is_head head = nat_lt head.kind 5 && (nat_lt head.comm 16 && (nat_le head.len 65536 && (if head.kind == 0 then head.comm == 0 else true)))
+
+-- a head that a posted message may have
+abbrev pub is_post_head : MessageHead → Bool
+is_post_head head = (head.kind == 0) && ((head.comm == 0) && nat_le head.len 3584)
+
+-- a message with its bytes
+pub record Message : Type 0 where
+  pub head : MessageHead
+  pub bytes : List ℕ
+
+-- a message of which some chunks are through, with their bytes
+pub record Progress : Type 0 where
+  pub head : MessageHead
+  pub chunks : ℕ
+  pub bytes : List ℕ
+
+-- a message of which nothing is through yet
+abbrev pub begun : MessageHead → Progress
+begun head = record { head = head; chunks = 0; bytes = [] }
+
+-- the bytes of the chunk in hand, where a whole chunk has `size` bytes
+abbrev pub chunk_bytes : ℕ → Progress → ℕ
+chunk_bytes size message = min size (message.head.len - size * message.chunks)
+
+-- the words of the lines that it takes, four in a line of 32 bytes
+abbrev pub chunk_words : ℕ → Progress → ℕ
+chunk_words size message = 4 * ((chunk_bytes size message + 31) / 32)
+
+-- no chunk comes after the one in hand
+abbrev pub is_last : ℕ → Progress → Bool
+is_last size message = nat_le message.head.len (size * suc message.chunks)
+
+-- all words of its lines are noted
+abbrev pub is_whole : ℕ → Progress → Notes → Bool
+is_whole size message chunk = has_all chunk (chunk_words size message)
+
+-- the bytes of its last line past its end are zero
+abbrev pub is_padded : ℕ → Progress → Notes → Bool
+is_padded size message chunk = is_zero_from chunk (chunk_bytes size message) (8 * chunk_words size message - chunk_bytes size message)
+
+-- the message with the chunk in hand through
+abbrev pub with_chunk : ℕ → Progress → Notes → Progress
+with_chunk size message chunk = record message { chunks = suc message.chunks; bytes = message.bytes ++ bytes_from chunk 0 (chunk_bytes size message) }
+
+-- the message as it is when no chunk is left
+abbrev pub message_of : Progress → Message
+message_of message = record { head = message.head; bytes = message.bytes }
+
+abbrev pub send_to : ℕ → Message → DataCall
+send_to to message = Send to message.head message.bytes
+
+abbrev pub recv_from : ℕ → Message → DataCall
+recv_from from message = Recv from message.head message.bytes
+
+abbrev pub post_to : ℕ → Message → DataCall
+post_to to message = Post to message.head message.bytes
+
+-- the messages of the finished sends and posts to one rank, in order
+abbrev pub sent_to : ℕ → List DataCall → List Message
+sent_to r [] = []
+sent_to r (Send to head bytes ∷ calls) = if to == r then record { head = head; bytes = bytes } ∷ sent_to r calls else sent_to r calls
+sent_to r (Post to head bytes ∷ calls) = if to == r then record { head = head; bytes = bytes } ∷ sent_to r calls else sent_to r calls
+sent_to r (Recv from head bytes ∷ calls) = sent_to r calls
+sent_to r (Bar comm ∷ calls) = sent_to r calls
+
+-- the messages of the finished receives from one rank, in order
+abbrev pub received_from : ℕ → List DataCall → List Message
+received_from s [] = []
+received_from s (Send to head bytes ∷ calls) = received_from s calls
+received_from s (Post to head bytes ∷ calls) = received_from s calls
+received_from s (Recv from head bytes ∷ calls) = if from == s then record { head = head; bytes = bytes } ∷ received_from s calls else received_from s calls
+received_from s (Bar comm ∷ calls) = received_from s calls
+
+-- how many barriers of a communicator are finished
+abbrev pub barriers_of : ℕ → List DataCall → ℕ
+barriers_of c [] = 0
+barriers_of c (Send to head bytes ∷ calls) = barriers_of c calls
+barriers_of c (Post to head bytes ∷ calls) = barriers_of c calls
+barriers_of c (Recv from head bytes ∷ calls) = barriers_of c calls
+barriers_of c (Bar comm ∷ calls) = if comm == c then suc (barriers_of c calls) else barriers_of c calls

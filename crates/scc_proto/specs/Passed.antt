@@ -1,0 +1,62 @@
+-- The calls that a rank has passed: the finished ones, and the open one where its other side is through with
+-- it (this project's profile).
+use Rattle.std.specs.Prelude.{ℕ, suc, ◌-◌, Bool, false, ◌&&◌, ◌==◌, nat_lt, nat_le, if◌then◌else◌, List, [], ◌∷◌, ◌++◌, Option, Some, None, length}
+use Rattle.scc_base.specs.Calls.{DataCall, Bar}
+use Rattle.scc_base.specs.Setups.{SetupView, root_of}
+use Rattle.scc_proto.specs.Messages.{Notes, Progress, begun, with_chunk, message_of, send_to, recv_from, sent_to, received_from}
+use Rattle.scc_proto.specs.Stages.{Part, Filling, Raised, Answered, Stage, Sending, Between, Taking, Barrier, OnItsWay, Record}
+use Rattle.scc_proto.specs.Records.{chunk_of, last_of}
+use Rattle.scc_proto.specs.Legality.{Outgoing}
+
+-- a sent message with its bytes so far: those of the chunks through, and of the raised one
+abbrev pub in_hand : ℕ → Part → Progress → Notes → Progress
+in_hand size Filling message chunk = message
+in_hand size Raised message chunk = with_chunk size message chunk
+in_hand size Answered message chunk = with_chunk size message chunk
+
+-- the call that a rank is in, with its bytes so far
+abbrev pub open_of : ℕ → Stage → Option DataCall
+open_of size (Sending to part message chunk) = Some (send_to to (message_of (in_hand size part message chunk)))
+open_of size (Between from message) = Some (recv_from from (message_of message))
+open_of size (Taking from message chunk) = Some (recv_from from (message_of message))
+open_of size (Barrier comm seen released) = Some (Bar comm)
+open_of size stage = None
+
+abbrev pub open_call : SetupView → Record → Option DataCall
+open_call s rec = open_of (chunk_of s) rec.stage
+
+-- the receiver has finished one more receive from s than s has finished sends and posts to it
+abbrev pub is_received : ℕ → ℕ → (ℕ → Record) → Bool
+is_received s r records = length (received_from s (records r).calls) == suc (length (sent_to r (records s).calls))
+
+-- the root of a group waits for a member in the barrier that is open at it
+abbrev pub is_gathering : ℕ → ℕ → Stage → Bool
+is_gathering comm last (Barrier c seen released) = (c == comm) && nat_lt seen last
+is_gathering comm last stage = false
+
+-- the barriers of a communicator in which a root has seen every member
+abbrev pub gathered : ℕ → ℕ → Record → ℕ
+gathered comm last root = if is_gathering comm last root.stage then root.flips comm - 1 else root.flips comm
+
+-- the root has seen every member in the own last barrier of the communicator
+abbrev pub is_gathered : SetupView → ℕ → ℕ → (ℕ → Record) → Bool
+is_gathered s comm me records = nat_le ((records me).flips comm) (gathered comm (last_of s comm me) (records (root_of s comm me)))
+
+-- the open call, where it is passed
+abbrev pub passed_open : SetupView → ℕ → Stage → (ℕ → Record) → List DataCall
+passed_open s me (Sending to part message chunk) records = if is_received me to records then send_to to (message_of (in_hand (chunk_of s) part message chunk)) ∷ [] else []
+passed_open s me (Barrier comm seen released) records = if is_gathered s comm me records then Bar comm ∷ [] else []
+passed_open s me stage records = []
+
+abbrev pub passed_calls : SetupView → (ℕ → Record) → ℕ → List DataCall
+passed_calls s records me = (records me).calls ++ passed_open s me (records me).stage records
+
+-- the message that a rank has posted and that is not received
+abbrev pub slot_by : ℕ → ℕ → Option OnItsWay → (ℕ → Record) → Option Outgoing
+slot_by size me None records = None
+slot_by size me (Some post) records = if length (received_from me (records post.to).calls) == length (sent_to post.to (records me).calls)
+    then None
+    else Some (record { to = post.to; head = post.head; bytes = (with_chunk size (begun post.head) post.chunk).bytes })
+
+abbrev pub slot_of : SetupView → (ℕ → Record) → ℕ → Option Outgoing
+slot_of s records me = slot_by (chunk_of s) me (records me).post records

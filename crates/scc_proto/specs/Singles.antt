@@ -1,0 +1,67 @@
+-- What holds of the record of any list of permitted events, whatever the words are.
+use Rattle.std.specs.Prelude.{◌≡◌, ℕ, ◌+◌, ◌*◌, ◌<◌, ◌≤◌, ◌⊎◌, Bool, true, false, ◌==◌, if◌then◌else◌, Option, Some, None, length, All}
+use Rattle.scc_base.specs.Calls.{HasItsBytes}
+use Rattle.scc_base.specs.Setups.{SetupView, place_of}
+use Rattle.scc_proto.specs.Messages.{Notes, Progress, begun, is_whole, is_head, is_post_head, barriers_of}
+use Rattle.scc_proto.specs.Stages.{Part, Filling, Raised, Answered, Stage, Drafting, Sending, Between, Taking, Barrier, OnItsWay, Record}
+use Rattle.scc_proto.specs.Words.{are_peers, is_present}
+use Rattle.scc_proto.specs.Records.{chunk_of, last_of}
+
+-- a message with another rank of which the chunk in hand is not through: a head that messages have, whole
+-- chunks, and bytes left for this one
+pub record IsUnderWay (s : SetupView) (me other : ℕ) (message : Progress) : Type 0 where
+  pub peers : are_peers s me other ≡ true
+  pub head : is_head message.head ≡ true
+  pub bytes : length message.bytes ≡ chunk_of s * message.chunks
+  pub left : (message.chunks ≡ 0) ⊎ (chunk_of s * message.chunks < message.head.len)
+
+-- a later chunk is drafted, or a whole one is raised
+abbrev pub IsPart : ℕ → Part → Progress → Notes → Type 0
+IsPart size Filling message chunk = 1 ≤ message.chunks
+IsPart size Raised message chunk = is_whole size message chunk ≡ true
+IsPart size Answered message chunk = is_whole size message chunk ≡ true
+
+-- a root releases once it has seen all, and a member that is no root counts nobody
+pub record IsBarrier (s : SetupView) (me comm seen released : ℕ) : Type 0 where
+  pub present : is_present s comm ≡ true
+  pub released_below : released < last_of s comm me
+  pub seen_within : seen ≤ last_of s comm me
+  pub all_seen : (released ≡ 0) ⊎ (seen ≡ last_of s comm me)
+  pub of_root : (place_of s comm me ≡ 0) ⊎ (seen ≡ 0)
+
+abbrev pub IsStage : SetupView → ℕ → Stage → Type 0
+IsStage s me (Sending to part message chunk) = IsUnderWay s me to message × IsPart (chunk_of s) part message chunk
+IsStage s me (Between from message) = IsUnderWay s me from message × (1 ≤ message.chunks)
+IsStage s me (Taking from message chunk) = IsUnderWay s me from message
+IsStage s me (Barrier comm seen released) = IsBarrier s me comm seen released
+IsStage s me stage = Unit {0}
+
+-- the sender side is free of any other message
+abbrev pub is_free : Stage → Bool
+is_free (Drafting header chunk) = false
+is_free (Sending to part message chunk) = false
+is_free stage = true
+
+-- a posted message on its way is raised whole, and no other message is drafted or open beside it
+pub record IsOnItsWay (s : SetupView) (me : ℕ) (stage : Stage) (post : OnItsWay) : Type 0 where
+  pub peers : are_peers s me post.to ≡ true
+  pub head : is_post_head post.head ≡ true
+  pub whole : is_whole (chunk_of s) (begun post.head) post.chunk ≡ true
+  pub free : is_free stage ≡ true
+
+abbrev pub IsPosted : SetupView → ℕ → Stage → Option OnItsWay → Type 0
+IsPosted s me stage None = Unit {0}
+IsPosted s me stage (Some post) = IsOnItsWay s me stage post
+
+abbrev pub open_barriers : ℕ → Stage → ℕ
+open_barriers comm (Barrier c seen released) = if c == comm then 1 else 0
+open_barriers comm stage = 0
+
+pub record IsConsistent (s : SetupView) (me : ℕ) (rec : Record) : Type 0 where
+  pub stage : IsStage s me rec.stage
+  pub post : IsPosted s me rec.stage rec.post
+  -- only other ranks of the run were seen
+  pub notes : (j : ℕ) → are_peers s me j ≡ false → rec.notes j ≡ None
+  -- each flip entered a barrier, which is finished or open
+  pub flips : (comm : ℕ) → rec.flips comm ≡ barriers_of comm rec.calls + open_barriers comm rec.stage
+  pub bytes : All HasItsBytes rec.calls

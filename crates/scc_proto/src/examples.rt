@@ -1,0 +1,81 @@
+//! Small runs, event by event: each contract says to what the records come.
+
+ghost use Rattle.std.specs.Prelude.{◌≡◌, true, [], ◌∷◌, ◌++◌, Some, None};
+ghost use Rattle.scc_base.specs.Events.{load_of, store_of};
+ghost use Rattle.scc_base.specs.Heads.{plain_head};
+ghost use Rattle.scc_base.specs.Calls.{Send, Recv, Post, Bar};
+ghost use Rattle.scc_proto.specs.Stages.{blank};
+ghost use Rattle.scc_proto.specs.Words.{IsRun, zeros};
+ghost use Rattle.scc_proto.specs.Histories.{IsPermittedRun, records_of};
+ghost use Rattle.scc_proto.specs.Passed.{passed_calls, slot_of};
+ghost use Rattle.scc_proto.specs.Ports.{MayMake, Did, record_in};
+ghost use Rattle.scc_proto.specs.Examples.{two_ranks, four_bytes, no_bytes, three_ranks, barrier_of_three, four_bytes_elsewhere, posts_four, takes_four, two_ranks_bits, one_byte_bits, moved, all_permitted, sends_two_chunks, takes_two_chunks, two_chunks_of_bytes};
+
+use crate::ports::Port;
+use scc_base::Place;
+
+/// Two events over any port: a store, and then a load.
+pub fn store_then_load<P: Port>(port: &mut P, p: Place, v: u64, q: Place) -> u64
+    requires { MayMake (P.sight port.old).seat (record_in (P.sight port.old)) (store_of p v) }
+    ensures did { Did (P.sight port.old) (store_of p v ∷ load_of q result ∷ []) (P.sight port.new) }
+    ensures step { P.stepped port.new ((P.sight port.old).events ++ store_of p v ∷ []) (load_of q result) }
+{
+    port.store(p, v);
+    port.load(q)
+}
+
+/// Four bytes go from rank 0 to rank 1, up to the receiver's last event.
+pub fn four_bytes_arrive()
+    ensures is_run { IsRun zeros four_bytes }
+    ensures permitted { IsPermittedRun two_ranks (λ r. blank) four_bytes }
+    ensures received { (records_of two_ranks four_bytes 1).calls ≡ Recv 0 (plain_head 4) (1 ∷ 2 ∷ 3 ∷ 4 ∷ []) ∷ [] }
+    ensures passed { passed_calls two_ranks (records_of two_ranks four_bytes) 0 ≡ Send 1 (plain_head 4) (1 ∷ 2 ∷ 3 ∷ 4 ∷ []) ∷ [] }
+{}
+
+/// A message without bytes, up to the sender's last event.
+pub fn empty_message_arrives()
+    ensures is_run { IsRun zeros no_bytes }
+    ensures permitted { IsPermittedRun two_ranks (λ r. blank) no_bytes }
+    ensures received { (records_of two_ranks no_bytes 1).calls ≡ Recv 0 (plain_head 0) [] ∷ [] }
+    ensures sent { (records_of two_ranks no_bytes 0).calls ≡ Send 1 (plain_head 0) [] ∷ [] }
+{}
+
+/// A message of two chunks, where a whole chunk has 32 bytes.
+pub fn two_chunks_arrive()
+    ensures sent { (all_permitted 32 blank sends_two_chunks ≡ true) × ((moved 32 blank sends_two_chunks).calls ≡ Send 1 (plain_head 33) two_chunks_of_bytes ∷ []) }
+    ensures received { (all_permitted 32 blank takes_two_chunks ≡ true) × ((moved 32 blank takes_two_chunks).calls ≡ Recv 0 (plain_head 33) two_chunks_of_bytes ∷ []) }
+{}
+
+/// A barrier of three ranks that are not on the cores of their numbers.
+pub fn three_meet()
+    ensures is_run { IsRun zeros barrier_of_three }
+    ensures permitted { IsPermittedRun three_ranks (λ r. blank) barrier_of_three }
+    ensures root { (records_of three_ranks barrier_of_three 0).calls ≡ Bar 0 ∷ [] }
+    ensures first { (records_of three_ranks barrier_of_three 1).calls ≡ Bar 0 ∷ [] }
+    ensures second { (records_of three_ranks barrier_of_three 2).calls ≡ Bar 0 ∷ [] }
+{}
+
+/// Four bytes go between ranks that are not on the cores of their numbers.
+pub fn hosts_are_free()
+    ensures is_run { IsRun zeros four_bytes_elsewhere }
+    ensures permitted { IsPermittedRun three_ranks (λ r. blank) four_bytes_elsewhere }
+    ensures received { (records_of three_ranks four_bytes_elsewhere 0).calls ≡ Recv 2 (plain_head 4) (1 ∷ 2 ∷ 3 ∷ 4 ∷ []) ∷ [] }
+{}
+
+/// A posted message is on its way, and then received.
+pub fn post_arrives()
+    ensures is_run { IsRun zeros (posts_four ++ takes_four) }
+    ensures permitted { IsPermittedRun two_ranks (λ r. blank) (posts_four ++ takes_four) }
+    ensures posted { (records_of two_ranks posts_four 0).calls ≡ Post 1 (plain_head 4) (1 ∷ 2 ∷ 3 ∷ 4 ∷ []) ∷ [] }
+    ensures on_its_way { slot_of two_ranks (records_of two_ranks posts_four) 0 ≡ Some (record { to = 1; head = plain_head 4; bytes = 1 ∷ 2 ∷ 3 ∷ 4 ∷ [] }) }
+    ensures received { (records_of two_ranks (posts_four ++ takes_four) 1).calls ≡ Recv 0 (plain_head 4) (1 ∷ 2 ∷ 3 ∷ 4 ∷ []) ∷ [] }
+    ensures taken { slot_of two_ranks (records_of two_ranks (posts_four ++ takes_four)) 0 ≡ None }
+{}
+
+/// One byte goes between ranks with bit flags, each change under its register.
+pub fn bits_change()
+    ensures is_run { IsRun zeros one_byte_bits }
+    ensures permitted { IsPermittedRun two_ranks_bits (λ r. blank) one_byte_bits }
+    ensures received { (records_of two_ranks_bits one_byte_bits 0).calls ≡ Recv 1 (plain_head 1) (9 ∷ []) ∷ [] }
+    ensures sent { (records_of two_ranks_bits one_byte_bits 1).calls ≡ Send 0 (plain_head 1) (9 ∷ []) ∷ [] }
+{}

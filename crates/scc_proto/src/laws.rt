@@ -1,0 +1,125 @@
+//! Laws of legal lists of calls, and of words and records, each a function whose contract is the law.
+
+ghost use Rattle.std.specs.Prelude.{◌≡◌, ◌↔◌, ℕ, ◌<◌, ◌≤◌, List, ◌++◌, Option, ◌⊎◌, Contains};
+ghost use Rattle.scc_base.specs.declared.events.Event.{Event};
+ghost use Rattle.scc_base.specs.Events.{IsEvent, load_of, store_of};
+ghost use Rattle.scc_base.specs.Places.{WordAt};
+ghost use Rattle.scc_base.specs.Setups.{SetupView, IsSetup, setup_key};
+ghost use Rattle.scc_proto.specs.Stages.{Record, blank};
+ghost use Rattle.scc_proto.specs.Words.{Memory, zeros, IsStep, memory_after, RankEvent, IsRun, HeapWord, role_of};
+ghost use Rattle.scc_proto.specs.Records.{IsPermitted, IsHonest, record_after, record_of};
+ghost use Rattle.scc_proto.specs.Tables.{put};
+ghost use Rattle.scc_proto.specs.Histories.{records_of, memory_from, IsPermittedRun};
+ghost use Rattle.scc_proto.specs.Passed.{passed_calls, slot_of};
+ghost use Rattle.scc_proto.specs.Views.{view_of, SameFlagWords};
+ghost use Rattle.scc_proto.specs.Soundness.{IsSound};
+ghost use Rattle.scc_proto.specs.PairMessages.{PairMessages};
+ghost use Rattle.scc_proto.specs.Agreement.{Agrees};
+ghost use Rattle.scc_base.specs.Calls.{DataCall};
+ghost use Rattle.scc_base.specs.Runs.{Runs, EndsAt};
+ghost use Rattle.scc_proto.specs.Legality.{Outgoing, Standing, OwnStep, IsUsedUp, IsLegal, UsesUp, Grows, no_slots, slot_message};
+ghost use Rattle.scc_proto.specs.Messages.{sent_to, received_from, barriers_of};
+
+/// Whether lists of calls are legal does not depend on the order in which their steps are taken.
+pub fn order_law()
+    ensures law { (nue : ℕ) (keys : ℕ → ℕ → ℕ) (calls : ℕ → List DataCall) (slots : ℕ → Option Outgoing)
+        → (IsLegal nue keys calls slots) ↔ (UsesUp nue keys no_slots calls slots) }
+{}
+
+/// Legal lists leave one family of slots.
+pub fn slots_law()
+    ensures law { (nue : ℕ) (keys : ℕ → ℕ → ℕ) (calls : ℕ → List DataCall) (slots others : ℕ → Option Outgoing)
+        → IsLegal nue keys calls slots → IsLegal nue keys calls others → (k : ℕ) → slots k ≡ others k }
+{}
+
+/// Legal lists that have grown by nothing, or by the calls of one step at their ends, are legal.
+pub fn growth_law()
+    ensures law { (nue : ℕ) (keys : ℕ → ℕ → ℕ) (old new : ℕ → List DataCall) (old_slots new_slots : ℕ → Option Outgoing)
+        → IsLegal nue keys old old_slots → Grows nue keys old old_slots new new_slots → IsLegal nue keys new new_slots }
+{}
+
+/// All ways to go on from a standing until nobody has a step take as many steps and come to one standing.
+pub fn end_law()
+    ensures law { (nue : ℕ) (keys : ℕ → ℕ → ℕ) (n m : ℕ) (s e f : Standing)
+        → Runs (OwnStep nue keys) (EndsAt (OwnStep nue keys) e) n s
+        → Runs (OwnStep nue keys) (EndsAt (OwnStep nue keys) f) m s
+        → (n ≡ m) × (e ≡ f) }
+{}
+
+/// Where the steps of lists have come to a standing at which nobody has a step, the lists are legal exactly where that
+/// standing has used them up.
+pub fn verdict_law()
+    ensures law { (nue : ℕ) (keys : ℕ → ℕ → ℕ) (n : ℕ) (calls : ℕ → List DataCall) (slots : ℕ → Option Outgoing) (e : Standing)
+        → Runs (OwnStep nue keys) (EndsAt (OwnStep nue keys) e) n (record { calls = calls; slots = no_slots })
+        → (IsLegal nue keys calls slots) ↔ (IsUsedUp slots e) }
+{}
+
+/// In legal lists a rank has received what another one has sent and posted to it, in that order, but for a message that
+/// stands in that one's slot.
+pub fn messages_law()
+    ensures law { (nue : ℕ) (keys : ℕ → ℕ → ℕ) (calls : ℕ → List DataCall) (slots : ℕ → Option Outgoing)
+        → IsLegal nue keys calls slots → (from to : ℕ)
+        → sent_to to (calls from) ≡ received_from from (calls to) ++ slot_message to (slots from) }
+{}
+
+/// In legal lists the members of a group have as many barriers of its communicator.
+pub fn barriers_law()
+    ensures law { (nue : ℕ) (keys : ℕ → ℕ → ℕ) (calls : ℕ → List DataCall) (slots : ℕ → Option Outgoing)
+        → IsLegal nue keys calls slots → (comm a b : ℕ) → a < nue → b < nue → keys comm a ≡ keys comm b
+        → barriers_of comm (calls a) ≡ barriers_of comm (calls b) }
+{}
+
+/// Where words and records agree, each rank's record is sound, and a load answers what is noted.
+pub fn sound_law()
+    ensures sound { (s : SetupView) (memory : Memory) (records : ℕ → Record) (me : ℕ)
+        → Agrees s memory records → me < s.nue → IsSound s me (records me) }
+    ensures told { (s : SetupView) (memory : Memory) (records : ℕ → Record) (me : ℕ) (e : Event)
+        → Agrees s memory records → me < s.nue → IsEvent e → IsStep memory e → IsHonest s me (records me) e }
+{}
+
+/// The messages of a pair: what was received is what was sent, or that and the one open message, or that
+/// without its last, which was posted and is on its way.
+pub fn pair_law()
+    ensures law { (s : SetupView) (memory : Memory) (records : ℕ → Record) (from to : ℕ)
+        → Agrees s memory records → from < s.nue → PairMessages s from to records }
+{}
+
+/// Who has finished n barriers of a communicator has in its group only members that entered n.
+pub fn barrier_law()
+    ensures law { (s : SetupView) (memory : Memory) (records : ℕ → Record) (comm r k : ℕ)
+        → Agrees s memory records → r < s.nue → k < s.nue → setup_key s comm r ≡ setup_key s comm k
+        → barriers_of comm (records r).calls ≤ (records k).flips comm }
+{}
+
+/// The records tell every flag and every register.
+pub fn flags_law()
+    ensures flags { (s : SetupView) (one other : Memory) (records : ℕ → Record)
+        → Agrees s one records → Agrees s other records → SameFlagWords s (view_of s one) (view_of s other) }
+    ensures registers { (s : SetupView) (one other : Memory) (records : ℕ → Record)
+        → Agrees s one records → Agrees s other records → (core : ℕ) → one.register core ≡ other.register core }
+{}
+
+/// The law of agreement. Words and records agree at the start; where they agree, and an event is a step of
+/// the memory and permitted by its rank's record, they agree after it, and the passed calls have grown by
+/// nothing or by the calls of one step at their ends. So they agree after every list of such events.
+pub fn agreement_law()
+    ensures start { (s : SetupView) → Agrees s zeros (λ r. blank) }
+    ensures event { (s : SetupView) (memory : Memory) (records : ℕ → Record) (me : ℕ) (e : Event)
+        → IsSetup s → Agrees s memory records → me < s.nue → IsEvent e → IsStep memory e → IsPermitted s me (records me) e
+        → Agrees s (memory_after memory e) (put records me (record_after s me (records me) e)) }
+    ensures grows { (s : SetupView) (memory : Memory) (records : ℕ → Record) (me : ℕ) (e : Event)
+        → IsSetup s → Agrees s memory records → me < s.nue → IsEvent e → IsStep memory e → IsPermitted s me (records me) e
+        → Grows s.nue (setup_key s) (passed_calls s records) (slot_of s records)
+        (passed_calls s (put records me (record_after s me (records me) e)))
+        (slot_of s (put records me (record_after s me (records me) e))) }
+    ensures lists { (s : SetupView) (run : List RankEvent)
+        → IsSetup s → IsRun zeros run → IsPermittedRun s (λ r. blank) run → Agrees s (memory_from zeros run) (records_of s run) }
+{}
+
+/// A value that is loaded from a heap word is 0, or some rank's list has it as stored there.
+pub fn heap_law()
+    ensures law { (s : SetupView) (memory : Memory) (lists : ℕ → List Event) (place : WordAt) (value : ℕ)
+        → Agrees s memory (λ r. record_of s r (lists r))
+        → IsEvent (load_of place value) → IsStep memory (load_of place value) → role_of s place ≡ HeapWord
+        → (value ≡ 0) ⊎ ((r : ℕ) × (r < s.nue) × Contains (lists r) (store_of place value)) }
+{}
