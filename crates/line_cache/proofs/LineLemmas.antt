@@ -1,0 +1,137 @@
+-- Lists of entries: looking a line up, and that no line is held twice.
+use Rattle.std.proofs.Common.{◌≡◌, ℕ, zero, suc, ◌+◌, ◌<◌, Bool, true, false, cond, ◌==◌, List, [], ◌∷◌, ◌++◌, None, Some, length, get_or, take, drop, set, refl, ap, sym, subst, ◌∙◌, arith, drop-cons, slice_set, remove, append-nil, length-append, length-drop}
+use Rattle.std.proofs.lemmas.List.{length-take}
+use Rattle.std.proofs.Math.Seq.{take-add}
+use Rattle.std.proofs.lemmas.Grind.{drop_more_same}
+use Rattle.std.proofs.lemmas.List.{take_more_set, drop-set-lt, map-append, drop_all, take_all}
+use Rattle.std.specs.List.{refill}
+use Rattle.std.proofs.lemmas.Bool.{cond_both, eq-eqb, eqb-true, and_parts, and_from}
+use Rattle.scc_base.specs.Places.{LineAt, WordAt, line_of_word, same_line}
+use Rattle.line_cache.specs.declared.cache.Entry.{Entry}
+use Rattle.line_cache.specs.Lines.{held, written, noted, AreDistinct, IsCache, most_lines}
+
+same_line-sym : (a b : LineAt) → same_line a b ≡ true → same_line b a ≡ true
+same_line-sym a b t =
+    let p = and_parts (a.core == b.core) (a.line == b.line) t in
+    and_from (b.core == a.core) (b.line == a.line) (eq-eqb b.core a.core (sym (eqb-true a.core b.core p.0)))
+    (eq-eqb b.line a.line (sym (eqb-true a.line b.line p.1)))
+
+pub other_line-sym : (a b : LineAt) → same_line a b ≡ false → same_line b a ≡ false
+other_line-sym a b f = by (same_line b a) refl
+  where
+    by : (t : Bool) → same_line b a ≡ t → same_line b a ≡ false
+    by true e = let q = same_line-sym b a e in absurd (cc)
+    by false e = e
+
+-- a line that is not held is not the first entry's, and is not held behind it
+pub not_held : (e : Entry) (es : List Entry) (line : LineAt) → held (e ∷ es) line ≡ None
+    → (same_line e.line line ≡ false) × (held es line ≡ None)
+not_held e es line h = by (same_line e.line line) refl h
+  where
+    by : (t : Bool) → same_line e.line line ≡ t → cond t (Some e.words) (held es line) ≡ None
+        → (same_line e.line line ≡ false) × (held es line ≡ None)
+    by true q h = absurd (cc)
+    by false q h = (q, h)
+
+none_held : (e : Entry) (es : List Entry) (line : LineAt) → same_line e.line line ≡ false → held es line ≡ None → held (e ∷ es) line ≡ None
+none_held e es line f h = rw f h
+
+-- looking a line up place by place
+pub held_here : (es : List Entry) (i : ℕ) (line : LineAt) (e : Entry) → i < length es → e ≡ get_or es i e
+    → held es line ≡ held (drop i es) line → same_line e.line line ≡ true → Some e.words ≡ held es line
+held_here es i line e h is w t =
+    let d : drop i es ≡ e ∷ drop (suc i) es = drop-cons es i e h ∙ ap (λ x. x ∷ drop (suc i) es) (sym is) in
+    sym (w ∙ rw (d, t) refl)
+
+pub held_on : (es : List Entry) (i : ℕ) (line : LineAt) (e : Entry) → i < length es → e ≡ get_or es i e
+    → held es line ≡ held (drop i es) line → same_line e.line line ≡ false → held es line ≡ held (drop (i + 1) es) line
+held_on es i line e h is w f =
+    let d : drop i es ≡ e ∷ drop (suc i) es = drop-cons es i e h ∙ ap (λ x. x ∷ drop (suc i) es) (sym is) in
+    let next : suc i ≡ i + 1 = omega arith in
+    subst (λ k. held es line ≡ held (drop k es) line) next (w ∙ rw (d, f) refl)
+
+-- the entries before a place were written, those from there on are as they were
+pub noted_on : (p : WordAt) (v : ℕ) (old now : List Entry) (i : ℕ) (e : Entry) → i < length now → e ≡ get_or now i e
+    → take i now ≡ noted (take i old) p v → drop i now ≡ drop i old
+    → (take (i + 1) (set now i (written e p v)) ≡ noted (take (i + 1) old) p v) × (drop (i + 1) (set now i (written e p v)) ≡ drop (i + 1) old)
+noted_on p v old now i e h is front back =
+    let y : Entry = written e p v in
+    let now_is : drop i now ≡ e ∷ drop (suc i) now = drop-cons now i e h ∙ ap (λ x. x ∷ drop (suc i) now) (sym is) in
+    let old_is : take (i + 1) old ≡ take i old ++ e ∷ [] = take-add i 1 old ∙ ap (λ x. take i old ++ take 1 x) (sym back ∙ now_is) in (
+      take_more_set now i y h ∙ ap (λ x. x ++ y ∷ []) front ∙ sym (ap (λ x. noted x p v) old_is ∙ map-append (λ x. written x p v) (take i old) (e ∷ [])),
+      drop-set-lt (i + 1) now i y (omega arith) ∙ drop_more_same now old i back,
+    )
+
+held-push : (es : List Entry) (e : Entry) (line : LineAt) → held es line ≡ None → same_line e.line line ≡ false
+    → held (es ++ e ∷ []) line ≡ None
+held-push [] e line h f = rw f refl
+held-push (x ∷ xs) e line h f =
+    let n = not_held x xs line h in
+    none_held x (xs ++ e ∷ []) line n.0 (held-push xs e line n.1 f)
+
+distinct-push : (es : List Entry) (e : Entry) → AreDistinct es → held es e.line ≡ None → AreDistinct (es ++ e ∷ [])
+distinct-push [] e s h = (refl, tt)
+distinct-push (x ∷ xs) e s h =
+    let n = not_held x xs e.line h in
+    (held-push xs e x.line s.0 (other_line-sym x.line e.line n.0), distinct-push xs e s.1 n.1)
+
+pub held-remove : (es : List Entry) (i : ℕ) (line : LineAt) → held es line ≡ None → held (remove es i) line ≡ None
+held-remove [] zero line h = refl
+held-remove [] (suc i) line h = refl
+held-remove (x ∷ xs) zero line h = (not_held x xs line h).1
+held-remove (x ∷ xs) (suc i) line h =
+    let n = not_held x xs line h in
+    none_held x (remove xs i) line n.0 (held-remove xs i line n.1)
+
+distinct-remove : (es : List Entry) (i : ℕ) → AreDistinct es → AreDistinct (remove es i)
+distinct-remove [] zero s = tt
+distinct-remove [] (suc i) s = tt
+distinct-remove (x ∷ xs) zero s = s.1
+distinct-remove (x ∷ xs) (suc i) s = (held-remove xs i x.line s.0, distinct-remove xs i s.1)
+
+written_line : (e : Entry) (p : WordAt) (v : ℕ) → (written e p v).line ≡ e.line
+written_line e p v =
+    cond_both (same_line e.line (line_of_word p)) (record { line = e.line; words = slice_set e.words p.word v }) e (λ x. x.line ≡ e.line)
+    (λ t. refl) (λ f. refl)
+
+held-noted : (es : List Entry) (p : WordAt) (v : ℕ) (line : LineAt) → held es line ≡ None → held (noted es p v) line ≡ None
+held-noted [] p v line h = refl
+held-noted (x ∷ xs) p v line h =
+    let n = not_held x xs line h in
+    none_held (written x p v) (noted xs p v) line (ap (λ a. same_line a line) (written_line x p v) ∙ n.0) (held-noted xs p v line n.1)
+
+distinct-noted : (es : List Entry) (p : WordAt) (v : ℕ) → AreDistinct es → AreDistinct (noted es p v)
+distinct-noted [] p v s = tt
+distinct-noted (x ∷ xs) p v s =
+    (subst (λ a. held (noted xs p v) a ≡ None) (sym (written_line x p v)) (held-noted xs p v x.line s.0), distinct-noted xs p v s.1)
+
+length-noted : (es : List Entry) (p : WordAt) (v : ℕ) → length (noted es p v) ≡ length es
+length-noted [] p v = refl
+length-noted (x ∷ xs) p v = ap suc (length-noted xs p v)
+
+pub cache-noted : (es : List Entry) (p : WordAt) (v : ℕ) → IsCache es → IsCache (noted es p v)
+cache-noted es p v s = record { distinct = distinct-noted es p v s.distinct; few = rw (length-noted es p v) s.few }
+
+pub cache-remove : (es : List Entry) (i : ℕ) → IsCache es → IsCache (remove es i)
+cache-remove es i s =
+    let few = s.few in
+    record {
+      distinct = distinct-remove es i s.distinct;
+      few = simp length-append (omega (arith, length-take i es, length-drop (suc i) es));
+    }
+
+pub cache-push : (es : List Entry) (e : Entry) → length es < most_lines → IsCache es → held es e.line ≡ None → IsCache (es ++ e ∷ [])
+cache-push es e room s h = record {
+  distinct = distinct-push es e s.distinct h;
+  few = simp length-append (omega arith);
+}
+
+-- a list written over by one of its length
+pub refilled : (xs ws : List Entry) → length ws ≡ length xs → refill (length xs) xs ws ≡ ws
+refilled xs ws e =
+    let d : drop (length ws) xs ≡ [] = drop_all (length ws) xs (omega arith) in
+    rw (d, append-nil ws) (take_all (length xs) ws (omega arith))
+
+pub cache-refilled : (xs ws : List Entry) (p : WordAt) (v : ℕ) → ws ≡ noted xs p v → IsCache xs → IsCache (refill (length xs) xs ws)
+cache-refilled xs ws p v e s =
+    rw (refilled xs ws (ap length e ∙ length-noted xs p v), e) (cache-noted xs p v s)

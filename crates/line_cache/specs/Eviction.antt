@@ -1,0 +1,40 @@
+-- What an evictor answers and how its count goes. That cached lines may be dropped at any fill is of the
+-- SCC External Architecture Specification; the evictors are this project's profile.
+use Rattle.std.specs.Prelude.{ℕ, ◌+◌, ◌-◌, ◌/◌, ◌%◌, ◌^◌, Bool, ◌&&◌, not, ◌==◌, if◌then◌else◌, Option, Some, None, is_some}
+use Rattle.rand_pcg.specs.Lcg.{Lcg}
+use Rattle.rand_pcg.specs.Pcg.{pcg32}
+
+-- the largest count of evictions
+abbrev pub most_evictions : ℕ
+most_evictions = 2 ^ 64 - 1
+
+-- the count after an answer: one more where an entry was named
+abbrev pub count_after : Option ℕ → ℕ → ℕ
+count_after answer count = if is_some answer then count + 1 else count
+
+-- an evictor may name an entry: there is one, and its count can rise
+abbrev pub may_evict : ℕ → ℕ → Bool
+may_evict held count = not (held == 0) && not (count == most_evictions)
+
+-- a seeded evictor: its generator, and its count
+pub record Seeds : Type 0 where
+  pub generator : Lcg
+  pub count : ℕ
+
+-- the next word of the generator evicts where 4 divides it, and then a quarter of it picks the entry
+abbrev pub picked : ℕ → ℕ → ℕ → Option ℕ
+picked word held count =
+    if word % 4 == 0 && may_evict held count then Some (word / 4 % held) else None
+
+-- what a seeded evictor answers with so many entries held
+abbrev pub seeded_answer : Seeds → ℕ → Option ℕ
+seeded_answer e held = picked (pcg32 e.generator).0 held e.count
+
+-- the seeded evictor after that answer: one word was drawn
+abbrev pub seeded_next : Seeds → ℕ → Seeds
+seeded_next e held =
+    record { generator = (pcg32 e.generator).1; count = count_after (seeded_answer e held) e.count }
+
+-- the evictor that drops the oldest entry whenever it may
+abbrev pub always_answer : ℕ → ℕ → Option ℕ
+always_answer held count = if may_evict held count then Some 0 else None

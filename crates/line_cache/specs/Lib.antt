@@ -1,0 +1,3 @@
+pub mod Eviction
+pub mod Choices
+pub mod Lines

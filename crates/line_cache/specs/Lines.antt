@@ -1,0 +1,39 @@
+-- The private lines of a core: the lines of message passing buffers that it holds, with their words, in the
+-- order in which they were brought in (SCC External Architecture Specification; the whole cache as one list
+-- of at most 512 lines is this project's profile).
+use Rattle.std.specs.Prelude.{◌≡◌, ℕ, ◌≤◌, ◌==◌, if◌then◌else◌, List, [], ◌∷◌, ◌++◌, Option, None, Some, length, drop, map, slice_set}
+use Rattle.scc_base.specs.Places.{LineAt, WordAt, line_of_word, same_line}
+use Rattle.line_cache.specs.declared.cache.Entry.{Entry}
+
+-- how many lines a cache holds at most
+abbrev pub most_lines : ℕ
+most_lines = 512
+
+-- the words that are held of a line
+abbrev pub held : List Entry → LineAt → Option (List ℕ)
+held [] line = None
+held (e ∷ es) line = if same_line e.line line then Some e.words else held es line
+
+-- the lines after one was brought in: behind all, in a full cache in place of the first
+abbrev pub filled : List Entry → LineAt → List ℕ → List Entry
+filled es line words =
+    (if length es == most_lines then drop 1 es else es) ++ (record { line = line; words = words }) ∷ []
+
+-- an entry after a word was written at a place
+abbrev pub written : Entry → WordAt → ℕ → Entry
+written e p v =
+    if same_line e.line (line_of_word p) then record { line = e.line; words = slice_set e.words p.word v } else e
+
+-- the lines after a word was written at a place: it changes where its line is held, and nothing is brought in
+abbrev pub noted : List Entry → WordAt → ℕ → List Entry
+noted es p v = map (λ e. written e p v) es
+
+-- no line is held twice
+abbrev pub AreDistinct : List Entry → Type 0
+AreDistinct [] = Unit {0}
+AreDistinct (e ∷ es) = (held es e.line ≡ None) × AreDistinct es
+
+-- what is seen of a cache
+pub record IsCache (es : List Entry) : Type 0 where
+  pub distinct : AreDistinct es
+  pub few : length es ≤ most_lines

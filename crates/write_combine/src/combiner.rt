@@ -1,0 +1,105 @@
+//! The one-line buffer.
+
+use scc_base::{Line, Place};
+use std::marker::Model;
+
+/// A line on its way out: its words, and which of them were written. A word that was not written is 0 here
+/// and is not stored.
+#[derive(Debug, Drop)]
+pub struct Out {
+    pub line: Line,
+    pub words: [u64; 4],
+    pub mask: [bool; 4],
+}
+
+impl Out {
+    ghost use Rattle.std.specs.Prelude.{◌≡◌};
+    ghost use Rattle.write_combine.specs.Combining.{one_word};
+
+    fn new(place: Place, value: u64) -> Out
+        ensures { result ≡ one_word place value }
+    {
+        let word = usize::from(place.word());
+        let mut words = [0; 4];
+        let mut mask = [false; 4];
+        words[word] = value;
+        mask[word] = true;
+        Out {
+            line: place.line_at(),
+            words,
+            mask,
+        }
+    }
+}
+
+/// The buffer: it holds nothing, or one line of which some word was written.
+#[derive(Debug, Drop)]
+pub struct Combiner {
+    held: Option<Out>,
+}
+
+impl Model for Combiner {
+    ghost use Rattle.std.specs.Prelude.{Option};
+    ghost use Rattle.write_combine.specs.declared.combiner.Out.{Out};
+    ghost use Rattle.write_combine.specs.Combining.{HoldsWord};
+
+    ghost Value = { Option Out };
+
+    ghost view = { λ c. c.held };
+
+    ghost invariant = { λ c. HoldsWord c.held };
+}
+
+impl Combiner {
+    ghost use Rattle.std.specs.Prelude.{◌≡◌, Some, None, is_none};
+    ghost use Rattle.scc_base.specs.Places.{line_of_word};
+    ghost use Rattle.write_combine.specs.Combining.{handed_out, held_after, HoldsWord};
+
+    /// It holds nothing.
+    pub fn new() -> Combiner
+        ensures { result ≡ None }
+    {
+        Combiner { held: None }
+    }
+
+    /// Whether nothing is held.
+    pub fn is_empty(&self) -> bool
+        ensures { result ≡ is_none self.now }
+    {
+        self.held.is_none()
+    }
+
+    /// Notes a word that a core wrote, and hands out the line that was held before if it is another one.
+    pub fn write(&mut self, place: Place, value: u64) -> Option<Out>
+        ensures out { result ≡ handed_out self.old (line_of_word place) }
+        ensures held { self.new ≡ Some (held_after self.old place value) }
+        ensures some_word { HoldsWord self.new }
+    {
+        match self.flush() {
+            None => {
+                self.held = Some(Out::new(place, value));
+                None
+            }
+            Some(mut out) => {
+                if !out.line.is(place.line_at()) {
+                    self.held = Some(Out::new(place, value));
+                    return Some(out);
+                }
+                let word = usize::from(place.word());
+                out.words[word] = value;
+                out.mask[word] = true;
+                self.held = Some(out);
+                None
+            }
+        }
+    }
+
+    /// Hands out what is held. Nothing is held afterwards.
+    pub fn flush(&mut self) -> Option<Out>
+        ensures out { result ≡ self.old }
+        ensures held { self.new ≡ None }
+        ensures some_word { HoldsWord result }
+    {
+        self.held.take()
+    }
+}

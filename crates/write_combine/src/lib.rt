@@ -1,0 +1,8 @@
+//! The write-combining buffer of a core: it gathers the words written to one line.
+#![tactic(auto)]
+
+mod combiner;
+#[cfg(test)]
+mod tests;
+
+pub use combiner::{Combiner, Out};
