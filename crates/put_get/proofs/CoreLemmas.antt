@@ -1,0 +1,44 @@
+-- What fetches of lines come to: their events, and how the cache stands after them.
+use Rattle.std.proofs.Common.{◌≡◌, ℕ, suc, ◌+◌, ◌<◌, List, [], ◌++◌, Option, length, remove, sym, subst, arith}
+use Rattle.scc_base.specs.Places.{LineAt, WordAt}
+use Rattle.scc_base.specs.declared.events.Event.{Event}
+use Rattle.scc_proto.specs.Ports.{Sight, Did}
+use Rattle.scc_proto.proofs.PortLaws.{did_nothing, did_both}
+use Rattle.line_cache.specs.declared.cache.Entry.{Entry}
+use Rattle.line_cache.specs.Lines.{filled}
+use Rattle.write_combine.specs.declared.combiner.Out.{Out}
+use Rattle.put_get.specs.Accesses.{loads_of}
+use Rattle.put_get.specs.Cores.{Private, Fills, Dropped, Fetch, Held, Loaded, ReadsWord, MadeSteps, KeepsSteps}
+use Rattle.put_get.proofs.StepLemmas.{steps_both}
+
+-- a line came in and one left
+pub fills_dropped : (lines now : List Entry) (out : Option Out) (n m : ℕ) (line : LineAt) (words : List ℕ) (at : ℕ)
+    → at < length (filled lines line words) → now ≡ remove (filled lines line words) at → m ≡ n + 1
+    → Fills (record { lines = lines; out = out; evictions = n }) line words (record { lines = now; out = out; evictions = m })
+fills_dropped lines now out n m line words at h e k =
+    let c : m ≡ suc n = omega arith in
+    Dropped at h (λ i. record { lines = e i; out = out; evictions = c i })
+
+-- the events that a read made
+pub record Made (s t : Sight) : Type 0 where
+  pub events : List Event
+  pub did : Did s events t
+
+pub fetch_made : {s t : Sight} {c d : Private} {line : LineAt} {words : List ℕ} → Fetch s c line words t d → Made s t
+fetch_made {s} (Held h e f) = record { events = []; did = subst (Did s []) (sym e) (did_nothing s) }
+fetch_made {line = line} {words = words} (Loaded h len did fills) = record { events = loads_of line words; did = did }
+
+pub word_made : {s t : Sight} {c d : Private} {p : WordAt} {v : ℕ} → ReadsWord s c p v t d → Made s t
+word_made r = fetch_made r.fetch
+
+-- four reads were steps, where each was
+pub steps_four : (st1 st2 st3 st4 : List Event → Event → Type 0) (s s1 s2 s3 t : Sight) → Made s s1 → Made s1 s2 → Made s2 s3 → Made s3 t
+    → MadeSteps st1 s s1 → KeepsSteps st1 st2 → MadeSteps st2 s1 s2 → KeepsSteps st2 st3 → MadeSteps st3 s2 s3 → KeepsSteps st3 st4 → MadeSteps st4 s3 t
+    → MadeSteps st4 s t
+steps_four st1 st2 st3 st4 s s1 s2 s3 t a b c d x1 k2 x2 k3 x3 k4 x4 =
+    let ab = did_both s a.events s1 b.events s2 a.did b.did in
+    let abc = did_both s (a.events ++ b.events) s2 c.events s3 ab c.did in
+    steps_both st3 st4 s s3 t ((a.events ++ b.events) ++ c.events) d.events abc d.did
+    (steps_both st2 st3 s s2 s3 (a.events ++ b.events) c.events ab c.did
+    (steps_both st1 st2 s s1 s2 a.events b.events a.did b.did x1 k2 x2) k3 x3)
+    k4 x4

@@ -1,0 +1,7 @@
+pub mod StepLemmas
+pub mod AccessLemmas
+pub mod AnswerLemmas
+pub mod CoreLemmas
+pub mod EntryLemmas
+pub mod TransferLemmas
+pub mod WorkLemmas

@@ -1,0 +1,23 @@
+use Rattle.std.proofs.Common.{◌++◌}
+use Rattle.scc_proto.proofs.PortLaws.{may_next}
+use Rattle.put_get.proofs.AccessLemmas.{may_part}
+use Rattle.put_get.specs.Accesses.{store_of_word}
+use Rattle.put_get.proofs.accesses.store_line.Goals as goal
+
+pub store_word-requires-2-clause-permitted : goal.store_word-requires-2-clause-permitted
+store_word-requires-2-clause-permitted g c =
+    may_part (g.P.Port.sight c.args.port.now) (store_of_word c.args.out.now 3) (store_of_word c.args.out.now 2)
+    (store_of_word c.args.out.now 1 ++ store_of_word c.args.out.now 0) _ c.store_word.ensures.did c.requires.permitted
+
+pub store_word-requires-3-clause-permitted : goal.store_word-requires-3-clause-permitted
+store_word-requires-3-clause-permitted g c =
+    may_part _ (store_of_word c.args.out.now 2) (store_of_word c.args.out.now 1) (store_of_word c.args.out.now 0) _ c.store_word-2.ensures.did
+    (may_next (g.P.Port.sight c.args.port.now) (store_of_word c.args.out.now 3)
+    (store_of_word c.args.out.now 2 ++ (store_of_word c.args.out.now 1 ++ store_of_word c.args.out.now 0)) _ c.store_word.ensures.did c.requires.permitted)
+
+pub store_word-requires-4-clause-permitted : goal.store_word-requires-4-clause-permitted
+store_word-requires-4-clause-permitted g c =
+    may_next _ (store_of_word c.args.out.now 1) (store_of_word c.args.out.now 0) _ c.store_word-3.ensures.did
+    (may_next _ (store_of_word c.args.out.now 2) (store_of_word c.args.out.now 1 ++ store_of_word c.args.out.now 0) _ c.store_word-2.ensures.did
+    (may_next (g.P.Port.sight c.args.port.now) (store_of_word c.args.out.now 3)
+    (store_of_word c.args.out.now 2 ++ (store_of_word c.args.out.now 1 ++ store_of_word c.args.out.now 0)) _ c.store_word.ensures.did c.requires.permitted))

@@ -1,0 +1,143 @@
+//! A core: its cache, its write-combining buffer and its evictor.
+
+use crate::accesses::{load_line, store_out};
+use line_cache::{Cache, Evict};
+use scc_base::{Line, Place};
+use scc_proto::Port;
+use std::marker::Model;
+use write_combine::Combiner;
+
+/// What a core has for itself between it and the shared words.
+///
+/// It is seen as the lines in its cache, the line in its write-combining buffer, and the number of lines
+/// that its evictor had dropped. Reads go through the cache: what it holds may be old until `cl1invmb`.
+/// Writes wait in the buffer until another line is written or `flush`.
+#[derive(Drop)]
+pub struct Core<V: Evict> {
+    cache: Cache,
+    combiner: Combiner,
+    evict: V,
+}
+
+impl<V: Evict> Model for Core<V> {
+    ghost use Rattle.put_get.specs.Cores.{Private};
+
+    ghost Value = { Private };
+
+    ghost view = { λ s. record { lines = s.cache; out = s.combiner; evictions = V.count s.evict } };
+}
+
+impl<V: Evict> Core<V> {
+    ghost use Rattle.std.specs.Prelude.{◌≡◌, ℕ, List, [], Some, None};
+    ghost use Rattle.scc_base.specs.Places.{line_of_word};
+    ghost use Rattle.scc_base.specs.declared.events.Event.{Event};
+    ghost use Rattle.scc_proto.specs.Ports.{MayMakeAll, record_in};
+    ghost use Rattle.line_cache.specs.Lines.{held};
+    ghost use Rattle.write_combine.specs.Combining.{handed_out};
+    ghost use Rattle.put_get.specs.Accesses.{stores_of};
+    ghost use Rattle.put_get.specs.Cores.{Private, Fills, Fetch, ReadsWord, ReadsLine, Writes, WritesLine, Flushes, MadeSteps, KeepsSteps};
+
+    /// A core that holds nothing.
+    pub fn new(evict: V) -> Core<V>
+        ensures { result ≡ record { lines = []; out = None; evictions = V.count evict } }
+    {
+        Core {
+            cache: Cache::new(),
+            combiner: Combiner::new(),
+            evict,
+        }
+    }
+
+    /// Drops all cached lines, as the instruction CL1INVMB does.
+    pub fn cl1invmb(&mut self)
+        ensures { self.new ≡ record self.old { lines = [] } }
+    {
+        self.cache.invalidate();
+    }
+
+    /// Brings a line in. Then the evictor is asked once, and the entry that it names leaves.
+    fn bring(&mut self, line: Line, words: [u64; 4])
+        requires { held self.old.lines line ≡ None }
+        ensures { Fills self.old line words self.new }
+    {
+        self.cache.fill(line, words);
+        let held = self.cache.len();
+        if let Some(at) = self.evict.drop_one(held) {
+            self.cache.drop_at(at);
+        }
+    }
+
+    /// The words of a line, from the cache where it is held there.
+    fn fetch<P: Port>(&mut self, port: &mut P, line: Line) -> [u64; 4]
+        ensures fetch { Fetch (P.sight port.old) self.old line result (P.sight port.new) self.new }
+        ensures steps { MadeSteps (P.stepped port.new) (P.sight port.old) (P.sight port.new) }
+        ensures keeps { KeepsSteps (P.stepped port.old) (P.stepped port.new) }
+    {
+        if let Some(words) = self.cache.look(line) {
+            return words;
+        }
+        let words = load_line(port, line);
+        self.bring(line, words);
+        words
+    }
+
+    /// Reads a word.
+    pub fn word_read<P: Port>(&mut self, port: &mut P, place: Place) -> u64
+        requires empty { self.old.out ≡ None }
+        ensures reads { ReadsWord (P.sight port.old) self.old place result (P.sight port.new) self.new }
+        ensures steps { MadeSteps (P.stepped port.new) (P.sight port.old) (P.sight port.new) }
+        ensures keeps { KeepsSteps (P.stepped port.old) (P.stepped port.new) }
+    {
+        let words = self.fetch(port, place.line_at());
+        words[usize::from(place.word())]
+    }
+
+    /// Reads the four words of a line, in order.
+    pub fn line_read<P: Port>(&mut self, port: &mut P, line: Line) -> [u64; 4]
+        requires empty { self.old.out ≡ None }
+        ensures reads { ReadsLine (P.sight port.old) self.old line result (P.sight port.new) self.new }
+        ensures steps { MadeSteps (P.stepped port.new) (P.sight port.old) (P.sight port.new) }
+        ensures keeps { KeepsSteps (P.stepped port.old) (P.stepped port.new) }
+    {
+        let first = self.word_read(port, line.word(0));
+        let second = self.word_read(port, line.word(1));
+        let third = self.word_read(port, line.word(2));
+        let fourth = self.word_read(port, line.word(3));
+        [first, second, third, fourth]
+    }
+
+    /// Writes a word. What the buffer hands out is stored.
+    pub fn word_write<P: Port>(&mut self, port: &mut P, place: Place, value: u64)
+        requires permitted { MayMakeAll (P.sight port.old).seat (record_in (P.sight port.old))
+            (stores_of (handed_out self.old.out (line_of_word place))) }
+        ensures writes { Writes (P.sight port.old) self.old place value (P.sight port.new) self.new }
+        ensures keeps { KeepsSteps (P.stepped port.old) (P.stepped port.new) }
+    {
+        self.cache.note_write(place, value);
+        let out = self.combiner.write(place, value);
+        store_out(port, &out);
+    }
+
+    /// Writes the four words of a line that is not the one in the buffer, so that the whole line stands there.
+    pub fn line_write<P: Port>(&mut self, port: &mut P, line: Line, words: &[u64; 4])
+        requires other { handed_out self.old.out line ≡ self.old.out }
+        requires permitted { MayMakeAll (P.sight port.old).seat (record_in (P.sight port.old)) (stores_of self.old.out) }
+        ensures writes { WritesLine (P.sight port.old) self.old line words.now (P.sight port.new) self.new }
+        ensures keeps { KeepsSteps (P.stepped port.old) (P.stepped port.new) }
+    {
+        self.word_write(port, line.word(0), words[0]);
+        self.word_write(port, line.word(1), words[1]);
+        self.word_write(port, line.word(2), words[2]);
+        self.word_write(port, line.word(3), words[3]);
+    }
+
+    /// Stores what the buffer holds. It holds nothing afterwards.
+    pub fn flush<P: Port>(&mut self, port: &mut P)
+        requires permitted { MayMakeAll (P.sight port.old).seat (record_in (P.sight port.old)) (stores_of self.old.out) }
+        ensures flushes { Flushes (P.sight port.old) self.old (P.sight port.new) self.new }
+        ensures keeps { KeepsSteps (P.stepped port.old) (P.stepped port.new) }
+    {
+        let out = self.combiner.flush();
+        store_out(port, &out);
+    }
+}

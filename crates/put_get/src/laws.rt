@@ -1,0 +1,13 @@
+//! Laws about the calls of a core, for the layers above. Each is a function that does nothing and ensures it.
+
+ghost use Rattle.put_get.specs.Answers.{AnswersLaw, LineCostLaw};
+
+/// Each answer of a core is the value of a load since the last `cl1invmb`, or a word that it wrote since.
+pub fn answers_law()
+    ensures { AnswersLaw }
+{}
+
+/// A line that is read costs at most four loads, and four more for each eviction, whatever the evictor does.
+pub fn line_cost_law()
+    ensures { LineCostLaw }
+{}
