@@ -1,0 +1,75 @@
+-- Looks: a read from an empty cache is a look, and looks in a row.
+use Rattle.std.proofs.Common.{◌≡◌, ℕ, ◌+◌, Bool, true, false, List, [], ◌∷◌, ◌++◌, Option, None, Some, slice_index, refl, sym, ◌∙◌, ap, subst, length-append}
+use mathlib.Core.Bool.{beq}
+use Rattle.scc_base.specs.Places.{WordAt, LineAt, line_of_word}
+use Rattle.scc_proto.specs.Ports.{Sight, Did}
+use Rattle.scc_proto.proofs.PortLaws.{did_nothing, did_both}
+use Rattle.line_cache.specs.Lines.{held}
+use Rattle.put_get.specs.Accesses.{loads_of}
+use Rattle.put_get.specs.Cores.{Private, Fills, Kept, Dropped, Fetch, Held, Loaded, ReadsWord}
+use Rattle.sync_flags.specs.Flags.{is_set_in}
+use Rattle.sync_flags.specs.Tries.{is_unwanted}
+use Rattle.sync_flags.specs.Looks.{Looks, ReadsFlag, LooksAll, looks_of, AreVain, LooksInVain}
+
+-- nothing is held in an empty cache, so a fetch loads
+pub fetch_looks : {s t : Sight} {c1 d : Private} {line : LineAt} {words : List ℕ} → Fetch s c1 line words t d → (c : Private)
+    → c1 ≡ record c { lines = [] } → Looks s c line words t d
+fetch_looks {line = line} {words = words} (Held h e f) c empty = let none : None ≡ Some words = sym (ap (λ (x : Private). held x.lines line) empty) ∙ h in absurd (cc)
+fetch_looks {d = d} {line = line} {words = words} (Loaded h len did fills) c empty = record { did = did; fills = subst (λ (x : Private). Fills x line words d) empty fills }
+
+pub word_looks : {s t : Sight} {c1 d : Private} {p : WordAt} {v : ℕ} → ReadsWord s c1 p v t d → (c : Private) (place : WordAt) (bit : Option ℕ) (found : Bool)
+    → c1 ≡ record c { lines = [] } → p ≡ place → found ≡ is_set_in bit v → ReadsFlag s c place bit found t d
+word_looks {s} {t} {d = d} r c place bit found empty at is =
+    subst (λ (x : WordAt). ReadsFlag s c x bit found t d) at
+    (record { words = r.words; looks = fetch_looks r.fetch c empty; is = is ∙ ap (λ (x : ℕ). is_set_in bit x) r.is })
+
+-- the combiner is left alone by a look
+pub fills_out : {c d : Private} {line : LineAt} {words : List ℕ} → Fills c line words d → d.out ≡ c.out
+fills_out (Kept e) = ap (λ (x : Private). x.out) e
+fills_out (Dropped at h e) = ap (λ (x : Private). x.out) e
+
+pub looks_did : (s : Sight) (c : Private) (line : LineAt) (looks : List (List ℕ)) (t : Sight) (d : Private) → LooksAll s c line looks t d
+    → Did s (looks_of line looks) t
+looks_did s c line [] t d all = subst (λ (x : Sight). Did s [] x) (sym all.0) (did_nothing s)
+looks_did s c line (words ∷ rest) t d all =
+    did_both s (loads_of line words) all.0 (looks_of line rest) t all.2.did (looks_did all.0 all.1 line rest t d all.3)
+
+-- one look more
+pub looks_more : (s : Sight) (c : Private) (line : LineAt) (looks : List (List ℕ)) (m : Sight) (b : Private) (words : List ℕ) (t : Sight) (d : Private)
+    → LooksAll s c line looks m b → Looks m b line words t d → LooksAll s c line (looks ++ words ∷ []) t d
+looks_more s c line [] m b words t d all one =
+    (t, d, subst (λ (x : Private). Looks s x line words t d) all.1 (subst (λ (x : Sight). Looks x b line words t d) all.0 one), (refl, refl))
+looks_more s c line (first ∷ rest) m b words t d all one = (all.0, all.1, all.2, looks_more all.0 all.1 line rest m b words t d all.3 one)
+
+pub vain_more : (place : WordAt) (bit : Option ℕ) (want : Bool) (looks : List (List ℕ)) (words : List ℕ) → AreVain place bit want looks
+    → is_unwanted want (is_set_in bit (slice_index words place.word)) ≡ true → AreVain place bit want (looks ++ words ∷ [])
+vain_more place bit want [] words all one = (one, tt)
+vain_more place bit want (first ∷ rest) words all one = (all.0, vain_more place bit want rest words all.1 one)
+
+pub unwanted : (want found : Bool) → beq found want ≡ false → is_unwanted want found ≡ true
+unwanted true true other = absurd (cc)
+unwanted true false other = refl
+unwanted false true other = refl
+unwanted false false other = absurd (cc)
+
+pub same_by_beq : (a b : Bool) → beq a b ≡ true → a ≡ b
+same_by_beq true true e = refl
+same_by_beq true false e = absurd (cc)
+same_by_beq false true e = absurd (cc)
+same_by_beq false false e = refl
+
+pub wanted : (want : Bool) → is_unwanted want want ≡ false
+wanted true = refl
+wanted false = refl
+
+pub none_yet : (s : Sight) (c : Private) (place : WordAt) (bit : Option ℕ) (want : Bool) → LooksInVain s c place bit want 0 s c
+none_yet s c place bit want = record { looks = []; count = refl; vain = tt; looked = (refl, refl) }
+
+pub one_more : {s m t : Sight} {c b d : Private} {place : WordAt} {bit : Option ℕ} {want found : Bool} {n : ℕ} → LooksInVain s c place bit want n m b
+    → ReadsFlag m b place bit found t d → beq found want ≡ false → LooksInVain s c place bit want (n + 1) t d
+one_more {s} {m} {t} {c} {b} {d} {place} {bit} {want} {found} {n} so_far look other = record {
+  looks = so_far.looks ++ look.words ∷ [];
+  count = length-append so_far.looks (look.words ∷ []) ∙ ap (λ (k : ℕ). k + 1) so_far.count;
+  vain = vain_more place bit want so_far.looks look.words so_far.vain (ap (λ (x : Bool). is_unwanted want x) (sym look.is) ∙ unwanted want found other);
+  looked = looks_more s c (line_of_word place) so_far.looks m b look.words t d so_far.looked look.looks;
+}

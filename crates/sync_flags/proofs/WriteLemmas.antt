@@ -1,0 +1,178 @@
+-- Writes of flags: one store, and a bit's change under its register.
+use Rattle.std.proofs.Common.{◌≡◌, ℕ, zero, suc, ◌+◌, ◌<◌, ◌≤◌, ◌↔◌, Bool, true, false, if◌then◌else◌, List, [], ◌∷◌, ◌++◌, Option, None, Some, Result, Ok, Err, IsErr, slice_index, refl, sym, ◌∙◌, ap, subst, append_assoc, append-nil, arith}
+use Rattle.scc_base.specs.Places.{WordAt, line_of_word}
+use Rattle.scc_base.specs.Events.{store_of, take_of, free_of}
+use Rattle.scc_base.specs.declared.events.Event.{Event}
+use Rattle.scc_base.specs.declared.events.Stalled.{Stalled}
+use Rattle.scc_proto.specs.Stages.{Record}
+use Rattle.scc_proto.specs.Soundness.{IsSound}
+use Rattle.scc_proto.specs.Ports.{Seat, Sight, Did, MayMake, MayMakeAll, WasMade, IsSoundPort, record_in, record_on, record_next}
+use Rattle.scc_proto.proofs.PortLaws.{did_both, record_did, seat_kept}
+use Rattle.scc_proto.proofs.Tests.{eqb_same}
+use Rattle.write_combine.specs.Combining.{one_word, handed_out, held_after}
+use Rattle.write_combine.specs.declared.combiner.Out.{Out}
+use Rattle.put_get.specs.Accesses.{loads_of, stores_of}
+use Rattle.put_get.specs.Cores.{Private, ReadsWord, Writes}
+use Rattle.put_get.proofs.StepLemmas.{events_once}
+use Rattle.tas_lock.specs.Holds.{IsHolding, IsNotHolding, after_try}
+use Rattle.tas_lock.proofs.HoldLemmas.{next_tried}
+use Rattle.sync_flags.specs.Flags.{with_bit}
+use Rattle.sync_flags.specs.Tries.{AtRegister, vain_from, vain_tries, TriedInVain}
+use Rattle.sync_flags.specs.Writes.{vain_takes, change_events, MayChange, MayWrite, StoresWord, TakesWithin, ChangesBit, WritesBit, GivesUp, WritesFlag}
+use Rattle.sync_flags.proofs.LookLemmas.{fetch_looks}
+use Rattle.sync_flags.proofs.HeldLemmas.{holds_load, holds_store}
+use Rattle.sync_flags.proofs.WaitLemmas.{no_stall, stall}
+
+-- ---- one word
+
+one_at : (core line word v : ℕ) → word < 4 → stores_of (Some (one_word (record { core = core; line = line; word = word }) v))
+    ≡ store_of (record { core = core; line = line; word = word }) v ∷ []
+one_at core line zero v lt = refl
+one_at core line (suc zero) v lt = refl
+one_at core line (suc (suc zero)) v lt = refl
+one_at core line (suc (suc (suc zero))) v lt = refl
+one_at core line (suc (suc (suc (suc word)))) v lt = absurd (omega (arith, lt))
+
+nothing_done : (s t : Sight) → Did s [] t → t ≡ s
+nothing_done s t did = did.continues ∙ (λ i. record s { events = append-nil s.events i })
+
+-- what an empty combiner holds after a word was written is that word's store
+pub flush_may : {s m : Sight} {c d : Private} {p : WordAt} {v : ℕ} → Writes s c p v m d → c.out ≡ None → p.word < 4
+    → MayMake s.seat (record_in s) (store_of p v) → MayMakeAll m.seat (record_in m) (stores_of d.out)
+flush_may {s} {m} {c} {d} {p} {v} w empty lt may =
+    let did : Did s [] m = subst (λ (o : Option Out). Did s (stores_of (handed_out o (line_of_word p))) m) empty w.did in
+    let out : d.out ≡ Some (one_word p v) = ap (λ (x : Private). x.out) w.is ∙ ap (λ (o : Option Out). Some (held_after o p v)) empty in
+    let stores : stores_of d.out ≡ store_of p v ∷ [] = ap (λ (o : Option Out). stores_of o) out ∙ one_at p.core p.line p.word v lt in
+    subst (λ (es : List Event). MayMakeAll m.seat (record_in m) es) (sym stores)
+    (subst (λ (x : Sight). MayMakeAll x.seat (record_in x) (store_of p v ∷ [])) (sym (nothing_done s m did)) (may, tt))
+
+-- ---- a bit under its register
+
+pub may_change : {s m : Sight} {c1 d : Private} {p : WordAt} {v : ℕ} → ReadsWord s c1 p v m d → (c : Private) → c1 ≡ record c { lines = [] }
+    → (b : ℕ) (set : Bool) (x : ℕ) → MayChange s.seat (record_in s) [] p b set → IsSoundPort m → x ≡ with_bit b set v
+    → MayMake m.seat (record_in m) (store_of p x)
+may_change {s} {m} {c1} {d} {p} {v} r c empty b set x may sound is =
+    let did = (fetch_looks r.fetch c empty).did in
+    let loads = loads_of (line_of_word p) r.words in
+    let seat : m.seat ≡ s.seat = seat_kept s loads m did in
+    let late : record_in m ≡ record_on s.seat (record_in s) loads = record_did s loads m did in
+    let sounds : IsSound s.seat.setup s.seat.rank (record_on s.seat (record_in s) loads)
+    = subst (λ (rec : Record). IsSound s.seat.setup s.seat.rank rec) late (subst (λ (y : Seat). IsSound y.setup y.rank (record_in m)) seat sound) in
+    let value : with_bit b set (slice_index r.words p.word) ≡ x = ap (λ (w : ℕ). with_bit b set w) (sym r.is) ∙ sym is in
+    let here : MayMake s.seat (record_on s.seat (record_in s) loads) (store_of p (with_bit b set (slice_index r.words p.word)))
+    = may r.words (record { made = did.made; sound = sounds }) in
+    subst (λ (y : Seat). MayMake y (record_in m) (store_of p x)) (sym seat)
+    (subst (λ (rec : Record). MayMake s.seat rec (store_of p x)) (sym late)
+    (subst (λ (w : ℕ). MayMake s.seat (record_on s.seat (record_in s) loads) (store_of p w)) value here))
+
+pub bit_changed : {s m t : Sight} {c1 d1 d : Private} {p : WordAt} {v x : ℕ} → ReadsWord s c1 p v m d1 → (c : Private) → c1 ≡ record c { lines = [] }
+    → StoresWord m d1 p x t d → (b : ℕ) (set : Bool) → x ≡ with_bit b set v → ChangesBit s c p b set t d
+bit_changed {s} {m} {t} {c1} {d1} {d} {p} {v} {x} r c empty stores b set is =
+    let looks = fetch_looks r.fetch c empty in
+    let value : x ≡ with_bit b set (slice_index r.words p.word) = is ∙ ap (λ (w : ℕ). with_bit b set w) r.is in
+    let stored = subst (λ (w : ℕ). StoresWord m d1 p w t d) value stores in
+    record {
+      words = r.words;
+      did = did_both s (loads_of (line_of_word p) r.words) m (store_of p (with_bit b set (slice_index r.words p.word)) ∷ []) t looks.did stored.did;
+      loaded = d1;
+      fills = looks.fills;
+      is = stored.is;
+    }
+
+-- the registers that were held before are held after the change
+pub change_holds : {s t : Sight} {c d : Private} {p : WordAt} {b : ℕ} {set : Bool} → ChangesBit s c p b set t d → (k : ℕ) → IsHolding (record_in s) k
+    → IsHolding (record_in t) k
+change_holds {s} {t} {c} {d} {p} {b} {set} ch k h =
+    subst (λ (rec : Record). IsHolding rec k)
+    (sym (record_did s (loads_of (line_of_word p) ch.words ++ store_of p (with_bit b set (slice_index ch.words p.word)) ∷ []) t ch.did))
+    (holds_store s.seat _ p (with_bit b set (slice_index ch.words p.word)) k
+    (holds_load s.seat _ _ (slice_index ch.words 3) k
+    (holds_load s.seat _ _ (slice_index ch.words 2) k
+    (holds_load s.seat _ _ (slice_index ch.words 1) k
+    (holds_load s.seat (record_in s) _ (slice_index ch.words 0) k h)))))
+
+take_made : (seat : Seat) (rec : Record) (core : ℕ) → IsNotHolding rec core → WasMade seat rec (take_of core true)
+take_made seat rec core free = record { permitted = free; honest = λ value e. absurd (cc) }
+
+-- under the register that was taken the change is permitted
+pub may_under : (s t : Sight) (p : WordAt) (b : ℕ) (set : Bool) → t.seat ≡ s.seat → record_in t ≡ after_try p.core true (record_in s)
+    → MayWrite s.seat (record_in s) p (Some b) set → MayChange t.seat (record_in t) [] p b set
+may_under s t p b set seat holds may =
+    let take = take_of p.core true in
+    let late : record_in t ≡ record_next s.seat (record_in s) take = holds ∙ sym (next_tried s.seat (record_in s) p.core true may.0) in
+    let here : MayChange s.seat (record_next s.seat (record_in s) take) [] p b set
+    = λ words loaded. may.1 words (record { made = (take_made s.seat (record_in s) p.core may.0, loaded.made); sound = loaded.sound }) in
+    subst (λ (y : Seat). MayChange y (record_in t) [] p b set) (sym seat)
+    (subst (λ (rec : Record). MayChange s.seat rec [] p b set) (sym late) here)
+
+-- one vain take more
+takes_more : (core k : ℕ) → vain_takes core (suc k) ≡ vain_takes core k ++ take_of core false ∷ []
+takes_more core zero = refl
+takes_more core (suc k) = ap (λ (es : List Event). take_of core false ∷ es) (takes_more core k)
+
+pub vain_take_more : (s m t : Sight) (core k : ℕ) → Did s (vain_takes core k) m → Did m (take_of core false ∷ []) t → Did s (vain_takes core (k + 1)) t
+vain_take_more s m t core k first one =
+    let next : suc k ≡ k + 1 = omega arith in
+    subst (λ (es : List Event). Did s es t) (sym (takes_more core k) ∙ ap (λ (n : ℕ). vain_takes core n) next)
+    (did_both s (vain_takes core k) m (take_of core false ∷ []) t first one)
+
+-- the seat is kept while a register is taken
+pub takes_seat : (s t : Sight) (core polls held : ℕ) → TakesWithin s core polls t (Some held) → t.seat ≡ s.seat
+takes_seat s t core polls held takes = seat_kept s (vain_takes core takes.1.0 ++ take_of core true ∷ []) t takes.1.2
+
+pub bit_written : {s m n t : Sight} {c d : Private} {p : WordAt} {b : ℕ} {set : Bool} → ChangesBit m c p b set n d → (polls core held : ℕ)
+    → core ≡ p.core → TakesWithin s core polls m (Some held) → Did n (free_of held ∷ []) t → WritesBit s c p b set polls t d
+bit_written {s} {m} {n} {t} {c} {d} {p} {b} {set} ch polls core held at takes frees =
+    let took = subst (λ (k : ℕ). Did s (vain_takes k takes.1.0 ++ take_of k true ∷ []) m) at takes.1.2 in
+    let freed = subst (λ (k : ℕ). Did n (free_of k ∷ []) t) (takes.0 ∙ at) frees in
+    let change = loads_of (line_of_word p) ch.words ++ store_of p (with_bit b set (slice_index ch.words p.word)) ∷ [] in
+    record {
+      vain = takes.1.0;
+      few = takes.1.1;
+      words = ch.words;
+      did = subst (λ (es : List Event). Did s es t) (append_assoc (vain_takes p.core takes.1.0) (take_of p.core true ∷ []) (change ++ free_of p.core ∷ []))
+          (did_both s (vain_takes p.core takes.1.0 ++ take_of p.core true ∷ []) m (change ++ free_of p.core ∷ []) t took
+          (did_both m change n (free_of p.core ∷ []) t ch.did freed));
+      loaded = ch.loaded;
+      fills = ch.fills;
+      is = ch.is;
+    }
+
+-- ---- where a write has tried in vain
+
+add_more : (n m : ℕ) → suc n + m ≡ n + suc m
+add_more n m = omega arith
+
+takes_count : (core n k : ℕ) (es : List Event) → vain_from (AtRegister core) false n (vain_takes core k ++ es) ≡ vain_from (AtRegister core) false (n + k) es
+takes_count core n zero es = let none : n ≡ n + 0 = omega arith in ap (λ (m : ℕ). vain_from (AtRegister core) false m es) none
+takes_count core n (suc k) es =
+    (λ i. vain_from (AtRegister core) false (if eqb_same core i then suc n else n) (vain_takes core k ++ es))
+    ∙ takes_count core (suc n) k es ∙ ap (λ (m : ℕ). vain_from (AtRegister core) false m es) (add_more n k)
+
+pub word_no_stall : {s t : Sight} {c d : Private} {p : WordAt} {v : ℕ} → StoresWord s c p v t d → (core : ℕ) (events : List Event) → Did s events t
+    → vain_tries (AtRegister core) events ≡ 0
+word_no_stall {s} {t} {c} {d} {p} {v} w core events did =
+    ap (λ (es : List Event). vain_tries (AtRegister core) es) (events_once s t events (store_of p v ∷ []) did w.did)
+
+written_ends : {s t : Sight} {c d : Private} {p : WordAt} {b : ℕ} {set : Bool} {polls : ℕ} → WritesBit s c p b set polls t d → (events : List Event)
+    → Did s events t → vain_tries (AtRegister p.core) events ≡ 0
+written_ends {s} {t} {c} {d} {p} {b} {set} w events did =
+    ap (λ (es : List Event). vain_tries (AtRegister p.core) es)
+    (events_once s t events (vain_takes p.core w.vain ++ change_events p b set w.words) did w.did)
+    ∙ takes_count p.core 0 w.vain (change_events p b set w.words)
+
+gave_up : {s t : Sight} {c d : Private} {p : WordAt} {polls : ℕ} → GivesUp s c p polls t d → (events : List Event) → Did s events t
+    → vain_tries (AtRegister p.core) events ≡ polls
+gave_up {s} {t} {c} {d} {p} {polls} w events did =
+    ap (λ (es : List Event). vain_tries (AtRegister p.core) es)
+    (events_once s t events (vain_takes p.core polls) did w.did ∙ sym (append-nil (vain_takes p.core polls)))
+    ∙ takes_count p.core 0 polls [] ∙ plus_none polls
+  where
+    plus_none : (n : ℕ) → 0 + n ≡ n
+    plus_none n = omega arith
+
+pub bit_stalls : (s t : Sight) (c d : Private) (p : WordAt) (b : ℕ) (set : Bool) (polls : ℕ) (result : Result Unit Stalled)
+    → WritesFlag s c p (Some b) set polls t d result → 1 ≤ polls → (events : List Event) → Did s events t
+    → IsErr result ↔ TriedInVain (AtRegister p.core) polls events
+bit_stalls s t c d p b set polls (Ok done) w some events did = no_stall done (AtRegister p.core) polls events some (written_ends w events did)
+bit_stalls s t c d p b set polls (Err stalled) w some events did = stall stalled (AtRegister p.core) polls events (gave_up w.0 events did)

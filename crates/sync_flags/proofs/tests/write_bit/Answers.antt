@@ -1,0 +1,9 @@
+use Rattle.std.proofs.Common.{◌<◌, true, ap, arith}
+use Rattle.sync_flags.specs.Flags.{FlagView}
+use Rattle.sync_flags.proofs.HeapStores.{heap_bit_writes}
+use Rattle.sync_flags.proofs.tests.write_bit.Goals as goal
+
+pub flag_write-requires-clause-permitted : goal.flag_write-requires-clause-permitted
+flag_write-requires-clause-permitted g c =
+    let below : c.of.result < c.args.port.now.setup.nue = omega (arith, c.of.ensures.gives, c.nue.ensures.valid.some_ranks) in
+    heap_bit_writes _ c.of.result c.bit.result c.args.bit true (ap (λ (f : FlagView). f.bit) c.bit.ensures.gives) c.requires.fresh c.nue.ensures.valid below c.bit.ensures.heap

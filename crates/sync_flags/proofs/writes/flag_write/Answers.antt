@@ -1,0 +1,19 @@
+use Rattle.std.proofs.Common.{◌↔◌, ℕ, IsErr, ◌∙◌, ap, subst}
+use Rattle.scc_base.specs.Places.{WordAt}
+use Rattle.scc_base.specs.Setups.{SetupView, host_of}
+use Rattle.sync_flags.specs.Flags.{flag_at, flag_of}
+use Rattle.sync_flags.specs.Tries.{AtRegister, TriedInVain}
+use Rattle.sync_flags.proofs.WaitLemmas.{no_stall}
+use Rattle.sync_flags.proofs.WriteLemmas.{word_no_stall, bit_stalls}
+use Rattle.sync_flags.proofs.writes.flag_write.Goals as goal
+
+pub returns-after-set-clause-stalls : goal.returns-after-set-clause-stalls
+returns-after-set-clause-stalls g c = λ events did.
+    no_stall tt (AtRegister (flag_of (g.P.Port.sight c.args.port.now).seat.setup c.args.at c.args.f).core) c.args.polls events c.requires.some
+    (word_no_stall c.store_word.ensures.stores (flag_of (g.P.Port.sight c.args.port.now).seat.setup c.args.at c.args.f).core events did)
+
+pub returns-in-Some-clause-stalls : goal.returns-in-Some-clause-stalls
+returns-in-Some-clause-stalls g c = λ events did.
+    subst (λ (p : WordAt). IsErr c.write_bit.result ↔ TriedInVain (AtRegister p.core) c.args.polls events)
+    (c.place-place.ensures.gives ∙ ap (λ (k : ℕ). flag_at k c.args.f) (c.core_of.ensures.gives ∙ ap (λ (s : SetupView). host_of s.hosts c.args.at) c.setup.ensures.gives))
+    (bit_stalls _ _ _ _ c.place-place.result c.in-Some.bit c.args.set c.args.polls c.write_bit.result c.write_bit.ensures.writes c.requires.some events did)

@@ -1,0 +1,16 @@
+use Rattle.std.proofs.Common.{ℕ, true, ◌∙◌, ap}
+use Rattle.scc_proto.specs.Ports.{record_in}
+use Rattle.tas_lock.specs.Holds.{after_try}
+use Rattle.sync_flags.proofs.WriteLemmas.{may_under, takes_seat, bit_written}
+use Rattle.sync_flags.proofs.writes.write_bit.Goals as goal
+
+pub change_bit-requires-clause-permitted : goal.change_bit-requires-clause-permitted
+change_bit-requires-clause-permitted g c =
+    may_under (g.P.Port.sight c.args.port.now) (g.P.Port.sight c.acquire_within.new.port) c.args.place c.args.bit c.args.set
+    (takes_seat (g.P.Port.sight c.args.port.now) (g.P.Port.sight c.acquire_within.new.port) c.core-register.result c.args.polls c.in-Some.held c.in-Some.ensures.takes)
+    (c.in-Some.ensures.holds ∙ ap (λ (k : ℕ). after_try k true (record_in (g.P.Port.sight c.args.port.now))) c.core-register.ensures.gives)
+    c.requires.permitted
+
+pub returns-in-Some-clause-writes : goal.returns-in-Some-clause-writes
+returns-in-Some-clause-writes g c =
+    bit_written c.change_bit.ensures.changes c.args.polls c.core-register.result c.in-Some.held c.core-register.ensures.gives c.in-Some.ensures.takes c.release.ensures.frees

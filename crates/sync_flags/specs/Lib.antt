@@ -1,0 +1,4 @@
+pub mod Flags
+pub mod Tries
+pub mod Looks
+pub mod Writes

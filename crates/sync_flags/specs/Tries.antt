@@ -1,0 +1,80 @@
+-- What a try is, over the events of one call, and when a call has tried in vain often enough (this project's
+-- profile). A line that is held makes no event, so a try at a flag is always a fresh load.
+use Rattle.std.specs.Prelude.{ℕ, suc, ◌≤◌, Bool, true, false, not, ◌&&◌, ◌||◌, ◌==◌, if◌then◌else◌, List, [], ◌∷◌, Option}
+use Rattle.scc_base.specs.Places.{WordAt}
+use Rattle.scc_base.specs.declared.events.Access.{Access}
+use Rattle.scc_base.specs.declared.events.Access.TheVariants.{Load, Store, Take, Free}
+use Rattle.scc_base.specs.declared.events.Event.{Event}
+use Rattle.sync_flags.specs.Flags.{is_set_in}
+
+-- what a call tries for: that a flag is found as wanted, or that a core's register is taken
+pub data Aim : Type 0 where
+  AtFlag : (place : WordAt) → (bit : Option ℕ) → (want : Bool) → Aim
+  AtRegister : (core : ℕ) → Aim
+
+abbrev pub is_load : Access → Bool
+is_load Load = true
+is_load access = false
+
+abbrev pub is_take : Access → Bool
+is_take Take = true
+is_take access = false
+
+-- a store or a free
+abbrev pub is_write : Access → Bool
+is_write Store = true
+is_write Free = true
+is_write access = false
+
+abbrev pub is_at : WordAt → WordAt → Bool
+is_at place other = (other.core == place.core) && ((other.line == place.line) && (other.word == place.word))
+
+-- after this event a bit flag is being changed: a register was taken, and was not freed since
+abbrev pub is_changing : Bool → Access → ℕ → Bool
+is_changing before Take value = before || (value == 1)
+is_changing before Free value = false
+is_changing before access value = before
+
+-- a try at a flag is a load of its word that is not made in the midst of a bit flag's change; a try at a
+-- register is a take of it
+abbrev pub is_try : Bool → Aim → Event → Bool
+is_try changing (AtFlag place bit want) e = not changing && (is_load e.access && is_at place e.place)
+is_try changing (AtRegister core) e = is_take e.access && (e.place.core == core)
+
+-- the flag is not as wanted
+abbrev pub is_unwanted : Bool → Bool → Bool
+is_unwanted true found = not found
+is_unwanted false found = found
+
+-- a try is vain where the flag is not as wanted, or where the register was found taken
+abbrev pub is_vain : Aim → Event → Bool
+is_vain (AtFlag place bit want) e = is_unwanted want (is_set_in bit e.value)
+is_vain (AtRegister core) e = e.value == 0
+
+-- how many tries there were among more events, after so many
+abbrev pub tries_from : Aim → Bool → ℕ → List Event → ℕ
+tries_from aim changing n [] = n
+tries_from aim changing n (e ∷ es) =
+    tries_from aim (is_changing changing e.access e.value) (if is_try changing aim e then suc n else n) es
+
+-- how many tries there were in a call
+abbrev pub tries_at : Aim → List Event → ℕ
+tries_at aim events = tries_from aim false 0 events
+
+-- how many of the tries were vain, in a row up to the event: a try that is not vain ends the row, and so does
+-- a store or a free
+abbrev pub vain_after : Aim → Bool → ℕ → Event → ℕ
+vain_after aim changing n e =
+    if is_try changing aim e then (if is_vain aim e then suc n else 0) else (if is_write e.access then 0 else n)
+
+abbrev pub vain_from : Aim → Bool → ℕ → List Event → ℕ
+vain_from aim changing n [] = n
+vain_from aim changing n (e ∷ es) = vain_from aim (is_changing changing e.access e.value) (vain_after aim changing n e) es
+
+-- how many tries at the end of a call were vain, with no store and no free after the first of them
+abbrev pub vain_tries : Aim → List Event → ℕ
+vain_tries aim events = vain_from aim false 0 events
+
+-- the last tries of a call, this many, were vain, and it made no store and no free after the first of them
+abbrev pub TriedInVain : Aim → ℕ → List Event → Type 0
+TriedInVain aim polls events = polls ≤ vain_tries aim events

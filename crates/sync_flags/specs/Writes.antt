@@ -1,0 +1,88 @@
+-- Writes of flags (RCCE specification 2.0: a flag of one bit is changed under the test-and-set register of the
+-- core that holds it).
+use Rattle.std.specs.Prelude.{◌≡◌, ℕ, zero, suc, ◌<◌, Bool, true, false, List, [], ◌∷◌, ◌++◌, Option, Some, None, Result, Ok, Err, slice_index}
+use Rattle.scc_base.specs.Places.{WordAt, line_of_word}
+use Rattle.scc_base.specs.Events.{store_of, take_of, free_of}
+use Rattle.scc_base.specs.declared.events.Event.{Event}
+use Rattle.scc_base.specs.declared.events.Stalled.{Stalled}
+use Rattle.scc_base.specs.declared.events.Spot.TheVariants.{Register}
+use Rattle.scc_proto.specs.Stages.{Record}
+use Rattle.scc_proto.specs.Soundness.{IsSound}
+use Rattle.scc_proto.specs.Ports.{Seat, Sight, Did, MayMake, WereMade, record_on}
+use Rattle.line_cache.specs.Lines.{noted}
+use Rattle.put_get.specs.Accesses.{loads_of}
+use Rattle.put_get.specs.Cores.{Private, Fills}
+use Rattle.tas_lock.specs.Holds.{IsNotHolding}
+use Rattle.sync_flags.specs.Flags.{flag_value, with_bit}
+
+-- tries of a register that was found taken each time
+abbrev pub vain_takes : ℕ → ℕ → List Event
+vain_takes core zero = []
+vain_takes core (suc n) = take_of core false ∷ vain_takes core n
+
+-- the events of a bit's change from the take on that has the register: the loads of its line, one store of the
+-- loaded word with that bit as asked, and the free
+abbrev pub change_events : WordAt → ℕ → Bool → List ℕ → List Event
+change_events place b set words =
+    take_of place.core true ∷ (loads_of (line_of_word place) words
+    ++ (store_of place (with_bit b set (slice_index words place.word)) ∷ free_of place.core ∷ []))
+
+-- a line was loaded, after these events were made; no more is known of its words than that the loads were
+-- honest and that the record is sound
+pub record WasLoaded (seat : Seat) (rec : Record) (events : List Event) : Type 0 where
+  pub made : WereMade seat rec events
+  pub sound : IsSound seat.setup seat.rank (record_on seat rec events)
+
+-- the record permits the store of a word with that bit as asked, whatever the loads of its line answered that
+-- were made after these events
+abbrev pub MayChange : Seat → Record → List Event → WordAt → ℕ → Bool → Type 0
+MayChange seat rec before place b set = (words : List ℕ) → WasLoaded seat rec (before ++ loads_of (line_of_word place) words)
+    → MayMake seat (record_on seat rec (before ++ loads_of (line_of_word place) words)) (store_of place (with_bit b set (slice_index words place.word)))
+
+-- the record permits the one store that a write of the flag makes; for a bit the store comes after the take
+-- of a register that the rank does not hold yet
+abbrev pub MayWrite : Seat → Record → WordAt → Option ℕ → Bool → Type 0
+MayWrite seat rec place None set = MayMake seat rec (store_of place (flag_value set))
+MayWrite seat rec place (Some b) set = IsNotHolding rec place.core × MayChange seat rec (take_of place.core true ∷ []) place b set
+
+-- a word was written and sent out: one store, and the cached line has the new word
+pub record StoresWord (s : Sight) (c : Private) (place : WordAt) (value : ℕ) (t : Sight) (d : Private) : Type 0 where
+  pub did : Did s (store_of place value ∷ []) t
+  pub is : d ≡ record c { lines = noted c.lines place value }
+
+-- a register was taken after fewer vain takes than were allowed, or there were that many of them
+abbrev pub TakesWithin : Sight → ℕ → ℕ → Sight → Option ℕ → Type 0
+TakesWithin s core polls t None = Did s (vain_takes core polls) t
+TakesWithin s core polls t (Some held) = (held ≡ core) × ((n : ℕ) × (n < polls) × Did s (vain_takes core n ++ take_of core true ∷ []) t)
+
+-- a bit was changed under a register that is held: the line came in and has the new word
+pub record ChangesBit (s : Sight) (c : Private) (place : WordAt) (b : ℕ) (set : Bool) (t : Sight) (d : Private) : Type 0 where
+  pub words : List ℕ
+  pub did : Did s (loads_of (line_of_word place) words ++ store_of place (with_bit b set (slice_index words place.word)) ∷ []) t
+  pub loaded : Private
+  pub fills : Fills (record c { lines = [] }) (line_of_word place) words loaded
+  pub is : d ≡ record loaded { lines = noted loaded.lines place (with_bit b set (slice_index words place.word)) }
+
+-- a flag that is a bit was written: after fewer vain takes than were allowed, the events of its change; the
+-- line came in and has the new word
+pub record WritesBit (s : Sight) (c : Private) (place : WordAt) (b : ℕ) (set : Bool) (polls : ℕ) (t : Sight) (d : Private) : Type 0 where
+  pub vain : ℕ
+  pub few : vain < polls
+  pub words : List ℕ
+  pub did : Did s (vain_takes place.core vain ++ change_events place b set words) t
+  pub loaded : Private
+  pub fills : Fills (record c { lines = [] }) (line_of_word place) words loaded
+  pub is : d ≡ record loaded { lines = noted loaded.lines place (with_bit b set (slice_index words place.word)) }
+
+-- nothing but so many vain takes
+pub record GivesUp (s : Sight) (c : Private) (place : WordAt) (polls : ℕ) (t : Sight) (d : Private) : Type 0 where
+  pub did : Did s (vain_takes place.core polls) t
+  pub is : d ≡ c
+
+-- what a write of a flag came to: a word is always written
+abbrev pub WritesFlag : Sight → Private → WordAt → Option ℕ → Bool → ℕ → Sight → Private → Result Unit Stalled → Type 0
+WritesFlag s c place None set polls t d (Ok done) = StoresWord s c place (flag_value set) t d
+WritesFlag s c place None set polls t d (Err stalled) = ⊥
+WritesFlag s c place (Some b) set polls t d (Ok done) = WritesBit s c place b set polls t d
+WritesFlag s c place (Some b) set polls t d (Err stalled) =
+    GivesUp s c place polls t d × (stalled ≡ record { spot = Register place.core; polls = polls })

@@ -1,0 +1,121 @@
+//! Flags and their lines of the heap.
+
+ghost use Rattle.std.specs.Prelude.{◌≡◌, ◌++◌, ◌↔◌, [], ◌∷◌, IsErr, IfOk, OnOk, OnErr, Contains};
+ghost use Rattle.mpb_alloc.specs.Heaps.{run_of, answer_for, line_count, taken_from, given_back, returned, IsHeap};
+
+use mpb_alloc::{Heap, MallocFault};
+use scc_base::{Buf, CoreId, Place, Spot};
+use std::marker::Model;
+
+/// The bytes of the line that a flag takes.
+const FLAG_BYTES: usize = 32;
+
+/// A flag: a word of a line at each core, or one bit of such a word. A word is set where it is 1.
+#[derive(Clone, Copy, Debug, PartialEq, Eq)]
+pub struct Flag {
+    line: u8,
+    word: u8,
+    bit: Option<u8>,
+}
+
+impl Model for Flag {
+    ghost use Rattle.std.specs.Prelude.{◌<◌, IfSome};
+    ghost use Rattle.sync_flags.specs.Flags.{FlagView};
+
+    ghost Value = { FlagView };
+
+    ghost view = { λ f. record { line = f.line; word = f.word; bit = f.bit } };
+
+    ghost invariant = { λ f. (f.word < 4) × IfSome f.bit (λ b. b < 64) };
+
+    ghost inverse = { λ v. record { line = v.line; word = v.word; bit = v.bit } };
+}
+
+impl Flag {
+    ghost use Rattle.std.specs.Prelude.{◌≡◌, ◌<◌, ◌≤◌, Some, None, IfSome};
+    ghost use Rattle.sync_flags.specs.Flags.{flag_at, is_set_in, flag_spot};
+
+    /// The flag that has the buffer's first line for itself.
+    pub fn line(buffer: &Buf) -> Flag
+        ensures gives { result ≡ record { line = buffer.now.first; word = 0; bit = None } }
+        ensures heap { 225 ≤ result.line }
+    {
+        Flag {
+            line: buffer.first(),
+            word: 0,
+            bit: None,
+        }
+    }
+
+    /// One of the 64 flags that share the buffer's first line.
+    pub fn bit(buffer: &Buf, i: u8) -> Flag
+        requires below { i < 64 }
+        ensures gives { result ≡ record { line = buffer.now.first; word = 0; bit = Some i } }
+        ensures heap { 225 ≤ result.line }
+    {
+        Flag {
+            line: buffer.first(),
+            word: 0,
+            bit: Some(i),
+        }
+    }
+
+    /// The bit of its word that the flag is, where it is one.
+    pub(crate) fn bit_of(self) -> Option<u8>
+        ensures gives { result ≡ self.bit }
+        ensures below { IfSome result (λ b. b < 64) }
+    {
+        self.bit
+    }
+
+    /// The flag's word at a core.
+    pub(crate) fn place(self, core: CoreId) -> Place
+        ensures gives { result ≡ flag_at core self }
+        ensures below { self.word < 4 }
+    {
+        Place::new(core, self.line, self.word)
+    }
+
+    /// Whether the flag is set in this word.
+    pub(crate) fn is_set(self, word: u64) -> bool
+        ensures tells { result ≡ is_set_in self.bit word }
+    {
+        match self.bit {
+            None => word == 1,
+            Some(bit) => (word >> bit) % 2 == 1,
+        }
+    }
+
+    /// What a call waits at that waits for this flag.
+    pub(crate) fn spot(self, place: Place) -> Spot
+        ensures gives { result ≡ flag_spot place self.bit }
+    {
+        Spot::Flag {
+            place,
+            bit: self.bit.unwrap_or(0),
+        }
+    }
+}
+
+/// Takes one line of the heap for flags. It is refused where no line is free.
+pub fn flag_alloc(heap: &mut Heap) -> Result<Buf, MallocFault>
+    ensures answer { result ≡ answer_for 1 heap.old.free }
+    ensures full { IsErr result ↔ (line_count heap.old.free ≡ 0) }
+    ensures line { IfOk result (λ b. b.lines ≡ 1) }
+    ensures free { OnOk result (heap.new.free ≡ taken_from 1 heap.old.free) }
+    ensures out { IfOk result (λ b. heap.new.out ≡ heap.old.out ++ run_of b ∷ []) }
+    ensures unchanged { OnErr result (heap.new ≡ heap.old) }
+    ensures heap { OnOk result (IsHeap heap.new) }
+{
+    heap.malloc(FLAG_BYTES)
+}
+
+/// Gives a flag's line back.
+pub fn flag_free(heap: &mut Heap, buffer: Buf)
+    requires { Contains heap.old.out (run_of buffer) }
+    ensures free { heap.new.free ≡ given_back (run_of buffer) heap.old.free }
+    ensures out { heap.new.out ≡ returned (run_of buffer) heap.old.out }
+    ensures heap { IsHeap heap.new }
+{
+    heap.free(buffer);
+}

@@ -1,0 +1,12 @@
+//! Flags in the message passing buffers: read, waited for and written, as whole words and as single bits.
+#![tactic(auto)]
+
+mod flags;
+mod looks;
+#[cfg(test)]
+mod tests;
+mod writes;
+
+pub use flags::{Flag, flag_alloc, flag_free};
+pub use looks::{flag_read, wait_until};
+pub use writes::flag_write;

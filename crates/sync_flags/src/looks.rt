@@ -1,0 +1,59 @@
+//! Looks at flags.
+
+ghost use Rattle.std.specs.Prelude.{◌≡◌, ◌<◌, ◌≤◌, ◌↔◌, List, None, IsErr};
+ghost use Rattle.scc_base.specs.declared.events.Event.{Event};
+ghost use Rattle.scc_proto.specs.Ports.{Did};
+ghost use Rattle.put_get.specs.Cores.{MadeSteps, KeepsSteps};
+ghost use Rattle.sync_flags.specs.Flags.{flag_of};
+ghost use Rattle.sync_flags.specs.Tries.{AtFlag, TriedInVain};
+ghost use Rattle.sync_flags.specs.Looks.{ReadsFlag, WaitsFor};
+
+use crate::flags::Flag;
+use line_cache::Evict;
+use put_get::Core;
+use scc_base::{Rank, Stalled};
+use scc_proto::Port;
+
+/// Whether a flag at a rank is set. The cached lines are dropped first, so the answer is a load's of this call.
+pub fn flag_read<V: Evict, P: Port>(core: &mut Core<V>, port: &mut P, at: Rank, f: Flag) -> bool
+    requires below { at < (P.sight port.old).seat.setup.nue }
+    requires empty { core.old.out ≡ None }
+    ensures reads { ReadsFlag (P.sight port.old) core.old (flag_of (P.sight port.old).seat.setup at f) f.bit result (P.sight port.new) core.new }
+    ensures empty { core.new.out ≡ None }
+    ensures steps { MadeSteps (P.stepped port.new) (P.sight port.old) (P.sight port.new) }
+    ensures keeps { KeepsSteps (P.stepped port.old) (P.stepped port.new) }
+{
+    let place = f.place(port.setup().core_of(at));
+    core.cl1invmb();
+    f.is_set(core.word_read(port, place))
+}
+
+/// Looks at a flag of the own rank until it is as wanted, at most so many times.
+pub fn wait_until<V: Evict, P: Port>(
+    core: &mut Core<V>,
+    port: &mut P,
+    f: Flag,
+    want: bool,
+    polls: u32,
+) -> Result<(), Stalled>
+    requires empty { core.old.out ≡ None }
+    requires some { 1 ≤ polls }
+    ensures waits { WaitsFor (P.sight port.old) core.old (flag_of (P.sight port.old).seat.setup (P.sight port.old).seat.rank f) f.bit want polls (P.sight port.new) core.new result }
+    ensures stalls { (events : List Event) → Did (P.sight port.old) events (P.sight port.new) → (IsErr result
+        ↔ TriedInVain (AtFlag (flag_of (P.sight port.old).seat.setup (P.sight port.old).seat.rank f) f.bit want) polls events) }
+    ensures empty { core.new.out ≡ None }
+    ensures steps { MadeSteps (P.stepped port.new) (P.sight port.old) (P.sight port.new) }
+    ensures keeps { KeepsSteps (P.stepped port.old) (P.stepped port.new) }
+{
+    let me = port.rank();
+    let place = f.place(port.setup().core_of(me));
+    for _ in 0..polls {
+        if flag_read(core, port, me, f) == want {
+            return Ok(());
+        }
+    }
+    Err(Stalled {
+        spot: f.spot(place),
+        polls,
+    })
+}

@@ -1,0 +1,136 @@
+//! Writes of flags.
+
+ghost use Rattle.std.specs.Prelude.{◌≡◌, ◌<◌, ◌≤◌, ◌↔◌, ℕ, List, [], ◌∷◌, None, Some, IsErr, is_some};
+ghost use Rattle.scc_base.specs.Events.{store_of, take_of};
+ghost use Rattle.scc_base.specs.declared.events.Event.{Event};
+ghost use Rattle.scc_proto.specs.Ports.{Did, MayMake, record_in};
+ghost use Rattle.put_get.specs.Cores.{KeepsSteps};
+ghost use Rattle.tas_lock.specs.Holds.{IsHolding, IsNotHolding, after_try};
+ghost use Rattle.sync_flags.specs.Flags.{flag_of, with_bit};
+ghost use Rattle.sync_flags.specs.Tries.{AtRegister, TriedInVain};
+ghost use Rattle.sync_flags.specs.Writes.{MayChange, MayWrite, StoresWord, TakesWithin, ChangesBit, WritesBit, GivesUp, WritesFlag};
+
+use crate::flags::Flag;
+use line_cache::Evict;
+use put_get::Core;
+use scc_base::{CoreId, Place, Rank, Spot, Stalled};
+use scc_proto::Port;
+use tas_lock::{Held, release, try_acquire};
+
+/// Writes a word and sends it out.
+fn store_word<V: Evict, P: Port>(core: &mut Core<V>, port: &mut P, place: Place, value: u64)
+    requires empty { core.old.out ≡ None }
+    requires permitted { MayMake (P.sight port.old).seat (record_in (P.sight port.old)) (store_of place value) }
+    ensures stores { StoresWord (P.sight port.old) core.old place value (P.sight port.new) core.new }
+    ensures empty { core.new.out ≡ None }
+    ensures keeps { KeepsSteps (P.stepped port.old) (P.stepped port.new) }
+{
+    let _ = place.word();
+    core.word_write(port, place, value);
+    core.flush(port);
+}
+
+/// Tries to take a register, at most so many times.
+fn acquire_within<P: Port>(port: &mut P, c: CoreId, polls: u32) -> Option<Held>
+    requires not_held { IsNotHolding (record_in (P.sight port.old)) c }
+    ensures takes { TakesWithin (P.sight port.old) c polls (P.sight port.new) result }
+    ensures holds { record_in (P.sight port.new) ≡ after_try c (is_some result) (record_in (P.sight port.old)) }
+    ensures keeps { KeepsSteps (P.stepped port.old) (P.stepped port.new) }
+{
+    for _ in 0..polls {
+        if let Some(held) = try_acquire(port, c) {
+            return Some(held);
+        }
+    }
+    None
+}
+
+/// The word with one bit as asked.
+fn changed(word: u64, bit: u8, set: bool) -> u64
+    requires { bit < 64 }
+    ensures { result ≡ with_bit bit set word }
+{
+    if set {
+        word | 1 << bit
+    } else {
+        word & !(1 << bit)
+    }
+}
+
+/// Changes a bit whose register is held.
+fn change_bit<V: Evict, P: Port>(core: &mut Core<V>, port: &mut P, place: Place, bit: u8, set: bool)
+    requires below { bit < 64 }
+    requires empty { core.old.out ≡ None }
+    requires permitted { MayChange (P.sight port.old).seat (record_in (P.sight port.old)) [] place bit set }
+    ensures changes { ChangesBit (P.sight port.old) core.old place bit set (P.sight port.new) core.new }
+    ensures holds { (k : ℕ) → IsHolding (record_in (P.sight port.old)) k → IsHolding (record_in (P.sight port.new)) k }
+    ensures empty { core.new.out ≡ None }
+    ensures keeps { KeepsSteps (P.stepped port.old) (P.stepped port.new) }
+{
+    core.cl1invmb();
+    let word = core.word_read(port, place);
+    // The port's contract says here that the record with these loads is sound.
+    let _ = port.rank();
+    store_word(core, port, place, changed(word, bit, set));
+}
+
+/// Changes a bit under the register of the core that holds it.
+fn write_bit<V: Evict, P: Port>(
+    core: &mut Core<V>,
+    port: &mut P,
+    place: Place,
+    bit: u8,
+    set: bool,
+    polls: u32,
+) -> Result<(), Stalled>
+    requires below { bit < 64 }
+    requires empty { core.old.out ≡ None }
+    requires some { 1 ≤ polls }
+    requires permitted { MayWrite (P.sight port.old).seat (record_in (P.sight port.old)) place (Some bit) set }
+    ensures writes { WritesFlag (P.sight port.old) core.old place (Some bit) set polls (P.sight port.new) core.new result }
+    ensures empty { core.new.out ≡ None }
+    ensures keeps { KeepsSteps (P.stepped port.old) (P.stepped port.new) }
+{
+    let register = place.core();
+    match acquire_within(port, register, polls) {
+        None => Err(Stalled {
+            spot: Spot::Register { core: register },
+            polls,
+        }),
+        Some(held) => {
+            change_bit(core, port, place, bit, set);
+            release(port, held);
+            Ok(())
+        }
+    }
+}
+
+/// Sets or clears a flag at a rank. A word is stored at once. A bit is changed under the register of the core
+/// that holds it, for which the call tries at most so many times; only there it can stall.
+pub fn flag_write<V: Evict, P: Port>(
+    core: &mut Core<V>,
+    port: &mut P,
+    at: Rank,
+    f: Flag,
+    set: bool,
+    polls: u32,
+) -> Result<(), Stalled>
+    requires below { at < (P.sight port.old).seat.setup.nue }
+    requires empty { core.old.out ≡ None }
+    requires some { 1 ≤ polls }
+    requires permitted { MayWrite (P.sight port.old).seat (record_in (P.sight port.old)) (flag_of (P.sight port.old).seat.setup at f) f.bit set }
+    ensures writes { WritesFlag (P.sight port.old) core.old (flag_of (P.sight port.old).seat.setup at f) f.bit set polls (P.sight port.new) core.new result }
+    ensures stalls { (events : List Event) → Did (P.sight port.old) events (P.sight port.new) → (IsErr result
+        ↔ TriedInVain (AtRegister (flag_of (P.sight port.old).seat.setup at f).core) polls events) }
+    ensures empty { core.new.out ≡ None }
+    ensures keeps { KeepsSteps (P.stepped port.old) (P.stepped port.new) }
+{
+    let place = f.place(port.setup().core_of(at));
+    match f.bit_of() {
+        None => {
+            store_word(core, port, place, if set { 1 } else { 0 });
+            Ok(())
+        }
+        Some(bit) => write_bit(core, port, place, bit, set, polls),
+    }
+}

@@ -1,0 +1,27 @@
+-- Events that no message and no barrier is made of: of registers, and of words of the heap's lines.
+use Rattle.std.specs.Prelude.{◌≡◌, ℕ, Bool, true, ◌&&◌, nat_le, List, [], ◌∷◌, None}
+use Rattle.scc_base.specs.Places.{WordAt}
+use Rattle.scc_base.specs.Layouts.{first_heap}
+use Rattle.scc_base.specs.declared.events.Access.{Access}
+use Rattle.scc_base.specs.declared.events.Access.TheVariants.{Load, Store, Take, Free}
+use Rattle.scc_base.specs.declared.events.Event.{Event}
+use Rattle.scc_proto.specs.Stages.{Idle, Record}
+use Rattle.scc_proto.specs.Records.{sent_noted, ready_noted}
+
+abbrev pub is_quiet : Access → WordAt → Bool
+is_quiet Load place = nat_le first_heap place.line
+is_quiet Store place = nat_le first_heap place.line
+is_quiet Take place = true
+is_quiet Free place = true
+
+abbrev pub are_quiet : List Event → Bool
+are_quiet [] = true
+are_quiet (e ∷ es) = is_quiet e.access e.place && are_quiet es
+
+-- the record of such events: nothing is open, no rank was seen, and no flag word was noted
+pub record IsQuietRecord (rec : Record) : Type 0 where
+  pub stage : rec.stage ≡ Idle
+  pub post : rec.post ≡ None
+  pub notes : (j : ℕ) → rec.notes j ≡ None
+  pub sent : (core : ℕ) → sent_noted rec core ≡ None
+  pub ready : (core : ℕ) → ready_noted rec core ≡ None

@@ -1,0 +1,8 @@
+//! Locks over the test-and-set registers of the cores.
+#![tactic(auto)]
+
+mod locks;
+#[cfg(test)]
+mod tests;
+
+pub use locks::{Held, release, try_acquire};
