@@ -1,0 +1,5 @@
+use Rattle.chip_steps.specs.Steps.{Stepped}
+use Rattle.chip_steps.proofs.accesses.load_many.Given as goal
+
+abbrev pub invariant-steps : goal.invariant-steps
+invariant-steps g l = Stepped (g.P.Port.sight l.fn.port) l.i (g.P.Port.sight l.port)

@@ -1,0 +1,5 @@
+use Rattle.chip_steps.specs.Steps.{Stepped, IsIdle}
+use Rattle.chip_steps.proofs.accesses.store_many.Given as goal
+
+abbrev pub invariant-steps : goal.invariant-steps
+invariant-steps g l = Stepped (g.P.Port.sight l.fn.port) l.i (g.P.Port.sight l.port) × IsIdle (g.P.Port.sight l.port)

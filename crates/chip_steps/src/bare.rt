@@ -1,0 +1,53 @@
+//! Many accesses to a bare table.
+
+ghost use Rattle.std.specs.Prelude.{◌≡◌};
+
+use atomic_table::{Play, Seat, Shared, Table, TableRule};
+use std::alloc::{AllocError, Global};
+
+const WORDS: usize = 49_200;
+
+/// A table of which nothing is claimed.
+struct Anything;
+
+impl TableRule<(), (), ()> for Anything {
+    ghost holds = { λ _ _. Unit {0} };
+
+    ghost first = { λ _. tt };
+}
+
+impl Play<(), ()> for Anything {
+    ghost then = { λ _ _ _ _. Unit {0} };
+}
+
+fn load_many(words: &Shared<(), (), (), Anything>, seat: &mut Seat<(), ()>, count: u32)
+    requires table { (seat.old.table_id ≡ words.now.table_id) × (words.now.table_id.words ≡ 49200) }
+{
+    'steps: for i in 0..count {
+        words.load::<Anything>(seat, 960 + (i % 4) as usize);
+    }
+}
+
+fn store_many(words: &Shared<(), (), (), Anything>, seat: &mut Seat<(), ()>, count: u32)
+    requires table { (seat.old.table_id ≡ words.now.table_id) × (words.now.table_id.words ≡ 49200) }
+{
+    'steps: for i in 0..count {
+        words.store::<Anything>(seat, 960 + (i % 4) as usize, i as u64);
+    }
+}
+
+/// Makes that many loads, or stores.
+pub fn bare(alloc: Global, stores: bool, count: u32) -> Result<(), AllocError> {
+    let words = vec![in alloc; 0u64; WORDS]?;
+    let (table, mut seat) = Table::<(), (), (), Anything, Global>::of_words(
+        alloc,
+        words.as_slice(),
+        &(),
+    )?;
+    if stores {
+        store_many(&table.shared, &mut seat, count);
+    } else {
+        load_many(&table.shared, &mut seat, count);
+    }
+    Ok(())
+}

@@ -1,0 +1,125 @@
+-- Seats that stand for one rank alone, and their steps.
+use Rattle.std.proofs.Common.{◌≡◌, ℕ, ◌<◌, List, [], ◌∷◌, ◌++◌, slice_set, Some, length, sym, ◌∙◌, ap, subst, arith}
+use Rattle.std.proofs.lemmas.List.{length-set}
+use Rattle.atomic_table.specs.Table.{Me}
+use Rattle.atomic_table.specs.Seated.{TableId}
+use Rattle.scc_base.specs.Setups.{SetupView}
+use Rattle.scc_base.specs.declared.events.Event.{Event}
+use Rattle.scc_proto.specs.Records.{IsPermitted, record_of}
+use Rattle.scc_proto.specs.Soundness.{IsSound}
+use Rattle.scc_proto.specs.Ports.{Did, MayMake, IsSoundPort, record_in, and_then}
+use Rattle.scc_mesh.specs.SeatViews.{View, known, list_or_none, list_at, IsKnown, IsLone, alone, joined}
+use Rattle.scc_mesh.specs.Keeping.{WasStep, Knows, Made}
+use Rattle.scc_mesh.specs.AwayRanks.{Ticket, Away, IsSoundAway, MadeAway}
+use Rattle.scc_mesh.specs.Scenes.{sight_away}
+use Rattle.scc_mesh.proofs.ViewLemmas.{alone_here, alone_set, joined_alone, joined_here}
+use Rattle.scc_proto.proofs.SoundLaw.{sound_law}
+use Rattle.scc_mesh.specs.Keeping.{records_by}
+
+module _ {S : Type 0} where
+  pub lone_known : (r : ℕ) (me : Me S View) → IsLone r me → IsKnown me.0 r
+  lone_known r me lone = ap (λ (m : Me S View). known m.0 r) lone ∙ alone_here r (Some (list_at me.0 r))
+
+  -- a seat that was just handed out
+  pub lone_new : (r : ℕ) (v : View) (me : Me S View) → IsKnown v r → me ≡ (alone r (known v r), []) → IsLone r me
+  lone_new r v me here is =
+      let list : list_at me.0 r ≡ list_at v r = ap (λ (m : Me S View). list_at m.0 r) is ∙ ap list_or_none (alone_here r (known v r)) in
+      is ∙ (λ i. (alone r (here i), [])) ∙ (λ i. (alone r (Some (sym list i)), []))
+
+  pub new_list : (r : ℕ) (v : View) (me : Me S View) → me ≡ (alone r (known v r), []) → list_at me.0 r ≡ list_at v r
+  new_list r v me is = ap (λ (m : Me S View). list_at m.0 r) is ∙ ap list_or_none (alone_here r (known v r))
+
+  module _ (s : SetupView) (r : ℕ) (old new : Me S View) (e : Event) (lone : IsLone r old) (made : Made s r old.0 e new.0) (held : new.1 ≡ old.1) where
+    pub lone_after : IsLone r new
+    lone_after =
+        let events : List Event = list_at old.0 r ++ e ∷ [] in
+        let changed : new.0 ≡ alone r (Some (list_at old.0 r ++ e ∷ [])) = made.view ∙ ap (λ (m : Me S View). slice_set m.0 r (Some (list_at old.0 r ++ e ∷ []))) lone ∙ alone_set r (Some (list_at old.0 r)) (Some (list_at old.0 r ++ e ∷ [])) in
+        let view : new.0 ≡ alone r (Some (list_at new.0 r)) = changed ∙ (λ i. alone r (Some (sym made.list i))) in
+        let none : new.1 ≡ [] = held ∙ ap (λ (m : Me S View). m.1) lone in
+        λ i. (view i, none i)
+
+    pub made_away : (table : TableId) → MadeAway s (record { table = table; rank = r; events = list_at old.0 r }) e (record { table = table; rank = r; events = list_at new.0 r })
+    made_away table = record {
+      next = λ i. record { table = table; rank = r; events = made.list i };
+      step = record {
+        memory = made.step.memory;
+        lists = made.step.lists;
+        own = made.step.own;
+        others = λ q events ne is. absurd (cc (is));
+        before = made.step.before;
+        step = made.step.step;
+        after = made.step.after;
+      };
+      honest = made.honest;
+      sound = (made.knows.below r (list_at new.0 r) made.known, made.sound);
+    }
+
+  pub knows_away : (s : SetupView) (r : ℕ) (me : Me S View) (table : TableId) → IsLone r me → Knows s me.0 → IsSoundAway s (record { table = table; rank = r; events = list_at me.0 r })
+  knows_away s r me table lone knows =
+      let here = lone_known r me lone in
+      let below = knows.below r (list_at me.0 r) here in (
+        below,
+        subst (λ (l : List Event). IsSound s r (record_of s r l)) (knows.list r (list_at me.0 r) here)
+            (sound_law s knows.memory (records_by s knows.lists) knows.together.agree r below),
+      )
+
+-- ---- a port of a rank that is away
+
+module _ (s : SetupView) (old new : Ticket) (e : Event) (made : MadeAway s old e new) where
+  away_continues : sight_away s new ≡ and_then (sight_away s old) (e ∷ [])
+  away_continues = ap (λ (t : Ticket). sight_away s t) made.next
+
+  pub away_did : MayMake (sight_away s old).seat (record_in (sight_away s old)) e → Did (sight_away s old) (e ∷ []) (sight_away s new)
+  unfolding record_in
+  away_did may = record { continues = away_continues; made = (record { permitted = may; honest = made.honest }, tt) }
+
+  pub away_sound : IsSoundPort (sight_away s new)
+  unfolding record_in
+  away_sound = made.sound.1
+
+  same_rank : new.rank ≡ old.rank
+  same_rank = ap (λ (t : Ticket). t.rank) made.next
+
+  pub away_keeps : (events : List Event) (x : Event) → WasStep s [] old.rank events x → WasStep s [] new.rank events x
+  away_keeps events x was = subst (λ r. WasStep s [] r events x) (sym same_rank) was
+
+  pub away_step : WasStep s [] new.rank old.events e
+  away_step = away_keeps old.events e made.step
+
+pub may_away : (s : SetupView) (ticket : Ticket) (e : Event) → MayMake (sight_away s ticket).seat (record_in (sight_away s ticket)) e → IsPermitted s ticket.rank (record_of s ticket.rank ticket.events) e
+unfolding record_in
+may_away s ticket e may = may
+
+pub sound_away : (s : SetupView) (ticket : Ticket) → IsSoundAway s ticket → IsSoundPort (sight_away s ticket)
+unfolding record_in
+sound_away s ticket sound = sound.1
+
+-- ---- the same for a port over its words
+
+module _ (key about : SetupView) (token : Ticket) (port : Away) (e : Event) (key_is : key ≡ about) (view_is : record { about = about; ticket = token } ≡ port) where
+  pub may_there : MayMake (sight_away port.about port.ticket).seat (record_in (sight_away port.about port.ticket)) e → IsPermitted key token.rank (record_of key token.rank token.events) e
+  may_there may = subst (λ (s : SetupView). IsPermitted s token.rank (record_of s token.rank token.events) e) (sym key_is)
+      (may_away about token e (subst (λ (p : Away). MayMake (sight_away p.about p.ticket).seat (record_in (sight_away p.about p.ticket)) e) (sym view_is) may))
+
+  pub did_there : (new : Ticket) → MadeAway key token e new → MayMake (sight_away port.about port.ticket).seat (record_in (sight_away port.about port.ticket)) e
+      → Did (sight_away port.about port.ticket) (e ∷ []) (sight_away about new)
+  did_there new made may = subst (λ (p : Away). MayMake (sight_away p.about p.ticket).seat (record_in (sight_away p.about p.ticket)) e → Did (sight_away p.about p.ticket) (e ∷ []) (sight_away about new)) view_is
+      (away_did about token new e (subst (λ (s : SetupView). MadeAway s token e new) key_is made)) may
+
+  pub sound_there : (new : Ticket) → MadeAway key token e new → IsSoundPort (sight_away about new)
+  sound_there new made = away_sound about token new e (subst (λ (s : SetupView). MadeAway s token e new) key_is made)
+
+-- ---- a rank comes home
+
+module _ (s : SetupView) (home : View) (r : ℕ) (events : List Event) (now : View) (is : now ≡ joined home (alone r (Some events))) (knows : Knows s now) (ranks : length home ≡ s.nue) where
+  gathered_below : r < length home
+  gathered_below =
+      let here : known now r ≡ Some events = ap (λ (v : View). known v r) is ∙ joined_here home r events in
+      let below = knows.below r events here in
+      omega (arith, below, ranks)
+
+  pub gathered : now ≡ slice_set home r (Some events)
+  gathered = is ∙ joined_alone home r events gathered_below
+
+  pub gathered_ranks : length now ≡ s.nue
+  gathered_ranks = ap (λ (v : View). length v) gathered ∙ length-set home r (Some events) ∙ ranks

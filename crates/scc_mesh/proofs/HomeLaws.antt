@@ -1,0 +1,72 @@
+-- What a chip with its ranks at home knows.
+use Rattle.std.proofs.Common.{◌≡◌, ◌≢◌, length, slice_set, ℕ, ◌<◌, ◌≤◌, Bool, true, false, nat_lt, List, Option, Some, None, refl, sym, ◌∙◌, ap, subst, arith}
+use Rattle.std.proofs.lemmas.Bool.Decides.{nat_tests}
+use Rattle.scc_base.specs.Setups.{SetupView}
+use Rattle.scc_base.specs.declared.events.Event.{Event}
+use Rattle.scc_proto.specs.Records.{record_of}
+use Rattle.scc_proto.specs.Soundness.{IsSound}
+use Rattle.scc_proto.specs.Ports.{IsSoundPort, record_in}
+use Rattle.scc_proto.proofs.Tests.{both_first, both_second}
+use Rattle.scc_proto.proofs.SoundLaw.{sound_law}
+use Rattle.scc_mesh.specs.SeatViews.{View, known, list_or_none, list_at, IsKnown, newcomer, without}
+use Rattle.scc_mesh.specs.Keeping.{records_by, Together}
+use Rattle.scc_mesh.specs.Scenes.{ChipView, Scene, IsHome, home_in, with_home, IsWhole, IsNew, KnowsHome, AgreesAtHome, is_port_of, sight_in}
+use Rattle.scc_mesh.specs.Scenes as scenes
+use Rattle.scc_mesh.proofs.ViewLemmas.{is_known, known_here, known_there, list_past, newcomer_here, newcomer_list}
+
+module _ (scene : Scene) (whole : IsWhole (Some scene)) (knows : KnowsHome (Some scene)) where
+  same_list : (r : ℕ) → knows.0.lists r ≡ list_at scene.home r
+  same_list r = by (nat_lt r scene.about.nue) refl
+    where
+      by : (b : Bool) → nat_lt r scene.about.nue ≡ b → knows.0.lists r ≡ list_at scene.home r
+      by true t = let below : r < scene.about.nue = grind (arith, nat_tests) in knows.0.list r (list_at scene.home r) (whole.home r below)
+      by false f =
+          let out : scene.about.nue ≤ r = grind (arith, nat_tests) in
+          knows.0.together.beyond r out ∙ sym (list_past scene.home r (omega (arith, out, knows.1)))
+
+  scene_agrees : AgreesAtHome (Some scene)
+  scene_agrees = record {
+    memory = knows.0.memory;
+    together = subst (λ (l : ℕ → List Event). Together scene.about knows.0.memory l) (λ i r. same_list r i) knows.0.together;
+  }
+
+pub agrees_at_home : (chip : ChipView) → IsWhole chip → KnowsHome chip → AgreesAtHome chip
+agrees_at_home None whole knows = absurd (cc (whole.opened))
+agrees_at_home (Some scene) whole knows = scene_agrees scene whole knows
+
+pub known_if : (x : Option (List Event)) → scenes.is_known x ≡ true → x ≡ Some (list_or_none x)
+known_if None t = absurd (cc (t))
+known_if (Some events) t = refl
+
+lt_tells : (a b : ℕ) → nat_lt a b ≡ true → a < b
+lt_tells a b t = grind (arith, nat_tests)
+
+pub port_is_sound : (chip : ChipView) (r hold : ℕ) → is_port_of chip r ≡ true → KnowsHome chip → IsSoundPort (sight_in chip r hold)
+unfolding record_in
+port_is_sound None r hold t knows = absurd (cc (t))
+port_is_sound (Some scene) r hold t knows =
+    let here = known_if (known scene.home r) (both_first (scenes.is_known (known scene.home r)) (nat_lt r scene.about.nue) t) in
+    let below : r < scene.about.nue = lt_tells r scene.about.nue (both_second (scenes.is_known (known scene.home r)) (nat_lt r scene.about.nue) t) in
+    let list = knows.0.list r (list_at scene.home r) here in
+    subst (λ (l : List Event). IsSound scene.about r (record_of scene.about r l)) list
+    (sound_law scene.about knows.0.memory (records_by scene.about knows.0.lists) knows.0.together.agree r below)
+
+-- a chip of which the ranks are at home and have made no event
+pub new_chip : (s : SetupView) (scene : Scene) → scene.about ≡ s → scene.home ≡ newcomer s → IsNew s (Some scene)
+new_chip s scene about home = record {
+  about = about;
+  whole = record { opened = refl; home = λ r lt. subst (λ (v : View). IsKnown v r) (sym home) (newcomer_here s r (subst (λ (x : SetupView). r < x.nue) about lt)) };
+  empty = λ r. ap (λ (v : View). list_at v r) home ∙ newcomer_list s r;
+}
+
+-- the other ranks stay at home where one goes away
+pub still_home : (chip : ChipView) (r q : ℕ) → q ≢ r → IsHome chip q → IsHome (with_home chip (without (home_in chip) r)) q
+still_home None r q ne here = here
+still_home (Some scene) r q ne here =
+    let same = known_there scene.home r None q ne in
+    same ∙ here ∙ (λ i. Some (list_or_none (sym same i)))
+
+-- a rank that was taken home is at home
+pub home_again : (chip : ChipView) (r : ℕ) (events : List Event) → r < length (home_in chip) → IsHome (with_home chip (slice_set (home_in chip) r (Some events))) r
+home_again None r events lt = absurd (omega (arith, lt))
+home_again (Some scene) r events lt = is_known (slice_set scene.home r (Some events)) r events (known_here scene.home r (Some events) lt)

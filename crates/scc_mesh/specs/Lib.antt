@@ -1,0 +1,5 @@
+pub mod Memories
+pub mod SeatViews
+pub mod Keeping
+pub mod AwayRanks
+pub mod Scenes

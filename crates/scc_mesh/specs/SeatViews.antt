@@ -1,0 +1,56 @@
+-- What a seat of the table knows: for each rank that it stands for, the list of its events.
+use Rattle.std.specs.Prelude.{◌≡◌, ℕ, List, [], ◌∷◌, ◌++◌, Option, Some, None, replicate, slice_index_or, slice_set}
+use Rattle.atomic_table.specs.Table.{Me}
+use Rattle.scc_base.specs.Setups.{SetupView}
+use Rattle.scc_base.specs.declared.events.Event.{Event}
+
+-- by rank; None where the seat does not stand for the rank, and so beyond the end
+abbrev pub View : Type 0
+View = List (Option (List Event))
+
+abbrev pub known : View → ℕ → Option (List Event)
+known v r = slice_index_or v r None
+
+abbrev pub list_or_none : Option (List Event) → List Event
+list_or_none None = []
+list_or_none (Some events) = events
+
+-- the events of a rank, the oldest first
+abbrev pub list_at : View → ℕ → List Event
+list_at v r = list_or_none (known v r)
+
+-- the seat stands for the rank
+abbrev pub IsKnown : View → ℕ → Type 0
+IsKnown v r = known v r ≡ Some (list_at v r)
+
+-- with one event more of a rank
+abbrev pub with_event : View → ℕ → Event → View
+with_event v r e = slice_set v r (Some (list_at v r ++ e ∷ []))
+
+-- the first seat stands for all ranks, of which none has made an event
+unfoldable pub newcomer : SetupView → View
+newcomer s = replicate s.nue (Some [])
+
+-- the seat without a rank
+abbrev pub without : View → ℕ → View
+without v r = slice_set v r None
+
+-- a seat that stands for one rank at most
+
+unfoldable pub alone : ℕ → Option (List Event) → View
+alone r events = replicate r None ++ events ∷ []
+
+-- the list of the second where it has one
+abbrev pub other_first : Option (List Event) → Option (List Event) → Option (List Event)
+other_first one None = one
+other_first one (Some events) = Some events
+
+-- two seats in one
+abbrev pub joined : View → View → View
+joined [] w = w
+joined (x ∷ v) [] = x ∷ v
+joined (x ∷ v) (y ∷ w) = other_first x y ∷ joined v w
+
+-- the seat stands for this rank alone, and holds nothing
+abbrev pub IsLone : {S : Type 0} → ℕ → Me S View → Type 0
+IsLone r me = me ≡ (alone r (Some (list_at me.0 r)), [])
