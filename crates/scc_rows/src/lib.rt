@@ -1,0 +1,5 @@
+//! Tests that need several crates.
+#![tactic(auto)]
+
+#[cfg(test)]
+mod put_and_get;
