@@ -1,0 +1,2 @@
+pub mod Collectives
+pub mod Folds
