@@ -1,0 +1,5 @@
+pub mod Flags
+pub mod Stages
+pub mod Tries
+pub mod Turns
+pub mod Calls
