@@ -4,5 +4,6 @@ pub mod HeapStores
 pub mod HeldLemmas
 pub mod LookLemmas
 pub mod TryLemmas
+pub mod VainLemmas
 pub mod WaitLemmas
 pub mod WriteLemmas

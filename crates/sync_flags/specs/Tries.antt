@@ -1,6 +1,6 @@
 -- What a try is, over the events of one call, and when a call has tried in vain often enough (this project's
 -- profile). A line that is held makes no event, so a try at a flag is always a fresh load.
-use Rattle.std.specs.Prelude.{ℕ, suc, ◌≤◌, Bool, true, false, not, ◌&&◌, ◌||◌, ◌==◌, if◌then◌else◌, List, [], ◌∷◌, Option}
+use Rattle.std.specs.Prelude.{◌≡◌, ℕ, suc, ◌≤◌, Bool, true, false, not, ◌&&◌, ◌||◌, ◌==◌, if◌then◌else◌, List, [], ◌∷◌, ◌++◌, Option}
 use Rattle.scc_base.specs.Places.{WordAt}
 use Rattle.scc_base.specs.declared.events.Access.{Access}
 use Rattle.scc_base.specs.declared.events.Access.TheVariants.{Load, Store, Take, Free}
@@ -78,3 +78,30 @@ vain_tries aim events = vain_from aim false 0 events
 -- the last tries of a call, this many, were vain, and it made no store and no free after the first of them
 abbrev pub TriedInVain : Aim → ℕ → List Event → Type 0
 TriedInVain aim polls events = polls ≤ vain_tries aim events
+
+-- ---- the same in other words
+
+-- after these events a bit flag is being changed
+abbrev pub changing_after : Bool → List Event → Bool
+changing_after before [] = before
+changing_after before (e ∷ es) = changing_after (is_changing before e.access e.value) es
+
+-- each try among the events was vain
+abbrev pub all_vain : Aim → Bool → List Event → Bool
+all_vain aim changing [] = true
+all_vain aim changing (e ∷ es) = (not (is_try changing aim e) || is_vain aim e) && all_vain aim (is_changing changing e.access e.value) es
+
+-- one of the events is a store or a free
+abbrev pub has_write : List Event → Bool
+has_write [] = false
+has_write (e ∷ es) = is_write e.access || has_write es
+
+-- the events of a call end with a part that has at least this many tries, all of them vain, and no store and no
+-- free
+pub record EndsInVain (aim : Aim) (polls : ℕ) (events : List Event) : Type 0 where
+  pub before : List Event
+  pub last : List Event
+  pub parts : events ≡ before ++ last
+  pub enough : polls ≤ tries_from aim (changing_after false before) 0 last
+  pub vain : all_vain aim (changing_after false before) last ≡ true
+  pub no_write : has_write last ≡ false

@@ -2,11 +2,13 @@
 #![tactic(auto)]
 
 mod flags;
+mod laws;
 mod looks;
 #[cfg(test)]
 mod tests;
 mod writes;
 
 pub use flags::{Flag, flag_alloc, flag_free};
+pub use laws::tries_law;
 pub use looks::{flag_read, wait_until};
 pub use writes::flag_write;
