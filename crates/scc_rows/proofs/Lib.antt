@@ -1,1 +1,3 @@
 pub mod RestLemmas
+pub mod Fresh
+pub mod Registers

@@ -1,5 +1,9 @@
-//! Tests that need several crates.
+//! Tests of the chip and of the crates above it, which need several of them at once. There is no other code.
 #![tactic(auto)]
 
 #[cfg(test)]
-mod put_and_get;
+mod chip;
+#[cfg(test)]
+mod fixtures;
+#[cfg(test)]
+mod private_lines;

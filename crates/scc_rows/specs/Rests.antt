@@ -1,0 +1,32 @@
+-- What the tests ask of a chip and of a port before they use it.
+use Rattle.std.specs.Prelude.{◌≡◌, ℕ, ◌<◌, ◌≤◌, true, Option, None, Some, is_some}
+use Rattle.scc_base.specs.Setups.{IsSetup, host_of}
+use Rattle.scc_proto.specs.Stages.{Idle}
+use Rattle.scc_proto.specs.Ports.{Sight, record_in}
+use Rattle.scc_mesh.specs.Scenes.{ChipView, IsNew, about_in}
+use Rattle.write_combine.specs.declared.combiner.Out.{Out}
+
+-- a chip of two ranks that was just opened
+pub record IsNewPair (chip : ChipView) : Type 0 where
+  pub new : IsNew (about_in chip) chip
+  pub valid : IsSetup (about_in chip)
+  pub two : (about_in chip).nue ≡ 2
+
+-- a port of one of two ranks, with no message and no barrier under way
+pub record IsAtRest (s : Sight) : Type 0 where
+  pub valid : IsSetup s.seat.setup
+  pub two : s.seat.setup.nue ≡ 2
+  pub idle : (record_in s).stage ≡ Idle
+
+-- the line in a write-combining buffer is a heap line of one of two ranks
+abbrev pub AwaitsHeap : Sight → Option Out → Type 0
+AwaitsHeap s None = Unit {0}
+AwaitsHeap s (Some o) = (r : ℕ) × (r < 2) × (o.line.core ≡ host_of s.seat.setup.hosts r) × (225 ≤ o.line.line)
+
+-- the rank does not hold this core's register
+abbrev pub IsWithout : Sight → ℕ → Type 0
+IsWithout s core = (record_in s).held core ≡ None
+
+-- the rank holds it
+abbrev pub Holds : Sight → ℕ → Type 0
+Holds s core = is_some ((record_in s).held core) ≡ true

@@ -1,0 +1,209 @@
+//! A chip of two ranks, its ports, and an evictor that tells how often it was asked.
+
+ghost use Rattle.std.specs.Prelude.{◌≡◌, ◌<◌, ◌≤◌, ℕ, true, false, None, IfOk, IfSome};
+ghost use Rattle.scc_base.specs.Setups.{host_of};
+ghost use Rattle.scc_mesh.specs.Scenes.{sight_in, sight_away};
+ghost use Rattle.scc_rows.specs.Rests.{IsNewPair, IsAtRest, AwaitsHeap, IsWithout, Holds};
+
+use line_cache::Evict;
+use put_get::{Core, RangeFault};
+use scc_base::{Buf, CommRule, CoreId, Layout, Place, Rank, Setup};
+use scc_mesh::{Chip, OnePort, SeatPort};
+use scc_proto::{CountingPort, Port};
+use std::alloc::Global;
+use std::cell::Cell;
+use std::test::Fail;
+
+/// A setup of two ranks, on cores 0 and 1.
+fn two_ranks() -> Option<Setup>
+    ensures two { IfSome result (λ s. s.nue ≡ 2) }
+{
+    let mut cores = [CoreId::of(0); 48];
+    for number in 0..48 {
+        cores[number] = CoreId::of(number as u8);
+    }
+    let mut rules = [CommRule::Absent; 16];
+    rules[0] = CommRule::World;
+    Setup::new(2, Layout::lines(), cores, rules)
+}
+
+/// A chip of two ranks that was just opened.
+pub(crate) fn new_pair(alloc: Global) -> Result<Chip, Fail>
+    ensures pair { IfOk result (λ chip. IsNewPair chip) }
+{
+    let setup = two_ranks().ok_or("a setup")?;
+    let _nue = setup.nue();
+    let mut chip = Chip::blank();
+    chip.open(alloc, setup)?;
+    Ok(chip)
+}
+
+/// The port of one rank, with its loads counted.
+pub(crate) fn counted(chip: &mut Chip, r: Rank) -> CountingPort<OnePort<'_>>
+    requires pair { IsNewPair chip.old }
+    requires below { r < 2 }
+    ensures rests { IsAtRest (sight_in result.port.chip.now result.port.rank result.port.chip.ghost_name) }
+{
+    CountingPort::new(chip.port(r))
+}
+
+/// The ports of both ranks, with their loads counted.
+#[derive(Drop)]
+pub(crate) struct Pair<'w> {
+    pub first: CountingPort<SeatPort<'w>>,
+    pub second: CountingPort<SeatPort<'w>>,
+}
+
+pub(crate) fn spread_pair(chip: &mut Chip) -> Pair<'_>
+    requires pair { IsNewPair chip.old }
+    ensures first_rests { IsAtRest (sight_away result.first.port.about result.first.port.ticket) }
+    ensures second_rests { IsAtRest (sight_away result.second.port.about result.second.port.ticket) }
+    ensures first_without { (core : ℕ) → IsWithout (sight_away result.first.port.about result.first.port.ticket) core }
+    ensures second_without { (core : ℕ) → IsWithout (sight_away result.second.port.about result.second.port.ticket) core }
+{
+    let first = chip.spread(Rank::of(0));
+    let second = chip.spread(Rank::of(1));
+    let words = chip.words();
+    Pair {
+        first: CountingPort::new(words.port(first)),
+        second: CountingPort::new(words.port(second)),
+    }
+}
+
+/// Puts lines, by a rank with no message and no barrier under way.
+pub(crate) fn put<P: Port, V: Evict>(
+    core: &mut Core<V>,
+    port: &mut P,
+    to: Rank,
+    at: Buf,
+    src: &[[u64; 4]],
+) -> Result<(), RangeFault>
+    requires rests { IsAtRest (P.sight port.old) }
+    requires empty { core.old.out ≡ None }
+    requires below { to < 2 }
+    ensures rests { IsAtRest (P.sight port.new) }
+    ensures empty { core.new.out ≡ None }
+{
+    let _first = at.first();
+    core.put(port, to, at, src)
+}
+
+/// Gets lines, by a rank with no message and no barrier under way.
+pub(crate) fn get<P: Port, V: Evict>(
+    core: &mut Core<V>,
+    port: &mut P,
+    from: Rank,
+    at: Buf,
+    dst: &mut [[u64; 4]],
+) -> Result<(), RangeFault>
+    requires rests { IsAtRest (P.sight port.old) }
+    requires empty { core.old.out ≡ None }
+    requires below { from < 2 }
+    ensures rests { IsAtRest (P.sight port.new) }
+    ensures empty { core.new.out ≡ None }
+{
+    core.get(port, from, at, dst)
+}
+
+/// Reads a word, by a rank with no message and no barrier under way.
+pub(crate) fn read<P: Port, V: Evict>(core: &mut Core<V>, port: &mut P, place: Place) -> u64
+    requires rests { IsAtRest (P.sight port.old) }
+    requires empty { core.old.out ≡ None }
+    ensures rests { IsAtRest (P.sight port.new) }
+    ensures empty { core.new.out ≡ None }
+{
+    core.word_read(port, place)
+}
+
+/// A heap word at a rank's core.
+pub(crate) fn heap_word<P: Port>(port: &P, at: Rank, line: u8, word: u8) -> Place
+    requires rests { IsAtRest (P.sight port.now) }
+    requires rank_below { at < 2 }
+    requires word_below { word < 4 }
+    ensures core { result.core ≡ host_of (P.sight port.now).seat.setup.hosts at }
+    ensures line { result.line ≡ line }
+    ensures word { result.word ≡ word }
+{
+    Place::new(port.setup().core_of(at), line, word)
+}
+
+/// Stores a heap word, by a rank with no message and no barrier under way.
+pub(crate) fn store<P: Port>(port: &mut P, at: Rank, line: u8, word: u8, value: u64)
+    requires rests { IsAtRest (P.sight port.old) }
+    requires rank_below { at < 2 }
+    requires heap { 225 ≤ line }
+    requires word_below { word < 4 }
+    ensures rests { IsAtRest (P.sight port.new) }
+{
+    let place = heap_word(port, at, line, word);
+    port.store(place, value);
+}
+
+/// Writes a heap word through a core.
+pub(crate) fn write<P: Port, V: Evict>(
+    core: &mut Core<V>,
+    port: &mut P,
+    at: Rank,
+    line: u8,
+    word: u8,
+    value: u64,
+)
+    requires rests { IsAtRest (P.sight port.old) }
+    requires awaits { AwaitsHeap (P.sight port.old) core.old.out }
+    requires rank_below { at < 2 }
+    requires heap { 225 ≤ line }
+    requires word_below { word < 4 }
+    ensures rests { IsAtRest (P.sight port.new) }
+    ensures awaits { AwaitsHeap (P.sight port.new) core.new.out }
+{
+    let place = heap_word(port, at, line, word);
+    core.word_write(port, place, value);
+}
+
+/// Stores what a core's write-combining buffer holds.
+pub(crate) fn flush<P: Port, V: Evict>(core: &mut Core<V>, port: &mut P)
+    requires rests { IsAtRest (P.sight port.old) }
+    requires awaits { AwaitsHeap (P.sight port.old) core.old.out }
+    ensures rests { IsAtRest (P.sight port.new) }
+    ensures empty { core.new.out ≡ None }
+{
+    core.flush(port);
+}
+
+/// Asks for a core's register, which the rank does not hold.
+pub(crate) fn take<P: Port>(port: &mut P, core: CoreId) -> bool
+    requires without { IsWithout (P.sight port.old) core }
+    ensures took { result ≡ true → Holds (P.sight port.new) core }
+    ensures missed { result ≡ false → IsWithout (P.sight port.new) core }
+{
+    port.take(core)
+}
+
+/// Frees a core's register, which the rank holds.
+pub(crate) fn free<P: Port>(port: &mut P, core: CoreId)
+    requires held { Holds (P.sight port.old) core }
+    ensures freed { IsWithout (P.sight port.new) core }
+{
+    port.free(core);
+}
+
+/// Another evictor, with the numbers of its questions and of the lines that it had dropped told outside.
+#[derive(Drop)]
+pub(crate) struct Watched<'a, E> {
+    pub inner: E,
+    pub asked: &'a Cell<u64>,
+    pub dropped: &'a Cell<u64>,
+}
+
+impl<'a, E: Evict> Evict for Watched<'a, E> {
+    ghost count = { λ w. E.count w.inner };
+
+    fn drop_one(&mut self, held: usize) -> Option<usize> {
+        self.asked.set(self.asked.get().saturating_add(1));
+        let answer = self.inner.drop_one(held);
+        if answer.is_some() {
+            self.dropped.set(self.dropped.get().saturating_add(1));
+        }
+        answer
+    }
+}
