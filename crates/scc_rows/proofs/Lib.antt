@@ -1,3 +1,4 @@
 pub mod RestLemmas
 pub mod Fresh
 pub mod Registers
+pub mod MemberLemmas
