@@ -11,12 +11,16 @@ pub mod GatherFacts
 pub mod GroupLaw
 pub mod Growth
 pub mod HeapLaw
+pub mod HistoryWalks
 pub mod HonestLaw
+pub mod IdleLaws
 pub mod LayoutLaw
 pub mod LegalExamples
 pub mod LegalLaws
 pub mod LegalMessages
 pub mod ListLaw
+pub mod LoneLaws
+pub mod MemoryLemmas
 pub mod MessageCalls
 pub mod MessageLaw
 pub mod MessageLists
@@ -40,5 +44,6 @@ pub mod StepDecided
 pub mod StepLaws
 pub mod TakerMoves
 pub mod Tests
+pub mod TwoChunks
 pub mod ViewStores
 pub mod WordLaw

@@ -1,14 +1,13 @@
 -- Small runs, event by event.
-use Rattle.std.specs.Prelude.{ℕ, Bool, true, ◌&&◌, List, [], ◌∷◌, ◌++◌}
+use Rattle.std.specs.Prelude.{ℕ, zero, suc, true, ◌+◌, ◌/◌, ◌%◌, ◌^◌, List, [], ◌∷◌, ◌++◌, map}
+use Rattle.std.specs.List.{range_with_len}
 use Rattle.scc_base.specs.Events.{load_of, store_of, take_of, free_of}
 use Rattle.scc_base.specs.Setups.{SetupView}
 use Rattle.scc_base.specs.declared.communicators.CommRule.TheVariants.{World}
 use Rattle.scc_base.specs.declared.layouts.Layout.TheVariants.{LineFlags, BitFlags}
 use Rattle.scc_proto.specs.Stages.{Record}
-use Rattle.scc_proto.specs.Moves.{Move, DraftHeader, DraftChunk, RaiseSent, LookSent, ReadHeader, ReadChunk, LowerSent, RaiseReady, LookReady, LowerReady, after}
-use Rattle.scc_proto.specs.Permission.{permits}
+use Rattle.scc_proto.specs.Moves.{Move, after}
 use Rattle.scc_proto.specs.Words.{RankEvent}
-use Rattle.scc_proto.specs.Records.{look_at}
 
 -- an event that a rank makes at a word of a core, or at a core's register
 abbrev pub loads : ℕ → ℕ → ℕ → ℕ → ℕ → RankEvent
@@ -93,26 +92,41 @@ one_byte_bits = stores 1 1 0 3 0 ∷ stores 1 1 0 2 1 ∷ stores 1 1 0 1 0 ∷ s
     ∷ changes 0 1 0 0 1 1
     ++ loads 1 1 1 1 1 ∷ changes 1 1 0 1 1 0
 
--- the record after moves, and whether each is permitted, where a whole chunk has `size` bytes
+-- the record after moves, where a whole chunk has `size` bytes
 abbrev pub moved : ℕ → Record → List Move → Record
 moved size rec [] = rec
 moved size rec (move ∷ moves) = moved size (after size move rec) moves
 
-abbrev pub all_permitted : ℕ → Record → List Move → Bool
-all_permitted size rec [] = true
-all_permitted size rec (move ∷ moves) = permits size move rec && all_permitted size (after size move rec) moves
+-- what stands for the numbers 0 to n - 1, in this order
+unfoldable pub for_each : {A : Type 0} → (ℕ → A) → ℕ → List A
+for_each of zero = []
+for_each of (suc n) = for_each of n ++ of n ∷ []
 
--- 33 bytes in chunks of 32: a chunk of four words, and a second chunk of one byte
-abbrev pub sends_two_chunks : List Move
-sends_two_chunks = DraftHeader 3 0 ∷ DraftHeader 2 33 ∷ DraftHeader 1 0 ∷ DraftHeader 0 0 ∷ DraftChunk 3 0 ∷ DraftChunk 2 0 ∷ DraftChunk 1 0 ∷ DraftChunk 0 5
-    ∷ RaiseSent 1 ∷ LookReady (look_at 1 1) ∷ LowerReady 1
-    ∷ DraftChunk 3 0 ∷ DraftChunk 2 0 ∷ DraftChunk 1 0 ∷ DraftChunk 0 7 ∷ RaiseSent 1 ∷ LookReady (look_at 1 1) ∷ LowerReady 1 ∷ []
+-- rank 0 stores, or rank 1 loads, word k of the chunk buffer of rank 0
+abbrev pub drafts_word : (ℕ → ℕ) → ℕ → RankEvent
+drafts_word word k = stores 0 0 (113 + k / 4) (k % 4) (word k)
 
-abbrev pub takes_two_chunks : List Move
-takes_two_chunks = LookSent (look_at 0 1) ∷ ReadHeader 0 0 0 ∷ ReadHeader 0 1 0 ∷ ReadHeader 0 2 33 ∷ LowerSent 0
-    ∷ ReadChunk 0 0 5 ∷ ReadChunk 0 1 0 ∷ ReadChunk 0 2 0 ∷ ReadChunk 0 3 0 ∷ RaiseReady 0
-    ∷ LookSent (look_at 0 1) ∷ LowerSent 0 ∷ ReadChunk 0 0 7 ∷ ReadChunk 0 1 0 ∷ ReadChunk 0 2 0 ∷ ReadChunk 0 3 0 ∷ RaiseReady 0 ∷ []
+abbrev pub loads_word : (ℕ → ℕ) → ℕ → RankEvent
+loads_word word k = loads 1 0 (113 + k / 4) (k % 4) (word k)
 
--- the 33 bytes
-abbrev pub two_chunks_of_bytes : List ℕ
-two_chunks_of_bytes = 5 ∷ 0 ∷ 0 ∷ 0 ∷ 0 ∷ 0 ∷ 0 ∷ 0 ∷ 0 ∷ 0 ∷ 0 ∷ 0 ∷ 0 ∷ 0 ∷ 0 ∷ 0 ∷ 0 ∷ 0 ∷ 0 ∷ 0 ∷ 0 ∷ 0 ∷ 0 ∷ 0 ∷ 0 ∷ 0 ∷ 0 ∷ 0 ∷ 0 ∷ 0 ∷ 0 ∷ 0 ∷ 7 ∷ []
+-- 3,585 bytes go from rank 0 to rank 1: a first chunk of 448 words, and a second one whose one byte is 07.
+-- Rank 0 drafts the header and the first chunk; rank 1 sees it, loads the head and the chunk, and answers;
+-- rank 0 drafts the second chunk, and so on.
+abbrev pub drafts_head : List RankEvent
+drafts_head = stores 0 0 0 3 0 ∷ stores 0 0 0 2 3585 ∷ stores 0 0 0 1 0 ∷ stores 0 0 0 0 0 ∷ []
+
+abbrev pub begins_first : List RankEvent
+begins_first = stores 0 1 1 0 1 ∷ loads 1 1 1 0 1 ∷ loads 1 0 0 0 0 ∷ loads 1 0 0 1 0 ∷ loads 1 0 0 2 3585 ∷ stores 1 1 1 0 0 ∷ []
+
+abbrev pub goes_on : List RankEvent
+goes_on = stores 1 0 50 0 1 ∷ loads 0 0 50 0 1 ∷ stores 0 0 50 0 0
+    ∷ stores 0 0 113 3 0 ∷ stores 0 0 113 2 0 ∷ stores 0 0 113 1 0 ∷ stores 0 0 113 0 7 ∷ stores 0 1 1 0 1
+    ∷ loads 1 1 1 0 1 ∷ stores 1 1 1 0 0 ∷ loads 1 0 113 0 7 ∷ loads 1 0 113 1 0 ∷ loads 1 0 113 2 0 ∷ loads 1 0 113 3 0 ∷ stores 1 0 50 0 1
+    ∷ loads 0 0 50 0 1 ∷ stores 0 0 50 0 0 ∷ []
+
+abbrev pub two_chunks : (ℕ → ℕ) → List RankEvent
+two_chunks word = drafts_head ++ (for_each (drafts_word word) 448 ++ (begins_first ++ (for_each (loads_word word) 448 ++ goes_on)))
+
+-- the first n bytes of words of eight bytes, the lowest first
+unfoldable pub bytes_of : (ℕ → ℕ) → ℕ → List ℕ
+bytes_of word n = map (λ b. word (b / 8) / 256 ^ (b % 8) % 256) (range_with_len 0 n)

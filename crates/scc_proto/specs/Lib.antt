@@ -1,9 +1,13 @@
 pub mod Agreement
+pub mod Drafts
 pub mod Examples
 pub mod Groups
 pub mod Histories
+pub mod IdlePorts
 pub mod LegalExamples
 pub mod Legality
+pub mod Lone
+pub mod Memories
 pub mod Messages
 pub mod Moves
 pub mod PairMessages

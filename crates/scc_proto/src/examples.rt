@@ -1,6 +1,6 @@
 //! Small runs, event by event: each contract says to what the records come.
 
-ghost use Rattle.std.specs.Prelude.{◌≡◌, true, [], ◌∷◌, ◌++◌, Some, None};
+ghost use Rattle.std.specs.Prelude.{◌≡◌, ℕ, ◌<◌, ◌^◌, [], ◌∷◌, ◌++◌, Some, None};
 ghost use Rattle.scc_base.specs.Events.{load_of, store_of};
 ghost use Rattle.scc_base.specs.Heads.{plain_head};
 ghost use Rattle.scc_base.specs.Calls.{Send, Recv, Post, Bar};
@@ -9,7 +9,7 @@ ghost use Rattle.scc_proto.specs.Words.{IsRun, zeros};
 ghost use Rattle.scc_proto.specs.Histories.{IsPermittedRun, records_of};
 ghost use Rattle.scc_proto.specs.Passed.{passed_calls, slot_of};
 ghost use Rattle.scc_proto.specs.Ports.{MayMake, Did, record_in};
-ghost use Rattle.scc_proto.specs.Examples.{two_ranks, four_bytes, no_bytes, three_ranks, barrier_of_three, four_bytes_elsewhere, posts_four, takes_four, two_ranks_bits, one_byte_bits, moved, all_permitted, sends_two_chunks, takes_two_chunks, two_chunks_of_bytes};
+ghost use Rattle.scc_proto.specs.Examples.{two_ranks, four_bytes, no_bytes, three_ranks, barrier_of_three, four_bytes_elsewhere, posts_four, takes_four, two_ranks_bits, one_byte_bits, two_chunks, bytes_of};
 
 use crate::ports::Port;
 use scc_base::Place;
@@ -40,10 +40,12 @@ pub fn empty_message_arrives()
     ensures sent { (records_of two_ranks no_bytes 0).calls ≡ Send 1 (plain_head 0) [] ∷ [] }
 {}
 
-/// A message of two chunks, where a whole chunk has 32 bytes.
+/// A message of 3,585 bytes, whose first chunk is whole and has any words, up to the sender's last event.
 pub fn two_chunks_arrive()
-    ensures sent { (all_permitted 32 blank sends_two_chunks ≡ true) × ((moved 32 blank sends_two_chunks).calls ≡ Send 1 (plain_head 33) two_chunks_of_bytes ∷ []) }
-    ensures received { (all_permitted 32 blank takes_two_chunks ≡ true) × ((moved 32 blank takes_two_chunks).calls ≡ Recv 0 (plain_head 33) two_chunks_of_bytes ∷ []) }
+    ensures is_run { (word : ℕ → ℕ) → IsRun zeros (two_chunks word) }
+    ensures permitted { (word : ℕ → ℕ) → ((k : ℕ) → word k < 2 ^ 64) → IsPermittedRun two_ranks (λ r. blank) (two_chunks word) }
+    ensures received { (word : ℕ → ℕ) → (records_of two_ranks (two_chunks word) 1).calls ≡ Recv 0 (plain_head 3585) (bytes_of word 3584 ++ 7 ∷ []) ∷ [] }
+    ensures sent { (word : ℕ → ℕ) → (records_of two_ranks (two_chunks word) 0).calls ≡ Send 1 (plain_head 3585) (bytes_of word 3584 ++ 7 ∷ []) ∷ [] }
 {}
 
 /// A barrier of three ranks that are not on the cores of their numbers.

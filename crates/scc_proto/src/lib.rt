@@ -4,10 +4,17 @@
 
 mod counting;
 pub mod examples;
+mod history;
 pub mod laws;
 pub mod legal_examples;
+mod lone;
+#[cfg(test)]
+mod lone_tests;
+mod numbers;
 mod ports;
 pub mod refusals;
 
 pub use counting::CountingPort;
+pub use lone::LonePort;
+pub use numbers::{NUMBERS, number_of_register, number_of_word};
 pub use ports::Port;

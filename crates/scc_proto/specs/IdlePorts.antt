@@ -1,0 +1,8 @@
+-- Ports between the calls of their rank.
+use Rattle.std.specs.Prelude.{◌≡◌}
+use Rattle.scc_proto.specs.Stages.{Idle}
+use Rattle.scc_proto.specs.Ports.{Sight, record_in}
+
+-- the rank is in no call
+abbrev pub IsIdle : Sight → Type 0
+IsIdle sight = (record_in sight).stage ≡ Idle
