@@ -1,9 +1,9 @@
 //! Evictors: what decides, after a line is brought in, whether a cached line leaves.
 
-ghost use Rattle.std.specs.Prelude.{◌≡◌, ℕ, ◌+◌, ◌<◌, ◌^◌, IfSome, None, Option};
+ghost use Rattle.std.specs.Prelude.{◌≡◌, ℕ, ◌+◌, ◌<◌, ◌^◌, List, IfSome, None, Option};
 ghost use Rattle.rand_pcg.specs.Pcg.{pcg32_of_seed};
 ghost use Rattle.rand_core.specs.Pcg32Seed.{pcg32_seed};
-ghost use Rattle.line_cache.specs.Eviction.{most_evictions, count_after, seeded_answer, seeded_next, always_answer};
+ghost use Rattle.line_cache.specs.Eviction.{most_evictions, count_after, MayAnswer, answers_of, seeded_answer, seeded_next, always_answer, always_next};
 
 use rand_core::SeedableRng;
 use rand_core::utils::NextWord;
@@ -13,17 +13,22 @@ use std::marker::Model;
 /// What decides whether a line leaves the cache after another came in.
 ///
 /// An evictor counts the lines that it had dropped. The count never falls and fits a `u64`, and an evictor
-/// whose count stands at the largest `u64` drops no more. Nothing else is known of its answers.
+/// whose count stands at the largest `u64` drops no more. Nothing else is asked of its answers.
 pub trait Evict {
     // How many entries it has had dropped.
     ghost count: { Self → ℕ };
+
+    // What it answers now, by the number of entries held. To a number beyond the list it may give any answer,
+    // so an evictor of whose answers nothing is known has the empty list.
+    ghost answers: { Self → List (Option ℕ) };
 
     /// Names the entry of `held` entries that is to leave, if one is.
     fn drop_one(&mut self, held: usize) -> Option<usize>
         ensures below { IfSome result (λ i. i < held) }
         ensures counted { count self.new ≡ count_after result (count self.old) }
         ensures full { count self.old ≡ most_evictions → result ≡ None }
-        ensures fits { count self.new < 2 ^ 64 };
+        ensures fits { count self.new < 2 ^ 64 }
+        ensures given { MayAnswer (answers self.old) held result };
 }
 
 /// The evictor that drops nothing.
@@ -33,11 +38,15 @@ pub struct Never;
 impl Evict for Never {
     ghost count = { λ _. 0 };
 
+    ghost answers = { λ _. answers_of (λ _. None) };
+
+    #[tactic(auto, using(crate::proofs::EvictLemmas::only_answer))]
     fn drop_one(&mut self, held: usize) -> Option<usize>
         ensures below { IfSome result (λ i. i < held) }
         ensures counted { 0 ≡ count_after result 0 }
         ensures full { 0 ≡ most_evictions → result ≡ None }
         ensures fits { 0 < 2 ^ 64 }
+        ensures given { MayAnswer (answers_of (λ _. None)) held result }
         ensures never { result ≡ None }
     {
         let _ = held;
@@ -80,11 +89,15 @@ impl Seeded {
 impl Evict for Seeded {
     ghost count = { λ e. e.count };
 
+    ghost answers = { λ e. answers_of (seeded_answer e) };
+
+    #[tactic(auto, using(crate::proofs::EvictLemmas::only_answer))]
     fn drop_one(&mut self, held: usize) -> Option<usize>
         ensures below { IfSome result (λ i. i < held) }
         ensures counted { self.new.count ≡ count_after result self.old.count }
         ensures full { self.old.count ≡ most_evictions → result ≡ None }
         ensures fits { self.new.count < 2 ^ 64 }
+        ensures given { MayAnswer (answers_of (seeded_answer self.old)) held result }
         ensures answer { result ≡ seeded_answer self.old held }
         ensures next { self.new ≡ seeded_next self.old held }
     {
@@ -111,11 +124,15 @@ impl Evict for Choice {
 
     ghost count = { choice_count };
 
+    ghost answers = { λ e. answers_of (choice_answer e) };
+
+    #[tactic(auto, using(crate::proofs::EvictLemmas::only_answer))]
     fn drop_one(&mut self, held: usize) -> Option<usize>
         ensures below { IfSome result (λ i. i < held) }
         ensures counted { choice_count self.new ≡ count_after result (choice_count self.old) }
         ensures full { choice_count self.old ≡ most_evictions → result ≡ None }
         ensures fits { choice_count self.new < 2 ^ 64 }
+        ensures given { MayAnswer (answers_of (choice_answer self.old)) held result }
         ensures answer { result ≡ choice_answer self.old held }
         ensures next { self.new ≡ choice_next self.old held }
     {
@@ -154,12 +171,17 @@ impl Always {
 impl Evict for Always {
     ghost count = { λ e. e };
 
+    ghost answers = { λ e. answers_of (always_answer e) };
+
+    #[tactic(auto, using(crate::proofs::EvictLemmas::only_answer))]
     fn drop_one(&mut self, held: usize) -> Option<usize>
         ensures below { IfSome result (λ i. i < held) }
         ensures counted { self.new ≡ count_after result self.old }
         ensures full { self.old ≡ most_evictions → result ≡ None }
         ensures fits { self.new < 2 ^ 64 }
-        ensures answer { result ≡ always_answer held self.old }
+        ensures given { MayAnswer (answers_of (always_answer self.old)) held result }
+        ensures answer { result ≡ always_answer self.old held }
+        ensures next { self.new ≡ always_next self.old held }
     {
         if held == 0 || self.count == u64::MAX {
             return None;
