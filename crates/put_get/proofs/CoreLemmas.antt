@@ -1,23 +1,26 @@
 -- What fetches of lines come to: their events, and how the cache stands after them.
-use Rattle.std.proofs.Common.{◌≡◌, ℕ, suc, ◌+◌, ◌<◌, List, [], ◌++◌, Option, length, remove, sym, subst, arith}
+use Rattle.std.proofs.Common.{◌≡◌, ℕ, suc, ◌+◌, ◌<◌, Some, List, [], ◌++◌, Option, length, remove, sym, subst, arith}
 use Rattle.scc_base.specs.Places.{LineAt, WordAt}
 use Rattle.scc_base.specs.declared.events.Event.{Event}
 use Rattle.scc_proto.specs.Ports.{Sight, Did}
 use Rattle.scc_proto.proofs.PortLaws.{did_nothing, did_both}
 use Rattle.line_cache.specs.declared.cache.Entry.{Entry}
 use Rattle.line_cache.specs.Lines.{filled}
+use Rattle.line_cache.specs.Eviction.{MayAnswer}
 use Rattle.write_combine.specs.declared.combiner.Out.{Out}
 use Rattle.put_get.specs.Accesses.{loads_of}
 use Rattle.put_get.specs.Cores.{Private, Fills, Dropped, Fetch, Held, Loaded, ReadsWord, MadeSteps, KeepsSteps}
 use Rattle.put_get.proofs.StepLemmas.{steps_both}
 
--- a line came in and one left
-pub fills_dropped : (lines now : List Entry) (out : Option Out) (n m : ℕ) (line : LineAt) (words : List ℕ) (at : ℕ)
-    → at < length (filled lines line words) → now ≡ remove (filled lines line words) at → m ≡ n + 1
-    → Fills (record { lines = lines; out = out; evictions = n }) line words (record { lines = now; out = out; evictions = m })
-fills_dropped lines now out n m line words at h e k =
+-- a line came in, and the evictor named an entry
+pub fills_dropped : (lines now : List Entry) (out : Option Out) (n m : ℕ) (answers next : List (Option ℕ)) (line : LineAt) (words : List ℕ) (held at : ℕ)
+    → held ≡ length (filled lines line words) → at < held → MayAnswer answers held (Some at) → now ≡ remove (filled lines line words) at → m ≡ n + 1
+    → Fills (record { lines = lines; out = out; evictions = n; answers = answers }) line words
+    (record { lines = now; out = out; evictions = m; answers = next })
+fills_dropped lines now out n m answers next line words held at len h given e k =
     let c : m ≡ suc n = omega arith in
-    Dropped at h (λ i. record { lines = e i; out = out; evictions = c i })
+    Dropped at (subst (λ l. at < l) len h) (subst (λ l. MayAnswer answers l (Some at)) len given)
+    (λ i. record { lines = e i; out = out; evictions = c i; answers = next })
 
 -- the events that a read made
 pub record Made (s t : Sight) : Type 0 where

@@ -54,9 +54,9 @@ each-filled P es line words a p =
 -- after a fill, whatever was evicted
 pub each_fills : (P : LineAt → List ℕ → Type 0) {c d : Private} {line : LineAt} {words : List ℕ} → Fills c line words d
     → EachEntry P c.lines → P line words → EachEntry P d.lines
-each_fills P {c} {d} {line} {words} (Kept e) a p =
+each_fills P {c} {d} {line} {words} (Kept given e) a p =
     subst (λ (x : Private). EachEntry P x.lines) (sym e) (each-filled P c.lines line words a p)
-each_fills P {c} {d} {line} {words} (Dropped at h e) a p =
+each_fills P {c} {d} {line} {words} (Dropped at h given e) a p =
     subst (λ (x : Private). EachEntry P x.lines) (sym e) (each-remove P (filled c.lines line words) at (each-filled P c.lines line words a p))
 
 pub each_weaker : (P Q : LineAt → List ℕ → Type 0) (es : List Entry) → ((line : LineAt) (words : List ℕ) → P line words → Q line words)

@@ -5,3 +5,4 @@ pub mod CoreLemmas
 pub mod EntryLemmas
 pub mod TransferLemmas
 pub mod WorkLemmas
+pub mod FillLemmas

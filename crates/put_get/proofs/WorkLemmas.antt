@@ -13,6 +13,7 @@ use Rattle.line_cache.specs.Lines.{held}
 use Rattle.put_get.specs.Accesses.{loads_of}
 use Rattle.put_get.specs.Cores.{Private, Fills, Kept, Dropped, Fetch, Held, Loaded, ReadsLine}
 use Rattle.put_get.specs.Transfers.{line_at, is_load, load_count, same_word, is_load_of, IsLoaded, IsLineLoaded, AreLoaded, ReadsLines, Gets}
+use Rattle.put_get.proofs.FillLemmas.{fills_out}
 use Rattle.put_get.proofs.EntryLemmas.{EachEntry, each_held, each_fills, each_weaker, held-filled}
 
 -- what was loaded stays so with more events
@@ -70,7 +71,7 @@ loads_loaded line words k h = by k h
     by (suc (suc (suc zero))) h four = four.3
     by (suc (suc (suc (suc k)))) h four = absurd (omega arith)
 
-load_count-append : (a b : List Event) → load_count (a ++ b) ≡ load_count a + load_count b
+pub load_count-append : (a b : List Event) → load_count (a ++ b) ≡ load_count a + load_count b
 load_count-append a b = sum_by-append (λ (e : Event). cond (is_load e.access) 1 0) a b
 
 -- 1 where the line is held
@@ -96,19 +97,15 @@ pub record Fetches (s : Sight) (c : Private) (line : LineAt) (words : List ℕ) 
   pub spends : Spends s c line t d
   pub words_loaded : (known : List Event) → AllLoaded known c → IsLineLoaded (known ++ spends.events) line words
 
-fills_out : {c d : Private} {line : LineAt} {words : List ℕ} → Fills c line words d → d.out ≡ c.out
-fills_out (Kept e) = ap (λ (x : Private). x.out) e
-fills_out (Dropped at h e) = ap (λ (x : Private). x.out) e
-
 fills_cost : {c d : Private} {line : LineAt} {words : List ℕ} → held c.lines line ≡ None → Fills c line words d
     → 4 + 4 * stands c line + 4 * c.evictions ≤ 4 * d.evictions + 4 * stands d line
-fills_cost {c} {d} {line} {words} h (Kept e) =
+fills_cost {c} {d} {line} {words} h (Kept given e) =
     let before : stands c line ≡ 0 = ap (λ o. cond (is_some o) 1 0) h in
     let after : stands d line ≡ 1 =
     ap (λ (x : Private). stands x line) e ∙ ap (λ o. cond (is_some o) 1 0) (held-filled c.lines line words h) in
     let same : d.evictions ≡ c.evictions = ap (λ (x : Private). x.evictions) e in
     omega arith
-fills_cost {c} {d} {line} {words} h (Dropped at k e) =
+fills_cost {c} {d} {line} {words} h (Dropped at k given e) =
     let before : stands c line ≡ 0 = ap (λ o. cond (is_some o) 1 0) h in
     let more : d.evictions ≡ suc c.evictions = ap (λ (x : Private). x.evictions) e in
     omega arith

@@ -6,22 +6,26 @@ use Rattle.scc_base.specs.declared.events.Event.{Event}
 use Rattle.scc_proto.specs.Ports.{Sight, Did}
 use Rattle.line_cache.specs.declared.cache.Entry.{Entry}
 use Rattle.line_cache.specs.Lines.{held, filled, noted}
+use Rattle.line_cache.specs.Eviction.{MayAnswer}
 use Rattle.write_combine.specs.declared.combiner.Out.{Out}
 use Rattle.write_combine.specs.Combining.{handed_out, held_after}
 use Rattle.put_get.specs.Accesses.{loads_of, stores_of, whole_line, WereSteps}
 
--- what is seen of a core: the lines in its cache, the line in its write-combining buffer, and how many
--- lines its evictor had dropped
+-- what is seen of a core: the lines in its cache, the line in its write-combining buffer, how many lines
+-- its evictor had dropped, and what its evictor answers now
 pub record Private : Type 0 where
   pub lines : List Entry
   pub out : Option Out
   pub evictions : ℕ
+  pub answers : List (Option ℕ)
 
--- a line came in: it stands last, or the evictor named an entry, and that one left
+-- a line came in, and the evictor was asked with so many lines held: it named none, and the line stands last,
+-- or the one that it named left; nothing is said of what it answers afterwards
 pub data Fills (c : Private) (line : LineAt) (words : List ℕ) (d : Private) : Type 0 where
-  Kept : d ≡ record c { lines = filled c.lines line words } → Fills c line words d
-  Dropped : (at : ℕ) → at < length (filled c.lines line words)
-      → d ≡ record c { lines = remove (filled c.lines line words) at; evictions = suc c.evictions } → Fills c line words d
+  Kept : MayAnswer c.answers (length (filled c.lines line words)) None
+      → d ≡ record c { lines = filled c.lines line words; answers = d.answers } → Fills c line words d
+  Dropped : (at : ℕ) → at < length (filled c.lines line words) → MayAnswer c.answers (length (filled c.lines line words)) (Some at)
+      → d ≡ record c { lines = remove (filled c.lines line words) at; evictions = suc c.evictions; answers = d.answers } → Fills c line words d
 
 -- the words of a line were got: from the cache with no event, or by four loads, after which the line came in
 pub data Fetch (s : Sight) (c : Private) (line : LineAt) (words : List ℕ) (t : Sight) (d : Private) : Type 0 where
@@ -50,7 +54,7 @@ pub record ReadsLine (s : Sight) (c : Private) (line : LineAt) (words : List ℕ
 -- one word was written: it is noted in the cache and in the buffer, and what the buffer handed out was stored
 pub record Writes (s : Sight) (c : Private) (p : WordAt) (v : ℕ) (t : Sight) (d : Private) : Type 0 where
   pub did : Did s (stores_of (handed_out c.out (line_of_word p))) t
-  pub is : d ≡ record { lines = noted c.lines p v; out = Some (held_after c.out p v); evictions = c.evictions }
+  pub is : d ≡ record c { lines = noted c.lines p v; out = Some (held_after c.out p v) }
 
 -- what the buffer held was stored
 pub record Flushes (s : Sight) (c : Private) (t : Sight) (d : Private) : Type 0 where
@@ -69,7 +73,7 @@ line_noted es line words =
 -- a whole line was written: what the buffer held before was stored, and the line stands in the buffer
 pub record WritesLine (s : Sight) (c : Private) (line : LineAt) (words : List ℕ) (t : Sight) (d : Private) : Type 0 where
   pub did : Did s (stores_of c.out) t
-  pub is : d ≡ record { lines = line_noted c.lines line words; out = Some (whole_line line words); evictions = c.evictions }
+  pub is : d ≡ record c { lines = line_noted c.lines line words; out = Some (whole_line line words) }
 
 -- each event between two sights of a port was a step of the chip's memory
 abbrev pub MadeSteps : (List Event → Event → Type 0) → Sight → Sight → Type 0

@@ -9,8 +9,8 @@ use write_combine::Combiner;
 
 /// What a core has for itself between it and the shared words.
 ///
-/// It is seen as the lines in its cache, the line in its write-combining buffer, and the number of lines
-/// that its evictor had dropped. Reads go through the cache: what it holds may be old until `cl1invmb`.
+/// It is seen as the lines in its cache, the line in its write-combining buffer, the number of lines that
+/// its evictor had dropped, and what its evictor answers now. Reads go through the cache: what it holds may be old until `cl1invmb`.
 /// Writes wait in the buffer until another line is written or `flush`.
 #[derive(Drop)]
 pub struct Core<V: Evict> {
@@ -24,7 +24,12 @@ impl<V: Evict> Model for Core<V> {
 
     ghost Value = { Private };
 
-    ghost view = { λ s. record { lines = s.cache; out = s.combiner; evictions = V.count s.evict } };
+    ghost view = { λ s. record {
+      lines = s.cache;
+      out = s.combiner;
+      evictions = V.count s.evict;
+      answers = V.answers s.evict;
+    } };
 }
 
 impl<V: Evict> Core<V> {
@@ -39,7 +44,12 @@ impl<V: Evict> Core<V> {
 
     /// A core that holds nothing.
     pub fn new(evict: V) -> Core<V>
-        ensures { result ≡ record { lines = []; out = None; evictions = V.count evict } }
+        ensures { result ≡ record {
+          lines = [];
+          out = None;
+          evictions = V.count evict;
+          answers = V.answers evict;
+        } }
     {
         Core {
             cache: Cache::new(),
