@@ -5,28 +5,29 @@ use Rattle.scc_base.specs.Places.{WordAt, LineAt, line_of_word}
 use Rattle.scc_proto.specs.Ports.{Sight, Did}
 use Rattle.scc_proto.proofs.PortLaws.{did_nothing, did_both}
 use Rattle.line_cache.specs.Lines.{held}
+use Rattle.put_get.proofs.FillLemmas.{fills_held}
 use Rattle.put_get.specs.Accesses.{loads_of}
-use Rattle.put_get.specs.Cores.{Private, Fills, Kept, Dropped, Fetch, Held, Loaded, ReadsWord}
+use Rattle.put_get.specs.Cores.{Private, Fills, Fetch, Held, Loaded, ReadsWord}
 use Rattle.sync_flags.specs.Flags.{is_set_in}
 use Rattle.sync_flags.specs.Tries.{is_unwanted}
-use Rattle.sync_flags.specs.Looks.{Looks, ReadsFlag, LooksAll, looks_of, AreVain, LooksInVain}
+use Rattle.sync_flags.specs.Looks.{Looks, LooksAt, ReadsFlag, LooksAll, looks_of, AreVain, LooksInVain}
 
 -- nothing is held in an empty cache, so a fetch loads
 pub fetch_looks : {s t : Sight} {c1 d : Private} {line : LineAt} {words : List ℕ} → Fetch s c1 line words t d → (c : Private)
     → c1 ≡ record c { lines = [] } → Looks s c line words t d
 fetch_looks {line = line} {words = words} (Held h e f) c empty = let none : None ≡ Some words = sym (ap (λ (x : Private). held x.lines line) empty) ∙ h in absurd (cc)
-fetch_looks {d = d} {line = line} {words = words} (Loaded h len did fills) c empty = record { did = did; fills = subst (λ (x : Private). Fills x line words d) empty fills }
+fetch_looks {d = d} {line = line} {words = words} (Loaded h len did fills) c empty =
+    let now = subst (λ (x : Private). Fills x line words d) empty fills in
+    record { did = did; fills = now; held = fills_held now refl }
 
-pub word_looks : {s t : Sight} {c1 d : Private} {p : WordAt} {v : ℕ} → ReadsWord s c1 p v t d → (c : Private) (place : WordAt) (bit : Option ℕ) (found : Bool)
-    → c1 ≡ record c { lines = [] } → p ≡ place → found ≡ is_set_in bit v → ReadsFlag s c place bit found t d
-word_looks {s} {t} {d = d} r c place bit found empty at is =
+pub word_looks : {s t : Sight} {c1 d : Private} {p : WordAt} {v : ℕ} → ReadsWord s c1 p v t d → (c : Private) → c1 ≡ record c { lines = [] } → LooksAt s c p v t d
+word_looks r c empty = record { words = r.words; looks = fetch_looks r.fetch c empty; is = r.is }
+
+pub flag_looks : {s t : Sight} {c d : Private} {p : WordAt} {v : ℕ} → LooksAt s c p v t d → (place : WordAt) (bit : Option ℕ) (found : Bool)
+    → p ≡ place → found ≡ is_set_in bit v → ReadsFlag s c place bit found t d
+flag_looks {s} {t} {c} {d} r place bit found at is =
     subst (λ (x : WordAt). ReadsFlag s c x bit found t d) at
-    (record { words = r.words; looks = fetch_looks r.fetch c empty; is = is ∙ ap (λ (x : ℕ). is_set_in bit x) r.is })
-
--- the combiner is left alone by a look
-pub fills_out : {c d : Private} {line : LineAt} {words : List ℕ} → Fills c line words d → d.out ≡ c.out
-fills_out (Kept e) = ap (λ (x : Private). x.out) e
-fills_out (Dropped at h e) = ap (λ (x : Private). x.out) e
+    (record { words = r.words; looks = r.looks; is = is ∙ ap (λ (x : ℕ). is_set_in bit x) r.is })
 
 pub looks_did : (s : Sight) (c : Private) (line : LineAt) (looks : List (List ℕ)) (t : Sight) (d : Private) → LooksAll s c line looks t d
     → Did s (looks_of line looks) t

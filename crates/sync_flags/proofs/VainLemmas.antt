@@ -4,7 +4,7 @@ use Rattle.std.proofs.Common.{◌≡◌, ℕ, suc, ◌≤◌, ◌↔◌, Bool, t
 use Rattle.scc_base.specs.declared.events.Access.{Access}
 use Rattle.scc_base.specs.declared.events.Access.TheVariants.{Load, Store, Take, Free}
 use Rattle.scc_base.specs.declared.events.Event.{Event}
-use Rattle.sync_flags.specs.Tries.{Aim, AtFlag, AtRegister, is_load, is_take, is_write, is_at, is_changing, is_try, is_vain, tries_from, vain_after, vain_from, vain_tries, TriedInVain, changing_after, all_vain, has_write, EndsInVain}
+use Rattle.sync_flags.specs.Tries.{Aim, AtFlag, AtWord, AtRegister, is_load, is_take, is_write, is_at, is_changing, is_try, is_vain, tries_from, vain_after, vain_from, vain_tries, TriedInVain, changing_after, all_vain, has_write, EndsInVain}
 
 both : (a b : Bool) → (a && b) ≡ true → (a ≡ true) × (b ≡ true)
 both true b t = (refl, t)
@@ -21,7 +21,7 @@ one_count true true w n a b = refl
 one_count true false w n a b = absurd (cc)
 one_count false v w n a b = λ i. if b i then 0 else n
 
-as_tries : (aim : Aim) (changing : Bool) (n : ℕ) (es : List Event) → all_vain aim changing es ≡ true → has_write es ≡ false
+pub as_tries : (aim : Aim) (changing : Bool) (n : ℕ) (es : List Event) → all_vain aim changing es ≡ true → has_write es ≡ false
     → vain_from aim changing n es ≡ tries_from aim changing n es
 as_tries aim changing n [] v w = refl
 as_tries aim changing n (e ∷ es) v w =
@@ -39,7 +39,7 @@ more_tries aim changing n m (e ∷ es) h = more_tries aim (is_changing changing 
     one true = omega (arith, h)
     one false = h
 
-vain-append : (aim : Aim) (changing : Bool) (n : ℕ) (a b : List Event)
+pub vain-append : (aim : Aim) (changing : Bool) (n : ℕ) (a b : List Event)
     → vain_from aim changing n (a ++ b) ≡ vain_from aim (changing_after changing a) (vain_from aim changing n a) b
 vain-append aim changing n [] b = refl
 vain-append aim changing n (e ∷ a) b = vain-append aim (is_changing changing e.access e.value) (vain_after aim changing n e) a b
@@ -66,6 +66,9 @@ no_take Free t = absurd (cc)
 -- a try is no store and no free
 no_write : (aim : Aim) (changing : Bool) (e : Event) → is_try changing aim e ≡ true → is_write e.access ≡ false
 no_write (AtFlag place bit want) changing e t =
+    let second = both (not changing) (is_load e.access && is_at place e.place) t in
+    no_load e.access (both (is_load e.access) (is_at place e.place) second.1).0
+no_write (AtWord place value) changing e t =
     let second = both (not changing) (is_load e.access && is_at place e.place) t in
     no_load e.access (both (is_load e.access) (is_at place e.place) second.1).0
 no_write (AtRegister core) changing e t = no_take e.access (both (is_take e.access) (e.place.core == core) t).0

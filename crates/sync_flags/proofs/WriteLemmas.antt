@@ -12,14 +12,14 @@ use Rattle.scc_proto.proofs.Tests.{eqb_same}
 use Rattle.write_combine.specs.Combining.{one_word, handed_out, held_after}
 use Rattle.write_combine.specs.declared.combiner.Out.{Out}
 use Rattle.put_get.specs.Accesses.{loads_of, stores_of}
-use Rattle.put_get.specs.Cores.{Private, ReadsWord, Writes}
+use Rattle.put_get.specs.Cores.{Private, Writes}
 use Rattle.put_get.proofs.StepLemmas.{events_once}
 use Rattle.tas_lock.specs.Holds.{IsHolding, IsNotHolding, after_try}
 use Rattle.tas_lock.proofs.HoldLemmas.{next_tried}
 use Rattle.sync_flags.specs.Flags.{with_bit}
 use Rattle.sync_flags.specs.Tries.{AtRegister, vain_from, vain_tries, TriedInVain}
+use Rattle.sync_flags.specs.Looks.{LooksAt}
 use Rattle.sync_flags.specs.Writes.{vain_takes, change_events, MayChange, MayWrite, StoresWord, TakesWithin, ChangesBit, WritesBit, GivesUp, WritesFlag}
-use Rattle.sync_flags.proofs.LookLemmas.{fetch_looks}
 use Rattle.sync_flags.proofs.HeldLemmas.{holds_load, holds_store}
 use Rattle.sync_flags.proofs.WaitLemmas.{no_stall, stall}
 
@@ -48,11 +48,10 @@ flush_may {s} {m} {c} {d} {p} {v} w empty lt may =
 
 -- ---- a bit under its register
 
-pub may_change : {s m : Sight} {c1 d : Private} {p : WordAt} {v : ℕ} → ReadsWord s c1 p v m d → (c : Private) → c1 ≡ record c { lines = [] }
-    → (b : ℕ) (set : Bool) (x : ℕ) → MayChange s.seat (record_in s) [] p b set → IsSoundPort m → x ≡ with_bit b set v
-    → MayMake m.seat (record_in m) (store_of p x)
-may_change {s} {m} {c1} {d} {p} {v} r c empty b set x may sound is =
-    let did = (fetch_looks r.fetch c empty).did in
+pub may_change : {s m : Sight} {c d : Private} {p : WordAt} {v : ℕ} → LooksAt s c p v m d → (b : ℕ) (set : Bool) (x : ℕ)
+    → MayChange s.seat (record_in s) [] p b set → IsSoundPort m → x ≡ with_bit b set v → MayMake m.seat (record_in m) (store_of p x)
+may_change {s} {m} {c} {d} {p} {v} r b set x may sound is =
+    let did = r.looks.did in
     let loads = loads_of (line_of_word p) r.words in
     let seat : m.seat ≡ s.seat = seat_kept s loads m did in
     let late : record_in m ≡ record_on s.seat (record_in s) loads = record_did s loads m did in
@@ -65,10 +64,10 @@ may_change {s} {m} {c1} {d} {p} {v} r c empty b set x may sound is =
     (subst (λ (rec : Record). MayMake s.seat rec (store_of p x)) (sym late)
     (subst (λ (w : ℕ). MayMake s.seat (record_on s.seat (record_in s) loads) (store_of p w)) value here))
 
-pub bit_changed : {s m t : Sight} {c1 d1 d : Private} {p : WordAt} {v x : ℕ} → ReadsWord s c1 p v m d1 → (c : Private) → c1 ≡ record c { lines = [] }
-    → StoresWord m d1 p x t d → (b : ℕ) (set : Bool) → x ≡ with_bit b set v → ChangesBit s c p b set t d
-bit_changed {s} {m} {t} {c1} {d1} {d} {p} {v} {x} r c empty stores b set is =
-    let looks = fetch_looks r.fetch c empty in
+pub bit_changed : {s m t : Sight} {c d1 d : Private} {p : WordAt} {v x : ℕ} → LooksAt s c p v m d1 → StoresWord m d1 p x t d → (b : ℕ) (set : Bool)
+    → x ≡ with_bit b set v → ChangesBit s c p b set t d
+bit_changed {s} {m} {t} {c} {d1} {d} {p} {v} {x} r stores b set is =
+    let looks = r.looks in
     let value : x ≡ with_bit b set (slice_index r.words p.word) = is ∙ ap (λ (w : ℕ). with_bit b set w) r.is in
     let stored = subst (λ (w : ℕ). StoresWord m d1 p w t d) value stores in
     record {

@@ -1,10 +1,11 @@
 -- Looks at flags: each is a fresh load of the flag's line (RCCE specification 2.0: a flag is read in a loop
 -- until it is as wanted; that each look drops the cached lines before it is this project's profile).
-use Rattle.std.specs.Prelude.{◌≡◌, ℕ, ◌<◌, Bool, true, List, [], ◌∷◌, ◌++◌, Option, Result, Ok, Err, length, slice_index}
+use Rattle.std.specs.Prelude.{◌≡◌, ℕ, ◌<◌, Bool, true, List, [], ◌∷◌, ◌++◌, Option, Some, Result, Ok, Err, length, slice_index}
 use Rattle.scc_base.specs.Places.{WordAt, LineAt, line_of_word}
 use Rattle.scc_base.specs.declared.events.Event.{Event}
 use Rattle.scc_base.specs.declared.events.Stalled.{Stalled}
 use Rattle.scc_proto.specs.Ports.{Sight, Did}
+use Rattle.line_cache.specs.Lines.{held}
 use Rattle.put_get.specs.Accesses.{loads_of}
 use Rattle.put_get.specs.Cores.{Private, Fills}
 use Rattle.sync_flags.specs.Flags.{is_set_in, flag_spot}
@@ -14,6 +15,14 @@ use Rattle.sync_flags.specs.Tries.{is_unwanted}
 pub record Looks (s : Sight) (c : Private) (line : LineAt) (words : List ℕ) (t : Sight) (d : Private) : Type 0 where
   pub did : Did s (loads_of line words) t
   pub fills : Fills (record c { lines = [] }) line words d
+  -- the loaded line stands in the cache, unless a line was evicted
+  pub held : d.evictions ≡ c.evictions → held d.lines line ≡ Some words
+
+-- a word was looked at once, and this is its value
+pub record LooksAt (s : Sight) (c : Private) (place : WordAt) (value : ℕ) (t : Sight) (d : Private) : Type 0 where
+  pub words : List ℕ
+  pub looks : Looks s c (line_of_word place) words t d
+  pub is : value ≡ slice_index words place.word
 
 -- a flag's word was looked at once, and this is what was found
 pub record ReadsFlag (s : Sight) (c : Private) (place : WordAt) (bit : Option ℕ) (found : Bool) (t : Sight) (d : Private) : Type 0 where

@@ -1,16 +1,26 @@
 -- What a try is, over the events of one call, and when a call has tried in vain often enough (this project's
 -- profile). A line that is held makes no event, so a try at a flag is always a fresh load.
-use Rattle.std.specs.Prelude.{◌≡◌, ℕ, suc, ◌≤◌, Bool, true, false, not, ◌&&◌, ◌||◌, ◌==◌, if◌then◌else◌, List, [], ◌∷◌, ◌++◌, Option}
+use Rattle.std.specs.Prelude.{◌≡◌, ℕ, suc, ◌≤◌, Bool, true, false, not, ◌&&◌, ◌||◌, ◌==◌, if◌then◌else◌, List, [], ◌∷◌, ◌++◌, Option, Some, None}
 use Rattle.scc_base.specs.Places.{WordAt}
 use Rattle.scc_base.specs.declared.events.Access.{Access}
 use Rattle.scc_base.specs.declared.events.Access.TheVariants.{Load, Store, Take, Free}
 use Rattle.scc_base.specs.declared.events.Event.{Event}
-use Rattle.sync_flags.specs.Flags.{is_set_in}
+use Rattle.scc_base.specs.declared.events.Spot.{Spot}
+use Rattle.scc_base.specs.declared.events.Spot.TheVariants.{Flag, Register}
+use Rattle.sync_flags.specs.Flags.{is_set_in, flag_spot}
 
--- what a call tries for: that a flag is found as wanted, or that a core's register is taken
+-- what a call tries for: that a flag is found as wanted, that a word has this value (a flag of a barrier, which is
+-- flipped), or that a core's register is taken
 pub data Aim : Type 0 where
   AtFlag : (place : WordAt) → (bit : Option ℕ) → (want : Bool) → Aim
+  AtWord : (place : WordAt) → (value : ℕ) → Aim
   AtRegister : (core : ℕ) → Aim
+
+-- where a call waits that has tried in vain
+abbrev pub spot_of : Aim → Spot
+spot_of (AtFlag place bit want) = flag_spot place bit
+spot_of (AtWord place value) = Flag place 0
+spot_of (AtRegister core) = Register core
 
 abbrev pub is_load : Access → Bool
 is_load Load = true
@@ -35,10 +45,11 @@ is_changing before Take value = before || (value == 1)
 is_changing before Free value = false
 is_changing before access value = before
 
--- a try at a flag is a load of its word that is not made in the midst of a bit flag's change; a try at a
--- register is a take of it
+-- a try at a flag or a word is a load of the word that is not made in the midst of a bit flag's change; a try at
+-- a register is a take of it
 abbrev pub is_try : Bool → Aim → Event → Bool
 is_try changing (AtFlag place bit want) e = not changing && (is_load e.access && is_at place e.place)
+is_try changing (AtWord place value) e = not changing && (is_load e.access && is_at place e.place)
 is_try changing (AtRegister core) e = is_take e.access && (e.place.core == core)
 
 -- the flag is not as wanted
@@ -46,9 +57,11 @@ abbrev pub is_unwanted : Bool → Bool → Bool
 is_unwanted true found = not found
 is_unwanted false found = found
 
--- a try is vain where the flag is not as wanted, or where the register was found taken
+-- a try is vain where the flag is not as wanted, where the word has another value, or where the register was
+-- found taken
 abbrev pub is_vain : Aim → Event → Bool
 is_vain (AtFlag place bit want) e = is_unwanted want (is_set_in bit e.value)
+is_vain (AtWord place value) e = not (e.value == value)
 is_vain (AtRegister core) e = e.value == 0
 
 -- how many tries there were among more events, after so many
@@ -105,3 +118,12 @@ pub record EndsInVain (aim : Aim) (polls : ℕ) (events : List Event) : Type 0 w
   pub enough : polls ≤ tries_from aim (changing_after false before) 0 last
   pub vain : all_vain aim (changing_after false before) last ≡ true
   pub no_write : has_write last ≡ false
+
+-- ---- the tries of one turn
+
+-- a turn of an operation makes one try at its aim, where it has one, and waits at the aim's spot exactly where that
+-- try was vain
+pub data Tried (aim : Option Aim) (events : List Event) (waits : Option Spot) : Type 0 where
+  NoTry : aim ≡ None → waits ≡ None → Tried aim events waits
+  Vain : (at : Aim) → aim ≡ Some at → tries_at at events ≡ 1 → all_vain at false events ≡ true → waits ≡ Some (spot_of at) → Tried aim events waits
+  Fruitful : (at : Aim) → aim ≡ Some at → tries_at at events ≡ 1 → all_vain at false events ≡ false → waits ≡ None → Tried aim events waits

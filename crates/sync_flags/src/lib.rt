@@ -10,5 +10,5 @@ mod writes;
 
 pub use flags::{Flag, flag_alloc, flag_free};
 pub use laws::tries_law;
-pub use looks::{flag_read, wait_until};
-pub use writes::flag_write;
+pub use looks::{flag_read, look_word, wait_until};
+pub use writes::{flag_write, store_word};

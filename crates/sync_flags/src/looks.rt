@@ -6,15 +6,28 @@ ghost use Rattle.scc_proto.specs.Ports.{Did};
 ghost use Rattle.put_get.specs.Cores.{MadeSteps, KeepsSteps};
 ghost use Rattle.sync_flags.specs.Flags.{flag_of};
 ghost use Rattle.sync_flags.specs.Tries.{AtFlag, TriedInVain};
-ghost use Rattle.sync_flags.specs.Looks.{ReadsFlag, WaitsFor};
+ghost use Rattle.sync_flags.specs.Looks.{LooksAt, ReadsFlag, WaitsFor};
 
 use crate::flags::Flag;
 use line_cache::Evict;
 use put_get::Core;
-use scc_base::{Rank, Stalled};
+use scc_base::{Place, Rank, Stalled};
 use scc_proto::Port;
 
-/// Whether a flag at a rank is set. The cached lines are dropped first, so the answer is a load's of this call.
+/// Looks at a word. The cached lines are dropped first, so the answer is a load's of this call.
+#[tactic(auto, using(crate::proofs::LookLemmas::word_looks))]
+pub fn look_word<V: Evict, P: Port>(core: &mut Core<V>, port: &mut P, place: Place) -> u64
+    requires empty { core.old.out ≡ None }
+    ensures looks { LooksAt (P.sight port.old) core.old place result (P.sight port.new) core.new }
+    ensures empty { core.new.out ≡ None }
+    ensures steps { MadeSteps (P.stepped port.new) (P.sight port.old) (P.sight port.new) }
+    ensures keeps { KeepsSteps (P.stepped port.old) (P.stepped port.new) }
+{
+    core.cl1invmb();
+    core.word_read(port, place)
+}
+
+/// Whether a flag at a rank is set, by one look.
 pub fn flag_read<V: Evict, P: Port>(core: &mut Core<V>, port: &mut P, at: Rank, f: Flag) -> bool
     requires below { at < (P.sight port.old).seat.setup.nue }
     requires empty { core.old.out ≡ None }
@@ -24,8 +37,7 @@ pub fn flag_read<V: Evict, P: Port>(core: &mut Core<V>, port: &mut P, at: Rank, 
     ensures keeps { KeepsSteps (P.stepped port.old) (P.stepped port.new) }
 {
     let place = f.place(port.setup().core_of(at));
-    core.cl1invmb();
-    f.is_set(core.word_read(port, place))
+    f.is_set(look_word(core, port, place))
 }
 
 /// Looks at a flag of the own rank until it is as wanted, at most so many times.

@@ -11,6 +11,7 @@ ghost use Rattle.sync_flags.specs.Tries.{AtRegister, TriedInVain};
 ghost use Rattle.sync_flags.specs.Writes.{MayChange, MayWrite, StoresWord, TakesWithin, ChangesBit, WritesBit, GivesUp, WritesFlag};
 
 use crate::flags::Flag;
+use crate::looks::look_word;
 use line_cache::Evict;
 use put_get::Core;
 use scc_base::{CoreId, Place, Rank, Spot, Stalled};
@@ -18,7 +19,7 @@ use scc_proto::Port;
 use tas_lock::{Held, release, try_acquire};
 
 /// Writes a word and sends it out.
-fn store_word<V: Evict, P: Port>(core: &mut Core<V>, port: &mut P, place: Place, value: u64)
+pub fn store_word<V: Evict, P: Port>(core: &mut Core<V>, port: &mut P, place: Place, value: u64)
     requires empty { core.old.out ≡ None }
     requires permitted { MayMake (P.sight port.old).seat (record_in (P.sight port.old)) (store_of place value) }
     ensures stores { StoresWord (P.sight port.old) core.old place value (P.sight port.new) core.new }
@@ -67,8 +68,7 @@ fn change_bit<V: Evict, P: Port>(core: &mut Core<V>, port: &mut P, place: Place,
     ensures empty { core.new.out ≡ None }
     ensures keeps { KeepsSteps (P.stepped port.old) (P.stepped port.new) }
 {
-    core.cl1invmb();
-    let word = core.word_read(port, place);
+    let word = look_word(core, port, place);
     // The port's contract says here that the record with these loads is sound.
     let _ = port.rank();
     store_word(core, port, place, changed(word, bit, set));

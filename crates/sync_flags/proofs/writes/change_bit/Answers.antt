@@ -3,12 +3,12 @@ use Rattle.sync_flags.proofs.writes.change_bit.Goals as goal
 
 pub store_word-requires-clause-permitted : goal.store_word-requires-clause-permitted
 store_word-requires-clause-permitted g c =
-    may_change c.word_read-word.ensures.reads c.args.core.now c.cl1invmb.ensures c.args.bit c.args.set c.changed.result c.requires.permitted c.rank.ensures.sound c.changed.ensures
+    may_change c.look_word-word.ensures.looks c.args.bit c.args.set c.changed.result c.requires.permitted c.rank.ensures.sound c.changed.ensures
 
 pub returns-clause-changes : goal.returns-clause-changes
 returns-clause-changes g c =
-    bit_changed c.word_read-word.ensures.reads c.args.core.now c.cl1invmb.ensures c.store_word.ensures.stores c.args.bit c.args.set c.changed.ensures
+    bit_changed c.look_word-word.ensures.looks c.store_word.ensures.stores c.args.bit c.args.set c.changed.ensures
 
 pub returns-clause-holds : goal.returns-clause-holds
 returns-clause-holds g c =
-    change_holds (bit_changed c.word_read-word.ensures.reads c.args.core.now c.cl1invmb.ensures c.store_word.ensures.stores c.args.bit c.args.set c.changed.ensures)
+    change_holds (bit_changed c.look_word-word.ensures.looks c.store_word.ensures.stores c.args.bit c.args.set c.changed.ensures)
