@@ -1,0 +1,122 @@
+-- How a message begins at a rank that is in no call, and what stands after it.
+use Rattle.std.proofs.Common.{◌≡◌, ◌<◌, ◌≤◌, ℕ, ◌+◌, ◌-◌, ◌*◌, Bool, true, false, List, Option, Some, None, option_map, length, refl, sym, ◌∙◌, ap, subst, arith}
+use Rattle.std.proofs.Math.Nat.{mul-le-mul_right}
+use Rattle.scc_base.specs.Heads.{MessageHead, IsHead, IsPostHead}
+use Rattle.scc_base.specs.Layouts.{chunk_size}
+use Rattle.scc_base.specs.declared.layouts.Layout.{Layout}
+use Rattle.scc_base.specs.declared.layouts.Layout.TheVariants.{LineFlags, BitFlags}
+use Rattle.scc_proto.specs.Stages.{OnItsWay, Record}
+use Rattle.scc_proto.specs.Words.{are_peers}
+use Rattle.scc_proto.specs.Ports.{Seat, Sight, record_in}
+use Rattle.scc_proto.proofs.PortLaws.{seat_kept}
+use Rattle.put_get.specs.Cores.{Private}
+use Rattle.send_recv.specs.Chunks.{chunk_count, lines_of, lines_from}
+use Rattle.send_recv.specs.Ops.{RecvAt, SendAt, SlotAt, new_receive, new_send, slot_left, slot_left_by}
+use Rattle.send_recv.specs.Receiving.{RecvStands, recv_left}
+use Rattle.send_recv.specs.Sending.{SlotStands, SendStands, was_answered, send_left, of_chunk}
+use Rattle.send_recv.specs.Calling.{IsInNoCall, Received, RecvDiffers, Sent}
+use Rattle.send_recv.specs.Turns.{HoldsNone, IsSamePost}
+use Rattle.send_recv.proofs.LookTurn.{holds_kept}
+
+some_chunk : (layout : Layout) (len : ℕ) → 0 < chunk_count (chunk_size layout) len
+some_chunk LineFlags len = omega arith
+some_chunk BitFlags len = omega arith
+
+pub receive_starts : {s : Sight} {c : Private} {slot : SlotAt} → IsInNoCall s c slot → (from : ℕ) (head : MessageHead) (bytes : List ℕ) → are_peers s.seat.setup s.seat.rank from ≡ true
+    → IsHead head → length bytes ≡ head.len → RecvStands s c (new_receive from head) bytes
+receive_starts {s} free from head bytes peers valid long =
+    record { peers = peers; head = valid; long = long; empty = free.empty; hands = free.hands; in_hand = some_chunk s.seat.setup.layout head.len; at = free.stage }
+
+pub send_starts : {s : Sight} {c : Private} {slot : SlotAt} → IsInNoCall s c slot → (to : ℕ) (head : MessageHead) (posted : Bool) (bytes : List ℕ) → are_peers s.seat.setup s.seat.rank to ≡ true
+    → IsHead head → (posted ≡ true → IsPostHead head) → length bytes ≡ head.len → SendStands s c (new_send to head posted) slot bytes
+send_starts {s} free to head posted bytes peers valid short long = record {
+  peers = peers;
+  head = valid;
+  post_head = short;
+  long = long;
+  hands = free.hands;
+  slot_stands = free.slot_stands;
+  in_hand = some_chunk s.seat.setup.layout head.len;
+  at = (refl, free.stage, free.empty);
+}
+
+-- ---- what stands afterwards
+
+same_target : (old new : Option OnItsWay) → IsSamePost old new → option_map (λ (post : OnItsWay). post.to) old ≡ option_map (λ (post : OnItsWay). post.to) new
+same_target None new same = ap (λ (o : Option OnItsWay). option_map (λ (post : OnItsWay). post.to) o) (sym same)
+same_target (Some post) new same = ap (λ (o : Option OnItsWay). option_map (λ (post : OnItsWay). post.to) o) (sym same.1)
+
+still_answered : (old new : Option OnItsWay) → IsSamePost old new → was_answered old ≡ true → was_answered new ≡ true
+still_answered None new same h = absurd (cc)
+still_answered (Some post) new same h = ap was_answered same.1 ∙ same.2 h
+
+pub slot_stays : (seat : Seat) (rec new : Record) (slot : SlotAt) → IsSamePost rec.post new.post → SlotStands seat rec slot → SlotStands seat new slot
+slot_stays seat rec new slot same st = record {
+  to = st.to ∙ same_target rec.post new.post same;
+  seen = λ h. still_answered rec.post new.post same (st.seen h);
+  peers = st.peers;
+}
+
+pub free_after_receive : {s t : Sight} {c d : Private} {slot : SlotAt} {op : RecvAt} {polls : ℕ} {after : List ℕ} → IsInNoCall s c slot → Received s c op polls t d after → IsInNoCall t d slot
+free_after_receive {s} {t} {c} {d} {slot} free r = record {
+  stage = r.stage;
+  empty = r.empty;
+  hands = subst (λ (x : Seat). HoldsNone x.setup.layout (record_in t)) (sym (seat_kept s r.events t r.did)) (holds_kept s.seat.setup.layout (record_in s) (record_in t) r.rest.hold free.hands);
+  slot_stands = subst (λ (x : Seat). SlotStands x (record_in t) slot) (sym (seat_kept s r.events t r.did)) (slot_stays s.seat (record_in s) (record_in t) slot r.post free.slot_stands);
+}
+
+pub free_after_other_head : {s t : Sight} {c d : Private} {slot : SlotAt} {op : RecvAt} {polls : ℕ} {bytes after : List ℕ} {sent asked : MessageHead} → IsInNoCall s c slot
+    → RecvDiffers s op bytes polls t d after sent asked → IsInNoCall t d slot
+free_after_other_head {s} {t} {c} {d} {slot} free r = record {
+  stage = r.untaken;
+  empty = r.empty;
+  hands = subst (λ (x : Seat). HoldsNone x.setup.layout (record_in t)) (sym (seat_kept s r.events t r.did)) (holds_kept s.seat.setup.layout (record_in s) (record_in t) r.rest.hold free.hands);
+  slot_stands = subst (λ (x : Seat). SlotStands x (record_in t) slot) (sym (seat_kept s r.events t r.did)) (slot_stays s.seat (record_in s) (record_in t) slot r.post free.slot_stands);
+}
+
+pub free_after_send : {s t : Sight} {c d : Private} {op : SendAt} {slot after : SlotAt} {bytes : List ℕ} → SendStands s c op slot bytes → Sent s op bytes t d after → IsInNoCall t d after
+free_after_send {s} {t} st r = record {
+  stage = r.stage;
+  empty = r.empty;
+  hands = subst (λ (x : Seat). HoldsNone x.setup.layout (record_in t)) (sym (seat_kept s r.events t r.did)) (holds_kept s.seat.setup.layout (record_in s) (record_in t) r.rest.hold st.hands);
+  slot_stands = r.slot_stands;
+}
+
+-- ---- how many turns are left of a new one
+
+slot_most : (to : Option ℕ) (seen : Bool) → slot_left_by to seen ≤ 2
+slot_most None seen = omega arith
+slot_most (Some to) true = omega arith
+slot_most (Some to) false = omega arith
+
+pub slot_left_most : (slot : SlotAt) → slot_left slot ≤ 2
+slot_left_most slot = slot_most slot.to slot.seen
+
+each_most : (layout : Layout) (posted : Bool) → of_chunk layout posted ≤ 4
+each_most LineFlags true = omega arith
+each_most LineFlags false = omega arith
+each_most BitFlags true = omega arith
+each_most BitFlags false = omega arith
+
+lines_all : (size len : ℕ) → lines_from size len 0 ≡ lines_of len
+lines_all size len = let none : len - size * 0 ≡ len = omega arith in ap (λ (n : ℕ). lines_of n) none
+
+within : (lines chunks : ℕ) → 1 + lines + 3 * (chunks - 0) ≤ 4 + 5 * chunks + lines
+within lines chunks = omega arith
+
+product_most : (each chunks : ℕ) → each ≤ 4 → each * chunks ≤ 4 * chunks
+product_most each chunks le = mul-le-mul_right chunks le
+
+with_slot : (slot lines product chunks : ℕ) → slot ≤ 2 → product ≤ 4 * (chunks - 0) → slot + 1 + lines + product ≤ 4 + 5 * chunks + lines
+with_slot slot lines product chunks few le = omega (arith, few, le)
+
+pub new_receive_left : (size from : ℕ) (head : MessageHead) → recv_left size (new_receive from head) ≤ 4 + 5 * chunk_count size head.len + lines_of head.len
+new_receive_left size from head =
+    subst (λ (l : ℕ). 1 + l + 3 * (chunk_count size head.len - 0) ≤ 4 + 5 * chunk_count size head.len + lines_of head.len) (sym (lines_all size head.len)) (within (lines_of head.len) (chunk_count size head.len))
+
+pub new_send_left : (layout : Layout) (size to : ℕ) (head : MessageHead) (posted : Bool) (slot : SlotAt)
+    → send_left layout size (new_send to head posted) slot ≤ 4 + 5 * chunk_count size head.len + lines_of head.len
+new_send_left layout size to head posted slot =
+    subst (λ (l : ℕ). slot_left slot + 1 + l + of_chunk layout posted * (chunk_count size head.len - 0) ≤ 4 + 5 * chunk_count size head.len + lines_of head.len) (sym (lines_all size head.len))
+    (with_slot (slot_left slot) (lines_of head.len) (of_chunk layout posted * (chunk_count size head.len - 0)) (chunk_count size head.len) (slot_left_most slot)
+    (product_most (of_chunk layout posted) (chunk_count size head.len - 0) (each_most layout posted)))

@@ -1,0 +1,150 @@
+use Rattle.std.proofs.Common.{◌≡◌, false, List, [], Option, Some, None, sym, ◌∙◌, ap, subst, refl, arith, append-nil, ℕ}
+use Rattle.scc_base.specs.declared.events.Spot.{Spot}
+use Rattle.scc_base.specs.declared.layouts.Layout.{Layout}
+use Rattle.scc_base.specs.declared.layouts.Layout.TheVariants.{LineFlags, BitFlags}
+use Rattle.scc_proto.specs.Ports.{Sight, record_in}
+use Rattle.scc_proto.proofs.PortLaws.{did_nothing}
+use Rattle.put_get.specs.Cores.{Private}
+use Rattle.send_recv.specs.Ops.{RecvAt, is_received}
+use Rattle.send_recv.specs.Receiving.{RecvTurned, spot_by, recv_waits, extra_line}
+use Rattle.send_recv.specs.Steps.{own_core, core_of, goes_on}
+use Rattle.sync_flags.specs.Tries.{Aim, NoTry, tries_at}
+use Rattle.send_recv.specs.Tries.{aim_of, aim_at}
+use Rattle.send_recv.proofs.TryLemmas.{le_self}
+use Rattle.send_recv.specs.Turns.{NoLoad}
+use Rattle.send_recv.specs.declared.stages.RecvStage.{RecvStage}
+use Rattle.send_recv.specs.declared.stages.RecvStage.TheVariants.{Finished}
+use Rattle.send_recv.specs.declared.answers.RecvTurn.{RecvTurn}
+use Rattle.send_recv.specs.declared.answers.RecvTurn.TheVariants.{Moved, Waiting, Done, Mismatch}
+use Rattle.send_recv.proofs.LookTurn.{Turns, look_turn}
+use Rattle.send_recv.proofs.HeadTurn.{head_turn, post_itself}
+use Rattle.send_recv.proofs.LinesMove.{lines_turn}
+use Rattle.send_recv.proofs.FlagTurns.{may_lower_turn}
+use Rattle.send_recv.proofs.RaiseTurn.{may_raise_turn}
+use Rattle.send_recv.proofs.RecvTurns.{lower_turn, raise_turn}
+use Rattle.scc_base.specs.Calls.{Recv}
+use Rattle.std.proofs.Common.{◌∷◌, ◌++◌, if◌then◌else◌, ◌-◌, ◌+◌, ◌*◌, ◌≤◌}
+use Rattle.send_recv.proofs.receives.RecvOp.turn.Goals as goal
+
+-- a turn, where the op after it and the answer are known by equations
+at_answer : (s t : Sight) (c d : Private) (op now known : RecvAt) (bytes after : List ℕ) (answer told : RecvTurn) → now ≡ known → answer ≡ told
+    → Turns s c op bytes t d known after told → Turns s c op bytes t d now after answer
+at_answer s t c d op now known bytes after answer told n a turns =
+    subst (λ (x : RecvAt). Turns s c op bytes t d x after answer) (sym n) (subst (λ (x : RecvTurn). Turns s c op bytes t d known after x) (sym a) turns)
+
+waiting_stops : (r : RecvTurn) (spot : Spot) → recv_waits r ≡ Some spot → goes_on r ≡ false
+waiting_stops Moved spot e = absurd (cc)
+waiting_stops (Waiting at) spot e = refl
+waiting_stops Done spot e = absurd (cc)
+waiting_stops (Mismatch sent) spot e = absurd (cc)
+
+spot_finished : (layout : Layout) (own other from : ℕ) → spot_by layout own other from Finished ≡ None
+spot_finished LineFlags own other from = refl
+spot_finished BitFlags own other from = refl
+
+rest_work : (a x z : ℕ) → 0 + 4 * a ≤ 4 * a + 4 * ((x - x) + z)
+rest_work a x z = omega arith
+
+none_tried : (aim : Aim) → tries_at aim [] ≡ 0
+none_tried aim = refl
+
+-- a further turn of a receive that is finished makes no event
+finished_turn : (s : Sight) (c : Private) (op : RecvAt) (bytes : List ℕ) → op.stage ≡ Finished → RecvTurned s c op bytes s c op bytes Done
+finished_turn s c op bytes finished = record {
+  events = [];
+  did = did_nothing s;
+  tried = NoTry (ap (λ (st : RecvStage). aim_at s.seat.setup.layout (spot_by s.seat.setup.layout (own_core s.seat) (core_of s.seat op.from) op.from st)) finished
+      ∙ ap (λ (o : Option Spot). aim_at s.seat.setup.layout o) (spot_finished s.seat.setup.layout (own_core s.seat) (core_of s.seat op.from) op.from)) refl;
+  freed = refl;
+  elsewhere = λ at spot ne. none_tried (aim_of s.seat.setup.layout at);
+  fuller = le_self _;
+  fewer = le_self _;
+  rests = λ spot e. refl;
+  same = (refl, refl);
+  means = (finished, refl, sym (append-nil (record_in s).calls) ∙ ap (λ (st : RecvStage). (record_in s).calls ++ (if is_received st then [] else Recv op.from op.head bytes ∷ [])) (sym finished));
+  rest = record { flips = refl; hold = refl; heap = refl };
+  post = post_itself (record_in s).post;
+  before = λ k low. refl;
+  behind = λ k high. refl;
+  held = NoLoad refl;
+  work = rest_work c.evictions _ (extra_line op.stage Done);
+}
+
+pub lower_sent-requires : goal.lower_sent-requires
+lower_sent-requires g c = record {
+  may = may_lower_turn (g.P.Port.sight c.args.port.now) c.args.core.now c.args.self.now c.args.bytes.now c.known.ensures.valid c.requires.stands (ap (λ (x : RecvAt). x.stage) (sym c.self.view_is) ∙ c.in-Lower.is);
+}
+
+pub raise_ready-requires-clause-may : goal.raise_ready-requires-clause-may
+raise_ready-requires-clause-may g c =
+    may_raise_turn (g.P.Port.sight c.args.port.now) c.args.core.now c.args.self.now c.args.bytes.now c.known.ensures.valid c.requires.stands (ap (λ (x : RecvAt). x.stage) (sym c.self.view_is) ∙ c.in-Raise.is)
+
+pub returns-in-Look-clause-stands : goal.returns-in-Look-clause-stands
+returns-in-Look-clause-stands g c =
+    (at_answer (g.P.Port.sight c.args.port.now) (g.P.Port.sight c.look_sent.new.port) c.args.core.now c.look_sent.new.core c.args.self.now _ _ c.args.bytes.now c.args.bytes.now _ _ c.look_sent.ensures.next c.look_sent.ensures.answers
+    (look_turn (goes_on c.look_sent.result) (g.P.Port.sight c.args.port.now) (g.P.Port.sight c.look_sent.new.port) c.args.core.now c.look_sent.new.core c.args.self.now c.args.bytes.now c.known.ensures.valid c.requires.stands
+    (ap (λ (x : RecvAt). x.stage) (sym c.self.view_is) ∙ c.in-Look.is) c.look_sent.ensures.looks)).stands
+
+pub returns-in-Look-clause-turned : goal.returns-in-Look-clause-turned
+returns-in-Look-clause-turned g c =
+    (at_answer (g.P.Port.sight c.args.port.now) (g.P.Port.sight c.look_sent.new.port) c.args.core.now c.look_sent.new.core c.args.self.now _ _ c.args.bytes.now c.args.bytes.now _ _ c.look_sent.ensures.next c.look_sent.ensures.answers
+    (look_turn (goes_on c.look_sent.result) (g.P.Port.sight c.args.port.now) (g.P.Port.sight c.look_sent.new.port) c.args.core.now c.look_sent.new.core c.args.self.now c.args.bytes.now c.known.ensures.valid c.requires.stands
+    (ap (λ (x : RecvAt). x.stage) (sym c.self.view_is) ∙ c.in-Look.is) c.look_sent.ensures.looks)).turned
+
+pub returns-in-Header-clause-stands : goal.returns-in-Header-clause-stands
+returns-in-Header-clause-stands g c =
+    (head_turn (g.P.Port.sight c.args.port.now) (g.P.Port.sight c.read_head.new.port) c.args.core.now c.read_head.new.core c.args.self.now c.read_head.new.self c.args.bytes.now c.read_head.ensures.reads.0 c.read_head.result
+    c.known.ensures.valid c.requires.stands (ap (λ (x : RecvAt). x.stage) (sym c.self.view_is) ∙ c.in-Header.is) c.read_head.ensures.sound c.read_head.ensures.reads.1 c.read_head.ensures.reads.2).stands
+
+pub returns-in-Header-clause-turned : goal.returns-in-Header-clause-turned
+returns-in-Header-clause-turned g c =
+    (head_turn (g.P.Port.sight c.args.port.now) (g.P.Port.sight c.read_head.new.port) c.args.core.now c.read_head.new.core c.args.self.now c.read_head.new.self c.args.bytes.now c.read_head.ensures.reads.0 c.read_head.result
+    c.known.ensures.valid c.requires.stands (ap (λ (x : RecvAt). x.stage) (sym c.self.view_is) ∙ c.in-Header.is) c.read_head.ensures.sound c.read_head.ensures.reads.1 c.read_head.ensures.reads.2).turned
+
+pub returns-in-Lower-clause-stands : goal.returns-in-Lower-clause-stands
+returns-in-Lower-clause-stands g c =
+    (at_answer (g.P.Port.sight c.args.port.now) (g.P.Port.sight c.lower_sent.new.port) c.args.core.now c.lower_sent.new.core c.args.self.now _ _ c.args.bytes.now c.args.bytes.now _ _ c.lower_sent.ensures.next c.lower_sent.ensures.answers
+    (lower_turn (goes_on c.lower_sent.result) (g.P.Port.sight c.args.port.now) (g.P.Port.sight c.lower_sent.new.port) c.args.core.now c.lower_sent.new.core c.args.self.now c.args.bytes.now c.known.ensures.valid c.requires.stands
+    (ap (λ (x : RecvAt). x.stage) (sym c.self.view_is) ∙ c.in-Lower.is) c.lower_sent.ensures.changes)).stands
+
+pub returns-in-Lower-clause-turned : goal.returns-in-Lower-clause-turned
+returns-in-Lower-clause-turned g c =
+    (at_answer (g.P.Port.sight c.args.port.now) (g.P.Port.sight c.lower_sent.new.port) c.args.core.now c.lower_sent.new.core c.args.self.now _ _ c.args.bytes.now c.args.bytes.now _ _ c.lower_sent.ensures.next c.lower_sent.ensures.answers
+    (lower_turn (goes_on c.lower_sent.result) (g.P.Port.sight c.args.port.now) (g.P.Port.sight c.lower_sent.new.port) c.args.core.now c.lower_sent.new.core c.args.self.now c.args.bytes.now c.known.ensures.valid c.requires.stands
+    (ap (λ (x : RecvAt). x.stage) (sym c.self.view_is) ∙ c.in-Lower.is) c.lower_sent.ensures.changes)).turned
+
+pub returns-in-Lower-clause-steps : goal.returns-in-Lower-clause-steps
+returns-in-Lower-clause-steps g c = λ spot e. c.lower_sent.ensures.steps (waiting_stops c.lower_sent.result spot e)
+
+pub returns-in-Lines-clause-stands : goal.returns-in-Lines-clause-stands
+returns-in-Lines-clause-stands g c =
+    (at_answer (g.P.Port.sight c.args.port.now) (g.P.Port.sight c.read_line.new.port) c.args.core.now c.read_line.new.core c.args.self.now _ _ c.args.bytes.now c.read_line.new.bytes _ _ c.read_line.ensures.next c.read_line.ensures.answers
+    (lines_turn (g.P.Port.sight c.args.port.now) (g.P.Port.sight c.read_line.new.port) c.args.core.now c.read_line.new.core c.args.self.now c.in-Lines.line c.args.bytes.now c.read_line.new.bytes c.read_line.ensures.reads.0
+    c.known.ensures.valid c.requires.stands (ap (λ (x : RecvAt). x.stage) (sym c.self.view_is) ∙ c.in-Lines.is) c.read_line.ensures.reads.1 c.read_line.auto.bytes c.read_line.ensures.reads.2
+    c.read_line.ensures.before c.read_line.ensures.behind)).stands
+
+pub returns-in-Lines-clause-turned : goal.returns-in-Lines-clause-turned
+returns-in-Lines-clause-turned g c =
+    (at_answer (g.P.Port.sight c.args.port.now) (g.P.Port.sight c.read_line.new.port) c.args.core.now c.read_line.new.core c.args.self.now _ _ c.args.bytes.now c.read_line.new.bytes _ _ c.read_line.ensures.next c.read_line.ensures.answers
+    (lines_turn (g.P.Port.sight c.args.port.now) (g.P.Port.sight c.read_line.new.port) c.args.core.now c.read_line.new.core c.args.self.now c.in-Lines.line c.args.bytes.now c.read_line.new.bytes c.read_line.ensures.reads.0
+    c.known.ensures.valid c.requires.stands (ap (λ (x : RecvAt). x.stage) (sym c.self.view_is) ∙ c.in-Lines.is) c.read_line.ensures.reads.1 c.read_line.auto.bytes c.read_line.ensures.reads.2
+    c.read_line.ensures.before c.read_line.ensures.behind)).turned
+
+pub returns-in-Raise-clause-stands : goal.returns-in-Raise-clause-stands
+returns-in-Raise-clause-stands g c =
+    (at_answer (g.P.Port.sight c.args.port.now) (g.P.Port.sight c.raise_ready.new.port) c.args.core.now c.raise_ready.new.core c.args.self.now _ _ c.args.bytes.now c.args.bytes.now _ _ c.raise_ready.ensures.next c.raise_ready.ensures.answers
+    (raise_turn (goes_on c.raise_ready.result) (g.P.Port.sight c.args.port.now) (g.P.Port.sight c.raise_ready.new.port) c.args.core.now c.raise_ready.new.core c.args.self.now c.args.bytes.now c.known.ensures.valid c.requires.stands
+    (ap (λ (x : RecvAt). x.stage) (sym c.self.view_is) ∙ c.in-Raise.is) c.raise_ready.ensures.changes)).stands
+
+pub returns-in-Raise-clause-turned : goal.returns-in-Raise-clause-turned
+returns-in-Raise-clause-turned g c =
+    (at_answer (g.P.Port.sight c.args.port.now) (g.P.Port.sight c.raise_ready.new.port) c.args.core.now c.raise_ready.new.core c.args.self.now _ _ c.args.bytes.now c.args.bytes.now _ _ c.raise_ready.ensures.next c.raise_ready.ensures.answers
+    (raise_turn (goes_on c.raise_ready.result) (g.P.Port.sight c.args.port.now) (g.P.Port.sight c.raise_ready.new.port) c.args.core.now c.raise_ready.new.core c.args.self.now c.args.bytes.now c.known.ensures.valid c.requires.stands
+    (ap (λ (x : RecvAt). x.stage) (sym c.self.view_is) ∙ c.in-Raise.is) c.raise_ready.ensures.changes)).turned
+
+pub returns-in-Raise-clause-steps : goal.returns-in-Raise-clause-steps
+returns-in-Raise-clause-steps g c = λ spot e. c.raise_ready.ensures.steps (waiting_stops c.raise_ready.result spot e)
+
+pub returns-in-Finished-clause-turned : goal.returns-in-Finished-clause-turned
+returns-in-Finished-clause-turned g c =
+    finished_turn (g.P.Port.sight c.args.port.now) c.args.core.now c.args.self.now c.args.bytes.now (ap (λ (x : RecvAt). x.stage) (sym c.self.view_is) ∙ c.in-Finished.is)

@@ -1,0 +1,43 @@
+use Rattle.std.proofs.Common.{◌≡◌, sym, ◌∙◌, ap, subst}
+use Rattle.scc_base.specs.declared.events.Turn.{Turn}
+use Rattle.scc_proto.specs.Ports.{Sight}
+use Rattle.put_get.specs.Cores.{Private}
+use Rattle.send_recv.specs.Ops.{SlotAt}
+use Rattle.send_recv.specs.Steps.{moves_on}
+use Rattle.send_recv.proofs.SlotTurns.{SlotTurns, may_lower_slot, slot_look_turn, slot_lower_turn}
+use Rattle.send_recv.proofs.slots.Slot.turn.Goals as goal
+
+-- a turn, where the slot after it and the answer are known by equations
+at_answer : (s t : Sight) (c d : Private) (slot now known : SlotAt) (answer told : Turn) → now ≡ known → answer ≡ told → SlotTurns s c slot t d known told → SlotTurns s c slot t d now answer
+at_answer s t c d slot now known answer told n a turns =
+    subst (λ (x : SlotAt). SlotTurns s c slot t d x answer) (sym n) (subst (λ (x : Turn). SlotTurns s c slot t d known x) (sym a) turns)
+
+pub lower_ready-requires : goal.lower_ready-requires
+lower_ready-requires g c = record {
+  may = may_lower_slot (g.P.Port.sight c.args.port.now) c.args.core.now c.args.self.now c.in-Some.to c.known.ensures.valid c.requires.stands c.requires.empty c.requires.hands
+      (ap (λ (x : SlotAt). x.to) (sym c.self.view_is) ∙ c.in-Some.is) (ap (λ (x : SlotAt). x.seen) (sym c.self.view_is) ∙ c.if-self.true);
+}
+
+pub returns-then-self-clause-stands : goal.returns-then-self-clause-stands
+returns-then-self-clause-stands g c =
+    (at_answer (g.P.Port.sight c.args.port.now) (g.P.Port.sight c.lower_ready.new.port) c.args.core.now c.lower_ready.new.core c.args.self.now _ _ _ _ c.lower_ready.ensures.next c.lower_ready.ensures.answers
+    (slot_lower_turn (moves_on c.lower_ready.result) (g.P.Port.sight c.args.port.now) (g.P.Port.sight c.lower_ready.new.port) c.args.core.now c.lower_ready.new.core c.args.self.now c.in-Some.to c.known.ensures.valid c.requires.stands c.requires.empty c.requires.hands
+    (ap (λ (x : SlotAt). x.to) (sym c.self.view_is) ∙ c.in-Some.is) (ap (λ (x : SlotAt). x.seen) (sym c.self.view_is) ∙ c.if-self.true) c.lower_ready.ensures.changes)).stands
+
+pub returns-then-self-clause-turned : goal.returns-then-self-clause-turned
+returns-then-self-clause-turned g c =
+    (at_answer (g.P.Port.sight c.args.port.now) (g.P.Port.sight c.lower_ready.new.port) c.args.core.now c.lower_ready.new.core c.args.self.now _ _ _ _ c.lower_ready.ensures.next c.lower_ready.ensures.answers
+    (slot_lower_turn (moves_on c.lower_ready.result) (g.P.Port.sight c.args.port.now) (g.P.Port.sight c.lower_ready.new.port) c.args.core.now c.lower_ready.new.core c.args.self.now c.in-Some.to c.known.ensures.valid c.requires.stands c.requires.empty c.requires.hands
+    (ap (λ (x : SlotAt). x.to) (sym c.self.view_is) ∙ c.in-Some.is) (ap (λ (x : SlotAt). x.seen) (sym c.self.view_is) ∙ c.if-self.true) c.lower_ready.ensures.changes)).turned
+
+pub returns-else-self-clause-stands : goal.returns-else-self-clause-stands
+returns-else-self-clause-stands g c =
+    (at_answer (g.P.Port.sight c.args.port.now) (g.P.Port.sight c.look_ready.new.port) c.args.core.now c.look_ready.new.core c.args.self.now _ _ _ _ c.look_ready.ensures.next c.look_ready.ensures.answers
+    (slot_look_turn (moves_on c.look_ready.result) (g.P.Port.sight c.args.port.now) (g.P.Port.sight c.look_ready.new.port) c.args.core.now c.look_ready.new.core c.args.self.now c.in-Some.to c.known.ensures.valid c.requires.stands c.requires.empty c.requires.hands
+    (ap (λ (x : SlotAt). x.to) (sym c.self.view_is) ∙ c.in-Some.is) (ap (λ (x : SlotAt). x.seen) (sym c.self.view_is) ∙ c.if-self.false) c.look_ready.ensures.looks)).stands
+
+pub returns-else-self-clause-turned : goal.returns-else-self-clause-turned
+returns-else-self-clause-turned g c =
+    (at_answer (g.P.Port.sight c.args.port.now) (g.P.Port.sight c.look_ready.new.port) c.args.core.now c.look_ready.new.core c.args.self.now _ _ _ _ c.look_ready.ensures.next c.look_ready.ensures.answers
+    (slot_look_turn (moves_on c.look_ready.result) (g.P.Port.sight c.args.port.now) (g.P.Port.sight c.look_ready.new.port) c.args.core.now c.look_ready.new.core c.args.self.now c.in-Some.to c.known.ensures.valid c.requires.stands c.requires.empty c.requires.hands
+    (ap (λ (x : SlotAt). x.to) (sym c.self.view_is) ∙ c.in-Some.is) (ap (λ (x : SlotAt). x.seen) (sym c.self.view_is) ∙ c.if-self.false) c.look_ready.ensures.looks)).turned

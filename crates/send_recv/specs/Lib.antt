@@ -1,0 +1,10 @@
+pub mod Bytes
+pub mod Chunks
+pub mod Ops
+pub mod Flags
+pub mod Tries
+pub mod Turns
+pub mod Steps
+pub mod Receiving
+pub mod Sending
+pub mod Calling

@@ -1,0 +1,197 @@
+-- Receiving a message (RCCE specification 2.0: RCCE_recv; the handshake over `sent` and `ready` flags and the
+-- header line are this project's profile).
+use Rattle.std.specs.Prelude.{◌≡◌, ◌≢◌, ℕ, ◌+◌, ◌-◌, ◌*◌, ◌<◌, ◌≤◌, min, Bool, true, false, ◌==◌, if◌then◌else◌, List, [], ◌∷◌, ◌++◌, length, take, Option, Some, None, slice_index}
+use Rattle.std.specs.List.{list_all}
+use Rattle.scc_base.specs.Heads.{MessageHead, IsHead}
+use Rattle.scc_base.specs.Calls.{DataCall, Recv}
+use Rattle.scc_base.specs.Places.{LineAt, flag_word}
+use Rattle.scc_base.specs.Layouts.{sent_at, first_chunk, first_heap}
+use Rattle.scc_base.specs.Setups.{host_of}
+use Rattle.scc_base.specs.declared.layouts.Layout.{Layout}
+use Rattle.scc_base.specs.declared.layouts.Layout.TheVariants.{LineFlags, BitFlags}
+use Rattle.scc_base.specs.declared.events.Event.{Event}
+use Rattle.scc_base.specs.declared.events.Spot.{Spot}
+use Rattle.scc_base.specs.declared.events.Spot.TheVariants.{Flag, Register}
+use Rattle.scc_proto.specs.Messages.{Notes, noted, has_all, byte_at, head_of, Progress}
+use Rattle.scc_proto.specs.Stages.{Stage, Idle, Between, Taking, Record}
+use Rattle.scc_proto.specs.Permission.{says_head}
+use Rattle.scc_proto.specs.Words.{are_peers}
+use Rattle.scc_proto.specs.Records.{chunk_of}
+use Rattle.scc_proto.specs.Ports.{Seat, Sight, Did, record_in}
+use Rattle.line_cache.specs.declared.cache.Entry.{Entry}
+use Rattle.put_get.specs.Cores.{Private}
+use Rattle.send_recv.specs.declared.stages.RecvStage.{RecvStage}
+use Rattle.send_recv.specs.declared.stages.RecvStage.TheVariants.{Look, Header, Lower, Lines, Raise, Finished}
+use Rattle.send_recv.specs.declared.answers.RecvTurn.{RecvTurn}
+use Rattle.send_recv.specs.declared.answers.RecvTurn.TheVariants as turn
+use Rattle.send_recv.specs.Chunks.{chunk_count, chunk_start, chunk_len, chunk_lines_of, lines_from}
+use Rattle.send_recv.specs.Ops.{RecvAt, is_received}
+use Rattle.sync_flags.specs.Tries.{Tried, tries_at, changing_after}
+use Rattle.send_recv.specs.Tries.{aim_of, aim_at}
+use Rattle.send_recv.specs.Turns.{HoldsNone, IsSamePost, KeepsRest, IsAtRest, is_resting, LastHeld, LoadsLines}
+
+-- a message of which these chunks are through
+abbrev pub progress_at : ℕ → MessageHead → ℕ → List ℕ → Progress
+progress_at size head chunk bytes = record { head = head; chunks = chunk; bytes = take (chunk_start size chunk) bytes }
+
+-- what the rank is in the midst of while no chunk is being taken: a message from whom a chunk was taken, or
+-- nothing yet
+abbrev pub between : ℕ → RecvAt → List ℕ → Stage
+between size op bytes = if op.chunk == 0 then Idle else Between op.from (progress_at size op.head op.chunk bytes)
+
+abbrev pub lines_now : ℕ → RecvAt → ℕ
+lines_now size op = chunk_lines_of size op.head.len op.chunk
+
+-- the first lines of the chunk in hand were loaded, and their bytes stand in the buffer
+pub record IsRead (size : ℕ) (op : RecvAt) (bytes : List ℕ) (chunk : Notes) (lines : ℕ) : Type 0 where
+  pub loaded : has_all chunk (4 * lines) ≡ true
+  pub bytes_stand : (b : ℕ) → b < min (32 * lines) (chunk_len size op.head.len op.chunk)
+      → slice_index bytes (chunk_start size op.chunk + b) ≡ byte_at chunk b
+
+-- a cached line of the sender's chunk buffer has the words that the record has noted
+abbrev pub IsNotedLine : Layout → ℕ → Notes → LineAt → List ℕ → Type 0
+IsNotedLine layout core chunk line words = line.core ≡ core → first_chunk layout ≤ line.line → line.line < first_heap
+    → (k : ℕ) → k < 4 → noted chunk (4 * (line.line - first_chunk layout) + k) ≡ Some (slice_index words k)
+
+abbrev pub AreNoted : Layout → ℕ → Notes → List Entry → Type 0
+AreNoted layout core chunk [] = Unit {0}
+AreNoted layout core chunk (e ∷ es) = IsNotedLine layout core chunk e.line e.words × AreNoted layout core chunk es
+
+-- the noted header words say this head
+abbrev pub SaysHead : Notes → MessageHead → Type 0
+SaysHead header head = (says_head header ≡ true) × (head_of header ≡ head)
+
+-- a chunk is being taken, of which the first lines are read
+pub record IsTakingLines (size : ℕ) (rec : Record) (op : RecvAt) (bytes : List ℕ) (chunk : Notes) (lines : ℕ) : Type 0 where
+  pub stage : rec.stage ≡ Taking op.from (progress_at size op.head op.chunk bytes) chunk
+  pub read : IsRead size op bytes chunk lines
+
+-- what the record, the cache and the caller's bytes are at each stage
+abbrev pub IsAtStage : Seat → Record → Private → RecvAt → List ℕ → RecvStage → Type 0
+IsAtStage seat rec c op bytes Look = rec.stage ≡ between (chunk_of seat.setup) op bytes
+IsAtStage seat rec c op bytes Header = (op.chunk ≡ 0) × (rec.stage ≡ Idle) × (header : Notes) × (rec.notes op.from ≡ Some header)
+IsAtStage seat rec c op bytes Lower = (rec.stage ≡ between (chunk_of seat.setup) op bytes) × (header : Notes) × (rec.notes op.from ≡ Some header)
+    × (op.chunk ≡ 0 → SaysHead header op.head)
+IsAtStage seat rec c op bytes (Lines i) = (i < lines_now (chunk_of seat.setup) op) × (chunk : Notes) × IsTakingLines (chunk_of seat.setup) rec op bytes chunk i
+    × (i ≢ 0 → AreNoted seat.setup.layout (host_of seat.setup.hosts op.from) chunk c.lines)
+IsAtStage seat rec c op bytes Raise = (chunk : Notes) × IsTakingLines (chunk_of seat.setup) rec op bytes chunk (lines_now (chunk_of seat.setup) op)
+IsAtStage seat rec c op bytes Finished = rec.stage ≡ Idle
+
+-- the record, the cache and the caller's bytes stand where the receive stands
+pub record IsReceiving (seat : Seat) (rec : Record) (c : Private) (op : RecvAt) (bytes : List ℕ) : Type 0 where
+  pub peers : are_peers seat.setup seat.rank op.from ≡ true
+  pub head : IsHead op.head
+  pub long : length bytes ≡ op.head.len
+  pub empty : c.out ≡ None
+  pub hands : HoldsNone seat.setup.layout rec
+  pub in_hand : op.chunk < chunk_count (chunk_of seat.setup) op.head.len
+  pub at : IsAtStage seat rec c op bytes op.stage
+
+abbrev pub RecvStands : Sight → Private → RecvAt → List ℕ → Type 0
+RecvStands s c op bytes = IsReceiving s.seat (record_in s) c op bytes
+
+-- how many turns that do not wait are left: a look for each chunk, the header, the lines, and two flags a chunk
+abbrev pub recv_left_by : (more lines now : ℕ) → (first : Bool) → RecvStage → ℕ
+recv_left_by more lines now first Look = (if first then 1 else 0) + lines + 3 * more
+recv_left_by more lines now first Header = lines + 3 * more
+recv_left_by more lines now first Lower = lines + 3 * more - 1
+recv_left_by more lines now first (Lines i) = (lines - i) + 3 * more - 2
+recv_left_by more lines now first Raise = (lines - now) + 3 * more - 2
+recv_left_by more lines now first Finished = 0
+
+abbrev pub recv_left : ℕ → RecvAt → ℕ
+recv_left size op = recv_left_by (chunk_count size op.head.len - op.chunk) (lines_from size op.head.len op.chunk) (lines_now size op) (op.chunk == 0) op.stage
+
+-- how many lines are left to be loaded, looks apart: the header, the chunks, and with bit flags the flags' line
+-- under each of two changes a chunk
+abbrev pub flag_lines : Layout → ℕ
+flag_lines LineFlags = 0
+flag_lines BitFlags = 1
+
+abbrev pub lines_left_by : (flags more lines now : ℕ) → (first : Bool) → RecvStage → ℕ
+lines_left_by flags more lines now first Look = (if first then 1 else 0) + lines + 2 * flags * more
+lines_left_by flags more lines now first Header = 1 + lines + 2 * flags * more
+lines_left_by flags more lines now first Lower = lines + 2 * flags * more
+lines_left_by flags more lines now first (Lines i) = (lines - i) + 2 * flags * more - flags
+lines_left_by flags more lines now first Raise = (lines - now) + 2 * flags * more - flags
+lines_left_by flags more lines now first Finished = 0
+
+abbrev pub lines_left : Layout → ℕ → RecvAt → ℕ
+lines_left layout size op = lines_left_by (flag_lines layout) (chunk_count size op.head.len - op.chunk) (lines_from size op.head.len op.chunk) (lines_now size op)
+    (op.chunk == 0) op.stage
+
+-- the turn makes a look
+abbrev pub is_look : RecvStage → Bool
+is_look Look = true
+is_look _ = false
+
+-- a turn that looks loads one line more than are left, and so does one that finds another head
+abbrev pub extra_line : RecvStage → RecvTurn → ℕ
+extra_line stage (turn.Mismatch sent) = 1
+extra_line stage answer = if is_look stage then 1 else 0
+
+-- the spot at which a stage makes its one try, where it makes one
+abbrev pub spot_by : Layout → ℕ → ℕ → ℕ → RecvStage → Option Spot
+spot_by layout own other from Look = Some (Flag (flag_word own (sent_at layout from)) (sent_at layout from).bit)
+spot_by BitFlags own other from Lower = Some (Register own)
+spot_by BitFlags own other from Raise = Some (Register other)
+spot_by layout own other from stage = None
+
+abbrev pub recv_spot : Seat → RecvAt → Option Spot
+recv_spot seat op = spot_by seat.setup.layout (host_of seat.setup.hosts seat.rank) (host_of seat.setup.hosts op.from) op.from op.stage
+
+-- a spot at which some stage of the receive makes its try
+abbrev pub IsRecvSpot : Seat → RecvAt → Spot → Type 0
+IsRecvSpot seat op spot = (stage : RecvStage) × (recv_spot seat (record op { stage = stage }) ≡ Some spot)
+
+-- where a turn waits
+abbrev pub recv_waits : RecvTurn → Option Spot
+recv_waits (turn.Waiting spot) = Some spot
+recv_waits answer = None
+
+-- the call that an op which is not at its end is to finish
+abbrev pub recv_call : RecvAt → List ℕ → List DataCall
+recv_call op bytes = if is_received op.stage then [] else Recv op.from op.head bytes ∷ []
+
+-- what each answer means for the op, the bytes and the record
+abbrev pub RecvMeans : ℕ → Record → RecvAt → List ℕ → Record → RecvAt → List ℕ → RecvTurn → Type 0
+RecvMeans size rec op bytes new now after turn.Moved = (recv_left size op ≡ recv_left size now + 1) × (new.calls ≡ rec.calls) × (is_received op.stage ≡ false) × (is_received now.stage ≡ false)
+RecvMeans size rec op bytes new now after (turn.Waiting spot) = (now ≡ op) × (after ≡ bytes) × IsAtRest rec new
+RecvMeans size rec op bytes new now after turn.Done = (now.stage ≡ Finished) × (after ≡ bytes) × (new.calls ≡ rec.calls ++ recv_call op bytes)
+RecvMeans size rec op bytes new now after (turn.Mismatch sent) = (now ≡ op) × (after ≡ bytes) × (op.stage ≡ Header) × IsAtRest rec new
+    × (sent ≢ op.head) × (header : Notes) × (new.notes op.from ≡ Some header) × SaysHead header sent
+
+-- the bytes of the message up to which the buffer is filled
+abbrev pub filled_by : (start len : ℕ) → RecvStage → ℕ → ℕ
+filled_by start len (Lines i) rest = start + min (32 * i) rest
+filled_by start len Raise rest = start + rest
+filled_by start len Finished rest = len
+filled_by start len stage rest = start
+
+abbrev pub filled_to : ℕ → RecvAt → ℕ
+filled_to size op = filled_by (chunk_start size op.chunk) op.head.len op.stage (chunk_len size op.head.len op.chunk)
+
+-- one turn of a receive
+pub record RecvTurned (s : Sight) (c : Private) (op : RecvAt) (bytes : List ℕ) (t : Sight) (d : Private) (now : RecvAt) (after : List ℕ) (answer : RecvTurn) : Type 0 where
+  pub events : List Event
+  pub did : Did s events t
+  -- it waits exactly where its one try was vain
+  pub tried : Tried (aim_at s.seat.setup.layout (recv_spot s.seat op)) events (recv_waits answer)
+  -- it has freed the register that it took
+  pub freed : changing_after false events ≡ false
+  -- it makes no try at another spot of the receive
+  pub elsewhere : (at : Spot) → IsRecvSpot s.seat op at → recv_spot s.seat op ≢ Some at → tries_at (aim_of s.seat.setup.layout at) events ≡ 0
+  -- where it waits, each of its events was a load or a vain take
+  pub rests : (spot : Spot) → answer ≡ turn.Waiting spot → list_all is_resting events ≡ true
+  pub same : (now.from ≡ op.from) × (now.head ≡ op.head)
+  pub means : RecvMeans (chunk_of s.seat.setup) (record_in s) op bytes (record_in t) now after answer
+  pub rest : KeepsRest (record_in s) (record_in t)
+  pub post : IsSamePost (record_in s).post (record_in t).post
+  -- the buffer changes only where bytes of the line read stand
+  pub before : (k : ℕ) → k < filled_to (chunk_of s.seat.setup) op → slice_index after k ≡ slice_index bytes k
+  pub behind : (k : ℕ) → filled_to (chunk_of s.seat.setup) now ≤ k → slice_index after k ≡ slice_index bytes k
+  -- the buffer is never filled less, and no more lines are left to load
+  pub fuller : filled_to (chunk_of s.seat.setup) op ≤ filled_to (chunk_of s.seat.setup) now
+  pub fewer : lines_left s.seat.setup.layout (chunk_of s.seat.setup) now ≤ lines_left s.seat.setup.layout (chunk_of s.seat.setup) op
+  pub held : LastHeld events c.evictions d
+  pub work : LoadsLines events c d ((lines_left s.seat.setup.layout (chunk_of s.seat.setup) op - lines_left s.seat.setup.layout (chunk_of s.seat.setup) now) + extra_line op.stage answer)

@@ -1,0 +1,227 @@
+-- Sending and posting a message (RCCE specification 2.0: RCCE_send; the post, the handshake and the header
+-- line are this project's profile).
+use Rattle.std.specs.Prelude.{◌≡◌, ◌≢◌, ℕ, zero, suc, ◌+◌, ◌-◌, ◌*◌, ◌<◌, ◌⊎◌, Bool, true, false, ◌==◌, if◌then◌else◌, List, [], ◌∷◌, ◌++◌, length, Option, Some, None, IfSome, option_map}
+use Rattle.std.specs.List.{list_all}
+use Rattle.scc_base.specs.Heads.{MessageHead, IsHead, IsPostHead}
+use Rattle.scc_base.specs.Calls.{DataCall, Send, Post}
+use Rattle.scc_base.specs.Places.{LineAt, flag_word}
+use Rattle.scc_base.specs.Layouts.{ready_at, first_chunk}
+use Rattle.scc_base.specs.Setups.{host_of}
+use Rattle.scc_base.specs.declared.layouts.Layout.{Layout}
+use Rattle.scc_base.specs.declared.layouts.Layout.TheVariants.{LineFlags, BitFlags}
+use Rattle.scc_base.specs.declared.events.Event.{Event}
+use Rattle.scc_base.specs.declared.events.Spot.{Spot}
+use Rattle.scc_base.specs.declared.events.Spot.TheVariants.{Flag, Register}
+use Rattle.scc_base.specs.declared.events.Turn.{Turn}
+use Rattle.scc_base.specs.declared.events.Turn.TheVariants as turn
+use Rattle.scc_proto.specs.Messages.{Notes, noted, header_word}
+use Rattle.scc_proto.specs.Stages.{Part, Filling, Raised, Answered, Stage, Idle, Drafting, Sending, OnItsWay, Record}
+use Rattle.scc_proto.specs.Words.{are_peers}
+use Rattle.scc_proto.specs.Records.{chunk_of}
+use Rattle.scc_proto.specs.Ports.{Seat, Sight, Did, record_in}
+use Rattle.write_combine.specs.declared.combiner.Out.{Out}
+use Rattle.put_get.specs.Accesses.{whole_line}
+use Rattle.put_get.specs.Cores.{Private}
+use Rattle.send_recv.specs.declared.stages.SendStage.{SendStage}
+use Rattle.send_recv.specs.declared.stages.SendStage.TheVariants.{Header, Lines, Flush, Raise, Look, Lower, Finished}
+use Rattle.send_recv.specs.Bytes.{word_at, words_at}
+use Rattle.send_recv.specs.Chunks.{chunk_count, chunk_start, chunk_lines_of, lines_from}
+use Rattle.send_recv.specs.Ops.{SendAt, SlotAt, is_sent, slot_left}
+use Rattle.send_recv.specs.Receiving.{progress_at}
+use Rattle.sync_flags.specs.Tries.{Aim, Tried, vain_from, changing_after}
+use Rattle.send_recv.specs.Tries.{aim_at}
+use Rattle.send_recv.specs.Turns.{HoldsNone, IsSamePost, KeepsRest, IsAtRest, is_resting, is_no_draft, LastHeld, StoresFromBuffer, waits_at}
+
+-- ---- the slot
+
+abbrev pub was_answered : Option OnItsWay → Bool
+was_answered None = false
+was_answered (Some post) = post.is_answered
+
+-- the slot is the record's message on its way
+pub record SlotStands (seat : Seat) (rec : Record) (slot : SlotAt) : Type 0 where
+  pub to : slot.to ≡ option_map (λ (post : OnItsWay). post.to) rec.post
+  pub seen : slot.seen ≡ true → was_answered rec.post ≡ true
+  pub peers : IfSome slot.to (λ j. are_peers seat.setup seat.rank j ≡ true)
+
+-- the spot at which a slot's turn makes its one try
+abbrev pub slot_spot_by : Layout → ℕ → Option ℕ → Bool → Option Spot
+slot_spot_by layout own (Some to) false = Some (Flag (flag_word own (ready_at layout to)) (ready_at layout to).bit)
+slot_spot_by BitFlags own (Some to) true = Some (Register own)
+slot_spot_by layout own to seen = None
+
+abbrev pub slot_spot : Seat → SlotAt → Option Spot
+slot_spot seat slot = slot_spot_by seat.setup.layout (host_of seat.setup.hosts seat.rank) slot.to slot.seen
+
+-- what each answer of a slot's turn means
+abbrev pub SlotMeans : SlotAt → SlotAt → Turn → Type 0
+SlotMeans slot now turn.Moved = slot_left slot ≡ slot_left now + 1
+SlotMeans slot now (turn.Waiting spot) = now ≡ slot
+SlotMeans slot now turn.Done = (slot.to ≡ None) × (now ≡ slot)
+
+-- one turn of a slot
+pub record SlotTurned (s : Sight) (c : Private) (slot : SlotAt) (t : Sight) (d : Private) (now : SlotAt) (answer : Turn) : Type 0 where
+  pub events : List Event
+  pub did : Did s events t
+  pub tried : Tried (aim_at s.seat.setup.layout (slot_spot s.seat slot)) events (waits_at answer)
+  -- it has freed the register that it took
+  pub freed : changing_after false events ≡ false
+  pub rests : (spot : Spot) → answer ≡ turn.Waiting spot → list_all is_resting events ≡ true
+  pub means : SlotMeans slot now answer
+  pub stage : (record_in t).stage ≡ (record_in s).stage
+  pub calls : (record_in t).calls ≡ (record_in s).calls
+  -- where the slot is still full, the same message is on its way
+  pub post : now.to ≡ slot.to → IsSamePost (record_in s).post (record_in t).post
+  pub rest : KeepsRest (record_in s) (record_in t)
+  -- it stores no header or chunk word
+  pub no_drafts : list_all (is_no_draft s.seat.setup) events ≡ true
+  pub held : LastHeld events c.evictions d
+  pub buffer : d.out ≡ None
+
+-- ---- sends and posts
+
+-- a line of the own buffer
+abbrev pub own_line : Seat → ℕ → LineAt
+own_line seat line = record { core = host_of seat.setup.hosts seat.rank; line = line }
+
+abbrev pub header_words : MessageHead → Bool → List ℕ
+header_words head posted = header_word head posted 0 ∷ header_word head posted 1 ∷ header_word head posted 2 ∷ header_word head posted 3 ∷ []
+
+abbrev pub lines_in_hand : ℕ → SendAt → ℕ
+lines_in_hand size op = chunk_lines_of size op.head.len op.chunk
+
+-- the whole line that waits in the write-combining buffer after so many lines of the chunk were written: the
+-- last of them, or the header before the first
+abbrev pub waiting : Seat → SendAt → List ℕ → ℕ → Option Out
+waiting seat op bytes zero = if op.chunk == 0 then Some (whole_line (own_line seat 0) (header_words op.head op.posted)) else None
+waiting seat op bytes (suc i) = Some (whole_line (own_line seat (first_chunk seat.setup.layout + i)) (words_at bytes (chunk_start (chunk_of seat.setup) op.chunk + 32 * i)))
+
+-- all words of the header are drafted
+abbrev pub HasHeader : Notes → SendAt → Type 0
+HasHeader header op = (k : ℕ) → k < 4 → noted header k ≡ Some (header_word op.head op.posted k)
+
+-- the words of the first lines of the chunk in hand are drafted
+abbrev pub HasLines : ℕ → Notes → SendAt → List ℕ → ℕ → Type 0
+HasLines size chunk op bytes lines = (k : ℕ) → k < 4 * lines → noted chunk k ≡ Some (word_at bytes (chunk_start size op.chunk + 8 * k))
+
+-- the header, where it is the first chunk, and these lines of the chunk in hand are drafted
+pub data HasDrafted (size : ℕ) (stage : Stage) (op : SendAt) (bytes : List ℕ) (lines : ℕ) : Type 0 where
+  First : (header chunk : Notes) → op.chunk ≡ 0 → stage ≡ Drafting header chunk → HasHeader header op → HasLines size chunk op bytes lines
+      → HasDrafted size stage op bytes lines
+  Later : (chunk : Notes) → op.chunk ≢ 0 → stage ≡ Sending op.to Filling (progress_at size op.head op.chunk bytes) chunk → HasLines size chunk op bytes lines
+      → HasDrafted size stage op bytes lines
+
+-- the chunk in hand is raised, or its `ready` was seen
+pub record IsUp (size : ℕ) (stage : Stage) (op : SendAt) (bytes : List ℕ) (part : Part) : Type 0 where
+  pub chunk : Notes
+  pub stage_is : stage ≡ Sending op.to part (progress_at size op.head op.chunk bytes) chunk
+  pub lines : HasLines size chunk op bytes (lines_in_hand size op)
+
+-- no line of the chunk in hand is drafted: nothing at all where the header still waits in the buffer
+abbrev pub HasNoLines : ℕ → Stage → SendAt → List ℕ → Bool → Type 0
+HasNoLines size stage op bytes true = stage ≡ Idle
+HasNoLines size stage op bytes false = HasDrafted size stage op bytes 0
+
+-- what is drafted while that line waits in the buffer: nothing where it is the header
+abbrev pub DraftedBefore : ℕ → Stage → SendAt → List ℕ → ℕ → Type 0
+DraftedBefore size stage op bytes zero = HasNoLines size stage op bytes (op.chunk == 0)
+DraftedBefore size stage op bytes (suc i) = HasDrafted size stage op bytes i
+
+-- the last line waits in the buffer with line flags, and is sent out with bit flags
+abbrev pub IsBeforeRaise : Layout → Seat → Stage → Private → SendAt → List ℕ → Type 0
+IsBeforeRaise LineFlags seat stage c op bytes = (c.out ≡ waiting seat op bytes (lines_in_hand (chunk_of seat.setup) op)) × DraftedBefore (chunk_of seat.setup) stage op bytes (lines_in_hand (chunk_of seat.setup) op)
+IsBeforeRaise BitFlags seat stage c op bytes = (c.out ≡ None) × HasDrafted (chunk_of seat.setup) stage op bytes (lines_in_hand (chunk_of seat.setup) op)
+
+-- what the record, the buffer and the caller's bytes are at each stage
+abbrev pub IsAtSendStage : Seat → Record → Private → SendAt → List ℕ → SendStage → Type 0
+IsAtSendStage seat rec c op bytes Header = (op.chunk ≡ 0) × (rec.stage ≡ Idle) × (c.out ≡ None)
+IsAtSendStage seat rec c op bytes (Lines i) = (i < lines_in_hand (chunk_of seat.setup) op) × (rec.post ≡ None) × (c.out ≡ waiting seat op bytes i)
+    × DraftedBefore (chunk_of seat.setup) rec.stage op bytes i
+IsAtSendStage seat rec c op bytes Flush = (seat.setup.layout ≡ BitFlags) × (rec.post ≡ None) × (c.out ≡ waiting seat op bytes (lines_in_hand (chunk_of seat.setup) op))
+    × DraftedBefore (chunk_of seat.setup) rec.stage op bytes (lines_in_hand (chunk_of seat.setup) op)
+IsAtSendStage seat rec c op bytes Raise = (rec.post ≡ None) × IsBeforeRaise seat.setup.layout seat rec.stage c op bytes
+IsAtSendStage seat rec c op bytes Look = (op.posted ≡ false) × (rec.post ≡ None) × (c.out ≡ None) × (part : Part) × ((part ≡ Raised) ⊎ (part ≡ Answered))
+    × IsUp (chunk_of seat.setup) rec.stage op bytes part
+IsAtSendStage seat rec c op bytes Lower = (op.posted ≡ false) × (rec.post ≡ None) × (c.out ≡ None) × IsUp (chunk_of seat.setup) rec.stage op bytes Answered
+IsAtSendStage seat rec c op bytes Finished = (rec.stage ≡ Idle) × (c.out ≡ None)
+
+-- the record, the buffer, the slot and the caller's bytes stand where the send stands
+pub record IsSending (seat : Seat) (rec : Record) (c : Private) (op : SendAt) (slot : SlotAt) (bytes : List ℕ) : Type 0 where
+  pub peers : are_peers seat.setup seat.rank op.to ≡ true
+  pub head : IsHead op.head
+  pub post_head : op.posted ≡ true → IsPostHead op.head
+  pub long : length bytes ≡ op.head.len
+  pub hands : HoldsNone seat.setup.layout rec
+  pub slot_stands : SlotStands seat rec slot
+  pub in_hand : op.chunk < chunk_count (chunk_of seat.setup) op.head.len
+  pub at : IsAtSendStage seat rec c op bytes op.stage
+
+abbrev pub SendStands : Sight → Private → SendAt → SlotAt → List ℕ → Type 0
+SendStands s c op slot bytes = IsSending s.seat (record_in s) c op slot bytes
+
+-- how many turns that do not wait are left from the raise of a chunk on, and of a whole chunk but its lines
+abbrev pub from_raise : Bool → ℕ
+from_raise posted = if posted then 1 else 3
+
+abbrev pub of_chunk : Layout → Bool → ℕ
+of_chunk LineFlags posted = from_raise posted
+of_chunk BitFlags posted = 1 + from_raise posted
+
+abbrev pub send_left_by : (slot each raise more lines now : ℕ) → SendStage → ℕ
+send_left_by slot each raise more lines now Header = slot + 1 + lines + each * more
+send_left_by slot each raise more lines now (Lines i) = (lines - i) + each * more
+send_left_by slot each raise more lines now Flush = (lines - now) + each * more
+send_left_by slot each raise more lines now Raise = (lines - now) + raise + each * (more - 1)
+send_left_by slot each raise more lines now Look = (lines - now) + 2 + each * (more - 1)
+send_left_by slot each raise more lines now Lower = (lines - now) + 1 + each * (more - 1)
+send_left_by slot each raise more lines now Finished = 0
+
+-- how many turns that do not wait are left of a send and of the slot before it
+abbrev pub send_left : Layout → ℕ → SendAt → SlotAt → ℕ
+send_left layout size op slot = send_left_by (slot_left slot) (of_chunk layout op.posted) (from_raise op.posted) (chunk_count size op.head.len - op.chunk)
+    (lines_from size op.head.len op.chunk) (lines_in_hand size op) op.stage
+
+-- the spot at which a stage makes its one try; at the start it is the slot's
+abbrev pub send_spot_by : Layout → ℕ → ℕ → ℕ → Option Spot → SendStage → Option Spot
+send_spot_by layout own other to slot Header = slot
+send_spot_by layout own other to slot Look = Some (Flag (flag_word own (ready_at layout to)) (ready_at layout to).bit)
+send_spot_by BitFlags own other to slot Raise = Some (Register other)
+send_spot_by BitFlags own other to slot Lower = Some (Register own)
+send_spot_by layout own other to slot stage = None
+
+abbrev pub send_spot : Seat → SendAt → SlotAt → Option Spot
+send_spot seat op slot = send_spot_by seat.setup.layout (host_of seat.setup.hosts seat.rank) (host_of seat.setup.hosts op.to) op.to (slot_spot seat slot) op.stage
+
+-- the call that an op which is not at its end is to finish
+abbrev pub send_call : SendAt → List ℕ → List DataCall
+send_call op bytes = if is_sent op.stage then [] else (if op.posted then Post op.to op.head bytes ∷ [] else Send op.to op.head bytes ∷ [])
+
+-- after its last turn a post is in the slot
+abbrev pub slot_after : SendAt → SlotAt → SlotAt
+slot_after op slot = if is_sent op.stage then slot else (if op.posted then record { to = Some op.to; seen = false } else slot)
+
+-- what each answer means for the op, the slot and the record
+abbrev pub SendMeans : Layout → ℕ → Record → SendAt → SlotAt → List ℕ → Record → SendAt → SlotAt → Turn → Type 0
+SendMeans layout size rec op slot bytes new now after turn.Moved = (send_left layout size op slot ≡ send_left layout size now after + 1) × (new.calls ≡ rec.calls)
+    × (is_sent op.stage ≡ false) × (is_sent now.stage ≡ false)
+SendMeans layout size rec op slot bytes new now after (turn.Waiting spot) = (now ≡ op) × (after ≡ slot) × IsAtRest rec new
+SendMeans layout size rec op slot bytes new now after turn.Done = (now.stage ≡ Finished) × (after ≡ slot_after op slot) × (new.calls ≡ rec.calls ++ send_call op bytes)
+
+-- one turn of a send or of a post
+pub record SendTurned (s : Sight) (c : Private) (op : SendAt) (slot : SlotAt) (bytes : List ℕ) (t : Sight) (d : Private) (now : SendAt) (after : SlotAt) (answer : Turn) : Type 0 where
+  pub events : List Event
+  pub did : Did s events t
+  -- it waits exactly where its one try was vain
+  pub tried : Tried (aim_at s.seat.setup.layout (send_spot s.seat op slot)) events (waits_at answer)
+  -- it has freed the register that it took
+  pub freed : changing_after false events ≡ false
+  -- its last turn ends with a store or a free: no row of vain tries is left, whatever was tried before
+  pub ends : answer ≡ turn.Done → is_sent op.stage ≡ false → (aim : Aim) (n : ℕ) → vain_from aim false n events ≡ 0
+  -- where it waits, each of its events was a load or a vain take
+  pub rests : (spot : Spot) → answer ≡ turn.Waiting spot → list_all is_resting events ≡ true
+  pub same : (now.to ≡ op.to) × (now.head ≡ op.head) × (now.posted ≡ op.posted)
+  pub means : SendMeans s.seat.setup.layout (chunk_of s.seat.setup) (record_in s) op slot bytes (record_in t) now after answer
+  pub rest : KeepsRest (record_in s) (record_in t)
+  -- each header or chunk word that it stored stood in the buffer before
+  pub drafts : StoresFromBuffer s.seat.setup c events
+  pub held : LastHeld events c.evictions d

@@ -1,0 +1,134 @@
+-- What each step of a receive, of a send and of a slot does next.
+use Rattle.std.specs.Prelude.{◌≡◌, ◌≢◌, ℕ, ◌+◌, ◌==◌, ◌&&◌, Bool, true, false, if◌then◌else◌, nat_lt, List, [], Some, None, slice_index}
+use Rattle.scc_base.specs.Heads.{MessageHead}
+use Rattle.scc_base.specs.Places.{LineAt, FlagPlace, flag_word}
+use Rattle.scc_base.specs.Layouts.{sent_at, ready_at, chunk_size}
+use Rattle.scc_base.specs.Setups.{host_of}
+use Rattle.scc_base.specs.declared.events.Spot.{Spot}
+use Rattle.scc_base.specs.declared.events.Spot.TheVariants.{Flag}
+use Rattle.scc_base.specs.declared.events.Turn.{Turn}
+use Rattle.scc_base.specs.declared.events.Turn.TheVariants as turn
+use Rattle.scc_base.specs.declared.layouts.Layout.{Layout}
+use Rattle.scc_base.specs.declared.layouts.Layout.TheVariants.{LineFlags, BitFlags}
+use Rattle.scc_proto.specs.Ports.{Seat}
+use Rattle.put_get.specs.Cores.{Private}
+use Rattle.send_recv.specs.declared.stages.RecvStage.TheVariants as receive
+use Rattle.send_recv.specs.declared.stages.SendStage.{SendStage}
+use Rattle.send_recv.specs.declared.stages.SendStage.TheVariants as sending
+use Rattle.send_recv.specs.declared.answers.RecvTurn.{RecvTurn}
+use Rattle.send_recv.specs.declared.answers.RecvTurn.TheVariants as recv_turn
+use Rattle.send_recv.specs.Chunks.{chunk_lines_of, is_last_chunk}
+use Rattle.send_recv.specs.Ops.{RecvAt, SendAt, SlotAt}
+
+-- a core with its cache emptied
+abbrev pub cleared : Private → Private
+cleared c = record c { lines = [] }
+
+abbrev pub own_core : Seat → ℕ
+own_core seat = host_of seat.setup.hosts seat.rank
+
+abbrev pub core_of : Seat → ℕ → ℕ
+core_of seat j = host_of seat.setup.hosts j
+
+-- the own flag that tells of a sender's chunk, and the flag at a sender that tells it that the chunk is taken
+abbrev pub sent_flag : Seat → ℕ → FlagPlace
+sent_flag seat from = sent_at seat.setup.layout from
+
+abbrev pub ready_flag : Seat → ℕ → FlagPlace
+ready_flag seat by = ready_at seat.setup.layout by
+
+abbrev pub flag_spot : ℕ → FlagPlace → Spot
+flag_spot core flag = Flag (flag_word core flag) flag.bit
+
+-- a line of the buffer of a rank
+abbrev pub line_at : Seat → ℕ → ℕ → LineAt
+line_at seat j line = record { core = core_of seat j; line = line }
+
+-- the head that a header line says
+abbrev pub head_said : List ℕ → MessageHead
+head_said words = record { kind = slice_index words 0; comm = slice_index words 1; len = slice_index words 2 }
+
+-- whether two heads are one
+abbrev pub same_head : MessageHead → MessageHead → Bool
+same_head one other = one.kind == other.kind && one.comm == other.comm && one.len == other.len
+
+-- ---- a receive
+
+-- the turn did not wait
+abbrev pub goes_on : RecvTurn → Bool
+goes_on (recv_turn.Waiting spot) = false
+goes_on answer = true
+
+abbrev pub recv_or_waits : Bool → Spot → RecvTurn
+recv_or_waits gone spot = if gone then recv_turn.Moved else recv_turn.Waiting spot
+
+abbrev pub after_look : Bool → RecvAt → RecvAt
+after_look gone op = if gone then record op { stage = if op.chunk == 0 then receive.Header else receive.Lower } else op
+
+abbrev pub after_lower : ℕ → Bool → RecvAt → RecvAt
+after_lower size gone op = if gone then record op { stage = if chunk_lines_of size op.head.len op.chunk == 0 then receive.Raise else receive.Lines 0 } else op
+
+abbrev pub after_line : ℕ → ℕ → RecvAt → RecvAt
+after_line size line op = record op { stage = if nat_lt (line + 1) (chunk_lines_of size op.head.len op.chunk) then receive.Lines (line + 1) else receive.Raise }
+
+abbrev pub after_raise : ℕ → Bool → RecvAt → RecvAt
+after_raise size gone op = if gone then (if is_last_chunk size op.head.len op.chunk then record op { stage = receive.Finished } else record op { chunk = op.chunk + 1; stage = receive.Look }) else op
+
+abbrev pub raise_answer : ℕ → Bool → Spot → RecvAt → RecvTurn
+raise_answer size gone spot op = if gone then (if is_last_chunk size op.head.len op.chunk then recv_turn.Done else recv_turn.Moved) else recv_turn.Waiting spot
+
+-- the header line was read: it says the asked head, or another one
+pub data HeadRead (words : List ℕ) (op now : RecvAt) (answer : RecvTurn) : Type 0 where
+  Same : head_said words ≡ op.head → now ≡ record op { stage = receive.Lower } → answer ≡ recv_turn.Moved → HeadRead words op now answer
+  Differs : head_said words ≢ op.head → now ≡ op → answer ≡ recv_turn.Mismatch (head_said words) → HeadRead words op now answer
+
+-- the cache from which a line of a chunk is read: it is emptied before the first line
+abbrev pub before_line : ℕ → Private → Private
+before_line line c = if line == 0 then cleared c else c
+
+-- ---- a send and a slot
+
+abbrev pub moves_on : Turn → Bool
+moves_on (turn.Waiting spot) = false
+moves_on answer = true
+
+abbrev pub moved_or_waits : Bool → Spot → Turn
+moved_or_waits gone spot = if gone then turn.Moved else turn.Waiting spot
+
+abbrev pub slot_seen : Bool → SlotAt → SlotAt
+slot_seen gone slot = if gone then record slot { seen = true } else slot
+
+abbrev pub slot_lowered : Bool → SlotAt → SlotAt
+slot_lowered gone slot = if gone then record { to = None; seen = false } else slot
+
+-- what comes after the last line of a chunk is written
+abbrev pub before_raise : Layout → SendStage
+before_raise LineFlags = sending.Raise
+before_raise BitFlags = sending.Flush
+
+abbrev pub after_header : Layout → SendAt → SendAt
+after_header layout op = record op { stage = if chunk_lines_of (chunk_size layout) op.head.len op.chunk == 0 then before_raise layout else sending.Lines 0 }
+
+abbrev pub after_written : Layout → ℕ → SendAt → SendAt
+after_written layout line op = record op { stage = if nat_lt (line + 1) (chunk_lines_of (chunk_size layout) op.head.len op.chunk) then sending.Lines (line + 1) else before_raise layout }
+
+abbrev pub after_flush : SendAt → SendAt
+after_flush op = record op { stage = sending.Raise }
+
+abbrev pub after_sent : Bool → SendAt → SendAt
+after_sent gone op = if gone then record op { stage = if op.posted then sending.Finished else sending.Look } else op
+
+abbrev pub sent_answer : Bool → Spot → SendAt → Turn
+sent_answer gone spot op = if gone then (if op.posted then turn.Done else turn.Moved) else turn.Waiting spot
+
+abbrev pub slot_sent : Bool → SendAt → SlotAt → SlotAt
+slot_sent gone op slot = if gone then (if op.posted then record { to = Some op.to; seen = false } else slot) else slot
+
+abbrev pub after_seen : Bool → SendAt → SendAt
+after_seen gone op = if gone then record op { stage = sending.Lower } else op
+
+abbrev pub after_through : ℕ → Bool → SendAt → SendAt
+after_through size gone op = if gone then (if is_last_chunk size op.head.len op.chunk then record op { stage = sending.Finished } else record op { chunk = op.chunk + 1; stage = sending.Lines 0 }) else op
+
+abbrev pub through_answer : ℕ → Bool → Spot → SendAt → Turn
+through_answer size gone spot op = if gone then (if is_last_chunk size op.head.len op.chunk then turn.Done else turn.Moved) else turn.Waiting spot

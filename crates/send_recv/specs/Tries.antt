@@ -1,0 +1,16 @@
+-- What the turns and the calls of a message try for, in the words of sync_flags: that a flag is set, or that a
+-- register is taken.
+use Rattle.std.specs.Prelude.{true, Option, option_map}
+use Rattle.scc_base.specs.declared.layouts.Layout.{Layout}
+use Rattle.scc_base.specs.declared.events.Spot.{Spot}
+use Rattle.scc_base.specs.declared.events.Spot.TheVariants.{Flag, Register}
+use Rattle.sync_flags.specs.Tries.{Aim, AtFlag, AtRegister}
+use Rattle.send_recv.specs.Flags.{bit_of}
+
+-- what a try at a spot is for
+abbrev pub aim_of : Layout → Spot → Aim
+aim_of layout (Flag place bit) = AtFlag place (bit_of layout bit) true
+aim_of layout (Register core) = AtRegister core
+
+abbrev pub aim_at : Layout → Option Spot → Option Aim
+aim_at layout spot = option_map (aim_of layout) spot

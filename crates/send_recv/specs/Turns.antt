@@ -1,0 +1,94 @@
+-- What the turns of a receive, of a send and of a slot have in common.
+use Rattle.std.specs.Prelude.{◌≡◌, ℕ, ◌+◌, ◌*◌, ◌≤◌, ◌⊎◌, Bool, true, false, ◌==◌, not, if◌then◌else◌, List, [], ◌∷◌, ◌++◌, Option, Some, None, slice_set}
+use Rattle.std.specs.List.{list_all}
+use Rattle.scc_base.specs.Places.{LineAt, WordAt, line_of_word, same_line}
+use Rattle.scc_base.specs.declared.layouts.Layout.{Layout}
+use Rattle.scc_base.specs.declared.layouts.Layout.TheVariants.{LineFlags, BitFlags}
+use Rattle.scc_base.specs.declared.events.Access.{Access}
+use Rattle.scc_base.specs.declared.events.Access.TheVariants.{Load, Store, Take}
+use Rattle.scc_base.specs.declared.events.Event.{Event}
+use Rattle.scc_base.specs.declared.events.Spot.{Spot}
+use Rattle.scc_base.specs.declared.events.Turn.{Turn}
+use Rattle.scc_base.specs.declared.events.Turn.TheVariants.{Waiting}
+use Rattle.scc_base.specs.Setups.{SetupView}
+use Rattle.scc_proto.specs.Stages.{OnItsWay, FlagWords, Record}
+use Rattle.scc_proto.specs.Drafts.{is_draft}
+use Rattle.line_cache.specs.Lines.{held}
+use Rattle.put_get.specs.Accesses.{loads_of, stores_of}
+use Rattle.put_get.specs.Cores.{Private}
+use Rattle.put_get.specs.Transfers.{load_count}
+
+-- with bit flags a rank that calls holds no register
+abbrev pub HoldsNoneBy : Layout → (ℕ → Option FlagWords) → Type 0
+HoldsNoneBy LineFlags hold = Unit {0}
+HoldsNoneBy BitFlags hold = (core : ℕ) → hold core ≡ None
+
+abbrev pub HoldsNone : Layout → Record → Type 0
+HoldsNone layout rec = HoldsNoneBy layout rec.held
+
+-- a posted message on its way is the same one, and its `ready` may have been seen since
+abbrev pub IsSamePost : Option OnItsWay → Option OnItsWay → Type 0
+IsSamePost None new = new ≡ None
+IsSamePost (Some post) new = (answered : Bool) × (new ≡ Some (record post { is_answered = answered })) × (post.is_answered ≡ true → answered ≡ true)
+
+-- what no turn of a message changes of a record
+pub record KeepsRest (rec new : Record) : Type 0 where
+  pub flips : new.flips ≡ rec.flips
+  pub hold : new.held ≡ rec.held
+  pub heap : new.heap ≡ rec.heap
+
+-- what a turn that waits leaves: it may have seen flags of other ranks
+pub record IsAtRest (rec new : Record) : Type 0 where
+  pub stage : new.stage ≡ rec.stage
+  pub post : IsSamePost rec.post new.post
+  pub rest : KeepsRest rec new
+  pub calls : new.calls ≡ rec.calls
+
+-- a load, or a take that found the register taken
+abbrev pub is_resting_by : Access → ℕ → Bool
+is_resting_by Load value = true
+is_resting_by Take value = value == 0
+is_resting_by access value = false
+
+abbrev pub is_resting : Event → Bool
+is_resting e = is_resting_by e.access e.value
+
+-- the words of a line after these events stored into it
+abbrev pub stored_by : Access → LineAt → WordAt → ℕ → List ℕ → List ℕ
+stored_by Store line place value words = if same_line line (line_of_word place) then slice_set words place.word value else words
+stored_by access line place value words = words
+
+abbrev pub stored_since : LineAt → List ℕ → List Event → List ℕ
+stored_since line words [] = words
+stored_since line words (e ∷ es) = stored_since line (stored_by e.access line e.place e.value words) es
+
+-- the line that was loaded last stands in the cache, unless lines were evicted
+pub data LastHeld (es : List Event) (before : ℕ) (d : Private) : Type 0 where
+  NoLoad : load_count es ≡ 0 → LastHeld es before d
+  Last : (front : List Event) (line : LineAt) (words : List ℕ) (behind : List Event)
+      → es ≡ front ++ (loads_of line words ++ behind) → load_count behind ≡ 0
+      → (d.evictions ≡ before → held d.lines line ≡ Some (stored_since line words behind)) → LastHeld es before d
+
+-- no store of a header or chunk word
+abbrev pub is_no_draft : SetupView → Event → Bool
+is_no_draft s e = not (is_draft s e)
+
+abbrev pub IsNoneOrAll : List Event → List Event → Type 0
+IsNoneOrAll front held = (front ≡ []) ⊎ (front ≡ held)
+
+-- each header or chunk word that was stored stood in the write-combining buffer before
+pub record StoresFromBuffer (s : SetupView) (c : Private) (es : List Event) : Type 0 where
+  pub front : List Event
+  pub rest : List Event
+  pub is : es ≡ front ++ rest
+  pub none_or_all : IsNoneOrAll front (stores_of c.out)
+  pub no_draft : list_all (is_no_draft s) rest ≡ true
+
+-- where a turn waits
+abbrev pub waits_at : Turn → Option Spot
+waits_at (Waiting spot) = Some spot
+waits_at turn = None
+
+-- at most so many lines were loaded, and one more for each eviction
+abbrev pub LoadsLines : List Event → Private → Private → ℕ → Type 0
+LoadsLines es c d lines = load_count es + 4 * c.evictions ≤ 4 * d.evictions + 4 * lines

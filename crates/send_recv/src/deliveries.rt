@@ -1,0 +1,50 @@
+//! Sends and posts as whole calls, with a bound on the tries that find nothing.
+
+ghost use Rattle.std.specs.Prelude.{◌≡◌, ◌≤◌};
+ghost use Rattle.put_get.specs.Cores.{KeepsSteps};
+ghost use Rattle.send_recv.specs.Sending.{SendStands};
+ghost use Rattle.send_recv.specs.Calling.{SendEnds};
+
+use crate::sends::SendOp;
+use crate::slots::Slot;
+use line_cache::Evict;
+use put_get::Core;
+use scc_base::{Spot, Turn};
+use scc_proto::Port;
+
+/// Why a send or a post stopped.
+#[derive(Drop)]
+pub enum SendStop {
+    /// The last `polls` tries at this spot were vain. The op can go on by another call, with the same bytes.
+    Stalled { op: SendOp, spot: Spot, polls: u32 },
+}
+
+/// Sends or posts a message. A message that is on its way is first waited for.
+pub fn send<V: Evict, P: Port>(
+    core: &mut Core<V>,
+    port: &mut P,
+    slot: &mut Slot,
+    op: SendOp,
+    bytes: &[u8],
+    polls: u32,
+) -> Result<(), SendStop>
+    requires some { 1 ≤ polls }
+    requires stands { SendStands (P.sight port.old) core.old op slot.old bytes.now }
+    ensures ends { SendEnds (P.sight port.old) op bytes.now polls (P.sight port.new) core.new slot.new result }
+    ensures keeps { KeepsSteps (P.stepped port.old) (P.stepped port.new) }
+{
+    let mut op = op;
+    let mut vain: u32 = 0;
+    'turns: loop {
+        match op.turn(core, port, slot, bytes) {
+            Turn::Done => return Ok(()),
+            Turn::Moved => vain = 0,
+            Turn::Waiting(spot) => {
+                vain += 1;
+                if vain >= polls {
+                    return Err(SendStop::Stalled { op, spot, polls });
+                }
+            }
+        }
+    }
+}

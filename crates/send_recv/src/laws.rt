@@ -1,0 +1,37 @@
+//! Laws of messages: how many turns a new one has left, and how calls follow one another.
+
+ghost use Rattle.std.specs.Prelude.{◌≡◌, ℕ, ◌+◌, ◌*◌, ◌≤◌, Bool, true, List, length};
+ghost use Rattle.scc_base.specs.Heads.{MessageHead, IsHead, IsPostHead};
+ghost use Rattle.scc_base.specs.declared.layouts.Layout.{Layout};
+ghost use Rattle.scc_proto.specs.Words.{are_peers};
+ghost use Rattle.scc_proto.specs.Ports.{Sight};
+ghost use Rattle.put_get.specs.Cores.{Private};
+ghost use Rattle.send_recv.specs.Chunks.{chunk_count, lines_of};
+ghost use Rattle.send_recv.specs.Ops.{SlotAt, RecvAt, SendAt, new_receive, new_send, slot_left};
+ghost use Rattle.send_recv.specs.Receiving.{RecvStands, recv_left};
+ghost use Rattle.send_recv.specs.Sending.{SendStands, send_left};
+ghost use Rattle.send_recv.specs.Calling.{IsInNoCall, Received, Sent};
+
+/// A new receive, a new send and a new post have at most 4 + 5c + l turns left that do not wait, for c chunks
+/// and l lines of chunks; a slot has at most two.
+pub fn turns_law()
+    ensures receive { (size from : ℕ) (head : MessageHead) → recv_left size (new_receive from head) ≤ 4 + 5 * chunk_count size head.len + lines_of head.len }
+    ensures send { (layout : Layout) (size to : ℕ) (head : MessageHead) (posted : Bool) (slot : SlotAt)
+        → send_left layout size (new_send to head posted) slot ≤ 4 + 5 * chunk_count size head.len + lines_of head.len }
+    ensures slot { (slot : SlotAt) → slot_left slot ≤ 2 }
+{}
+
+/// At a rank that is in no call any message to or from a peer can begin.
+pub fn begins_law()
+    ensures receive { (s : Sight) (c : Private) (slot : SlotAt) (from : ℕ) (head : MessageHead) (bytes : List ℕ) → IsInNoCall s c slot
+        → are_peers s.seat.setup s.seat.rank from ≡ true → IsHead head → length bytes ≡ head.len → RecvStands s c (new_receive from head) bytes }
+    ensures send { (s : Sight) (c : Private) (slot : SlotAt) (to : ℕ) (head : MessageHead) (posted : Bool) (bytes : List ℕ) → IsInNoCall s c slot
+        → are_peers s.seat.setup s.seat.rank to ≡ true → IsHead head → (posted ≡ true → IsPostHead head) → length bytes ≡ head.len
+        → SendStands s c (new_send to head posted) slot bytes }
+{}
+
+/// After a call that answered Ok the rank is in no call again.
+pub fn ends_law()
+    ensures receive { (s t : Sight) (c d : Private) (slot : SlotAt) (op : RecvAt) (polls : ℕ) (bytes : List ℕ) → IsInNoCall s c slot → Received s c op polls t d bytes → IsInNoCall t d slot }
+    ensures send { (s t : Sight) (c d : Private) (op : SendAt) (slot after : SlotAt) (bytes : List ℕ) → SendStands s c op slot bytes → Sent s op bytes t d after → IsInNoCall t d after }
+{}

@@ -1,0 +1,230 @@
+//! Receiving one message, one turn at a time.
+
+use crate::answers::RecvTurn;
+use crate::chunks::{is_last, lines_in, start_of};
+use crate::flags::{change, look};
+use crate::heads::{head_from, is_same};
+use crate::places::{core_of, known, layout_of, own_core};
+use crate::slices::put_line;
+use crate::stages::RecvStage;
+use line_cache::Evict;
+use put_get::Core;
+use scc_base::{Head, Line, Rank, Spot};
+use scc_proto::Port;
+use std::marker::Model;
+
+/// A receive of one message from one rank, as far as it has come.
+///
+/// It is seen as its peer, its head, the number of the chunk in hand, and what it does next.
+#[derive(Drop)]
+pub struct RecvOp {
+    from: Rank,
+    head: Head,
+    chunk: u8,
+    stage: RecvStage,
+}
+
+impl Model for RecvOp {
+    ghost use Rattle.send_recv.specs.Ops.{RecvAt};
+
+    ghost Value = { RecvAt };
+
+    ghost view = { λ a. record { from = a.from; head = a.head; chunk = a.chunk; stage = a.stage } };
+}
+
+impl RecvOp {
+    ghost use Rattle.std.specs.Prelude.{◌≡◌, ◌+◌, ◌*◌, ◌≤◌, ◌<◌, ℕ, true, false, None, Some, length, slice_index, List};
+    ghost use Rattle.scc_base.specs.Layouts.{first_chunk};
+    ghost use Rattle.scc_proto.specs.Messages.{Notes};
+    ghost use Rattle.scc_proto.specs.Ports.{IsSoundPort, record_in};
+    ghost use Rattle.scc_proto.specs.Records.{chunk_of};
+    ghost use Rattle.scc_proto.specs.Words.{are_peers};
+    ghost use Rattle.put_get.specs.Cores.{ReadsLine, MadeSteps, KeepsSteps};
+    ghost use Rattle.send_recv.specs.Bytes.{byte_of_line};
+    ghost use Rattle.send_recv.specs.Chunks.{chunk_start, chunk_lines_of};
+    ghost use Rattle.send_recv.specs.Flags.{Looks, Changes, MayChange};
+    ghost use Rattle.send_recv.specs.Ops.{new_receive};
+    ghost use Rattle.send_recv.specs.Receiving.{RecvStands, RecvTurned, recv_waits};
+    ghost use Rattle.send_recv.specs.Steps.{cleared, own_core, core_of, sent_flag, ready_flag, flag_spot, line_at, goes_on, recv_or_waits, after_look, after_lower, after_line, after_raise, raise_answer, HeadRead, before_line};
+    ghost use Rattle.scc_base.specs.declared.events.Spot.{Spot};
+    ghost use Rattle.scc_base.specs.declared.events.Spot.TheVariants.{Register};
+
+    /// A receive at the start of a message with this head.
+    pub fn new(from: Rank, head: Head) -> RecvOp
+        ensures starts { result ≡ new_receive from head }
+    {
+        RecvOp {
+            from,
+            head,
+            chunk: 0,
+            stage: RecvStage::Look,
+        }
+    }
+
+    // The head that is asked for.
+    pub(crate) fn head(&self) -> Head
+        ensures gives { result ≡ self.now.head }
+    {
+        self.head
+    }
+
+    // Looks whether the next chunk was sent.
+    fn look_sent<V: Evict, P: Port>(&mut self, core: &mut Core<V>, port: &mut P) -> RecvTurn
+        requires empty { core.old.out ≡ None }
+        ensures looks { Looks (P.sight port.old) core.old (own_core (P.sight port.old).seat) (sent_flag (P.sight port.old).seat self.old.from)
+            (goes_on result) (P.sight port.new) core.new }
+        ensures next { self.new ≡ after_look (goes_on result) self.old }
+        ensures answers { result ≡ recv_or_waits (goes_on result) (flag_spot (own_core (P.sight port.old).seat) (sent_flag (P.sight port.old).seat self.old.from)) }
+        ensures steps { MadeSteps (P.stepped port.new) (P.sight port.old) (P.sight port.new) }
+        ensures keeps { KeepsSteps (P.stepped port.old) (P.stepped port.new) }
+    {
+        let own = own_core(port);
+        let flag = layout_of(port).sent(self.from);
+        if !look(core, port, own, flag) {
+            return RecvTurn::Waiting(Spot::Flag {
+                place: flag.place(own),
+                bit: flag.bit(),
+            });
+        }
+        if self.chunk == 0 {
+            self.stage = RecvStage::Header;
+            return RecvTurn::Moved;
+        }
+        self.stage = RecvStage::Lower;
+        RecvTurn::Moved
+    }
+
+    // Reads the header line of the sender.
+    fn read_head<V: Evict, P: Port>(&mut self, core: &mut Core<V>, port: &mut P) -> RecvTurn
+        requires peers { are_peers (P.sight port.old).seat.setup (P.sight port.old).seat.rank self.old.from ≡ true }
+        requires empty { core.old.out ≡ None }
+        requires seen { (header : Notes) × ((record_in (P.sight port.old)).notes self.old.from ≡ Some header) }
+        ensures reads { (words : List ℕ) × ReadsLine (P.sight port.old) (cleared core.old) (line_at (P.sight port.old).seat self.old.from 0) words (P.sight port.new) core.new
+            × HeadRead words self.old self.new result }
+        ensures sound { IsSoundPort (P.sight port.new) }
+        ensures keeps { KeepsSteps (P.stepped port.old) (P.stepped port.new) }
+    {
+        known(port);
+        core.cl1invmb();
+        let line = Line::new(core_of(port, self.from), 0);
+        let words = core.line_read(port, line);
+        known(port);
+        let sent = head_from(&words);
+        if is_same(&sent, &self.head) {
+            self.stage = RecvStage::Lower;
+            return RecvTurn::Moved;
+        }
+        RecvTurn::Mismatch(sent)
+    }
+
+    // Lowers the `sent` flag, and so takes the chunk.
+    fn lower_sent<V: Evict, P: Port>(&mut self, core: &mut Core<V>, port: &mut P) -> RecvTurn
+        requires may { MayChange (P.sight port.old) core.old (own_core (P.sight port.old).seat) (sent_flag (P.sight port.old).seat self.old.from) false }
+        ensures changes { Changes (P.sight port.old) core.old (own_core (P.sight port.old).seat) (sent_flag (P.sight port.old).seat self.old.from) false
+            (goes_on result) (P.sight port.new) core.new }
+        ensures next { self.new ≡ after_lower (chunk_of (P.sight port.old).seat.setup) (goes_on result) self.old }
+        ensures answers { result ≡ recv_or_waits (goes_on result) (Register (own_core (P.sight port.old).seat)) }
+        ensures steps { goes_on result ≡ false → MadeSteps (P.stepped port.new) (P.sight port.old) (P.sight port.new) }
+        ensures keeps { KeepsSteps (P.stepped port.old) (P.stepped port.new) }
+    {
+        let own = own_core(port);
+        let layout = layout_of(port);
+        if !change(core, port, own, layout.sent(self.from), false) {
+            return RecvTurn::Waiting(Spot::Register { core: own });
+        }
+        if lines_in(layout, self.head.len(), self.chunk) == 0 {
+            self.stage = RecvStage::Raise;
+            return RecvTurn::Moved;
+        }
+        self.stage = RecvStage::Lines(0);
+        RecvTurn::Moved
+    }
+
+    // Reads a line of the chunk into the buffer.
+    fn read_line<V: Evict, P: Port>(
+        &mut self,
+        core: &mut Core<V>,
+        port: &mut P,
+        bytes: &mut [u8],
+        line: u8,
+    ) -> RecvTurn
+        requires peers { are_peers (P.sight port.old).seat.setup (P.sight port.old).seat.rank self.old.from ≡ true }
+        requires empty { core.old.out ≡ None }
+        requires in_chunk { line < chunk_lines_of (chunk_of (P.sight port.old).seat.setup) self.old.head.len self.old.chunk }
+        ensures reads { (words : List ℕ) × ReadsLine (P.sight port.old) (before_line line core.old)
+            (line_at (P.sight port.old).seat self.old.from (first_chunk (P.sight port.old).seat.setup.layout + line)) words (P.sight port.new) core.new
+            × ((k : ℕ) → k < 32 → chunk_start (chunk_of (P.sight port.old).seat.setup) self.old.chunk + 32 * line + k < length bytes.old
+            → slice_index bytes.new (chunk_start (chunk_of (P.sight port.old).seat.setup) self.old.chunk + 32 * line + k) ≡ byte_of_line words k) }
+        ensures before { (k : ℕ) → k < chunk_start (chunk_of (P.sight port.old).seat.setup) self.old.chunk + 32 * line → slice_index bytes.new k ≡ slice_index bytes.old k }
+        ensures behind { (k : ℕ) → chunk_start (chunk_of (P.sight port.old).seat.setup) self.old.chunk + 32 * line + 32 ≤ k → slice_index bytes.new k ≡ slice_index bytes.old k }
+        ensures next { self.new ≡ after_line (chunk_of (P.sight port.old).seat.setup) line self.old }
+        ensures answers { result ≡ recv_or_waits true (Register 0) }
+        ensures keeps { KeepsSteps (P.stepped port.old) (P.stepped port.new) }
+    {
+        let layout = layout_of(port);
+        if line == 0 {
+            core.cl1invmb();
+        }
+        let at = Line::new(core_of(port, self.from), layout.first_chunk_line() + line);
+        let words = core.line_read(port, at);
+        let start = start_of(layout, self.chunk) + 32 * line as usize;
+        put_line(bytes, start, &words);
+        if line + 1 < lines_in(layout, self.head.len(), self.chunk) {
+            self.stage = RecvStage::Lines(line + 1);
+            return RecvTurn::Moved;
+        }
+        self.stage = RecvStage::Raise;
+        RecvTurn::Moved
+    }
+
+    // Raises the `ready` flag at the sender.
+    fn raise_ready<V: Evict, P: Port>(&mut self, core: &mut Core<V>, port: &mut P) -> RecvTurn
+        requires peers { are_peers (P.sight port.old).seat.setup (P.sight port.old).seat.rank self.old.from ≡ true }
+        requires may { MayChange (P.sight port.old) core.old (core_of (P.sight port.old).seat self.old.from) (ready_flag (P.sight port.old).seat (P.sight port.old).seat.rank) true }
+        requires some_left { self.old.chunk < 255 }
+        ensures changes { Changes (P.sight port.old) core.old (core_of (P.sight port.old).seat self.old.from) (ready_flag (P.sight port.old).seat (P.sight port.old).seat.rank) true
+            (goes_on result) (P.sight port.new) core.new }
+        ensures next { self.new ≡ after_raise (chunk_of (P.sight port.old).seat.setup) (goes_on result) self.old }
+        ensures answers { result ≡ raise_answer (chunk_of (P.sight port.old).seat.setup) (goes_on result) (Register (core_of (P.sight port.old).seat self.old.from)) self.old }
+        ensures steps { goes_on result ≡ false → MadeSteps (P.stepped port.new) (P.sight port.old) (P.sight port.new) }
+        ensures keeps { KeepsSteps (P.stepped port.old) (P.stepped port.new) }
+    {
+        let other = core_of(port, self.from);
+        let layout = layout_of(port);
+        let flag = layout.ready(port.rank());
+        if !change(core, port, other, flag, true) {
+            return RecvTurn::Waiting(Spot::Register { core: other });
+        }
+        if is_last(layout, self.head.len(), self.chunk) {
+            self.stage = RecvStage::Finished;
+            return RecvTurn::Done;
+        }
+        self.chunk += 1;
+        self.stage = RecvStage::Look;
+        RecvTurn::Moved
+    }
+
+    /// Goes on by one turn: it looks once, reads one line or writes one flag.
+    pub fn turn<V: Evict, P: Port>(
+        &mut self,
+        core: &mut Core<V>,
+        port: &mut P,
+        bytes: &mut [u8],
+    ) -> RecvTurn
+        requires stands { RecvStands (P.sight port.old) core.old self.old bytes.old }
+        ensures stands { RecvStands (P.sight port.new) core.new self.new bytes.new }
+        ensures turned { RecvTurned (P.sight port.old) core.old self.old bytes.old (P.sight port.new) core.new self.new bytes.new result }
+        ensures steps { (spot : Spot) → recv_waits result ≡ Some spot → MadeSteps (P.stepped port.new) (P.sight port.old) (P.sight port.new) }
+        ensures keeps { KeepsSteps (P.stepped port.old) (P.stepped port.new) }
+    {
+        known(port);
+        match self.stage {
+            RecvStage::Look => self.look_sent(core, port),
+            RecvStage::Header => self.read_head(core, port),
+            RecvStage::Lower => self.lower_sent(core, port),
+            RecvStage::Lines(line) => self.read_line(core, port, bytes, line),
+            RecvStage::Raise => self.raise_ready(core, port),
+            RecvStage::Finished => RecvTurn::Done,
+        }
+    }
+}

@@ -1,0 +1,266 @@
+//! Sending and posting one message, one turn at a time.
+
+ghost use Rattle.std.specs.Prelude.{◌≡◌};
+ghost use Rattle.send_recv.specs.Steps.{before_raise};
+
+use crate::chunks::{is_last, lines_in, start_of};
+use crate::flags::{change, look};
+use crate::heads::header_line;
+use crate::places::{core_of, known, layout_of, own_core};
+use crate::slices::{known_bytes, line_from};
+use crate::slots::Slot;
+use crate::stages::SendStage;
+use line_cache::Evict;
+use put_get::Core;
+use scc_base::{Head, Layout, Line, PostHead, Rank, Spot, Turn};
+use scc_proto::Port;
+use std::marker::Model;
+
+/// A send or a post of one message to one rank, as far as it has come.
+///
+/// It is seen as its peer, its head, whether it is a post, the number of the chunk in hand, and what it does
+/// next.
+#[derive(Drop)]
+pub struct SendOp {
+    to: Rank,
+    head: Head,
+    posted: bool,
+    chunk: u8,
+    stage: SendStage,
+}
+
+impl Model for SendOp {
+    ghost use Rattle.send_recv.specs.Ops.{SendAt};
+
+    ghost Value = { SendAt };
+
+    ghost view = { λ a. record { to = a.to; head = a.head; posted = a.posted; chunk = a.chunk; stage = a.stage } };
+}
+
+// What comes once the last line of a chunk is written.
+fn after_lines(layout: Layout) -> SendStage
+    ensures gives { result ≡ before_raise layout }
+{
+    match layout {
+        Layout::LineFlags => SendStage::Raise,
+        Layout::BitFlags => SendStage::Flush,
+    }
+}
+
+impl SendOp {
+    ghost use Rattle.std.specs.Prelude.{◌≡◌, ◌+◌, ◌*◌, ◌<◌, None, Some, true, false};
+    ghost use Rattle.scc_base.specs.Heads.{IsPostHead};
+    ghost use Rattle.scc_base.specs.Layouts.{first_chunk};
+    ghost use Rattle.scc_base.specs.declared.events.Spot.{Spot};
+    ghost use Rattle.scc_base.specs.declared.events.Spot.TheVariants.{Register};
+    ghost use Rattle.scc_base.specs.declared.events.Turn.TheVariants.{Moved};
+    ghost use Rattle.scc_proto.specs.Ports.{MayMakeAll, record_in};
+    ghost use Rattle.scc_proto.specs.Records.{chunk_of};
+    ghost use Rattle.scc_proto.specs.Words.{are_peers};
+    ghost use Rattle.write_combine.specs.Combining.{handed_out};
+    ghost use Rattle.put_get.specs.Accesses.{stores_of};
+    ghost use Rattle.put_get.specs.Cores.{WritesLine, Flushes, MadeSteps, KeepsSteps};
+    ghost use Rattle.send_recv.specs.Bytes.{words_at};
+    ghost use Rattle.send_recv.specs.Chunks.{chunk_start, chunk_lines_of};
+    ghost use Rattle.send_recv.specs.Flags.{Looks, Changes, MayChange};
+    ghost use Rattle.send_recv.specs.Ops.{new_send};
+    ghost use Rattle.send_recv.specs.Sending.{SendStands, SendTurned, header_words};
+    ghost use Rattle.send_recv.specs.Steps.{own_core, core_of, sent_flag, ready_flag, flag_spot, line_at, moves_on, moved_or_waits, after_header, after_written, after_flush, after_sent, sent_answer, slot_sent, after_seen, after_through, through_answer};
+    ghost use Rattle.send_recv.specs.Turns.{waits_at};
+
+    /// A send at the start of a message with this head.
+    pub fn new(to: Rank, head: Head) -> SendOp
+        ensures starts { result ≡ new_send to head false }
+    {
+        SendOp {
+            to,
+            head,
+            posted: false,
+            chunk: 0,
+            stage: SendStage::Header,
+        }
+    }
+
+    /// A post at the start of a message with this head. It is done once the message is on its way.
+    pub fn post(to: Rank, head: PostHead) -> SendOp
+        ensures starts { result ≡ new_send to head true }
+    {
+        SendOp {
+            to,
+            head: head.head(),
+            posted: true,
+            chunk: 0,
+            stage: SendStage::Header,
+        }
+    }
+
+    // Writes the header line.
+    fn write_header<V: Evict, P: Port>(&mut self, core: &mut Core<V>, port: &mut P) -> Turn
+        requires empty { core.old.out ≡ None }
+        ensures writes { WritesLine (P.sight port.old) core.old (line_at (P.sight port.old).seat (P.sight port.old).seat.rank 0) (header_words self.old.head self.old.posted) (P.sight port.new) core.new }
+        ensures next { self.new ≡ after_header (P.sight port.old).seat.setup.layout self.old }
+        ensures answers { result ≡ Moved }
+        ensures keeps { KeepsSteps (P.stepped port.old) (P.stepped port.new) }
+    {
+        let line = Line::new(own_core(port), 0);
+        core.line_write(port, line, &header_line(&self.head, self.posted));
+        let layout = layout_of(port);
+        if lines_in(layout, self.head.len(), self.chunk) == 0 {
+            self.stage = after_lines(layout);
+            return Turn::Moved;
+        }
+        self.stage = SendStage::Lines(0);
+        Turn::Moved
+    }
+
+    // Writes a line of the chunk.
+    fn write_line<V: Evict, P: Port>(
+        &mut self,
+        core: &mut Core<V>,
+        port: &mut P,
+        bytes: &[u8],
+        line: u8,
+    ) -> Turn
+        requires in_chunk { line < chunk_lines_of (chunk_of (P.sight port.old).seat.setup) self.old.head.len self.old.chunk }
+        requires other { handed_out core.old.out (line_at (P.sight port.old).seat (P.sight port.old).seat.rank (first_chunk (P.sight port.old).seat.setup.layout + line)) ≡ core.old.out }
+        requires permitted { MayMakeAll (P.sight port.old).seat (record_in (P.sight port.old)) (stores_of core.old.out) }
+        ensures writes { WritesLine (P.sight port.old) core.old (line_at (P.sight port.old).seat (P.sight port.old).seat.rank (first_chunk (P.sight port.old).seat.setup.layout + line))
+            (words_at bytes.now (chunk_start (chunk_of (P.sight port.old).seat.setup) self.old.chunk + 32 * line)) (P.sight port.new) core.new }
+        ensures next { self.new ≡ after_written (P.sight port.old).seat.setup.layout line self.old }
+        ensures answers { result ≡ Moved }
+        ensures keeps { KeepsSteps (P.stepped port.old) (P.stepped port.new) }
+    {
+        let layout = layout_of(port);
+        let at = Line::new(own_core(port), layout.first_chunk_line() + line);
+        let start = start_of(layout, self.chunk) + 32 * line as usize;
+        core.line_write(port, at, &line_from(bytes, start));
+        if line + 1 < lines_in(layout, self.head.len(), self.chunk) {
+            self.stage = SendStage::Lines(line + 1);
+            return Turn::Moved;
+        }
+        self.stage = after_lines(layout);
+        Turn::Moved
+    }
+
+    // Stores what still waits in the write-combining buffer.
+    fn flush_lines<V: Evict, P: Port>(&mut self, core: &mut Core<V>, port: &mut P) -> Turn
+        requires permitted { MayMakeAll (P.sight port.old).seat (record_in (P.sight port.old)) (stores_of core.old.out) }
+        ensures flushes { Flushes (P.sight port.old) core.old (P.sight port.new) core.new }
+        ensures next { self.new ≡ after_flush self.old }
+        ensures answers { result ≡ Moved }
+        ensures keeps { KeepsSteps (P.stepped port.old) (P.stepped port.new) }
+    {
+        core.flush(port);
+        self.stage = SendStage::Raise;
+        Turn::Moved
+    }
+
+    // Raises the `sent` flag at the receiver. A post is done, and its message is in the slot.
+    fn raise_sent<V: Evict, P: Port>(
+        &mut self,
+        core: &mut Core<V>,
+        port: &mut P,
+        slot: &mut Slot,
+    ) -> Turn
+        requires peers { are_peers (P.sight port.old).seat.setup (P.sight port.old).seat.rank self.old.to ≡ true }
+        requires may { MayChange (P.sight port.old) core.old (core_of (P.sight port.old).seat self.old.to) (sent_flag (P.sight port.old).seat (P.sight port.old).seat.rank) true }
+        ensures changes { Changes (P.sight port.old) core.old (core_of (P.sight port.old).seat self.old.to) (sent_flag (P.sight port.old).seat (P.sight port.old).seat.rank) true (moves_on result) (P.sight port.new) core.new }
+        ensures next { self.new ≡ after_sent (moves_on result) self.old }
+        ensures fills { slot.new ≡ slot_sent (moves_on result) self.old slot.old }
+        ensures answers { result ≡ sent_answer (moves_on result) (Register (core_of (P.sight port.old).seat self.old.to)) self.old }
+        ensures steps { moves_on result ≡ false → MadeSteps (P.stepped port.new) (P.sight port.old) (P.sight port.new) }
+        ensures keeps { KeepsSteps (P.stepped port.old) (P.stepped port.new) }
+    {
+        let other = core_of(port, self.to);
+        let flag = layout_of(port).sent(port.rank());
+        if !change(core, port, other, flag, true) {
+            return Turn::Waiting(Spot::Register { core: other });
+        }
+        if self.posted {
+            slot.fill(self.to);
+            self.stage = SendStage::Finished;
+            return Turn::Done;
+        }
+        self.stage = SendStage::Look;
+        Turn::Moved
+    }
+
+    // Looks whether the chunk was taken.
+    fn look_ready<V: Evict, P: Port>(&mut self, core: &mut Core<V>, port: &mut P) -> Turn
+        requires empty { core.old.out ≡ None }
+        ensures looks { Looks (P.sight port.old) core.old (own_core (P.sight port.old).seat) (ready_flag (P.sight port.old).seat self.old.to) (moves_on result) (P.sight port.new) core.new }
+        ensures next { self.new ≡ after_seen (moves_on result) self.old }
+        ensures answers { result ≡ moved_or_waits (moves_on result) (flag_spot (own_core (P.sight port.old).seat) (ready_flag (P.sight port.old).seat self.old.to)) }
+        ensures steps { MadeSteps (P.stepped port.new) (P.sight port.old) (P.sight port.new) }
+        ensures keeps { KeepsSteps (P.stepped port.old) (P.stepped port.new) }
+    {
+        let own = own_core(port);
+        let flag = layout_of(port).ready(self.to);
+        if !look(core, port, own, flag) {
+            return Turn::Waiting(Spot::Flag {
+                place: flag.place(own),
+                bit: flag.bit(),
+            });
+        }
+        self.stage = SendStage::Lower;
+        Turn::Moved
+    }
+
+    // Lowers the `ready` flag, after which the next chunk may be written.
+    fn lower_ready<V: Evict, P: Port>(&mut self, core: &mut Core<V>, port: &mut P) -> Turn
+        requires may { MayChange (P.sight port.old) core.old (own_core (P.sight port.old).seat) (ready_flag (P.sight port.old).seat self.old.to) false }
+        requires some_left { self.old.chunk < 255 }
+        ensures changes { Changes (P.sight port.old) core.old (own_core (P.sight port.old).seat) (ready_flag (P.sight port.old).seat self.old.to) false (moves_on result) (P.sight port.new) core.new }
+        ensures next { self.new ≡ after_through (chunk_of (P.sight port.old).seat.setup) (moves_on result) self.old }
+        ensures answers { result ≡ through_answer (chunk_of (P.sight port.old).seat.setup) (moves_on result) (Register (own_core (P.sight port.old).seat)) self.old }
+        ensures steps { moves_on result ≡ false → MadeSteps (P.stepped port.new) (P.sight port.old) (P.sight port.new) }
+        ensures keeps { KeepsSteps (P.stepped port.old) (P.stepped port.new) }
+    {
+        let own = own_core(port);
+        let layout = layout_of(port);
+        if !change(core, port, own, layout.ready(self.to), false) {
+            return Turn::Waiting(Spot::Register { core: own });
+        }
+        if is_last(layout, self.head.len(), self.chunk) {
+            self.stage = SendStage::Finished;
+            return Turn::Done;
+        }
+        self.chunk += 1;
+        self.stage = SendStage::Lines(0);
+        Turn::Moved
+    }
+
+    /// Goes on by one turn: a turn of the slot first, until that is empty; then it writes one line or one
+    /// flag, or looks once.
+    pub fn turn<V: Evict, P: Port>(
+        &mut self,
+        core: &mut Core<V>,
+        port: &mut P,
+        slot: &mut Slot,
+        bytes: &[u8],
+    ) -> Turn
+        requires stands { SendStands (P.sight port.old) core.old self.old slot.old bytes.now }
+        ensures stands { SendStands (P.sight port.new) core.new self.new slot.new bytes.now }
+        ensures turned { SendTurned (P.sight port.old) core.old self.old slot.old bytes.now (P.sight port.new) core.new self.new slot.new result }
+        ensures steps { (spot : Spot) → waits_at result ≡ Some spot → MadeSteps (P.stepped port.new) (P.sight port.old) (P.sight port.new) }
+        ensures keeps { KeepsSteps (P.stepped port.old) (P.stepped port.new) }
+    {
+        known(port);
+        known_bytes(bytes);
+        match self.stage {
+            SendStage::Header => {
+                if slot.holds().is_some() {
+                    slot.turn(core, port)
+                } else {
+                    self.write_header(core, port)
+                }
+            }
+            SendStage::Lines(line) => self.write_line(core, port, bytes, line),
+            SendStage::Flush => self.flush_lines(core, port),
+            SendStage::Raise => self.raise_sent(core, port, slot),
+            SendStage::Look => self.look_ready(core, port),
+            SendStage::Lower => self.lower_ready(core, port),
+            SendStage::Finished => Turn::Done,
+        }
+    }
+}

@@ -1,0 +1,82 @@
+//! The words of a message's bytes.
+
+ghost use Rattle.std.specs.Prelude.{◌≡◌, ◌+◌, ◌-◌, ◌*◌, ◌/◌, ◌%◌, ◌^◌, ◌<◌, ◌≤◌, ℕ, length, slice_index};
+ghost use Rattle.send_recv.specs.Bytes.{word_at, words_at, byte_of_word, byte_of_line};
+
+/// Does nothing. It tells a proof that each place of a slice has a byte.
+pub(crate) fn known_bytes(bytes: &[u8])
+    ensures small { (k : ℕ) → slice_index bytes.now k < 256 }
+{}
+
+// A byte of a slice, and 0 past its end.
+fn byte_at(bytes: &[u8], at: usize) -> u8
+    ensures gives { result ≡ slice_index bytes.now at }
+{
+    if at < bytes.len() { bytes[at] } else { 0 }
+}
+
+// The word of eight bytes, the lowest first, with zeros past the end.
+fn word_from(bytes: &[u8], at: usize) -> u64
+    requires fits { at ≤ 2 ^ 32 }
+    ensures gives { result ≡ word_at bytes.now at }
+{
+    let low = four_from(bytes, at);
+    let high = four_from(bytes, at + 4);
+    low as u64 + 0x1_0000_0000 * high as u64
+}
+
+// The number of four bytes, the lowest first.
+fn four_from(bytes: &[u8], at: usize) -> u32
+    requires fits { at ≤ 2 ^ 32 + 4 }
+    ensures gives { result ≡ slice_index bytes.now at + 0x100 * slice_index bytes.now (at + 1) + 0x10000 * slice_index bytes.now (at + 2) + 0x1000000 * slice_index bytes.now (at + 3) }
+{
+    let first = byte_at(bytes, at);
+    let second = byte_at(bytes, at + 1);
+    let third = byte_at(bytes, at + 2);
+    let fourth = byte_at(bytes, at + 3);
+    first as u32 + 0x100 * second as u32 + 0x1_0000 * third as u32 + 0x100_0000 * fourth as u32
+}
+
+/// The four words of a line of a message, from byte `at` on, with zeros past the message's end.
+pub(crate) fn line_from(bytes: &[u8], at: usize) -> [u64; 4]
+    requires fits { at ≤ 2 ^ 31 }
+    ensures gives { result ≡ words_at bytes.now at }
+{
+    let first = word_from(bytes, at);
+    let second = word_from(bytes, at + 8);
+    let third = word_from(bytes, at + 16);
+    let fourth = word_from(bytes, at + 24);
+    [first, second, third, fourth]
+}
+
+// A byte of a word, the lowest first.
+fn byte_of(word: u64, at: usize) -> u8
+    requires below { at < 8 }
+    ensures gives { result ≡ byte_of_word word at }
+{
+    let byte = match at {
+        0 => word % 256,
+        1 => word / 0x100 % 256,
+        2 => word / 0x1_0000 % 256,
+        3 => word / 0x100_0000 % 256,
+        4 => word / 0x1_0000_0000 % 256,
+        5 => word / 0x100_0000_0000 % 256,
+        6 => word / 0x1_0000_0000_0000 % 256,
+        _ => word / 0x100_0000_0000_0000 % 256,
+    };
+    byte as u8
+}
+
+/// Writes the 32 bytes of a line into a message, from byte `at` on, up to the message's end.
+pub(crate) fn put_line(bytes: &mut [u8], at: usize, words: &[u64; 4])
+    requires fits { at ≤ 2 ^ 31 }
+    ensures put { (k : ℕ) → k < 32 → at + k < length bytes.old → slice_index bytes.new (at + k) ≡ byte_of_line words.now k }
+    ensures before { (k : ℕ) → k < at → slice_index bytes.new k ≡ slice_index bytes.old k }
+    ensures behind { (k : ℕ) → at + 32 ≤ k → slice_index bytes.new k ≡ slice_index bytes.old k }
+{
+    'bytes: for k in 0..32 {
+        if at + k < bytes.len() {
+            bytes[at + k] = byte_of(words[k / 8], k % 8);
+        }
+    }
+}

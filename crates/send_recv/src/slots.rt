@@ -1,0 +1,128 @@
+//! The slot of a posted message.
+
+use crate::flags::{change, look};
+use crate::places::{known, layout_of, own_core};
+use line_cache::Evict;
+use put_get::Core;
+use scc_base::{Rank, Spot, Turn};
+use scc_proto::Port;
+use std::marker::Model;
+
+/// The posted message of a rank that is on its way, if any: its target, and whether it was seen that the
+/// target has taken it.
+#[derive(Drop)]
+pub struct Slot {
+    to: Option<Rank>,
+    seen: bool,
+}
+
+impl Model for Slot {
+    ghost use Rattle.send_recv.specs.Ops.{SlotAt};
+
+    ghost Value = { SlotAt };
+
+    ghost view = { λ a. record { to = a.to; seen = a.seen } };
+}
+
+impl Slot {
+    ghost use Rattle.std.specs.Prelude.{◌≡◌, None, Some, true, false};
+    ghost use Rattle.scc_base.specs.declared.events.Spot.{Spot};
+    ghost use Rattle.scc_base.specs.declared.events.Spot.TheVariants.{Register};
+    ghost use Rattle.scc_proto.specs.Ports.{record_in};
+    ghost use Rattle.put_get.specs.Cores.{MadeSteps, KeepsSteps};
+    ghost use Rattle.send_recv.specs.Flags.{Looks, Changes, MayChange};
+    ghost use Rattle.send_recv.specs.Ops.{empty_slot};
+    ghost use Rattle.send_recv.specs.Sending.{SlotStands, SlotTurned};
+    ghost use Rattle.send_recv.specs.Steps.{own_core, ready_flag, flag_spot, moves_on, moved_or_waits, slot_seen, slot_lowered};
+    ghost use Rattle.send_recv.specs.Turns.{HoldsNone, waits_at};
+
+    /// No message is on its way.
+    pub fn new() -> Slot
+        ensures empty { result ≡ empty_slot }
+    {
+        Slot {
+            to: None,
+            seen: false,
+        }
+    }
+
+    /// The peer of the message on its way, and None where there is none.
+    pub fn holds(&self) -> Option<Rank>
+        ensures gives { result ≡ self.now.to }
+    {
+        self.to
+    }
+
+    // Fills the slot with a message to this rank.
+    pub(crate) fn fill(&mut self, to: Rank)
+        ensures fills { self.new ≡ record { to = Some to; seen = false } }
+    {
+        self.to = Some(to);
+        self.seen = false;
+    }
+
+    // Looks whether the message was taken.
+    fn look_ready<V: Evict, P: Port>(&mut self, core: &mut Core<V>, port: &mut P, to: Rank) -> Turn
+        requires empty { core.old.out ≡ None }
+        ensures looks { Looks (P.sight port.old) core.old (own_core (P.sight port.old).seat) (ready_flag (P.sight port.old).seat to)
+            (moves_on result) (P.sight port.new) core.new }
+        ensures next { self.new ≡ slot_seen (moves_on result) self.old }
+        ensures answers { result ≡ moved_or_waits (moves_on result) (flag_spot (own_core (P.sight port.old).seat) (ready_flag (P.sight port.old).seat to)) }
+        ensures steps { MadeSteps (P.stepped port.new) (P.sight port.old) (P.sight port.new) }
+        ensures keeps { KeepsSteps (P.stepped port.old) (P.stepped port.new) }
+    {
+        let own = own_core(port);
+        let flag = layout_of(port).ready(to);
+        if !look(core, port, own, flag) {
+            return Turn::Waiting(Spot::Flag {
+                place: flag.place(own),
+                bit: flag.bit(),
+            });
+        }
+        self.seen = true;
+        Turn::Moved
+    }
+
+    // Lowers the flag by which the message was answered.
+    fn lower_ready<V: Evict, P: Port>(&mut self, core: &mut Core<V>, port: &mut P, to: Rank) -> Turn
+        requires may { MayChange (P.sight port.old) core.old (own_core (P.sight port.old).seat) (ready_flag (P.sight port.old).seat to) false }
+        ensures changes { Changes (P.sight port.old) core.old (own_core (P.sight port.old).seat) (ready_flag (P.sight port.old).seat to) false
+            (moves_on result) (P.sight port.new) core.new }
+        ensures next { self.new ≡ slot_lowered (moves_on result) self.old }
+        ensures answers { result ≡ moved_or_waits (moves_on result) (Register (own_core (P.sight port.old).seat)) }
+        ensures steps { moves_on result ≡ false → MadeSteps (P.stepped port.new) (P.sight port.old) (P.sight port.new) }
+        ensures keeps { KeepsSteps (P.stepped port.old) (P.stepped port.new) }
+    {
+        let own = own_core(port);
+        let flag = layout_of(port).ready(to);
+        if !change(core, port, own, flag, false) {
+            return Turn::Waiting(Spot::Register { core: own });
+        }
+        self.to = None;
+        self.seen = false;
+        Turn::Moved
+    }
+
+    /// Goes on by one turn: it looks once whether the message was taken, or lowers the flag that said so.
+    pub fn turn<V: Evict, P: Port>(&mut self, core: &mut Core<V>, port: &mut P) -> Turn
+        requires stands { SlotStands (P.sight port.old).seat (record_in (P.sight port.old)) self.old }
+        requires empty { core.old.out ≡ None }
+        requires hands { HoldsNone (P.sight port.old).seat.setup.layout (record_in (P.sight port.old)) }
+        ensures stands { SlotStands (P.sight port.new).seat (record_in (P.sight port.new)) self.new }
+        ensures turned { SlotTurned (P.sight port.old) core.old self.old (P.sight port.new) core.new self.new result }
+        ensures steps { (spot : Spot) → waits_at result ≡ Some spot → MadeSteps (P.stepped port.new) (P.sight port.old) (P.sight port.new) }
+        ensures keeps { KeepsSteps (P.stepped port.old) (P.stepped port.new) }
+    {
+        known(port);
+        match self.to {
+            None => Turn::Done,
+            Some(to) => {
+                if self.seen {
+                    self.lower_ready(core, port, to)
+                } else {
+                    self.look_ready(core, port, to)
+                }
+            }
+        }
+    }
+}
