@@ -20,10 +20,13 @@ use Rattle.scc_proto.proofs.PlaceMoves.{Makes, gather_stored}
 use Rattle.put_get.specs.Cores.{Private}
 use Rattle.barrier.specs.declared.stages.BarStage.{BarStage}
 use Rattle.barrier.specs.declared.stages.BarStage.TheVariants.{Flip, Gather, Await, Finished}
-use Rattle.barrier.specs.Flags.{IsParityOf, flag_value, value_at, gather_word}
-use Rattle.barrier.specs.Stages.{BarAt, BarStands, IsAtStage, looks_at, group_size, own_place, is_finished, is_gather, after_flip}
-use Rattle.barrier.specs.Tries.{NoLook}
-use Rattle.barrier.specs.Turns.{StoresWord, Does, BarTurned, flips_by, is_message_word, is_draft}
+use Rattle.barrier.specs.Flags.{IsParityOf, value_at, gather_word}
+use Rattle.barrier.specs.Stages.{BarAt, BarStands, IsAtStage, aim_at, group_size, own_place, is_finished, is_gather, after_flip}
+use Rattle.sync_flags.specs.Flags.{flag_value}
+use Rattle.sync_flags.specs.Tries.{NoTry}
+use Rattle.sync_flags.specs.Writes.{StoresWord}
+use Rattle.scc_proto.specs.Drafts.{is_message_word, is_draft}
+use Rattle.barrier.specs.Turns.{Does, BarTurned, flips_by}
 use Rattle.barrier.proofs.FlagLoads.{present_is, makes_kept}
 use Rattle.barrier.proofs.StageLemmas.{Next, stands_next, same_by, rest_kept, left_is, call_of_stage}
 
@@ -150,7 +153,7 @@ module _ (s : Sight) (c : Private) (op : BarAt) (values later : List Bool) (valu
             events = store_of (gather_word s.seat op.comm s.seat.rank) value ∷ [];
             did = stores.did;
             does = does_store;
-            tried = NoLook (ap (λ (x : BarStage). looks_at s.seat op.comm x) l.stage) refl;
+            tried = NoTry (ap (λ (x : BarStage). aim_at s.seat op.comm x (flag_value (value_at later op.comm))) l.stage) refl;
             same = comm;
             means = (end, ap (λ (r : Record). r.calls) rec ∙ ap (λ (cs : List DataCall). (record_in s).calls ++ cs) (sym (call_of_stage op Flip l.stage refl)), ap is_gather l.stage);
             flips = flips ∙ ap (λ (x : BarStage). flips_by op.comm x (record_in s).flips) (sym l.stage);
@@ -176,7 +179,7 @@ module _ (s : Sight) (c : Private) (op : BarAt) (values later : List Bool) (valu
             events = store_of (gather_word s.seat op.comm s.seat.rank) value ∷ [];
             did = stores.did;
             does = does_store;
-            tried = NoLook (ap (λ (x : BarStage). looks_at s.seat op.comm x) l.stage) refl;
+            tried = NoTry (ap (λ (x : BarStage). aim_at s.seat op.comm x (flag_value (value_at later op.comm))) l.stage) refl;
             same = comm;
             means = (
               left_is s.seat op now Flip (if own_place s.seat op.comm == 0 then Gather 0 else Await) comm l.stage goes_to next.left,

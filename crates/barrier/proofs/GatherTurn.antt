@@ -1,5 +1,5 @@
 -- The root looks at the gather flag of its next member.
-use Rattle.std.proofs.Common.{◌≡◌, ◌≢◌, ℕ, ◌+◌, ◌/◌, ◌%◌, ◌<◌, Bool, not, List, [], ◌∷◌, Some, slice_index, refl, sym, ◌∙◌, ap, subst, arith}
+use Rattle.std.proofs.Common.{◌≡◌, ◌≢◌, ℕ, ◌+◌, ◌/◌, ◌%◌, ◌<◌, Bool, List, Some, slice_index, refl, sym, ◌∙◌, ap, subst, arith}
 use Rattle.scc_base.specs.Places.{WordAt, line_of_word}
 use Rattle.scc_base.specs.Setups.{SetupView, IsSetup, IsMemberAt}
 use Rattle.scc_base.specs.declared.events.Spot.TheVariants.{Flag}
@@ -7,18 +7,20 @@ use Rattle.scc_base.specs.declared.events.Turn.TheVariants as turn
 use Rattle.scc_proto.specs.Stages.{Barrier, Record}
 use Rattle.scc_proto.specs.Ports.{Sight, record_in}
 use Rattle.scc_proto.proofs.PortLaws.{record_did, seat_kept}
-use Rattle.scc_proto.proofs.Tests.{eqb_other}
 use Rattle.put_get.specs.Accesses.{loads_of}
 use Rattle.put_get.specs.Cores.{Private}
+use Rattle.put_get.proofs.FillLemmas.{fills_out}
 use Rattle.barrier.specs.declared.stages.BarStage.{BarStage}
 use Rattle.barrier.specs.declared.stages.BarStage.TheVariants.{Gather}
-use Rattle.barrier.specs.Flags.{flag_value, value_at, member_at, gather_word}
-use Rattle.barrier.specs.Stages.{BarAt, BarStands, IsAtStage, looks_at, group_size, is_finished, after_seen}
-use Rattle.barrier.specs.Tries.{Vain, Found}
-use Rattle.barrier.specs.Turns.{LooksAt, Does, BarTurned, flips_by}
+use Rattle.barrier.specs.Flags.{value_at, member_at, gather_word}
+use Rattle.barrier.specs.Stages.{BarAt, BarStands, IsAtStage, aim_at, group_size, is_finished, after_seen}
+use Rattle.sync_flags.specs.Flags.{flag_value}
+use Rattle.sync_flags.specs.Tries.{AtWord}
+use Rattle.sync_flags.specs.Looks.{LooksAt}
+use Rattle.barrier.specs.Turns.{Does, BarTurned, flips_by}
 use Rattle.barrier.proofs.FlagLoads.{present_is, root_leads, InBarrier, gather_line, gather_found, gather_vain, line_loaded}
-use Rattle.barrier.proofs.LookLemmas.{fills_out, loads_no_draft, look_outcome}
-use Rattle.barrier.proofs.StageLemmas.{stands_next, gather_next, same_by, rest_kept, parity_kept, left_is}
+use Rattle.barrier.proofs.LookLemmas.{loads_no_draft, vain_look, fruitful_look}
+use Rattle.barrier.proofs.StageLemmas.{stands_next, gather_next, rest_kept, parity_kept, left_is}
 
 -- the root of a group looks at this member
 pub record Looking (s : Sight) (c : Private) (op : BarAt) (values : List Bool) (seen m value : ℕ) : Type 0 where
@@ -45,71 +47,70 @@ looking {s} {values = values} st seen m value k own su stage a valid b below e i
 }
 
 module _ (s : Sight) (c : Private) (op : BarAt) (values : List Bool) (seen m value : ℕ) (l : Looking s c op values seen m value)
-    (t : Sight) (d : Private) (words : List ℕ) (looks : LooksAt s c (gather_word s.seat op.comm m) words t d) where
+    (t : Sight) (d : Private) (found : ℕ) (saw : LooksAt s c (gather_word s.seat op.comm m) found t d) where
   here : IsAtStage s.seat (record_in s) op.comm (Gather seen)
   here = subst (λ (x : BarStage). IsAtStage s.seat (record_in s) op.comm x) l.stage l.stands.at
 
   wanted : value ≡ (record_in s).flips op.comm % 2
   wanted = l.waits_for ∙ l.stands.parity op.comm l.stands.below
 
-  found_record : slice_index words (op.comm / 8) ≡ value → record_in t ≡ record (record_in s) { stage = Barrier op.comm (seen + 1) 0 }
+  found_record : slice_index saw.words (op.comm / 8) ≡ value → record_in t ≡ record (record_in s) { stage = Barrier op.comm (seen + 1) 0 }
   found_record eq =
       let small = l.stands.below in
       let low : op.comm / 8 < 2 = omega (arith, small) in
       let late = record (record_in s) { stage = Barrier op.comm (seen + 1) 0 } in
       let present = present_is s.seat.setup op.comm small l.stands.present in
-      let own = gather_found s.seat (record_in s) l.valid op.comm m seen (slice_index words (op.comm / 8)) present l.member.below
+      let own = gather_found s.seat (record_in s) l.valid op.comm m seen (slice_index saw.words (op.comm / 8)) present l.member.below
       (root_leads s.seat.setup op.comm s.seat.rank (seen + 1) m l.member here.0) l.member.placed here.2 (eq ∙ wanted) in
-      record_did s (loads_of (line_of_word (gather_word s.seat op.comm m)) words) t looks.did
-      ∙ line_loaded s.seat (record_in s) late (line_of_word (gather_word s.seat op.comm m)) words (op.comm / 8) low own
+      record_did s (loads_of (line_of_word (gather_word s.seat op.comm m)) saw.words) t saw.looks.did
+      ∙ line_loaded s.seat (record_in s) late (line_of_word (gather_word s.seat op.comm m)) saw.words (op.comm / 8) low own
       (gather_line s.seat (record_in s) l.valid op.comm m small l.member.below (InBarrier seen 0 here.2))
       (gather_line s.seat late l.valid op.comm m small l.member.below (InBarrier (seen + 1) 0 refl))
 
-  vain_record : slice_index words (op.comm / 8) ≢ value → record_in t ≡ record_in s
+  vain_record : slice_index saw.words (op.comm / 8) ≢ value → record_in t ≡ record_in s
   vain_record other =
       let small = l.stands.below in
       let low : op.comm / 8 < 2 = omega (arith, small) in
       let present = present_is s.seat.setup op.comm small l.stands.present in
-      let own = gather_vain s.seat (record_in s) l.valid op.comm m seen (slice_index words (op.comm / 8)) present l.member.below
+      let own = gather_vain s.seat (record_in s) l.valid op.comm m seen (slice_index saw.words (op.comm / 8)) present l.member.below
       (root_leads s.seat.setup op.comm s.seat.rank (seen + 1) m l.member here.0) l.member.placed here.2 (λ q. other (q ∙ sym wanted)) in
       let line = gather_line s.seat (record_in s) l.valid op.comm m small l.member.below (InBarrier seen 0 here.2) in
-      record_did s (loads_of (line_of_word (gather_word s.seat op.comm m)) words) t looks.did
-      ∙ line_loaded s.seat (record_in s) (record_in s) (line_of_word (gather_word s.seat op.comm m)) words (op.comm / 8) low own line line
+      record_did s (loads_of (line_of_word (gather_word s.seat op.comm m)) saw.words) t saw.looks.did
+      ∙ line_loaded s.seat (record_in s) (record_in s) (line_of_word (gather_word s.seat op.comm m)) saw.words (op.comm / 8) low own line line
 
   does_look : Does s.seat op.comm op.stage (flag_value (value_at values op.comm)) s c t d
   does_look = subst (λ (x : BarStage). Does s.seat op.comm x (flag_value (value_at values op.comm)) s c t d) (sym l.stage)
-      (words, subst (λ (x : ℕ). LooksAt s c (gather_word s.seat op.comm x) words t d) l.is looks)
+      (found, subst (λ (x : ℕ). LooksAt s c (gather_word s.seat op.comm x) found t d) l.is saw)
 
-  looked : looks_at s.seat op.comm op.stage ≡ Some (gather_word s.seat op.comm m)
-  looked = ap (λ (x : BarStage). looks_at s.seat op.comm x) l.stage ∙ ap (λ (x : ℕ). Some (gather_word s.seat op.comm x)) (sym l.is)
+  aims : aim_at s.seat op.comm op.stage (flag_value (value_at values op.comm)) ≡ Some (AtWord (gather_word s.seat op.comm m) (flag_value (value_at values op.comm)))
+  aims = ap (λ (x : BarStage). aim_at s.seat op.comm x (flag_value (value_at values op.comm))) l.stage
+      ∙ ap (λ (x : ℕ). Some (AtWord (gather_word s.seat op.comm x) (flag_value (value_at values op.comm)))) (sym l.is)
 
   seat_same : t.seat ≡ s.seat
-  seat_same = seat_kept s (loads_of (line_of_word (gather_word s.seat op.comm m)) words) t looks.did
+  seat_same = seat_kept s (loads_of (line_of_word (gather_word s.seat op.comm m)) saw.words) t saw.looks.did
 
-  gather_waited : slice_index words (op.comm / 8) ≢ value → BarStands t d op values × BarTurned s c op t d op values (turn.Waiting (Flag (gather_word s.seat op.comm m) 0))
+  gather_waited : slice_index saw.words (op.comm / 8) ≢ value → BarStands t d op values × BarTurned s c op t d op values (turn.Waiting (Flag (gather_word s.seat op.comm m) 0))
   gather_waited other =
       let small = l.stands.below in
       let rec = vain_record other in
       let flips = ap (λ (r : Record). r.flips) rec in
       let low : op.comm / 8 < 4 = omega (arith, small) in (
-        stands_next l.stands t d op values seat_same (fills_out looks.fills) refl (parity_kept (record_in s) (record_in t) values l.stands.parity flips)
+        stands_next l.stands t d op values seat_same (fills_out saw.looks.fills) refl (parity_kept (record_in s) (record_in t) values l.stands.parity flips)
             (subst (λ (r : Record). IsAtStage s.seat r op.comm op.stage) (sym rec) l.stands.at),
         record {
-          events = loads_of (line_of_word (gather_word s.seat op.comm m)) words;
-          did = looks.did;
+          events = loads_of (line_of_word (gather_word s.seat op.comm m)) saw.words;
+          did = saw.looks.did;
           does = does_look;
-          tried = Vain (gather_word s.seat op.comm m) looked
-              (look_outcome (gather_word s.seat op.comm m) (flag_value (value_at values op.comm)) words low
-              ∙ ap (λ (b : Bool). not b ∷ []) (eqb_other (slice_index words (op.comm / 8)) (flag_value (value_at values op.comm)) (λ q. other (q ∙ sym l.waits_for)))) refl;
+          tried = vain_look (gather_word s.seat op.comm m) (flag_value (value_at values op.comm)) saw.words low (λ q. other (q ∙ sym l.waits_for)) aims;
           same = refl;
           means = (refl, rec);
           flips = flips ∙ ap (λ (x : BarStage). flips_by op.comm x (record_in s).flips) (sym l.stage);
           rest = rest_kept (record_in s).stage (record_in s).flips (record_in s).calls rec;
-          no_draft = loads_no_draft s.seat.setup (line_of_word (gather_word s.seat op.comm m)) words;
+          no_draft = loads_no_draft s.seat.setup (line_of_word (gather_word s.seat op.comm m)) saw.words;
         },
       )
 
-  gather_saw : (now : BarAt) → now.comm ≡ op.comm → now.stage ≡ after_seen (group_size s.seat op.comm) seen → slice_index words (op.comm / 8) ≡ value
+  gather_saw : (now : BarAt) → now.comm ≡ op.comm → now.stage ≡ after_seen (group_size s.seat op.comm) seen → slice_index saw.words (op.comm / 8) ≡ value
       → BarStands t d now values × BarTurned s c op t d now values turn.Moved
   gather_saw now comm stage eq =
       let small = l.stands.below in
@@ -117,15 +118,13 @@ module _ (s : Sight) (c : Private) (op : BarAt) (values : List Bool) (seen m val
       let flips = ap (λ (r : Record). r.flips) rec in
       let next = gather_next s.seat (record_in t) op.comm seen here.0 here.1 (ap (λ (r : Record). r.stage) rec) in
       let low : op.comm / 8 < 4 = omega (arith, small) in (
-        stands_next l.stands t d now values seat_same (fills_out looks.fills) comm (parity_kept (record_in s) (record_in t) values l.stands.parity flips)
+        stands_next l.stands t d now values seat_same (fills_out saw.looks.fills) comm (parity_kept (record_in s) (record_in t) values l.stands.parity flips)
             (subst (λ (x : BarStage). IsAtStage s.seat (record_in t) op.comm x) (sym stage) next.at),
         record {
-          events = loads_of (line_of_word (gather_word s.seat op.comm m)) words;
-          did = looks.did;
+          events = loads_of (line_of_word (gather_word s.seat op.comm m)) saw.words;
+          did = saw.looks.did;
           does = does_look;
-          tried = Found (gather_word s.seat op.comm m) looked
-              (look_outcome (gather_word s.seat op.comm m) (flag_value (value_at values op.comm)) words low
-              ∙ ap (λ (b : Bool). not b ∷ []) (same_by (slice_index words (op.comm / 8)) (flag_value (value_at values op.comm)) (eq ∙ l.waits_for))) refl;
+          tried = fruitful_look (gather_word s.seat op.comm m) (flag_value (value_at values op.comm)) saw.words low (eq ∙ l.waits_for) aims;
           same = comm;
           means = (
             left_is s.seat op now (Gather seen) (after_seen (group_size s.seat op.comm) seen) comm l.stage stage next.left,
@@ -135,29 +134,28 @@ module _ (s : Sight) (c : Private) (op : BarAt) (values : List Bool) (seen m val
           );
           flips = flips ∙ ap (λ (x : BarStage). flips_by op.comm x (record_in s).flips) (sym l.stage);
           rest = rest_kept (Barrier op.comm (seen + 1) 0) (record_in s).flips (record_in s).calls rec;
-          no_draft = loads_no_draft s.seat.setup (line_of_word (gather_word s.seat op.comm m)) words;
+          no_draft = loads_no_draft s.seat.setup (line_of_word (gather_word s.seat op.comm m)) saw.words;
         },
       )
 
 -- the look, at the place that the code has
-pub look_here : {s t : Sight} {c d : Private} {place : WordAt} (to : WordAt) (got : ℕ) → place ≡ to → (words : List ℕ) × LooksAt s c place words t d × (got ≡ slice_index words place.word)
-    → (words : List ℕ) × LooksAt s c to words t d × (got ≡ slice_index words to.word)
-look_here {s} {t} {c} {d} to got e h = subst (λ (p : WordAt). (words : List ℕ) × LooksAt s c p words t d × (got ≡ slice_index words p.word)) e h
+pub look_here : {s t : Sight} {c d : Private} {place : WordAt} (to : WordAt) (got : ℕ) → place ≡ to → LooksAt s c place got t d → LooksAt s c to got t d
+look_here {s} {t} {c} {d} to got e h = subst (λ (p : WordAt). LooksAt s c p got t d) e h
 
 pub gather_waits : {s t : Sight} {c d : Private} {op : BarAt} {values : List Bool} {seen m value : ℕ} → Looking s c op values seen m value → (k : ℕ) → k ≡ op.comm
-    → (place : WordAt) → place ≡ gather_word s.seat k m → (got : ℕ) → (words : List ℕ) × LooksAt s c place words t d × (got ≡ slice_index words place.word) → got ≢ value
+    → (place : WordAt) → place ≡ gather_word s.seat k m → (got : ℕ) → LooksAt s c place got t d → got ≢ value
     → BarStands t d op values × BarTurned s c op t d op values (turn.Waiting (Flag place 0))
 gather_waits {s} {t} {c} {d} {op} {values} {seen} {m} {value} l k e place at got saw other =
     let there = at ∙ ap (λ (x : ℕ). gather_word s.seat x m) e in
     let h = look_here (gather_word s.seat op.comm m) got there saw in
     subst (λ (p : WordAt). BarStands t d op values × BarTurned s c op t d op values (turn.Waiting (Flag p 0))) (sym there)
-    (gather_waited s c op values seen m value l t d h.0 h.1 (λ q. other (h.2 ∙ q)))
+    (gather_waited s c op values seen m value l t d got h (λ q. other (h.is ∙ q)))
 
 pub gather_sees : {s t : Sight} {c d : Private} {op : BarAt} {values : List Bool} {seen m value : ℕ} → Looking s c op values seen m value → (k : ℕ) → k ≡ op.comm
-    → (place : WordAt) → place ≡ gather_word s.seat k m → (got : ℕ) → (words : List ℕ) × LooksAt s c place words t d × (got ≡ slice_index words place.word) → got ≡ value
+    → (place : WordAt) → place ≡ gather_word s.seat k m → (got : ℕ) → LooksAt s c place got t d → got ≡ value
     → (now : BarAt) → now.comm ≡ op.comm → (size : ℕ) → size ≡ group_size s.seat op.comm → now.stage ≡ after_seen size seen
     → BarStands t d now values × BarTurned s c op t d now values turn.Moved
 gather_sees {s} {t} {c} {d} {op} {values} {seen} {m} {value} l k e place at got saw eq now comm size sized stage =
     let there = at ∙ ap (λ (x : ℕ). gather_word s.seat x m) e in
     let h = look_here (gather_word s.seat op.comm m) got there saw in
-    gather_saw s c op values seen m value l t d h.0 h.1 now comm (stage ∙ ap (λ (n : ℕ). after_seen n seen) sized) (sym h.2 ∙ eq)
+    gather_saw s c op values seen m value l t d got h now comm (stage ∙ ap (λ (n : ℕ). after_seen n seen) sized) (sym h.is ∙ eq)

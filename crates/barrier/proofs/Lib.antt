@@ -1,6 +1,5 @@
 pub mod FlagLoads
 pub mod LookLemmas
-pub mod StoreLemmas
 pub mod StageLemmas
 pub mod GatherTurn
 pub mod AwaitTurn

@@ -18,10 +18,13 @@ use Rattle.scc_proto.proofs.PlaceMoves.{Makes, release_stored}
 use Rattle.put_get.specs.Cores.{Private}
 use Rattle.barrier.specs.declared.stages.BarStage.{BarStage}
 use Rattle.barrier.specs.declared.stages.BarStage.TheVariants.{Release, Finished}
-use Rattle.barrier.specs.Flags.{flag_value, value_at, member_at, release_word}
-use Rattle.barrier.specs.Stages.{BarAt, BarStands, IsAtStage, looks_at, group_size, is_finished, is_gather, after_release}
-use Rattle.barrier.specs.Tries.{NoLook}
-use Rattle.barrier.specs.Turns.{StoresWord, Does, BarTurned, flips_by, is_message_word, is_draft}
+use Rattle.barrier.specs.Flags.{value_at, member_at, release_word}
+use Rattle.barrier.specs.Stages.{BarAt, BarStands, IsAtStage, aim_at, group_size, is_finished, is_gather, after_release}
+use Rattle.sync_flags.specs.Flags.{flag_value}
+use Rattle.sync_flags.specs.Tries.{NoTry}
+use Rattle.sync_flags.specs.Writes.{StoresWord}
+use Rattle.scc_proto.specs.Drafts.{is_message_word, is_draft}
+use Rattle.barrier.specs.Turns.{Does, BarTurned, flips_by}
 use Rattle.barrier.proofs.FlagLoads.{present_is, root_leads, makes_kept}
 use Rattle.barrier.proofs.StageLemmas.{stands_next, same_by, last_is, rest_kept, parity_kept, left_is, call_of_stage}
 
@@ -114,7 +117,7 @@ module _ (s : Sight) (c : Private) (op : BarAt) (values : List Bool) (released m
             events = store_of (release_word s.seat op.comm m) value ∷ [];
             did = stores.did;
             does = does_store;
-            tried = NoLook (ap (λ (x : BarStage). looks_at s.seat op.comm x) l.stage) refl;
+            tried = NoTry (ap (λ (x : BarStage). aim_at s.seat op.comm x (flag_value (value_at values op.comm))) l.stage) refl;
             same = comm;
             means = (end, ap (λ (r : Record). r.calls) rec ∙ ap (λ (cs : List DataCall). (record_in s).calls ++ cs) (sym (call_of_stage op (Release released) l.stage refl)), ap is_gather l.stage);
             flips = flips ∙ ap (λ (x : BarStage). flips_by op.comm x (record_in s).flips) (sym l.stage);
@@ -140,7 +143,7 @@ module _ (s : Sight) (c : Private) (op : BarAt) (values : List Bool) (released m
             events = store_of (release_word s.seat op.comm m) value ∷ [];
             did = stores.did;
             does = does_store;
-            tried = NoLook (ap (λ (x : BarStage). looks_at s.seat op.comm x) l.stage) refl;
+            tried = NoTry (ap (λ (x : BarStage). aim_at s.seat op.comm x (flag_value (value_at values op.comm))) l.stage) refl;
             same = comm;
             means = (
               left_is s.seat op now (Release released) (Release (released + 1)) comm l.stage next (omega (arith, more)),

@@ -12,10 +12,11 @@ use Rattle.scc_proto.proofs.Roles.{if_yes, if_no, eq_not}
 use Rattle.put_get.specs.Cores.{Private}
 use Rattle.barrier.specs.declared.stages.BarStage.{BarStage}
 use Rattle.barrier.specs.declared.stages.BarStage.TheVariants.{Gather, Release, Finished}
-use Rattle.barrier.specs.Flags.{IsParityOf, flag_value, value_at}
-use Rattle.barrier.specs.Stages.{BarAt, BarStands, IsAtStage, group_size, own_place, is_finished, is_gather, looks_at, left_by, bar_left, bar_call, after_seen}
+use Rattle.barrier.specs.Flags.{IsParityOf, value_at}
+use Rattle.barrier.specs.Stages.{BarAt, BarStands, IsAtStage, group_size, own_place, is_finished, is_gather, aim_at, left_by, bar_left, bar_call, after_seen}
 use Rattle.barrier.specs.Turns.{KeepsRest, Does, BarTurned, flips_by}
-use Rattle.barrier.specs.Tries.{NoLook}
+use Rattle.sync_flags.specs.Flags.{flag_value}
+use Rattle.sync_flags.specs.Tries.{NoTry}
 
 -- the barrier stands after a turn
 pub stands_next : {s : Sight} {c : Private} {op : BarAt} {values : List Bool} → BarStands s c op values → (t : Sight) (d : Private) (now : BarAt) (later : List Bool)
@@ -96,7 +97,7 @@ turn_nothing {s} {c} {op} {values} st e = record {
   events = [];
   did = did_nothing s;
   does = subst (λ (x : BarStage). Does s.seat op.comm x (flag_value (value_at values op.comm)) s c s c) (sym e) (refl, refl);
-  tried = NoLook (ap (λ (x : BarStage). looks_at s.seat op.comm x) e) refl;
+  tried = NoTry (ap (λ (x : BarStage). aim_at s.seat op.comm x (flag_value (value_at values op.comm))) e) refl;
   same = refl;
   means = (e, sym (append-nil (record_in s).calls) ∙ ap (λ (cs : List DataCall). (record_in s).calls ++ cs) (sym (if_yes (is_finished op.stage) [] (Bar op.comm ∷ []) (ap is_finished e))), ap is_gather e);
   flips = ap (λ (x : BarStage). flips_by op.comm x (record_in s).flips) (sym e);

@@ -1,17 +1,17 @@
 -- A whole barrier with a bound on the looks that find nothing (RCCE specification 2.0: RCCE_barrier; the bound is
 -- this project's profile).
-use Rattle.std.specs.Prelude.{◌≡◌, ◌⊎◌, ℕ, ◌≤◌, Bool, List, ◌++◌, Some, None, Result, Ok, Err}
+use Rattle.std.specs.Prelude.{◌≡◌, ◌⊎◌, ℕ, Bool, List, ◌++◌, Some, None, Result, Ok, Err}
 use Rattle.scc_base.specs.Places.{WordAt}
 use Rattle.scc_base.specs.declared.events.Event.{Event}
-use Rattle.scc_base.specs.declared.events.Spot.TheVariants.{Flag}
 use Rattle.scc_proto.specs.Stages.{Idle}
 use Rattle.scc_proto.specs.Ports.{Seat, Sight, Did, record_in}
 use Rattle.put_get.specs.Cores.{Private}
+use Rattle.sync_flags.specs.Flags.{flag_value}
+use Rattle.sync_flags.specs.Tries.{Aim, AtWord, spot_of, vain_tries, TriedInVain}
 use Rattle.barrier.specs.declared.barriers.BarStop.{BarStop}
 use Rattle.barrier.specs.declared.barriers.BarStop.TheVariants.{Stalled}
-use Rattle.barrier.specs.Flags.{IsParityOf, flag_value, value_at, release_word}
-use Rattle.barrier.specs.Stages.{BarAt, BarStands, bar_call, own_place, looks_at}
-use Rattle.barrier.specs.Tries.{vain_looks}
+use Rattle.barrier.specs.Flags.{IsParityOf, value_at, release_word}
+use Rattle.barrier.specs.Stages.{BarAt, BarStands, bar_call, own_place, aim_at}
 
 -- the flags at which the last turn of a rank's barrier may have looked: a member's own release flag; a root ends
 -- with a write, whatever it looked at before
@@ -26,7 +26,7 @@ pub record Finishes (s : Sight) (op : BarAt) (t : Sight) (d : Private) (values :
   pub stage : (record_in t).stage ≡ Idle
   pub empty : d.out ≡ None
   pub parity : IsParityOf (record_in t) values
-  pub no_vain : (place : WordAt) → MayEndAt s.seat op.comm place → vain_looks place (flag_value (value_at values op.comm)) events ≡ 0
+  pub no_vain : (place : WordAt) → MayEndAt s.seat op.comm place → vain_tries (AtWord place (flag_value (value_at values op.comm))) events ≡ 0
 
 -- the call gave up: the barrier that is handed back stands where the record stands, and the last looks, as many as
 -- were allowed, were vain at the flag where it stands
@@ -34,14 +34,14 @@ pub record Stalls (s : Sight) (op : BarAt) (polls : ℕ) (t : Sight) (d : Privat
   pub events : List Event
   pub did : Did s events t
   pub now : BarAt
-  pub place : WordAt
-  pub is : stop ≡ Stalled now (Flag place 0) polls
+  pub aim : Aim
+  pub is : stop ≡ Stalled now (spot_of aim) polls
   pub stands : BarStands t d now values
   pub same : now.comm ≡ op.comm
-  pub looks : looks_at s.seat now.comm now.stage ≡ Some place
+  pub looks : aim_at s.seat now.comm now.stage (flag_value (value_at values now.comm)) ≡ Some aim
   pub calls : (record_in t).calls ≡ (record_in s).calls
   pub call_left : bar_call now ≡ bar_call op
-  pub vain : polls ≤ vain_looks place (flag_value (value_at values op.comm)) events
+  pub vain : TriedInVain aim polls events
 
 -- what a call comes to
 abbrev pub Ends : Sight → BarAt → ℕ → Sight → Private → List Bool → Result Unit BarStop → Type 0

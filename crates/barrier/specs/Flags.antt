@@ -1,15 +1,12 @@
 -- The flags of a barrier: a gather flag and a release flag at each member of a group (this project's profile of
 -- RCCE's barrier). Each is a whole word, which is flipped between 0 and 1.
-use Rattle.std.specs.Prelude.{◌≡◌, ℕ, ◌%◌, ◌<◌, Bool, false, if◌then◌else◌, List, slice_index, slice_index_or}
+use Rattle.std.specs.Prelude.{◌≡◌, ℕ, ◌%◌, ◌<◌, Bool, false, List, slice_index, slice_index_or}
 use Rattle.scc_base.specs.Places.{WordAt, flag_word}
 use Rattle.scc_base.specs.Layouts.{gather_at, release_at}
 use Rattle.scc_base.specs.Setups.{SetupView, host_of, members_of}
 use Rattle.scc_proto.specs.Stages.{Record}
 use Rattle.scc_proto.specs.Ports.{Seat}
-
--- the word of a flag that has this value
-abbrev pub flag_value : Bool → ℕ
-flag_value set = if set then 1 else 0
+use Rattle.sync_flags.specs.Flags.{flag_value}
 
 -- the value that the own gather flag of a communicator has, among those of all communicators
 abbrev pub value_at : List Bool → ℕ → Bool

@@ -3,13 +3,13 @@
 -- waits for its own release flag (this project's profile of RCCE's barrier).
 use Rattle.std.specs.Prelude.{◌≡◌, ◌≢◌, ℕ, ◌+◌, ◌-◌, ◌*◌, ◌<◌, Bool, true, false, ◌==◌, if◌then◌else◌, List, [], ◌∷◌, Option, Some, None}
 use Rattle.scc_base.specs.Calls.{DataCall, Bar}
-use Rattle.scc_base.specs.Places.{WordAt}
 use Rattle.scc_base.specs.Setups.{place_of, size_of}
 use Rattle.scc_base.specs.Communicators.{rule_of}
 use Rattle.scc_base.specs.declared.communicators.CommRule.TheVariants.{Absent}
 use Rattle.scc_proto.specs.Stages.{Idle, Barrier, Record}
 use Rattle.scc_proto.specs.Ports.{Seat, Sight, record_in}
 use Rattle.put_get.specs.Cores.{Private}
+use Rattle.sync_flags.specs.Tries.{Aim, AtWord}
 use Rattle.barrier.specs.declared.stages.BarStage.{BarStage}
 use Rattle.barrier.specs.declared.stages.BarStage.TheVariants.{Flip, Gather, Release, Await, Finished}
 use Rattle.barrier.specs.Flags.{IsParityOf, member_at, gather_word, release_word}
@@ -63,11 +63,11 @@ left_by size place Finished = 0
 abbrev pub bar_left : Seat → BarAt → ℕ
 bar_left seat op = left_by (group_size seat op.comm) (own_place seat op.comm) op.stage
 
--- the flag at which a stage looks
-abbrev pub looks_at : Seat → ℕ → BarStage → Option WordAt
-looks_at seat comm (Gather seen) = Some (gather_word seat comm (member_at seat.setup comm seat.rank (seen + 1)))
-looks_at seat comm Await = Some (release_word seat comm seat.rank)
-looks_at seat comm stage = None
+-- what a stage looks for: that a flag has the value of the own gather flag
+abbrev pub aim_at : Seat → ℕ → BarStage → (value : ℕ) → Option Aim
+aim_at seat comm (Gather seen) value = Some (AtWord (gather_word seat comm (member_at seat.setup comm seat.rank (seen + 1))) value)
+aim_at seat comm Await value = Some (AtWord (release_word seat comm seat.rank) value)
+aim_at seat comm stage value = None
 
 -- the call that a barrier which is not at its end is to finish
 abbrev pub bar_call : BarAt → List DataCall

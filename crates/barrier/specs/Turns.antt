@@ -1,51 +1,35 @@
 -- What one turn of a barrier does and comes to (this project's profile of RCCE's barrier).
-use Rattle.std.specs.Prelude.{◌≡◌, ℕ, suc, ◌+◌, Bool, true, false, List, [], ◌∷◌, ◌++◌, Option, Some, None}
+use Rattle.std.specs.Prelude.{◌≡◌, ℕ, suc, ◌+◌, Bool, false, List, ◌++◌, Option, Some, None}
 use Rattle.std.specs.List.{list_any}
-use Rattle.scc_base.specs.Places.{WordAt, line_of_word}
-use Rattle.scc_base.specs.Events.{store_of}
-use Rattle.scc_base.specs.Setups.{SetupView}
-use Rattle.scc_base.specs.declared.events.Access.{Access}
-use Rattle.scc_base.specs.declared.events.Access.TheVariants.{Store}
 use Rattle.scc_base.specs.declared.events.Event.{Event}
 use Rattle.scc_base.specs.declared.events.Spot.{Spot}
 use Rattle.scc_base.specs.declared.events.Turn.{Turn}
 use Rattle.scc_base.specs.declared.events.Turn.TheVariants as turn
 use Rattle.scc_proto.specs.Tables.{put}
 use Rattle.scc_proto.specs.Stages.{Record}
-use Rattle.scc_proto.specs.Words.{Role, HeaderWord, ChunkWord, role_of}
+use Rattle.scc_proto.specs.Drafts.{is_draft}
 use Rattle.scc_proto.specs.Ports.{Seat, Sight, Did, record_in}
-use Rattle.line_cache.specs.Lines.{held, noted}
-use Rattle.put_get.specs.Accesses.{loads_of}
-use Rattle.put_get.specs.Cores.{Private, Fills}
+use Rattle.put_get.specs.Cores.{Private}
+use Rattle.sync_flags.specs.Flags.{flag_value}
+use Rattle.sync_flags.specs.Tries.{Tried}
+use Rattle.sync_flags.specs.Looks.{LooksAt}
+use Rattle.sync_flags.specs.Writes.{StoresWord}
 use Rattle.barrier.specs.declared.stages.BarStage.{BarStage}
 use Rattle.barrier.specs.declared.stages.BarStage.TheVariants.{Flip, Gather, Release, Await, Finished}
-use Rattle.barrier.specs.Flags.{flag_value, value_at, member_at, gather_word, release_word}
-use Rattle.barrier.specs.Stages.{BarAt, is_finished, is_gather, bar_left, looks_at, bar_call}
-use Rattle.barrier.specs.Tries.{Tried}
+use Rattle.barrier.specs.Flags.{value_at, member_at, gather_word, release_word}
+use Rattle.barrier.specs.Stages.{BarAt, is_finished, is_gather, bar_left, aim_at, bar_call}
 
 -- where a turn waits
 abbrev pub waits_at : Turn → Option Spot
 waits_at (turn.Waiting spot) = Some spot
 waits_at answer = None
 
--- one word was stored, and a cached line has the new word
-pub record StoresWord (s : Sight) (c : Private) (place : WordAt) (value : ℕ) (t : Sight) (d : Private) : Type 0 where
-  pub did : Did s (store_of place value ∷ []) t
-  pub is : d ≡ record c { lines = noted c.lines place value }
-
--- a flag was looked at: the cached lines were dropped, the four words of its line were loaded, and the line came in
-pub record LooksAt (s : Sight) (c : Private) (place : WordAt) (words : List ℕ) (t : Sight) (d : Private) : Type 0 where
-  pub did : Did s (loads_of (line_of_word place) words) t
-  pub fills : Fills (record c { lines = [] }) (line_of_word place) words d
-  -- the loaded line stands in the cache, unless a line was evicted
-  pub held : d.evictions ≡ c.evictions → held d.lines (line_of_word place) ≡ Some words
-
 -- what each stage does: it writes one flag, looks at one, or does nothing
 abbrev pub Does : Seat → ℕ → BarStage → (value : ℕ) → Sight → Private → Sight → Private → Type 0
 Does seat comm Flip value s c t d = StoresWord s c (gather_word seat comm seat.rank) value t d
-Does seat comm (Gather seen) value s c t d = (words : List ℕ) × LooksAt s c (gather_word seat comm (member_at seat.setup comm seat.rank (seen + 1))) words t d
+Does seat comm (Gather seen) value s c t d = (found : ℕ) × LooksAt s c (gather_word seat comm (member_at seat.setup comm seat.rank (seen + 1))) found t d
 Does seat comm (Release released) value s c t d = StoresWord s c (release_word seat comm (member_at seat.setup comm seat.rank (released + 1))) value t d
-Does seat comm Await value s c t d = (words : List ℕ) × LooksAt s c (release_word seat comm seat.rank) words t d
+Does seat comm Await value s c t d = (found : ℕ) × LooksAt s c (release_word seat comm seat.rank) found t d
 Does seat comm Finished value s c t d = (t ≡ s) × (d ≡ c)
 
 -- how often the own gather flags were flipped
@@ -60,20 +44,6 @@ pub record KeepsRest (rec new : Record) : Type 0 where
   pub registers : new.held ≡ rec.held
   pub heap : new.heap ≡ rec.heap
 
--- the word is one of a header line or of a chunk buffer
-abbrev pub is_message_word : Role → Bool
-is_message_word (HeaderWord owner k) = true
-is_message_word (ChunkWord owner k) = true
-is_message_word role = false
-
--- a store of such a word
-abbrev pub is_draft_by : SetupView → Access → WordAt → Bool
-is_draft_by s Store place = is_message_word (role_of s place)
-is_draft_by s access place = false
-
-abbrev pub is_draft : SetupView → Event → Bool
-is_draft s e = is_draft_by s e.access e.place
-
 -- what each answer means for the barrier and the record
 abbrev pub BarMeans : Seat → Record → BarAt → Record → BarAt → Turn → Type 0
 BarMeans seat rec op new now turn.Moved = (bar_left seat op ≡ bar_left seat now + 1) × (new.calls ≡ rec.calls)
@@ -87,7 +57,7 @@ pub record BarTurned (s : Sight) (c : Private) (op : BarAt) (t : Sight) (d : Pri
   pub did : Did s events t
   pub does : Does s.seat op.comm op.stage (flag_value (value_at values op.comm)) s c t d
   -- it waits exactly where its one look was vain
-  pub tried : Tried (looks_at s.seat op.comm op.stage) (flag_value (value_at values op.comm)) events (waits_at answer)
+  pub tried : Tried (aim_at s.seat op.comm op.stage (flag_value (value_at values op.comm))) events (waits_at answer)
   pub same : now.comm ≡ op.comm
   pub means : BarMeans s.seat (record_in s) op (record_in t) now answer
   pub flips : (record_in t).flips ≡ flips_by op.comm op.stage (record_in s).flips

@@ -1,17 +1,11 @@
-//! The flags of a barrier: where they lie, and one look or one write.
+//! The flags of a barrier: where they lie.
 
-ghost use Rattle.std.specs.Prelude.{◌≡◌, ◌≢◌, ◌<◌, List, ℕ, None, slice_index};
-ghost use Rattle.scc_base.specs.Events.{store_of};
-ghost use Rattle.scc_base.specs.Setups.{IsMemberAt, IsSetup, size_of};
+ghost use Rattle.std.specs.Prelude.{◌≡◌, ◌≢◌, ◌<◌};
+ghost use Rattle.scc_base.specs.Setups.{IsMemberAt, size_of};
 ghost use Rattle.scc_base.specs.Communicators.{rule_of};
 ghost use Rattle.scc_base.specs.declared.communicators.CommRule.TheVariants.{Absent};
-ghost use Rattle.scc_proto.specs.Ports.{MayMake, record_in};
-ghost use Rattle.put_get.specs.Cores.{MadeSteps, KeepsSteps};
 ghost use Rattle.barrier.specs.Flags.{gather_word, release_word, member_at};
-ghost use Rattle.barrier.specs.Turns.{StoresWord, LooksAt};
 
-use line_cache::Evict;
-use put_get::Core;
 use scc_base::{Place, Rank};
 use scc_proto::Port;
 
@@ -47,32 +41,4 @@ pub(crate) fn member<P: Port>(port: &P, comm: u8, place: u8) -> Rank
         Some(member) => member,
         None => unreachable!(),
     }
-}
-
-/// Writes a word and sends it out.
-pub(crate) fn store_word<V: Evict, P: Port>(
-    core: &mut Core<V>,
-    port: &mut P,
-    place: Place,
-    value: u64,
-)
-    requires empty { core.old.out ≡ None }
-    requires permitted { MayMake (P.sight port.old).seat (record_in (P.sight port.old)) (store_of place value) }
-    ensures stores { StoresWord (P.sight port.old) core.old place value (P.sight port.new) core.new }
-    ensures keeps { KeepsSteps (P.stepped port.old) (P.stepped port.new) }
-{
-    let _ = place.word();
-    core.word_write(port, place, value);
-    core.flush(port);
-}
-
-/// Looks at a word. The cached lines are dropped first, so that it is loaded.
-pub(crate) fn look_word<V: Evict, P: Port>(core: &mut Core<V>, port: &mut P, place: Place) -> u64
-    requires empty { core.old.out ≡ None }
-    ensures looks { (words : List ℕ) × LooksAt (P.sight port.old) core.old place words (P.sight port.new) core.new × (result ≡ slice_index words place.word) }
-    ensures steps { MadeSteps (P.stepped port.new) (P.sight port.old) (P.sight port.new) }
-    ensures keeps { KeepsSteps (P.stepped port.old) (P.stepped port.new) }
-{
-    core.cl1invmb();
-    core.word_read(port, place)
 }

@@ -1,6 +1,6 @@
 //! One barrier, one turn at a time.
 
-use crate::flags::{gather_flag, look_word, member, release_flag, store_word};
+use crate::flags::{gather_flag, member, release_flag};
 use crate::parities::Parity;
 use crate::stages::{BarStage, stage_after_flip, stage_after_release, stage_after_seen};
 use line_cache::Evict;
@@ -8,6 +8,7 @@ use put_get::Core;
 use scc_base::{Place, Spot, Turn};
 use scc_proto::Port;
 use std::marker::Model;
+use sync_flags::{look_word, store_word};
 
 /// A barrier of the own group of a communicator, as far as it has come.
 ///
@@ -38,9 +39,10 @@ impl BarOp {
     ghost use Rattle.scc_proto.specs.Ports.{MayMake, record_in};
     ghost use Rattle.put_get.specs.Cores.{MadeSteps, KeepsSteps};
     ghost use Rattle.barrier.specs.declared.stages.BarStage.TheVariants.{Flip, Gather, Release, Await, Finished};
-    ghost use Rattle.barrier.specs.Flags.{flag_value, value_at, gather_word, release_word, member_at};
+    ghost use Rattle.sync_flags.specs.Flags.{flag_value};
+    ghost use Rattle.barrier.specs.Flags.{value_at, gather_word, release_word, member_at};
     ghost use Rattle.barrier.specs.Stages.{BarStands, group_size, own_place, after_flip, after_seen, after_release};
-    ghost use Rattle.barrier.specs.Turns.{BarTurned, StoresWord, LooksAt, waits_at};
+    ghost use Rattle.barrier.specs.Turns.{BarTurned, waits_at};
 
     /// A barrier that is not yet entered.
     pub fn new(comm: u8) -> BarOp

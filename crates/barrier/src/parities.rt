@@ -18,7 +18,8 @@ impl Model for Parity {
 
 impl Parity {
     ghost use Rattle.std.specs.Prelude.{◌≡◌, ◌≢◌, ◌<◌, ℕ, false, not};
-    ghost use Rattle.barrier.specs.Flags.{flag_value, value_at};
+    ghost use Rattle.sync_flags.specs.Flags.{flag_value};
+    ghost use Rattle.barrier.specs.Flags.{value_at};
 
     /// All flags unset, as they are at the start of a run.
     pub fn new() -> Parity
