@@ -9,10 +9,10 @@ use Rattle.scc_base.specs.declared.events.Event.{Event}
 use Rattle.scc_proto.specs.Words.{IsStep, memory_after, SameWords}
 use Rattle.scc_proto.specs.Records.{IsPermitted, record_of}
 use Rattle.scc_proto.specs.Registers.{Holder, Nobody, HeldBy}
-use Rattle.scc_mesh.specs.Memories.{word_number, register_number, memory_of}
+use Rattle.scc_proto.specs.Memories.{word_number, register_number, memory_of}
 use Rattle.scc_mesh.specs.SeatViews.{View, list_at, IsKnown, with_event}
 use Rattle.scc_mesh.specs.Keeping.{records_by, Together, Kept, Holds, Made, Looked}
-use Rattle.scc_mesh.proofs.MemoryLemmas.{word_is, register_is, words_kept, word_stored, register_freed, register_taken}
+use Rattle.scc_proto.proofs.MemoryLemmas.{word_is, register_is, words_kept, word_stored, register_freed, register_taken}
 use Rattle.scc_mesh.proofs.TableLaws.{step_keeps, step_tells, look_tells, look_keeps}
 
 -- the words after a change of one are those of a permitted event

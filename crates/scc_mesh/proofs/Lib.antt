@@ -1,4 +1,3 @@
-pub mod MemoryLemmas
 pub mod ViewLemmas
 pub mod TableLaws
 pub mod Allowed

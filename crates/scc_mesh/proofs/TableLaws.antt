@@ -21,10 +21,10 @@ use Rattle.scc_proto.proofs.AgreementLaw.{OneMore, lists_kept}
 use Rattle.scc_proto.proofs.SoundLaw.{sound_law}
 use Rattle.scc_proto.proofs.HeapLaw.{heap_listed}
 use Rattle.scc_proto.proofs.HonestLaw.{told_law}
-use Rattle.scc_mesh.specs.Memories.{memory_of}
+use Rattle.scc_proto.specs.Memories.{memory_of}
 use Rattle.scc_mesh.specs.SeatViews.{View, known, list_or_none, list_at, IsKnown, with_event, newcomer}
 use Rattle.scc_mesh.specs.Keeping.{records_by, IsStoredAt, HeapIsTold, Together, IsSeatOf, Kept, Knows, Made}
-use Rattle.scc_mesh.proofs.MemoryLemmas.{words_at_start, same_words}
+use Rattle.scc_proto.proofs.MemoryLemmas.{words_at_start, same_words}
 use Rattle.scc_mesh.proofs.ViewLemmas.{known_within, known_here, known_there, is_known, newcomer_known, elem_set}
 
 -- ---- making the table

@@ -13,7 +13,7 @@ use Rattle.scc_proto.specs.Words.{Memory, IsStep, memory_after, HeapWord, role_o
 use Rattle.scc_proto.specs.Records.{IsHonest, record_of}
 use Rattle.scc_proto.specs.Soundness.{IsSound}
 use Rattle.scc_proto.specs.Agreement.{Agrees}
-use Rattle.scc_mesh.specs.Memories.{memory_of}
+use Rattle.scc_proto.specs.Memories.{memory_of}
 use Rattle.scc_mesh.specs.SeatViews.{View, known, list_at, IsKnown, with_event}
 
 -- the record of each rank's events

@@ -1,4 +1,3 @@
-pub mod Memories
 pub mod SeatViews
 pub mod Keeping
 pub mod AwayRanks

@@ -1,38 +1,19 @@
 //! The steps on the chip's table.
 
-ghost use Rattle.std.specs.Prelude.{◌≡◌, ◌<◌, ◌+◌, ◌==◌, false, ℕ, []};
-ghost use Rattle.scc_base.specs.Places.{IsPlace};
+ghost use Rattle.std.specs.Prelude.{◌≡◌, ◌==◌, false, []};
 ghost use Rattle.scc_base.specs.Events.{load_of, store_of, take_of, free_of};
 ghost use Rattle.scc_proto.specs.Records.{IsPermitted, record_of};
-ghost use Rattle.scc_mesh.specs.Memories.{word_number, register_number};
 ghost use Rattle.scc_mesh.specs.SeatViews.{IsKnown, list_at, known, without, alone, joined};
 ghost use Rattle.scc_mesh.specs.Keeping.{Made, Looked};
 
 use crate::rule::{Agreement, Aim, Goes, HandsOut, Looks, TakesIn, View};
 use atomic_table::{Seat, Shared};
 use scc_base::{CoreId, Place, Rank, Setup};
+use scc_proto::{number_of_register, number_of_word};
 use std::marker::Brand;
 
 /// The words of the table, with the rule.
 pub(crate) type Words = Shared<(), View, Setup, Agreement>;
-
-// The number of a buffer word in the table.
-fn number_of_word(place: Place) -> usize
-    ensures gives { result ≡ word_number place.core place.line place.word }
-    ensures below { result < 49152 }
-    ensures place { IsPlace place }
-{
-    1024 * place.core().number() as usize + 4 * place.line() as usize + place.word() as usize
-}
-
-// The number of a core's register in the table.
-fn number_of_register(core: CoreId) -> usize
-    ensures gives { result ≡ register_number core }
-    ensures below { result < 49200 }
-    ensures core { core < 48 }
-{
-    49_152 + core.number() as usize
-}
 
 fn load_as<N: Aim>(words: &Words, seat: &mut Seat<(), View>, rank: Rank, place: Place) -> u64
     requires aim { (N.about ≡ words.now.key) × (N.rank ≡ rank) × (N.event ≡ load_of place) }

@@ -1,6 +1,6 @@
 use Rattle.std.proofs.Common.{ℕ, arith}
 use Rattle.scc_base.specs.Events.{free_of}
-use Rattle.scc_mesh.specs.Memories.{register_number}
+use Rattle.scc_proto.specs.Memories.{register_number}
 use Rattle.scc_mesh.proofs.Allowed.{allowed_event, makes_free}
 use Rattle.scc_mesh.proofs.steps.free_as.Goals as goal
 

@@ -1,6 +1,6 @@
 use Rattle.std.proofs.Common.{ℕ, arith}
 use Rattle.scc_base.specs.Events.{load_of}
-use Rattle.scc_mesh.specs.Memories.{word_number}
+use Rattle.scc_proto.specs.Memories.{word_number}
 use Rattle.scc_mesh.proofs.Allowed.{allowed_event, makes_load}
 use Rattle.scc_mesh.proofs.steps.load_as.Goals as goal
 

@@ -1,6 +1,6 @@
 use Rattle.std.proofs.Common.{ℕ, arith}
 use Rattle.scc_base.specs.Events.{store_of}
-use Rattle.scc_mesh.specs.Memories.{word_number}
+use Rattle.scc_proto.specs.Memories.{word_number}
 use Rattle.scc_mesh.proofs.Allowed.{allowed_event, makes_store}
 use Rattle.scc_mesh.proofs.steps.store_as.Goals as goal
 

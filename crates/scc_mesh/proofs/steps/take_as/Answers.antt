@@ -1,6 +1,6 @@
 use Rattle.std.proofs.Common.{ℕ, arith, ◌==◌}
 use Rattle.scc_base.specs.Events.{take_of}
-use Rattle.scc_mesh.specs.Memories.{register_number}
+use Rattle.scc_proto.specs.Memories.{register_number}
 use Rattle.scc_mesh.proofs.Allowed.{allowed_event, makes_take}
 use Rattle.scc_mesh.proofs.steps.take_as.Goals as goal
 
