@@ -1,47 +1,34 @@
--- Ports of ranks that are in no call.
-use Rattle.std.proofs.Common.{◌≡◌, ℕ, ◌+◌, ◌<◌, length, List, [], ◌∷◌, sym, ◌∙◌, ap, subst, arith}
-use Rattle.std.proofs.lemmas.List.{length_push}
-use Rattle.scc_base.specs.Events.{store_of}
-use Rattle.scc_base.specs.Places.{WordAt}
-use Rattle.scc_base.specs.Setups.{SetupView, IsSetup}
+-- Ports that step.
+use Rattle.std.proofs.Common.{◌≡◌, ℕ, suc, ◌+◌, Bool, List, [], ◌∷◌, ◌++◌, refl, sym, ◌∙◌, ap, append_assoc, append-nil, arith}
 use Rattle.scc_base.specs.declared.events.Event.{Event}
-use Rattle.scc_proto.specs.Stages.{Record}
-use Rattle.scc_proto.specs.Moves.{StoreHeap, after}
-use Rattle.scc_proto.specs.Permission.{leaves_heap}
-use Rattle.scc_proto.specs.Records.{chunk_of, record_of}
-use Rattle.scc_proto.specs.Ports.{Sight, Did, MayMake, record_in}
-use Rattle.scc_proto.proofs.PortLaws.{record_of-nil, record_did_one, seat_kept, events_did}
-use Rattle.scc_proto.proofs.PlaceMoves.{Makes, heap_stored}
-use Rattle.scc_proto.proofs.Roles.{own_word}
-use Rattle.scc_mesh.specs.AwayRanks.{Ticket}
-use Rattle.scc_mesh.specs.Scenes.{ChipView, about_in, events_in, sight_in, sight_away}
-use Rattle.chip_steps.specs.Steps.{IsIdle, Stepped}
+use Rattle.scc_proto.specs.Ports.{Sight, Did}
+use Rattle.scc_proto.specs.IdlePorts.{IsIdle}
+use Rattle.scc_proto.proofs.PortLaws.{seat_kept, events_did}
+use Rattle.scc_proto.proofs.IdleLaws.{idle_at_start}
+use Rattle.scc_mesh.specs.Scenes.{ChipView, events_in, sight_in}
+use Rattle.chip_steps.specs.Steps.{step_of, steps_of, step_at, in_turn, home_core, Stepped}
 
 pub idle_home : (chip new : ChipView) (r hold : ℕ) → new ≡ chip → ((q : ℕ) → events_in chip q ≡ []) → IsIdle (sight_in new r hold)
-unfolding record_in
-idle_home chip new r hold same empty =
-    let none : events_in new r ≡ [] = ap (λ (c : ChipView). events_in c r) same ∙ empty r in
-    ap (λ (l : List Event). (record_of (about_in new) r l).stage) none ∙ ap (λ (rec : Record). rec.stage) (record_of-nil (about_in new) r)
+idle_home chip new r hold same empty = idle_at_start (sight_in new r hold) (ap (λ (c : ChipView). events_in c r) same ∙ empty r)
 
-pub idle_away : (s : SetupView) (ticket : Ticket) → ticket.events ≡ [] → IsIdle (sight_away s ticket)
-unfolding record_in
-idle_away s ticket none = ap (λ (l : List Event). (record_of s ticket.rank l).stage) none ∙ ap (λ (rec : Record). rec.stage) (record_of-nil s ticket.rank)
+steps-append : (a b : List Event) → steps_of (a ++ b) ≡ steps_of a ++ steps_of b
+steps-append [] b = refl
+steps-append (e ∷ a) b = λ i. step_of e ∷ steps-append a b i
 
-module _ (sight : Sight) (word value : ℕ) (valid : IsSetup sight.seat.setup) (below : sight.seat.rank < sight.seat.setup.nue) (idle : IsIdle sight) where
-  made : Makes sight.seat (record_in sight) (store_of (own_word sight.seat.setup sight.seat.rank 240 word) value)
-      (after (chunk_of sight.seat.setup) (StoreHeap (own_word sight.seat.setup sight.seat.rank 240 word) value) (record_in sight))
-  made = heap_stored sight.seat (record_in sight) valid sight.seat.rank 240 word value below (omega arith) (ap leaves_heap idle)
+-- no access yet
+pub no_step : (start : Sight) (stores : Bool) → Stepped start stores 0 start
+unfolding in_turn
+no_step start stores = record { seat = refl; steps = sym (append-nil (steps_of start.events)) }
 
-  pub may_store : (place : WordAt) → place ≡ own_word sight.seat.setup sight.seat.rank 240 word → MayMake sight.seat (record_in sight) (store_of place value)
-  may_store place is = subst (λ (p : WordAt). MayMake sight.seat (record_in sight) (store_of p value)) (sym is) made.may
-
-  pub still_idle : (place : WordAt) → place ≡ own_word sight.seat.setup sight.seat.rank 240 word → (new : Sight) → Did sight (store_of place value ∷ []) new → IsIdle new
-  still_idle place is new did =
-      let done = subst (λ (p : WordAt). Did sight (store_of p value ∷ []) new) is did in
-      ap (λ (rec : Record). rec.stage) (record_did_one sight _ new done ∙ made.becomes) ∙ idle
-
--- one more step of a port of the same rank
-pub step_more : (start old : Sight) (count : ℕ) (e : Event) (new : Sight) → Stepped start count old → Did old (e ∷ []) new → Stepped start (count + 1) new
-step_more start old count e new before did =
-    let longer : length new.events ≡ length old.events + 1 = ap (λ (l : List Event). length l) (events_did old (e ∷ []) new did) ∙ length_push old.events e in
-    record { seat = seat_kept old (e ∷ []) new did ∙ before.seat; events = omega (arith, longer, before.events) }
+-- one more access of a port of the same rank
+pub step_more : (start old : Sight) (stores : Bool) (count : ℕ) (e : Event) (new : Sight) → Stepped start stores count old → step_of e ≡ step_at stores (home_core start) count
+    → Did old (e ∷ []) new → Stepped start stores (count + 1) new
+unfolding in_turn
+step_more start old stores count e new before is did =
+    let core = home_core start in
+    let next : suc count ≡ count + 1 = omega arith in
+    record {
+      seat = seat_kept old (e ∷ []) new did ∙ before.seat;
+      steps = ap steps_of (events_did old (e ∷ []) new did) ∙ steps-append old.events (e ∷ []) ∙ (λ i. before.steps i ++ is i ∷ [])
+          ∙ append_assoc (steps_of start.events) (in_turn stores core count) (step_at stores core count ∷ []) ∙ ap (λ n. steps_of start.events ++ in_turn stores core n) next;
+    }

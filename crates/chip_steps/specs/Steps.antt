@@ -1,23 +1,48 @@
--- Ports between their calls.
-use Rattle.std.specs.Prelude.{◌≡◌, ℕ, ◌+◌, length}
-use Rattle.scc_proto.specs.Stages.{Idle}
+-- Accesses in turn, and who has made them.
+use Rattle.std.specs.Prelude.{◌≡◌, ℕ, zero, suc, ◌%◌, Bool, if◌then◌else◌, List, [], ◌∷◌, ◌++◌, map}
+use Rattle.scc_base.specs.Places.{WordAt}
+use Rattle.scc_base.specs.Setups.{SetupView, host_of}
+use Rattle.scc_base.specs.declared.events.Access.{Access}
+use Rattle.scc_base.specs.declared.events.Access.TheVariants.{Load, Store}
+use Rattle.scc_base.specs.declared.events.Event.{Event}
 use Rattle.scc_mesh.specs.AwayRanks.{Ticket}
-use Rattle.scc_mesh.specs.Scenes.{ChipView, events_in}
-use Rattle.scc_proto.specs.Ports.{Sight, record_in}
+use Rattle.scc_mesh.specs.Scenes.{ChipView, about_in, events_in}
+use Rattle.scc_proto.specs.Ports.{Sight}
 
--- the rank is in no call
-abbrev pub IsIdle : Sight → Type 0
-IsIdle sight = (record_in sight).stage ≡ Idle
+-- an event without its value
+pub record Step : Type 0 where
+  pub access : Access
+  pub place : WordAt
 
--- a port of the same rank with so many events more
-pub record Stepped (old : Sight) (count : ℕ) (new : Sight) : Type 0 where
+abbrev pub step_of : Event → Step
+step_of e = record { access = e.access; place = e.place }
+
+abbrev pub steps_of : List Event → List Step
+steps_of events = map step_of events
+
+-- access n at a core: a store or a load of one of the four words of a heap line, in turn
+abbrev pub step_at : Bool → ℕ → ℕ → Step
+step_at stores core n = record { access = if stores then Store else Load; place = record { core = core; line = 240; word = n % 4 } }
+
+-- the first n accesses
+unfoldable pub in_turn : Bool → ℕ → ℕ → List Step
+in_turn stores core zero = []
+in_turn stores core (suc n) = in_turn stores core n ++ step_at stores core n ∷ []
+
+-- the core of a port's rank
+abbrev pub home_core : Sight → ℕ
+home_core sight = host_of sight.seat.setup.hosts sight.seat.rank
+
+-- a port of the same rank with so many accesses more
+pub record Stepped (old : Sight) (stores : Bool) (count : ℕ) (new : Sight) : Type 0 where
   pub seat : new.seat ≡ old.seat
-  pub events : length new.events ≡ length old.events + count
+  pub steps : steps_of new.events ≡ steps_of old.events ++ in_turn stores (home_core old) count
 
--- rank 0 has made so many events, and is at home
-pub record HasMade (chip : ChipView) (count : ℕ) : Type 0 where
-  pub events : length (events_in chip 0) ≡ count
+-- rank 0 has made so many accesses, and is at home
+pub record HasMade (chip : ChipView) (stores : Bool) (count : ℕ) : Type 0 where
+  pub steps : steps_of (events_in chip 0) ≡ in_turn stores (host_of (about_in chip).hosts 0) count
 
 -- or is away
-pub record HasMadeAway (ticket : Ticket) (count : ℕ) : Type 0 where
-  pub events : length ticket.events ≡ count
+pub record HasMadeAway (s : SetupView) (ticket : Ticket) (stores : Bool) (count : ℕ) : Type 0 where
+  pub rank : ticket.rank ≡ 0
+  pub steps : steps_of ticket.events ≡ in_turn stores (host_of s.hosts 0) count

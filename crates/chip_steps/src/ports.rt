@@ -1,7 +1,7 @@
 //! Many accesses through a port of a chip.
 
 ghost use Rattle.std.specs.Prelude.{◌≡◌, ℕ, []};
-ghost use Rattle.scc_mesh.specs.Scenes.{IsWhole, events_in};
+ghost use Rattle.scc_mesh.specs.Scenes.{IsWhole, about_in, events_in};
 ghost use Rattle.chip_steps.specs.Steps.{HasMade, HasMadeAway};
 
 use crate::accesses::make_many;
@@ -22,7 +22,7 @@ fn setup() -> Option<Setup> {
 fn at_home(chip: &mut Chip, stores: bool, count: u32)
     requires whole { IsWhole chip.old }
     requires empty { (r : ℕ) → events_in chip.old r ≡ [] }
-    ensures made { HasMade chip.new count }
+    ensures made { HasMade chip.new stores count }
 {
     let _nue = chip.setup().nue();
     let mut port = chip.port(Rank::of(0));
@@ -32,7 +32,7 @@ fn at_home(chip: &mut Chip, stores: bool, count: u32)
 fn away(chip: &mut Chip, stores: bool, count: u32) -> Token
     requires whole { IsWhole chip.old }
     requires empty { (r : ℕ) → events_in chip.old r ≡ [] }
-    ensures made { HasMadeAway result count }
+    ensures made { HasMadeAway (about_in chip.old) result stores count }
 {
     let _nue = chip.setup().nue();
     let token = chip.spread(Rank::of(0));
