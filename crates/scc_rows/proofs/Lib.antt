@@ -1,4 +1,7 @@
 pub mod RestLemmas
 pub mod Fresh
 pub mod Registers
-pub mod MemberLemmas
+pub mod EntrantLemmas
+pub mod TeamLemmas
+pub mod MessageLemmas
+pub mod TalkLemmas

@@ -15,7 +15,7 @@ use Rattle.scc_proto.proofs.PlaceMoves.{heap_stored}
 use Rattle.write_combine.specs.declared.combiner.Out.{Out}
 use Rattle.write_combine.specs.Combining.{handed_out, held_after, with_word, one_word}
 use Rattle.put_get.specs.Accesses.{loads_of, store_of_word, stores_of_line, stores_of, whole_line}
-use Rattle.put_get.specs.Cores.{Private, Fills, Kept, Dropped, Fetch, Held, Loaded, ReadsWord, ReadsLine, Writes, Flushes}
+use Rattle.put_get.specs.Cores.{Private, Fetch, Held, Loaded, ReadsWord, ReadsLine, Writes, Flushes}
 use Rattle.put_get.specs.Transfers.{line_at, put_stores, Puts, Gets, ReadsLines}
 use Rattle.scc_rows.specs.Rests.{IsAtRest, AwaitsHeap}
 
@@ -65,19 +65,8 @@ fetch_rests : (s : Sight) (c : Private) (line : LineAt) (words : List ℕ) (t : 
 fetch_rests s c line words t d (Held h e f) rest = subst (λ (x : Sight). IsAtRest x) (sym e) rest
 fetch_rests s c line words t d (Loaded h len did fills) rest = line_loaded s line words t did rest
 
-fills_out : (c : Private) (line : LineAt) (words : List ℕ) (d : Private) → Fills c line words d → d.out ≡ c.out
-fills_out c line words d (Kept e) = ap (λ (x : Private). x.out) e
-fills_out c line words d (Dropped at h e) = ap (λ (x : Private). x.out) e
-
-fetch_out : (s : Sight) (c : Private) (line : LineAt) (words : List ℕ) (t : Sight) (d : Private) → Fetch s c line words t d → d.out ≡ c.out
-fetch_out s c line words t d (Held h e f) = ap (λ (x : Private). x.out) f
-fetch_out s c line words t d (Loaded h len did fills) = fills_out c line words d fills
-
 pub word_rests : (s : Sight) (c : Private) (p : WordAt) (v : ℕ) (t : Sight) (d : Private) → ReadsWord s c p v t d → IsAtRest s → IsAtRest t
 word_rests s c p v t d reads rest = fetch_rests s c _ reads.words t d reads.fetch rest
-
-pub word_out : (s : Sight) (c : Private) (p : WordAt) (v : ℕ) (t : Sight) (d : Private) → ReadsWord s c p v t d → c.out ≡ None → d.out ≡ None
-word_out s c p v t d reads none = fetch_out s c _ reads.words t d reads.fetch ∙ none
 
 line_rests : (s : Sight) (c : Private) (line : LineAt) (words : List ℕ) (t : Sight) (d : Private) → ReadsLine s c line words t d → IsAtRest s → IsAtRest t
 line_rests s c line words t d reads rest =

@@ -1,2 +1,4 @@
 pub mod Rests
-pub mod Members
+pub mod Entrants
+pub mod Teams
+pub mod Talkers

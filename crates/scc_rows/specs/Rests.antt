@@ -1,5 +1,5 @@
 -- What the tests ask of a chip and of a port before they use it.
-use Rattle.std.specs.Prelude.{◌≡◌, ℕ, ◌<◌, ◌≤◌, true, Option, None, Some, is_some}
+use Rattle.std.specs.Prelude.{◌≡◌, ℕ, ◌<◌, ◌≤◌, true, [], Option, None, Some, is_some}
 use Rattle.scc_base.specs.Setups.{IsSetup, host_of}
 use Rattle.scc_proto.specs.Stages.{Idle}
 use Rattle.scc_proto.specs.Ports.{Sight, record_in}
@@ -17,6 +17,11 @@ pub record IsAtRest (s : Sight) : Type 0 where
   pub valid : IsSetup s.seat.setup
   pub two : s.seat.setup.nue ≡ 2
   pub idle : (record_in s).stage ≡ Idle
+
+-- a port of this rank that has made no event
+pub record IsFresh (s : Sight) (r : ℕ) : Type 0 where
+  pub none : s.events ≡ []
+  pub rank : s.seat.rank ≡ r
 
 -- the line in a write-combining buffer is a heap line of one of two ranks
 abbrev pub AwaitsHeap : Sight → Option Out → Type 0

@@ -1,171 +1,106 @@
-//! Barriers over a chip.
+//! Barriers over a chip with one seat.
 
-ghost use Rattle.std.specs.Prelude.{◌≡◌, ◌+◌, ◌<◌, ◌≤◌, [], length, All, IfOk};
-ghost use Rattle.scc_mesh.specs.Scenes.{table_in};
-ghost use Rattle.scc_rows.specs.Members.{AreFresh};
+ghost use Rattle.std.specs.Prelude.{◌≢◌, ◌<◌, ◌≤◌, IfOk};
+ghost use Rattle.scc_base.specs.Communicators.{rule_of};
+ghost use Rattle.scc_base.specs.declared.communicators.CommRule.TheVariants.{Absent};
+ghost use Rattle.scc_mesh.specs.Scenes.{IsNew, about_in};
 
+use crate::teams::{Player, Team, opened};
 use barrier::{BarOp, BarStop, Parity, barrier};
 use line_cache::Never;
 use put_get::Core;
 use scc_base::{CommRule, CoreId, Layout, Place, Rank, Setup, Spot, Turn};
-use scc_mesh::{Chip, SeatPort, Token, Words};
+use scc_mesh::Chip;
+use scc_proto::Port;
 use std::alloc::Global;
-use std::marker::Model;
 use std::test::Fail;
 
-/// A member of a group, with its port.
+/// A rank that enters barriers of a communicator, one after the other.
 #[derive(Drop)]
-struct Member<'w> {
-    port: SeatPort<'w>,
+struct Entrant {
     core: Core<Never>,
     comm: u8,
     op: BarOp,
     parity: Parity,
-    passed: bool,
+    // How many barriers it enters after this one.
+    more: u8,
 }
 
-impl<'w> Model for Member<'w> {
-    ghost use Rattle.scc_mesh.specs.AwayRanks.{Away};
-    ghost use Rattle.scc_rows.specs.Members.{IsReady};
-
-    ghost Value = { Away };
-
-    ghost view = { λ a. a.port };
-
-    ghost invariant = { λ a. IsReady a.port a.core a.comm a.op a.parity a.passed };
-}
-
-impl<'w> Member<'w> {
-    ghost use Rattle.std.specs.Prelude.{◌≡◌, ◌≢◌, ◌<◌, []};
+impl Entrant {
+    ghost use Rattle.std.specs.Prelude.{◌≢◌, ◌<◌, ℕ, []};
+    ghost use Rattle.scc_base.specs.Setups.{SetupView};
     ghost use Rattle.scc_base.specs.Communicators.{rule_of};
     ghost use Rattle.scc_base.specs.declared.communicators.CommRule.TheVariants.{Absent};
+    ghost use Rattle.scc_rows.specs.Teams.{sight_alone};
+    ghost use Rattle.scc_rows.specs.Entrants.{IsReady};
 
-    fn new(words: Words<'w>, token: Token, comm: u8) -> Member<'w>
-        requires of_chip { token.table ≡ words.shared.now.table_id }
-        requires fresh { token.events ≡ [] }
+    fn new(comm: u8, more: u8) -> Entrant
         requires below { comm < 16 }
-        requires present { rule_of words.about.now.comms comm ≢ Absent }
+        ensures ready { (s : SetupView) (r : ℕ) → rule_of s.comms comm ≢ Absent
+            → IsReady (sight_alone s r []) result.core result.comm result.op result.parity }
     {
-        Member {
-            port: words.port(token),
+        Entrant {
             core: Core::new(Never),
             comm,
             op: BarOp::new(comm),
             parity: Parity::new(),
-            passed: false,
-        }
-    }
-
-    fn turn(&mut self) -> Turn {
-        let answer = self
-            .op
-            .turn(&mut self.core, &mut self.port, &mut self.parity);
-        self.passed = answer == Turn::Done;
-        answer
-    }
-
-    /// Enters a further barrier, where the last one is passed.
-    fn enter(&mut self) {
-        if self.passed {
-            self.op = BarOp::new(self.comm);
-            self.passed = false;
+            more,
         }
     }
 }
 
-// Takes one turn of each member that is named, and tells whether all answered Done.
-fn round(members: &mut [Member<'_>], order: &[usize]) -> bool
-    requires within { All (λ at. at < length members.old) order.now }
-    ensures same { length members.new ≡ length members.old }
-{
-    let mut done = true;
-    for at in order {
-        done = members[*at].turn() == Turn::Done && done;
-    }
-    done
-}
+impl Player for Entrant {
+    ghost use Rattle.scc_rows.specs.Teams.{sight_alone};
+    ghost use Rattle.scc_rows.specs.Entrants.{IsReady};
 
-// Takes rounds until all have passed, at most so many, and lets all enter once more. How many rounds it took.
-fn pass(members: &mut [Member<'_>], order: &[usize], most: u32) -> u32
-    requires within { All (λ at. at < length members.old) order.now }
-    ensures same { length members.new ≡ length members.old }
-{
-    for rounds in 0..most {
-        if round(members, order) {
-            return rounds + 1;
+    ghost stands = { λ m s r events. IsReady (sight_alone s r events) m.core m.comm m.op m.parity };
+
+    fn turn<P: Port>(&mut self, port: &mut P) -> Turn {
+        match self.op.turn(&mut self.core, port, &mut self.parity) {
+            Turn::Done => {
+                if self.more == 0 {
+                    return Turn::Done;
+                }
+                self.more -= 1;
+                self.op = BarOp::new(self.comm);
+                Turn::Moved
+            }
+            Turn::Waiting(spot) => Turn::Waiting(spot),
+            Turn::Moved => Turn::Moved,
         }
     }
-    0
 }
 
-fn enter(members: &mut [Member<'_>])
-    ensures same { length members.new ≡ length members.old }
-{
-    for at in 0..members.len() {
-        members[at].enter();
-    }
-}
-
-fn opened(alloc: Global, nue: u8, layout: Layout, split: CommRule) -> Result<Chip, Fail>
-    ensures fresh { IfOk result (λ chip. AreFresh chip 0) }
-{
-    let mut cores = [CoreId::of(0); 48];
-    for number in 0..48 {
-        cores[number] = CoreId::of(47 - number as u8);
-    }
-    let mut rules = [CommRule::Absent; 16];
-    rules[0] = CommRule::World;
-    rules[8] = split;
-    let setup = Setup::new(nue, layout, cores, rules).ok_or("a setup")?;
-    let mut chip = Chip::blank();
-    chip.open(alloc, setup)?;
-    Ok(chip)
-}
-
-// Hands out the next rank.
-fn away(chip: &mut Chip, rank: u8) -> Result<Token, Fail>
-    requires fresh { AreFresh chip.old rank }
-    requires below { rank < 48 }
-    ensures fresh { IfOk result (λ token. AreFresh chip.new (rank + 1)) }
-    ensures token { IfOk result (λ token. (token.events ≡ []) × (token.table ≡ table_in chip.new)) }
-    ensures table { table_in chip.new ≡ table_in chip.old }
-{
-    if rank >= chip.setup().nue() {
-        return Err("a rank of the run".into());
-    }
-    Ok(chip.spread(Rank::of(rank)))
-}
-
-fn member_of<'w>(words: Words<'w>, token: Token, comm: u8) -> Result<Member<'w>, Fail>
-    requires of_chip { token.table ≡ words.shared.now.table_id }
-    requires fresh { token.events ≡ [] }
+// All ranks of a chip, which enter barriers of this communicator, each of them so many after the first.
+fn entrants(alloc: Global, chip: Chip, comm: u8, more: u8) -> Result<Team<Entrant>, Fail>
+    requires new { IsNew (about_in chip) chip }
     requires below { comm < 16 }
 {
-    if words.about.rule(comm) == CommRule::Absent {
+    if chip.setup().rule(comm) == CommRule::Absent {
         return Err("a communicator with a rule".into());
     }
-    Ok(Member::new(words, token, comm))
+    let nue = chip.setup().nue();
+    let mut team = Team::new(alloc, chip);
+    for _ in 0..nue {
+        team.join(Entrant::new(comm, more))?;
+    }
+    Ok(team)
 }
 
-// Members of the first three ranks, in a group of this communicator.
-fn three<'c>(chip: &'c mut Chip, comm: u8) -> Result<[Member<'c>; 3], Fail>
-    requires fresh { AreFresh chip.old 0 }
-    requires below { comm < 16 }
-{
-    let first = away(chip, 0)?;
-    let second = away(chip, 1)?;
-    let third = away(chip, 2)?;
-    let words = chip.words();
-    Ok([
-        member_of(words, first, comm)?,
-        member_of(words, second, comm)?,
-        member_of(words, third, comm)?,
-    ])
+// In how many rounds of this order all ranks pass a barrier and one more after it.
+fn rounds_of(alloc: Global, layout: Layout, nue: u8, order: &[usize]) -> Result<u32, Fail> {
+    let chip = opened(alloc, nue, layout, CommRule::Absent)?;
+    let mut team = entrants(alloc, chip, 0, 1)?;
+    Ok(team.rounds(order, 20))
 }
 
 #[test]
-fn three_members_pass_twice_in_every_order(rt: HostRuntime) -> Result<(), Fail> {
+fn members_pass_twice_in_every_order(rt: HostRuntime) -> Result<(), Fail> {
     for layout in [Layout::lines(), Layout::bits()] {
+        assert_eq!(rt; rounds_of(rt.alloc(), layout, 1, &[0])?, 2);
+        for order in [[0, 1], [1, 0]] {
+            assert!(rt; rounds_of(rt.alloc(), layout, 2, &order)? > 0);
+        }
         for order in [
             [0, 1, 2],
             [0, 2, 1],
@@ -174,11 +109,7 @@ fn three_members_pass_twice_in_every_order(rt: HostRuntime) -> Result<(), Fail> 
             [2, 0, 1],
             [2, 1, 0],
         ] {
-            let mut chip = opened(rt.alloc(), 3, layout, CommRule::Absent)?;
-            let mut members = three(&mut chip, 0)?;
-            assert!(rt; pass(&mut members, &order, 10) > 0);
-            enter(&mut members);
-            assert!(rt; pass(&mut members, &order, 10) > 0);
+            assert!(rt; rounds_of(rt.alloc(), layout, 3, &order)? > 0);
         }
     }
     Ok(())
@@ -186,51 +117,71 @@ fn three_members_pass_twice_in_every_order(rt: HostRuntime) -> Result<(), Fail> 
 
 #[test]
 fn nobody_passes_before_all_have_entered(rt: HostRuntime) -> Result<(), Fail> {
-    let mut chip = opened(rt.alloc(), 3, Layout::lines(), CommRule::Absent)?;
-    let mut members = three(&mut chip, 0)?;
+    let chip = opened(rt.alloc(), 3, Layout::lines(), CommRule::Absent)?;
+    let mut team = entrants(rt.alloc(), chip, 0, 0)?;
     for _ in 0..10 {
-        assert!(rt; members[0].turn() != Turn::Done);
-        assert!(rt; members[1].turn() != Turn::Done);
+        assert!(rt; team.turn(0) != Some(Turn::Done));
+        assert!(rt; team.turn(1) != Some(Turn::Done));
     }
-    assert!(rt; pass(&mut members, &[0, 1, 2], 10) > 0);
+    assert!(rt; team.rounds(&[0, 1, 2], 10) > 0);
     Ok(())
 }
 
 #[test]
 fn the_groups_of_a_split_do_not_wait_for_each_other(rt: HostRuntime) -> Result<(), Fail> {
-    let split = CommRule::Mod { parent: 0, k: 2 };
-    let mut chip = opened(rt.alloc(), 3, Layout::lines(), split)?;
-    let mut members = three(&mut chip, 8)?;
-    // Rank 1 is a group of its own; ranks 0 and 2 are the other one.
-    assert!(rt; pass(&mut members, &[1], 1) == 1);
-    assert!(rt; pass(&mut members, &[0], 5) == 0);
-    assert!(rt; pass(&mut members, &[2, 0], 5) > 0);
+    for layout in [Layout::lines(), Layout::bits()] {
+        // Ranks 0 and 2 are one group, 1 and 3 another; both are at it at once.
+        let split = CommRule::Mod { parent: 0, k: 2 };
+        let chip = opened(rt.alloc(), 4, layout, split)?;
+        let mut team = entrants(rt.alloc(), chip, 8, 0)?;
+        assert!(rt; team.turn(0) == Some(Turn::Moved));
+        assert!(rt; team.turn(1) == Some(Turn::Moved));
+        assert!(rt; team.rounds(&[3, 1], 5) > 0);
+        assert!(rt; team.rounds(&[0], 5) == 0);
+        assert!(rt; team.rounds(&[2, 0], 5) > 0);
+    }
     Ok(())
 }
 
-fn stalled(member: Member<'_>, polls: u32) -> Option<(Spot, u32)>
+#[test]
+fn a_rank_that_is_a_group_of_its_own_waits_for_nobody(rt: HostRuntime) -> Result<(), Fail> {
+    for layout in [Layout::lines(), Layout::bits()] {
+        let split = CommRule::Mod { parent: 0, k: 2 };
+        let chip = opened(rt.alloc(), 3, layout, split)?;
+        let mut team = entrants(rt.alloc(), chip, 8, 0)?;
+        assert!(rt; team.turn(1) == Some(Turn::Done));
+        assert!(rt; team.rounds(&[0], 5) == 0);
+        assert!(rt; team.rounds(&[2, 0], 5) > 0);
+    }
+    Ok(())
+}
+
+// Enters a barrier of all ranks by the root alone.
+fn entered_by_root(chip: &mut Chip, polls: u32) -> Result<(), BarStop>
+    requires new { IsNew (about_in chip.old) chip.old }
+    requires world { rule_of (about_in chip.old).comms 0 ≢ Absent }
     requires some { 1 ≤ polls }
 {
-    let Member {
-        mut port,
-        mut core,
-        comm: _,
-        op,
-        mut parity,
-        passed: _,
-    } = member;
-    match barrier(&mut core, &mut port, op, &mut parity, polls) {
-        Ok(()) => None,
-        Err(BarStop::Stalled { op: _, spot, polls }) => Some((spot, polls)),
-    }
+    let _ = chip.setup().nue();
+    let mut port = chip.port(Rank::of(0));
+    let mut core = Core::new(Never);
+    let mut parity = Parity::new();
+    barrier(&mut core, &mut port, BarOp::new(0), &mut parity, polls)
 }
 
 #[test]
 fn the_root_alone_is_stalled_at_the_other_gather_flag(rt: HostRuntime) -> Result<(), Fail> {
-    let mut chip = opened(rt.alloc(), 2, Layout::lines(), CommRule::Absent)?;
-    let token = away(&mut chip, 0)?;
-    let root = member_of(chip.words(), token, 0)?;
-    let place = Place::new(CoreId::of(46), 97, 0);
-    assert!(rt; stalled(root, 2) == Some((Spot::Flag { place, bit: 0 }, 2)));
+    for (layout, line) in [(Layout::lines(), 97), (Layout::bits(), 2)] {
+        let mut chip = opened(rt.alloc(), 2, layout, CommRule::Absent)?;
+        if chip.setup().rule(0) == CommRule::Absent {
+            return Err("a communicator of all ranks".into());
+        }
+        let place = Place::new(CoreId::of(46), line, 0);
+        let Err(BarStop::Stalled { op: _, spot, polls }) = entered_by_root(&mut chip, 2) else {
+            return Err("a barrier that one rank alone passes".into());
+        };
+        assert!(rt; spot == Spot::Flag { place, bit: 0 });
+        assert_eq!(rt; polls, 2);
+    }
     Ok(())
 }

@@ -3,7 +3,7 @@
 ghost use Rattle.std.specs.Prelude.{◌≡◌, ◌<◌, ◌≤◌, ℕ, true, false, None, IfOk, IfSome};
 ghost use Rattle.scc_base.specs.Setups.{host_of};
 ghost use Rattle.scc_mesh.specs.Scenes.{sight_in, sight_away};
-ghost use Rattle.scc_rows.specs.Rests.{IsNewPair, IsAtRest, AwaitsHeap, IsWithout, Holds};
+ghost use Rattle.scc_rows.specs.Rests.{IsNewPair, IsAtRest, IsFresh, AwaitsHeap, IsWithout, Holds};
 
 use line_cache::Evict;
 use put_get::{Core, RangeFault};
@@ -15,7 +15,7 @@ use std::cell::Cell;
 use std::test::Fail;
 
 /// A setup of two ranks, on cores 0 and 1.
-fn two_ranks() -> Option<Setup>
+fn two_ranks(layout: Layout) -> Option<Setup>
     ensures two { IfSome result (λ s. s.nue ≡ 2) }
 {
     let mut cores = [CoreId::of(0); 48];
@@ -24,14 +24,21 @@ fn two_ranks() -> Option<Setup>
     }
     let mut rules = [CommRule::Absent; 16];
     rules[0] = CommRule::World;
-    Setup::new(2, Layout::lines(), cores, rules)
+    Setup::new(2, layout, cores, rules)
 }
 
-/// A chip of two ranks that was just opened.
+/// A chip of two ranks that was just opened, with line flags.
 pub(crate) fn new_pair(alloc: Global) -> Result<Chip, Fail>
     ensures pair { IfOk result (λ chip. IsNewPair chip) }
 {
-    let setup = two_ranks().ok_or("a setup")?;
+    pair_in(alloc, Layout::lines())
+}
+
+/// A chip of two ranks that was just opened.
+pub(crate) fn pair_in(alloc: Global, layout: Layout) -> Result<Chip, Fail>
+    ensures pair { IfOk result (λ chip. IsNewPair chip) }
+{
+    let setup = two_ranks(layout).ok_or("a setup")?;
     let _nue = setup.nue();
     let mut chip = Chip::blank();
     chip.open(alloc, setup)?;
@@ -43,6 +50,7 @@ pub(crate) fn counted(chip: &mut Chip, r: Rank) -> CountingPort<OnePort<'_>>
     requires pair { IsNewPair chip.old }
     requires below { r < 2 }
     ensures rests { IsAtRest (sight_in result.port.chip.now result.port.rank result.port.chip.ghost_name) }
+    ensures fresh { IsFresh (sight_in result.port.chip.now result.port.rank result.port.chip.ghost_name) r }
 {
     CountingPort::new(chip.port(r))
 }
@@ -197,6 +205,8 @@ pub(crate) struct Watched<'a, E> {
 
 impl<'a, E: Evict> Evict for Watched<'a, E> {
     ghost count = { λ w. E.count w.inner };
+
+    ghost answers = { λ w. E.answers w.inner };
 
     fn drop_one(&mut self, held: usize) -> Option<usize> {
         self.asked.set(self.asked.get().saturating_add(1));

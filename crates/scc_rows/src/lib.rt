@@ -8,4 +8,10 @@ mod chip;
 #[cfg(test)]
 mod fixtures;
 #[cfg(test)]
+mod messages;
+#[cfg(test)]
 mod private_lines;
+#[cfg(test)]
+mod teams;
+#[cfg(test)]
+mod whole_messages;

@@ -1,0 +1,281 @@
+-- A message stands where the events of a rank stand, whatever port shows them.
+use Rattle.std.proofs.Common.{◌≡◌, ◌≤◌, ℕ, zero, suc, true, false, List, [], ◌++◌, Option, None, Some, option_map, length, take, refl, sym, ◌∙◌, ap, subst, arith}
+use Rattle.std.proofs.Math.Seq.{take-append_seam}
+use base.Stored.{Gv, gnil}
+use Rattle.scc_base.specs.Heads.{MessageHead, IsHead, IsPostHead, plain_head}
+use Rattle.scc_base.specs.Setups.{SetupView}
+use Rattle.scc_base.specs.declared.layouts.Layout.{Layout}
+use Rattle.scc_base.specs.declared.layouts.Layout.TheVariants.{LineFlags, BitFlags}
+use Rattle.scc_base.specs.declared.events.Event.{Event}
+use Rattle.scc_base.specs.declared.events.Turn.{Turn}
+use Rattle.scc_base.specs.declared.events.Turn.TheVariants as turn
+use Rattle.scc_proto.specs.Stages.{OnItsWay, Stage, Record, Idle, blank}
+use Rattle.scc_proto.specs.Words.{are_peers}
+use Rattle.scc_proto.specs.Records.{chunk_of}
+use Rattle.scc_proto.specs.Ports.{Seat, Sight, Did, record_in}
+use Rattle.scc_proto.proofs.PortLaws.{seat_kept}
+use Rattle.put_get.specs.Cores.{Private}
+use Rattle.send_recv.specs.declared.stages.RecvStage.{RecvStage}
+use Rattle.send_recv.specs.declared.stages.RecvStage.TheVariants as receive
+use Rattle.send_recv.specs.declared.stages.SendStage.{SendStage}
+use Rattle.send_recv.specs.declared.stages.SendStage.TheVariants as sending
+use Rattle.send_recv.specs.declared.answers.RecvTurn.{RecvTurn}
+use Rattle.send_recv.specs.declared.answers.RecvTurn.TheVariants as recv_turn
+use Rattle.send_recv.specs.Ops.{RecvAt, SendAt, SlotAt, new_receive, new_send, empty_slot}
+use Rattle.send_recv.specs.Turns.{HoldsNone, IsSamePost}
+use Rattle.send_recv.specs.Receiving.{RecvStands, RecvTurned, IsReceiving, IsAtStage}
+use Rattle.send_recv.specs.Sending.{SlotStands, SlotTurned, SendStands, SendTurned, IsSending, IsAtSendStage, IsBeforeRaise, waiting, lines_in_hand}
+use Rattle.send_recv.specs.Calling.{IsInNoCall}
+use Rattle.send_recv.proofs.Starts.{receive_starts, send_starts, slot_stays}
+use Rattle.send_recv.proofs.LookTurn.{holds_kept}
+use Rattle.scc_rows.specs.Teams.{sight_alone}
+use Rattle.scc_rows.specs.Talkers.{IsAtCall, IsTalking}
+use Rattle.scc_rows.proofs.EntrantLemmas.{no_event}
+
+-- the same rank of the same setup, at another port
+abbrev seat_at : Seat → Gv → Gv → ℕ → Seat
+seat_at seat m r h = record seat { mark = m; rest = r; hold = h }
+
+abbrev sight_at : Sight → Gv → Gv → ℕ → Sight
+sight_at s m r h = record { seat = seat_at s.seat m r h; events = s.events }
+
+same_record : (s : Sight) (m r : Gv) (h : ℕ) → record_in (sight_at s m r h) ≡ record_in s
+unfolding record_in
+same_record s m r h = refl
+
+module _ (seat : Seat) (m r : Gv) (h : ℕ) where
+  slot_at : (rec : Record) (slot : SlotAt) → SlotStands seat rec slot → SlotStands (seat_at seat m r h) rec slot
+  slot_at rec slot st = record { to = st.to; seen = st.seen; peers = st.peers }
+
+  receive_stage : (rec : Record) (c : Private) (op : RecvAt) (bytes : List ℕ) (stage : RecvStage) → IsAtStage seat rec c op bytes stage → IsAtStage (seat_at seat m r h) rec c op bytes stage
+  receive_stage rec c op bytes receive.Look at = at
+  receive_stage rec c op bytes receive.Header at = at
+  receive_stage rec c op bytes receive.Lower at = at
+  receive_stage rec c op bytes (receive.Lines i) at = at
+  receive_stage rec c op bytes receive.Raise at = at
+  receive_stage rec c op bytes receive.Finished at = at
+
+  receive_at : (rec : Record) (c : Private) (op : RecvAt) (bytes : List ℕ) → IsReceiving seat rec c op bytes → IsReceiving (seat_at seat m r h) rec c op bytes
+  receive_at rec c op bytes st = record {
+    peers = st.peers;
+    head = st.head;
+    long = st.long;
+    empty = st.empty;
+    hands = st.hands;
+    in_hand = st.in_hand;
+    at = receive_stage rec c op bytes op.stage st.at;
+  }
+
+  waiting_at : (op : SendAt) (bytes : List ℕ) (n : ℕ) → waiting seat op bytes n ≡ waiting (seat_at seat m r h) op bytes n
+  waiting_at op bytes zero = refl
+  waiting_at op bytes (suc n) = refl
+
+  before_at : (layout : Layout) (stage : Stage) (c : Private) (op : SendAt) (bytes : List ℕ) → IsBeforeRaise layout seat stage c op bytes → IsBeforeRaise layout (seat_at seat m r h) stage c op bytes
+  before_at LineFlags stage c op bytes at = (at.0 ∙ waiting_at op bytes (lines_in_hand (chunk_of seat.setup) op), at.1)
+  before_at BitFlags stage c op bytes at = at
+
+  send_stage : (rec : Record) (c : Private) (op : SendAt) (bytes : List ℕ) (stage : SendStage) → IsAtSendStage seat rec c op bytes stage → IsAtSendStage (seat_at seat m r h) rec c op bytes stage
+  send_stage rec c op bytes sending.Header at = at
+  send_stage rec c op bytes (sending.Lines i) at = (at.0, at.1, at.2 ∙ waiting_at op bytes i, at.3)
+  send_stage rec c op bytes sending.Flush at = (at.0, at.1, at.2 ∙ waiting_at op bytes (lines_in_hand (chunk_of seat.setup) op), at.3)
+  send_stage rec c op bytes sending.Raise at = (at.0, before_at seat.setup.layout rec.stage c op bytes at.1)
+  send_stage rec c op bytes sending.Look at = at
+  send_stage rec c op bytes sending.Lower at = at
+  send_stage rec c op bytes sending.Finished at = at
+
+  send_at : (rec : Record) (c : Private) (op : SendAt) (slot : SlotAt) (bytes : List ℕ) → IsSending seat rec c op slot bytes → IsSending (seat_at seat m r h) rec c op slot bytes
+  send_at rec c op slot bytes st = record {
+    peers = st.peers;
+    head = st.head;
+    post_head = st.post_head;
+    long = st.long;
+    hands = st.hands;
+    slot_stands = slot_at rec slot st.slot_stands;
+    in_hand = st.in_hand;
+    at = send_stage rec c op bytes op.stage st.at;
+  }
+
+module _ (s : Sight) (m r : Gv) (h : ℕ) where
+  slot_there : (slot : SlotAt) → SlotStands s.seat (record_in s) slot → SlotStands (seat_at s.seat m r h) (record_in (sight_at s m r h)) slot
+  slot_there slot st = subst (λ (x : Record). SlotStands (seat_at s.seat m r h) x slot) (sym (same_record s m r h)) (slot_at s.seat m r h (record_in s) slot st)
+
+  call_at : (c : Private) (slot : SlotAt) (bytes : List ℕ) (send : Option SendAt) (get : Option RecvAt) → IsAtCall s c slot bytes send get → IsAtCall (sight_at s m r h) c slot bytes send get
+  call_at c slot bytes (Some op) get st =
+      subst (λ (x : Record). IsSending (seat_at s.seat m r h) x c op slot bytes) (sym (same_record s m r h)) (send_at s.seat m r h (record_in s) c op slot bytes st)
+  call_at c slot bytes None (Some op) st =
+      (subst (λ (x : Record). IsReceiving (seat_at s.seat m r h) x c op bytes) (sym (same_record s m r h)) (receive_at s.seat m r h (record_in s) c op bytes st.0), slot_there slot st.1)
+  call_at c slot bytes None None st = record {
+    stage = ap (λ (x : Record). x.stage) (same_record s m r h) ∙ st.stage;
+    empty = st.empty;
+    hands = subst (λ (x : Record). HoldsNone s.seat.setup.layout x) (sym (same_record s m r h)) st.hands;
+    slot_stands = slot_there slot st.slot_stands;
+  }
+
+  talk_at : (c : Private) (slot : SlotAt) (peer : ℕ) (bytes : List ℕ) (send : Option SendAt) (get : Option RecvAt) → IsTalking s c slot peer bytes send get
+      → IsTalking (sight_at s m r h) c slot peer bytes send get
+  talk_at c slot peer bytes send get st = record { peers = st.peers; at = call_at c slot bytes send get st.at }
+
+-- what stands where a rank's events stand stands at a port that shows them, and the other way round
+pub talk_shown : {s : Sight} {c : Private} {slot : SlotAt} {peer : ℕ} {bytes : List ℕ} {send : Option SendAt} {get : Option RecvAt}
+    → IsTalking (sight_alone s.seat.setup s.seat.rank s.events) c slot peer bytes send get → IsTalking s c slot peer bytes send get
+talk_shown {s} {c} {slot} {peer} {bytes} {send} {get} st = talk_at (sight_alone s.seat.setup s.seat.rank s.events) s.seat.mark s.seat.rest s.seat.hold c slot peer bytes send get st
+
+pub talk_alone : {s : Sight} {c : Private} {slot : SlotAt} {peer : ℕ} {bytes : List ℕ} {send : Option SendAt} {get : Option RecvAt}
+    → IsTalking s c slot peer bytes send get → IsTalking (sight_alone s.seat.setup s.seat.rank s.events) c slot peer bytes send get
+talk_alone {s} {c} {slot} {peer} {bytes} {send} {get} st = talk_at s gnil gnil 0 c slot peer bytes send get st
+
+-- which call is under way at a port that shows the events
+pub is_sending : {s : Sight} {c : Private} {slot : SlotAt} {peer : ℕ} {bytes : List ℕ} {send : Option SendAt} {get : Option RecvAt} {op : SendAt}
+    → IsTalking (sight_alone s.seat.setup s.seat.rank s.events) c slot peer bytes send get → send ≡ Some op → SendStands s c op slot bytes
+is_sending {s} {c} {slot} {peer} {bytes} {send} {get} st is = subst (λ (x : Option SendAt). IsAtCall s c slot bytes x get) is (talk_shown st).at
+
+pub is_receiving : {s : Sight} {c : Private} {slot : SlotAt} {peer : ℕ} {bytes : List ℕ} {send : Option SendAt} {get : Option RecvAt} {op : RecvAt}
+    → IsTalking (sight_alone s.seat.setup s.seat.rank s.events) c slot peer bytes send get → send ≡ None → get ≡ Some op → RecvStands s c op bytes × SlotStands s.seat (record_in s) slot
+is_receiving {s} {c} {slot} {peer} {bytes} {send} {get} st none is =
+    subst (λ (y : Option RecvAt). IsAtCall s c slot bytes None y) is (subst (λ (x : Option SendAt). IsAtCall s c slot bytes x get) none (talk_shown st).at)
+
+pub is_free : {s : Sight} {c : Private} {slot : SlotAt} {peer : ℕ} {bytes : List ℕ} {send : Option SendAt} {get : Option RecvAt}
+    → IsTalking (sight_alone s.seat.setup s.seat.rank s.events) c slot peer bytes send get → send ≡ None → get ≡ None → IsTalking s c slot peer bytes None None
+is_free {s} {c} {slot} {peer} {bytes} {send} {get} st none free = record {
+  peers = st.peers;
+  at = subst (λ (y : Option RecvAt). IsAtCall s c slot bytes None y) free (subst (λ (x : Option SendAt). IsAtCall s c slot bytes x get) none (talk_shown st).at);
+}
+
+-- ---- how a rank starts, and how it begins a call
+
+holds_blank : (layout : Layout) (rec : Record) → rec ≡ blank → HoldsNone layout rec
+holds_blank LineFlags rec new = tt
+holds_blank BitFlags rec new = λ core. ap (λ (x : Record). x.held core) new
+
+-- before its first event a rank is in no call
+pub starts_free : (s : Sight) (c : Private) (slot : SlotAt) → s.events ≡ [] → c.out ≡ None → slot ≡ empty_slot → IsInNoCall s c slot
+starts_free s c slot fresh empty new =
+    let none = no_event s fresh in
+    record {
+      stage = ap (λ (x : Record). x.stage) none;
+      empty = empty;
+      hands = holds_blank s.seat.setup.layout (record_in s) none;
+      slot_stands = subst (λ (x : SlotAt). SlotStands s.seat (record_in s) x) (sym new)
+          (record { to = sym (ap (λ (x : Record). option_map (λ (post : OnItsWay). post.to) x.post) none); seen = λ h. absurd (cc); peers = tt });
+    }
+
+pub talk_starts : (s : SetupView) (r : ℕ) (c : Private) (slot : SlotAt) (peer : ℕ) (bytes : List ℕ) → are_peers s r peer ≡ true → c.out ≡ None → slot ≡ empty_slot
+    → IsTalking (sight_alone s r []) c slot peer bytes None None
+talk_starts s r c slot peer bytes peers empty new = record { peers = peers; at = starts_free (sight_alone s r []) c slot refl empty new }
+
+plain_valid : (len : ℕ) → len ≤ 65536 → IsHead (plain_head len)
+plain_valid len le = record { kind_below = omega arith; comm_below = omega arith; len_within = le; plain_in_world = λ same. refl }
+
+plain_short : (len : ℕ) → len ≤ 3584 → IsPostHead (plain_head len)
+plain_short len le = record { plain = refl; in_world = refl; len_within = le }
+
+pub begins_receive : {s : Sight} {c : Private} {slot : SlotAt} {peer : ℕ} {old bytes : List ℕ} {op : RecvAt} → IsTalking s c slot peer old None None → length bytes ≤ 65536
+    → op ≡ new_receive peer (plain_head (length bytes)) → IsTalking s c slot peer bytes None (Some op)
+begins_receive {s} {c} {slot} {peer} {old} {bytes} {op} st le is = record {
+  peers = st.peers;
+  at = (subst (λ (o : RecvAt). RecvStands s c o bytes) (sym is) (receive_starts st.at peer (plain_head (length bytes)) bytes st.peers (plain_valid (length bytes) le) refl), st.at.slot_stands);
+}
+
+pub begins_send : {s : Sight} {c : Private} {slot : SlotAt} {peer : ℕ} {old bytes : List ℕ} {op : SendAt} {get : Option RecvAt} → IsTalking s c slot peer old None None → length bytes ≤ 65536
+    → op ≡ new_send peer (plain_head (length bytes)) false → IsTalking s c slot peer bytes (Some op) get
+begins_send {s} {c} {slot} {peer} {old} {bytes} {op} st le is = record {
+  peers = st.peers;
+  at = subst (λ (o : SendAt). SendStands s c o slot bytes) (sym is)
+      (send_starts st.at peer (plain_head (length bytes)) false bytes st.peers (plain_valid (length bytes) le) (λ posted. absurd (cc)) refl);
+}
+
+pub begins_post : {s : Sight} {c : Private} {slot : SlotAt} {peer : ℕ} {old bytes : List ℕ} {op : SendAt} {get : Option RecvAt} → IsTalking s c slot peer old None None → length bytes ≤ 3584
+    → op ≡ new_send peer (plain_head (length bytes)) true → IsTalking s c slot peer bytes (Some op) get
+begins_post {s} {c} {slot} {peer} {old} {bytes} {op} st le is = record {
+  peers = st.peers;
+  at = subst (λ (o : SendAt). SendStands s c o slot bytes) (sym is)
+      (send_starts st.at peer (plain_head (length bytes)) true bytes st.peers (plain_valid (length bytes) (omega (arith, le))) (λ posted. plain_short (length bytes) le) refl);
+}
+
+-- ---- a turn
+
+peers_kept : {s t : Sight} (peer : ℕ) (es : List Event) → Did s es t → are_peers s.seat.setup s.seat.rank peer ≡ true → are_peers t.seat.setup t.seat.rank peer ≡ true
+peers_kept {s} {t} peer es did peers = subst (λ (x : Seat). are_peers x.setup x.rank peer ≡ true) (sym (seat_kept s es t did)) peers
+
+slot_there_after : {s t : Sight} {slot : SlotAt} (es : List Event) → Did s es t → IsSamePost (record_in s).post (record_in t).post → SlotStands s.seat (record_in s) slot
+    → SlotStands t.seat (record_in t) slot
+slot_there_after {s} {t} {slot} es did post st =
+    subst (λ (x : Seat). SlotStands x (record_in t) slot) (sym (seat_kept s es t did)) (slot_stays s.seat (record_in s) (record_in t) slot post st)
+
+-- bytes that were written through a slice of a list
+pub written_back : (n : ℕ) (xs ys : List ℕ) → length xs ≡ n → take n (xs ++ ys) ≡ xs
+written_back n xs ys long = ap (λ (k : ℕ). take k (xs ++ ys)) (sym long) ∙ take-append_seam xs ys
+
+-- a call that goes on
+pub send_goes_on : {s t : Sight} {c d : Private} {op now : SendAt} {slot after : SlotAt} {bytes : List ℕ} {peer : ℕ} {answer : Turn} {get : Option RecvAt}
+    → are_peers s.seat.setup s.seat.rank peer ≡ true → SendTurned s c op slot bytes t d now after answer → SendStands t d now after bytes → IsTalking t d after peer bytes (Some now) get
+send_goes_on peers turned st = record { peers = peers_kept _ turned.events turned.did peers; at = st }
+
+pub receive_goes_on : {s t : Sight} {c d : Private} {op now : RecvAt} {slot : SlotAt} {bytes after : List ℕ} {peer : ℕ} {answer : RecvTurn}
+    → are_peers s.seat.setup s.seat.rank peer ≡ true → SlotStands s.seat (record_in s) slot → RecvTurned s c op bytes t d now after answer → RecvStands t d now after
+    → IsTalking t d slot peer after None (Some now)
+receive_goes_on peers slot turned st = record { peers = peers_kept _ turned.events turned.did peers; at = (st, slot_there_after turned.events turned.did turned.post slot) }
+
+-- a call that is at its end
+sent_at : (seat : Seat) (rec : Record) (c : Private) (op : SendAt) (slot : SlotAt) (bytes : List ℕ) → op.stage ≡ sending.Finished → IsSending seat rec c op slot bytes → (rec.stage ≡ Idle) × (c.out ≡ None)
+sent_at seat rec c op slot bytes is st = subst (λ (x : SendStage). IsAtSendStage seat rec c op bytes x) is st.at
+
+pub send_is_over : {s t : Sight} {c d : Private} {op now : SendAt} {slot after : SlotAt} {bytes : List ℕ} {peer : ℕ}
+    → are_peers s.seat.setup s.seat.rank peer ≡ true → SendTurned s c op slot bytes t d now after turn.Done → SendStands t d now after bytes → IsTalking t d after peer bytes None None
+send_is_over {t = t} {d = d} {now = now} {after = after} {bytes = bytes} peers turned st =
+    let end = sent_at t.seat (record_in t) d now after bytes turned.means.0 st in
+    record { peers = peers_kept _ turned.events turned.did peers; at = record { stage = end.0; empty = end.1; hands = st.hands; slot_stands = st.slot_stands } }
+
+received_at : (seat : Seat) (rec : Record) (c : Private) (op : RecvAt) (bytes : List ℕ) → op.stage ≡ receive.Finished → IsReceiving seat rec c op bytes → rec.stage ≡ Idle
+received_at seat rec c op bytes is st = subst (λ (x : RecvStage). IsAtStage seat rec c op bytes x) is st.at
+
+untaken_at : (seat : Seat) (rec : Record) (c : Private) (op : RecvAt) (bytes : List ℕ) → op.stage ≡ receive.Header → IsReceiving seat rec c op bytes → rec.stage ≡ Idle
+untaken_at seat rec c op bytes is st = (subst (λ (x : RecvStage). IsAtStage seat rec c op bytes x) is st.at).1
+
+pub receive_is_over : {s t : Sight} {c d : Private} {op now : RecvAt} {slot : SlotAt} {bytes after : List ℕ} {peer : ℕ}
+    → are_peers s.seat.setup s.seat.rank peer ≡ true → SlotStands s.seat (record_in s) slot → RecvTurned s c op bytes t d now after recv_turn.Done → RecvStands t d now after
+    → IsTalking t d slot peer after None None
+receive_is_over {t = t} {d = d} {now = now} {after = after} peers slot turned st = record {
+  peers = peers_kept _ turned.events turned.did peers;
+  at = record {
+    stage = received_at t.seat (record_in t) d now after turned.means.0 st;
+    empty = st.empty;
+    hands = st.hands;
+    slot_stands = slot_there_after turned.events turned.did turned.post slot;
+  };
+}
+
+pub receive_differs : {s t : Sight} {c d : Private} {op now : RecvAt} {slot : SlotAt} {bytes after : List ℕ} {peer : ℕ} {sent : MessageHead}
+    → are_peers s.seat.setup s.seat.rank peer ≡ true → SlotStands s.seat (record_in s) slot → RecvTurned s c op bytes t d now after (recv_turn.Mismatch sent) → RecvStands t d now after
+    → IsTalking t d slot peer after None None
+receive_differs {t = t} {d = d} {now = now} {after = after} peers slot turned st = record {
+  peers = peers_kept _ turned.events turned.did peers;
+  at = record {
+    stage = untaken_at t.seat (record_in t) d now after (ap (λ (o : RecvAt). o.stage) turned.means.0 ∙ turned.means.2) st;
+    empty = st.empty;
+    hands = st.hands;
+    slot_stands = slot_there_after turned.events turned.did turned.post slot;
+  };
+}
+
+-- a turn of the slot
+pub slot_goes_on : {s t : Sight} {c d : Private} {slot now : SlotAt} {bytes : List ℕ} {peer : ℕ} {answer : Turn} → IsTalking s c slot peer bytes None None
+    → SlotTurned s c slot t d now answer → SlotStands t.seat (record_in t) now → IsTalking t d now peer bytes None None
+slot_goes_on {s} {t} talk turned st = record {
+  peers = peers_kept _ turned.events turned.did talk.peers;
+  at = record {
+    stage = turned.stage ∙ talk.at.stage;
+    empty = turned.buffer;
+    hands = subst (λ (x : Seat). HoldsNone x.setup.layout (record_in t)) (sym (seat_kept s turned.events t turned.did))
+        (holds_kept s.seat.setup.layout (record_in s) (record_in t) turned.rest.hold talk.at.hands);
+    slot_stands = st;
+  };
+}
+
+-- ---- the two ranks of a pair
+
+pub first_of_two : (s : SetupView) {i j : ℕ} → s.nue ≡ 2 → i ≡ 0 → j ≡ 1 → are_peers s i j ≡ true
+first_of_two s two first second = rw two (rw first (rw second refl))
+
+pub second_of_two : (s : SetupView) {i j : ℕ} → s.nue ≡ 2 → i ≡ 1 → j ≡ 0 → are_peers s i j ≡ true
+second_of_two s two second first = rw two (rw second (rw first refl))

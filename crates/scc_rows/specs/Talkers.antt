@@ -1,0 +1,20 @@
+-- A rank that sends, posts and receives messages.
+use Rattle.std.specs.Prelude.{◌≡◌, ℕ, true, List, Option, None, Some}
+use Rattle.scc_proto.specs.Words.{are_peers}
+use Rattle.scc_proto.specs.Ports.{Sight, record_in}
+use Rattle.put_get.specs.Cores.{Private}
+use Rattle.send_recv.specs.Ops.{RecvAt, SendAt, SlotAt}
+use Rattle.send_recv.specs.Receiving.{RecvStands}
+use Rattle.send_recv.specs.Sending.{SlotStands, SendStands}
+use Rattle.send_recv.specs.Calling.{IsInNoCall}
+
+-- in the midst of a send or a post, of a receive, or in no call
+abbrev pub IsAtCall : Sight → Private → SlotAt → List ℕ → Option SendAt → Option RecvAt → Type 0
+IsAtCall s core slot bytes (Some op) receive = SendStands s core op slot bytes
+IsAtCall s core slot bytes None (Some op) = RecvStands s core op bytes × SlotStands s.seat (record_in s) slot
+IsAtCall s core slot bytes None None = IsInNoCall s core slot
+
+-- the calls of a rank with its peer stand where its events stand
+pub record IsTalking (s : Sight) (core : Private) (slot : SlotAt) (peer : ℕ) (bytes : List ℕ) (send : Option SendAt) (receive : Option RecvAt) : Type 0 where
+  pub peers : are_peers s.seat.setup s.seat.rank peer ≡ true
+  pub at : IsAtCall s core slot bytes send receive

@@ -1,0 +1,385 @@
+//! Messages between the two ranks of a chip with one seat.
+
+ghost use Rattle.std.specs.Prelude.{◌≡◌, ◌≤◌, length, SomeIff};
+ghost use Rattle.scc_base.specs.Heads.{plain_head};
+
+use crate::teams::{Player, Team, opened};
+use line_cache::{Always, Evict, Never};
+use put_get::Core;
+use scc_base::{CommRule, Head, Layout, PostHead, Rank, Turn};
+use scc_proto::Port;
+use send_recv::{RecvOp, RecvTurn, SendOp, Slot};
+use std::alloc::Global;
+use std::test::Fail;
+
+/// What a rank is to do with a message.
+#[derive(Clone, Copy, Debug, PartialEq, Eq)]
+enum Deed {
+    Send,
+    Post,
+    Receive,
+}
+
+/// A message that is to come.
+#[derive(Drop)]
+struct Task {
+    deed: Deed,
+    // The bytes that the call is handed.
+    bytes: Vec<u8>,
+    // The bytes that a receive is to find.
+    wanted: Vec<u8>,
+}
+
+// The head of a message of these bytes.
+fn head_of(bytes: &[u8]) -> Option<Head>
+    ensures gives { SomeIff result (length bytes.now ≤ 65536) (plain_head (length bytes.now)) }
+{
+    if bytes.len() > Head::MOST as usize {
+        return None;
+    }
+    Head::plain(bytes.len() as u32)
+}
+
+// The head of a posted message of these bytes.
+fn post_head_of(bytes: &[u8]) -> Option<PostHead>
+    ensures gives { SomeIff result (length bytes.now ≤ 3584) (plain_head (length bytes.now)) }
+{
+    if bytes.len() > PostHead::MOST as usize {
+        return None;
+    }
+    PostHead::plain(bytes.len() as u32)
+}
+
+/// A rank that has messages with one other, one after the other.
+#[derive(Drop)]
+struct Talker<V: Evict + Drop> {
+    core: Core<V>,
+    slot: Slot,
+    peer: Rank,
+    // The bytes of the call under way, and those that a receive is to find.
+    bytes: Vec<u8>,
+    wanted: Vec<u8>,
+    // The call under way, if there is one.
+    sending: Option<SendOp>,
+    receiving: Option<RecvOp>,
+    // The messages to come, the next one last.
+    tasks: Vec<Task>,
+    // How many messages were received with the bytes that were to be found.
+    arrived: u32,
+    // The head that a receive met in place of its own, and its own.
+    met: Option<Head>,
+    asked: Option<Head>,
+}
+
+impl<V: Evict + Drop> Talker<V> {
+    ghost use Rattle.std.specs.Prelude.{◌≡◌, ℕ, List, [], true, None};
+    ghost use Rattle.scc_base.specs.Setups.{SetupView};
+    ghost use Rattle.scc_base.specs.declared.events.Event.{Event};
+    ghost use Rattle.scc_proto.specs.Words.{are_peers};
+    ghost use Rattle.scc_proto.specs.Ports.{Sight, Did, record_in};
+    ghost use Rattle.send_recv.specs.Receiving.{RecvStands};
+    ghost use Rattle.send_recv.specs.Sending.{SendStands, SlotStands};
+    ghost use Rattle.scc_rows.specs.Teams.{sight_alone};
+    ghost use Rattle.scc_rows.specs.Talkers.{IsTalking};
+
+    fn new(alloc: Global, peer: Rank, evict: V, tasks: Vec<Task>) -> Talker<V>
+        ensures ready { (s : SetupView) (r : ℕ) → are_peers s r peer ≡ true
+            → IsTalking (sight_alone s r []) result.core result.slot result.peer result.bytes.items result.sending result.receiving }
+    {
+        Talker {
+            core: Core::new(evict),
+            slot: Slot::new(),
+            peer,
+            bytes: Vec::new(alloc),
+            wanted: Vec::new(alloc),
+            sending: None,
+            receiving: None,
+            tasks,
+            arrived: 0,
+            met: None,
+            asked: None,
+        }
+    }
+
+    // Begins the call of a task.
+    fn begin(&mut self, task: Task)
+        requires not_sending { self.old.sending ≡ None }
+        requires not_receiving { self.old.receiving ≡ None }
+        ensures begins { (s : Sight) → IsTalking s self.old.core self.old.slot self.old.peer self.old.bytes.items None None
+            → IsTalking s self.new.core self.new.slot self.new.peer self.new.bytes.items self.new.sending self.new.receiving }
+    {
+        self.bytes = task.bytes;
+        self.wanted = task.wanted;
+        match task.deed {
+            Deed::Send => {
+                if let Some(head) = head_of(&self.bytes) {
+                    self.sending = Some(SendOp::new(self.peer, head));
+                }
+            }
+            Deed::Post => {
+                if let Some(head) = post_head_of(&self.bytes) {
+                    self.sending = Some(SendOp::post(self.peer, head));
+                }
+            }
+            Deed::Receive => {
+                if let Some(head) = head_of(&self.bytes) {
+                    self.receiving = Some(RecvOp::new(self.peer, head));
+                }
+            }
+        }
+    }
+
+    // One turn of a send or of a post.
+    fn send_turn<P: Port>(&mut self, port: &mut P, mut op: SendOp) -> Turn
+        requires peers { are_peers (P.sight port.old).seat.setup (P.sight port.old).seat.rank self.old.peer ≡ true }
+        requires stands { SendStands (P.sight port.old) self.old.core op self.old.slot self.old.bytes.items }
+        requires not_sending { self.old.sending ≡ None }
+        requires not_receiving { self.old.receiving ≡ None }
+        ensures talks { IsTalking (P.sight port.new) self.new.core self.new.slot self.new.peer self.new.bytes.items self.new.sending self.new.receiving }
+        ensures did { (events : List Event) × Did (P.sight port.old) events (P.sight port.new) }
+    {
+        match op.turn(&mut self.core, port, &mut self.slot, &self.bytes) {
+            Turn::Done => Turn::Moved,
+            Turn::Moved => {
+                self.sending = Some(op);
+                Turn::Moved
+            }
+            Turn::Waiting(spot) => {
+                self.sending = Some(op);
+                Turn::Waiting(spot)
+            }
+        }
+    }
+
+    // One turn of a receive.
+    fn receive_turn<P: Port>(&mut self, port: &mut P, mut op: RecvOp) -> Turn
+        requires peers { are_peers (P.sight port.old).seat.setup (P.sight port.old).seat.rank self.old.peer ≡ true }
+        requires stands { RecvStands (P.sight port.old) self.old.core op self.old.bytes.items }
+        requires slot_stands { SlotStands (P.sight port.old).seat (record_in (P.sight port.old)) self.old.slot }
+        requires not_sending { self.old.sending ≡ None }
+        requires not_receiving { self.old.receiving ≡ None }
+        ensures talks { IsTalking (P.sight port.new) self.new.core self.new.slot self.new.peer self.new.bytes.items self.new.sending self.new.receiving }
+        ensures did { (events : List Event) × Did (P.sight port.old) events (P.sight port.new) }
+    {
+        match op.turn(&mut self.core, port, &mut self.bytes) {
+            RecvTurn::Done => {
+                let arrived = self.bytes == self.wanted;
+                self.arrived = self.arrived.saturating_add(arrived as u32);
+                Turn::Moved
+            }
+            RecvTurn::Mismatch(sent) => {
+                self.met = Some(sent);
+                self.asked = head_of(&self.bytes);
+                Turn::Moved
+            }
+            RecvTurn::Moved => {
+                self.receiving = Some(op);
+                Turn::Moved
+            }
+            RecvTurn::Waiting(spot) => {
+                self.receiving = Some(op);
+                Turn::Waiting(spot)
+            }
+        }
+    }
+}
+
+impl<V: Evict + Drop> Player for Talker<V> {
+    ghost use Rattle.scc_rows.specs.Teams.{sight_alone};
+    ghost use Rattle.scc_rows.specs.Talkers.{IsTalking};
+
+    ghost stands = { λ m s r events. IsTalking (sight_alone s r events) m.core m.slot m.peer m.bytes.items m.sending m.receiving };
+
+    fn turn<P: Port>(&mut self, port: &mut P) -> Turn {
+        let sending = self.sending.take();
+        let receiving = self.receiving.take();
+        if let Some(op) = sending {
+            return self.send_turn(port, op);
+        }
+        if let Some(op) = receiving {
+            return self.receive_turn(port, op);
+        }
+        let Some(task) = self.tasks.pop() else {
+            return self.slot.turn(&mut self.core, port);
+        };
+        self.begin(task);
+        Turn::Moved
+    }
+}
+
+// So many bytes, the first of them this one.
+fn bytes_from(alloc: Global, first: u8, len: usize) -> Result<Vec<u8>, Fail> {
+    let mut bytes = Vec::new(alloc);
+    for k in 0..len {
+        bytes.push(first.wrapping_add((k % 251) as u8))?;
+    }
+    Ok(bytes)
+}
+
+// These deeds, in this order, each with the length of its message. The messages of two ranks are told apart by
+// their place from the end.
+fn tasks_of(alloc: Global, deeds: &[(Deed, usize)]) -> Result<Vec<Task>, Fail> {
+    let mut tasks = Vec::new(alloc);
+    for (k, (deed, len)) in deeds.iter().rev().enumerate() {
+        let first = (k % 2) as u8;
+        let wanted = bytes_from(alloc, first, *len)?;
+        let bytes = match deed {
+            Deed::Receive => vec![in alloc; 0; *len]?,
+            Deed::Send | Deed::Post => bytes_from(alloc, first, *len)?,
+        };
+        tasks.push(Task {
+            deed: *deed,
+            bytes,
+            wanted,
+        })?;
+    }
+    Ok(tasks)
+}
+
+// A pair of ranks of which rank 0 does the first deeds and rank 1 the others.
+fn talking<V: Evict + Drop>(
+    alloc: Global,
+    layout: Layout,
+    evictors: (V, V),
+    first: &[(Deed, usize)],
+    second: &[(Deed, usize)],
+) -> Result<Team<Talker<V>>, Fail> {
+    let chip = opened(alloc, 2, layout, CommRule::Absent)?;
+    if chip.setup().nue() != 2 {
+        return Err("a chip of two ranks".into());
+    }
+    let mut team = Team::new(alloc, chip);
+    team.join(Talker::new(alloc, Rank::of(1), evictors.0, tasks_of(alloc, first)?))?;
+    team.join(Talker::new(alloc, Rank::of(0), evictors.1, tasks_of(alloc, second)?))?;
+    Ok(team)
+}
+
+// How many messages of rank 1 arrived as they were to.
+fn arrived_in<V: Evict + Drop>(team: &Team<Talker<V>>) -> u32 {
+    team.player(1).map_or(0, |talker| talker.arrived)
+}
+
+// Rank 0 does the first deeds and rank 1 the others, in turn, until all are done. How many messages arrived.
+fn exchanged<V: Evict + Drop>(
+    alloc: Global,
+    layout: Layout,
+    evictors: (V, V),
+    first: &[(Deed, usize)],
+    second: &[(Deed, usize)],
+) -> Result<u32, Fail> {
+    let mut team = talking(alloc, layout, evictors, first, second)?;
+    if team.rounds(&[0, 1], 6_000) == 0 {
+        return Err("an exchange that ends".into());
+    }
+    Ok(arrived_in(&team))
+}
+
+// How many messages of these lengths arrive: none, one byte, one chunk and one byte more, in the chunks of either
+// layout, and the longest.
+fn lengths_arrived(alloc: Global, layout: Layout) -> Result<u32, Fail> {
+    let mut arrived: u32 = 0;
+    for len in [0, 1, 3_584, 3_585, 6_624, 6_625, 65_536] {
+        let one = exchanged(
+            alloc,
+            layout,
+            (Never, Never),
+            &[(Deed::Send, len)],
+            &[(Deed::Receive, len)],
+        )?;
+        arrived = arrived.saturating_add(one);
+    }
+    Ok(arrived)
+}
+
+// Two messages of one length, sent or posted, and received in order.
+fn two_arrived(alloc: Global, layout: Layout, deed: Deed) -> Result<u32, Fail> {
+    let received = [(Deed::Receive, 33), (Deed::Receive, 33)];
+    exchanged(
+        alloc,
+        layout,
+        (Never, Never),
+        &[(deed, 33), (deed, 33)],
+        &received,
+    )
+}
+
+// Messages sent and posted, where each fill of either rank evicts a line.
+fn evicted_arrived(alloc: Global, layout: Layout) -> Result<u32, Fail> {
+    exchanged(
+        alloc,
+        layout,
+        (Always::new(), Always::new()),
+        &[(Deed::Send, 6_625), (Deed::Post, 40)],
+        &[(Deed::Receive, 6_625), (Deed::Receive, 40)],
+    )
+}
+
+#[test]
+fn messages_arrive_whole_and_in_order(rt: HostRuntime) -> Result<(), Fail> {
+    for layout in [Layout::lines(), Layout::bits()] {
+        assert_eq!(rt; lengths_arrived(rt.alloc(), layout)?, 7);
+        assert_eq!(rt; two_arrived(rt.alloc(), layout, Deed::Send)?, 2);
+        assert_eq!(rt; two_arrived(rt.alloc(), layout, Deed::Post)?, 2);
+        assert_eq!(rt; evicted_arrived(rt.alloc(), layout)?, 2);
+    }
+    Ok(())
+}
+
+// Whether a receive waits until the sender has taken its turns, and then goes on.
+fn receive_goes_on(alloc: Global, layout: Layout) -> Result<bool, Fail> {
+    let mut team = talking(
+        alloc,
+        layout,
+        (Never, Never),
+        &[(Deed::Send, 100)],
+        &[(Deed::Receive, 100)],
+    )?;
+    let early = team.rounds(&[1], 20);
+    let waits = matches!(&team.turn(1), Some(Turn::Waiting(_)));
+    // Once the message is sent the sender waits in its turn, and the receive goes on.
+    let alone = team.rounds(&[0], 20);
+    let sender_waits = matches!(&team.turn(0), Some(Turn::Waiting(_)));
+    let moves = team.turn(1) == Some(Turn::Moved);
+    let ends = team.rounds(&[1, 0], 20) > 0;
+    Ok(early == 0 && waits && alone == 0 && sender_waits && moves && ends && arrived_in(&team) == 1)
+}
+
+// Whether a receive of another length meets the head that was sent, and leaves the message to the next receive.
+fn other_length_is_met(alloc: Global, layout: Layout) -> Result<bool, Fail> {
+    let received = [(Deed::Receive, 41), (Deed::Receive, 40)];
+    let mut team = talking(
+        alloc,
+        layout,
+        (Never, Never),
+        &[(Deed::Send, 40)],
+        &received,
+    )?;
+    let ends = team.rounds(&[0, 1], 100) > 0;
+    let met = team.player(1).is_some_and(|receiver| receiver.met == Head::plain(40)
+        && receiver.asked == Head::plain(41));
+    Ok(ends && met && arrived_in(&team) == 1)
+}
+
+// Whether a second post waits until the first is taken.
+fn second_post_waits(alloc: Global, layout: Layout) -> Result<bool, Fail> {
+    let posted = [(Deed::Post, 3_584), (Deed::Post, 7)];
+    let received = [(Deed::Receive, 3_584), (Deed::Receive, 7)];
+    let mut team = talking(alloc, layout, (Never, Never), &posted, &received)?;
+    let alone = team.rounds(&[0], 300);
+    let waits = matches!(&team.turn(0), Some(Turn::Waiting(_)));
+    // The first is received while the sender does nothing, and the second has not come.
+    let first = team.rounds(&[1], 300);
+    let one = arrived_in(&team);
+    let ends = team.rounds(&[0, 1], 300) > 0;
+    Ok(alone == 0 && waits && first == 0 && one == 1 && ends && arrived_in(&team) == 2)
+}
+
+#[test]
+fn a_call_that_waits_goes_on(rt: HostRuntime) -> Result<(), Fail> {
+    for layout in [Layout::lines(), Layout::bits()] {
+        assert!(rt; receive_goes_on(rt.alloc(), layout)?);
+        assert!(rt; other_length_is_met(rt.alloc(), layout)?);
+        assert!(rt; second_post_waits(rt.alloc(), layout)?);
+    }
+    Ok(())
+}

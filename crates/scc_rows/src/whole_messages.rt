@@ -1,0 +1,154 @@
+//! Receives, tests and posts as whole calls, by a rank of a chip with one seat.
+
+ghost use Rattle.std.specs.Prelude.{◌≡◌, ◌≤◌, length, true, IfOk};
+ghost use Rattle.scc_proto.specs.Words.{are_peers};
+ghost use Rattle.send_recv.specs.Calling.{IsInNoCall};
+
+use crate::fixtures::{counted, pair_in};
+use line_cache::{Evict, Never};
+use put_get::Core;
+use scc_base::{CoreId, Head, Layout, Place, PostHead, Rank, Spot};
+use scc_proto::Port;
+use send_recv::{RecvOp, RecvStop, SendOp, SendStop, Slot, recv, recv_test, send};
+use std::test::Fail;
+
+/// Receives a message of as many bytes as the buffer has from rank 0.
+fn receive<P: Port, V: Evict>(
+    core: &mut Core<V>,
+    port: &mut P,
+    slot: &Slot,
+    bytes: &mut [u8],
+    polls: u32,
+) -> Result<(), RecvStop>
+    requires free { IsInNoCall (P.sight port.old) core.old slot.now }
+    requires peers { are_peers (P.sight port.old).seat.setup (P.sight port.old).seat.rank 0 ≡ true }
+    requires short { length bytes.old ≤ 65536 }
+    requires some { 1 ≤ polls }
+{
+    let Some(head) = Head::plain(bytes.len() as u32) else {
+        unreachable!()
+    };
+    recv(core, port, RecvOp::new(Rank::of(0), head), bytes, polls)
+}
+
+/// Receives such a message if one was sent.
+fn receive_if_sent<P: Port, V: Evict>(
+    core: &mut Core<V>,
+    port: &mut P,
+    slot: &Slot,
+    bytes: &mut [u8],
+    polls: u32,
+) -> Result<bool, RecvStop>
+    requires free { IsInNoCall (P.sight port.old) core.old slot.now }
+    requires peers { are_peers (P.sight port.old).seat.setup (P.sight port.old).seat.rank 0 ≡ true }
+    requires short { length bytes.old ≤ 65536 }
+    requires some { 1 ≤ polls }
+{
+    let Some(head) = Head::plain(bytes.len() as u32) else {
+        unreachable!()
+    };
+    recv_test(core, port, RecvOp::new(Rank::of(0), head), bytes, polls)
+}
+
+/// Posts bytes to rank 1.
+fn post<P: Port, V: Evict>(
+    core: &mut Core<V>,
+    port: &mut P,
+    slot: &mut Slot,
+    bytes: &[u8],
+    polls: u32,
+) -> Result<(), SendStop>
+    requires free { IsInNoCall (P.sight port.old) core.old slot.old }
+    requires peers { are_peers (P.sight port.old).seat.setup (P.sight port.old).seat.rank 1 ≡ true }
+    requires short { length bytes.now ≤ 3584 }
+    requires some { 1 ≤ polls }
+    ensures free { IfOk result (λ done. IsInNoCall (P.sight port.new) core.new slot.new) }
+    ensures seat { IfOk result (λ done. (P.sight port.new).seat ≡ (P.sight port.old).seat) }
+{
+    let Some(head) = PostHead::plain(bytes.len() as u32) else {
+        unreachable!()
+    };
+    send(
+        core,
+        port,
+        slot,
+        SendOp::post(Rank::of(1), head),
+        bytes,
+        polls,
+    )
+}
+
+#[tactic(auto, using(crate::proofs::MessageLemmas::fresh_free, crate::proofs::MessageLemmas::second_peers))]
+#[test]
+fn a_receive_of_nothing_stalls_after_its_polls(rt: HostRuntime) -> Result<(), Fail> {
+    for layout in [Layout::lines(), Layout::bits()] {
+        let mut chip = pair_in(rt.alloc(), layout)?;
+        let mut port = counted(&mut chip, Rank::of(1));
+        let mut core = Core::new(Never);
+        let slot = Slot::new();
+        let mut got = [7; 4];
+        let Err(RecvStop::Stalled { op: _, spot, polls }) = receive(
+            &mut core, &mut port, &slot, &mut got, 3,
+        ) else {
+            return Err("a receive that finds nothing".into());
+        };
+        assert_eq!(rt; port.loads(), 12);
+        let place = Place::new(CoreId::of(1), 1, 0);
+        assert!(rt; spot == Spot::Flag { place, bit: 0 });
+        assert_eq!(rt; polls, 3);
+        assert_eq!(rt; got, [7; 4]);
+    }
+    Ok(())
+}
+
+#[tactic(auto, using(crate::proofs::MessageLemmas::fresh_free, crate::proofs::MessageLemmas::second_peers))]
+#[test]
+fn a_test_of_nothing_makes_one_look(rt: HostRuntime) -> Result<(), Fail> {
+    for layout in [Layout::lines(), Layout::bits()] {
+        let mut chip = pair_in(rt.alloc(), layout)?;
+        let mut port = counted(&mut chip, Rank::of(1));
+        let mut core = Core::new(Never);
+        let slot = Slot::new();
+        let mut got = [7; 4];
+        let Ok(found) = receive_if_sent(&mut core, &mut port, &slot, &mut got, 3) else {
+            return Err("a test that finds nothing".into());
+        };
+        assert!(rt; !found);
+        assert_eq!(rt; port.loads(), 4);
+        assert_eq!(rt; got, [7; 4]);
+    }
+    Ok(())
+}
+
+#[tactic(auto, using(crate::proofs::MessageLemmas::fresh_free, crate::proofs::MessageLemmas::first_peers, crate::proofs::MessageLemmas::still_peers))]
+#[test]
+fn a_second_post_waits_for_the_first(rt: HostRuntime) -> Result<(), Fail> {
+    for (layout, line, word) in [(Layout::lines(), 50, 0), (Layout::bits(), 1, 1)] {
+        let mut chip = pair_in(rt.alloc(), layout)?;
+        let mut port = counted(&mut chip, Rank::of(0));
+        let mut core = Core::new(Never);
+        let mut slot = Slot::new();
+        let Ok(()) = post(&mut core, &mut port, &mut slot, &[1, 2], 2) else {
+            return Err("a first post".into());
+        };
+        assert!(rt; slot.holds() == Some(Rank::of(1)));
+        let Err(SendStop::Stalled { op: _, spot, polls }) = post(
+            &mut core,
+            &mut port,
+            &mut slot,
+            &[3, 4],
+            2,
+        ) else {
+            return Err("a post while another is on its way".into());
+        };
+        let place = Place::new(CoreId::of(0), line, word);
+        assert!(rt;
+            spot == Spot::Flag {
+                place,
+                bit: layout.ready(Rank::of(1)).bit()
+            }
+        );
+        assert_eq!(rt; polls, 2);
+    }
+    Ok(())
+}
