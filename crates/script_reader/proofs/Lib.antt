@@ -1,3 +1,9 @@
+pub mod BareLemmas
 pub mod CheckLemmas
+pub mod EndLemmas
+pub mod ReaderLemmas
+pub mod RuleLemmas
+pub mod SettledLemmas
 pub mod TallyLemmas
+pub mod VersionLemmas
 pub mod WordLemmas

@@ -1,51 +1,37 @@
 -- The tallies before the first statement, and after one more.
-use Rattle.std.proofs.Common.{◌≡◌, ℕ, ◌+◌, ◌<◌, Bool, true, false, cond, eqb, List, [], ◌∷◌, ◌++◌, length, get_or, take, slice_set, is_none, Option, Some, None, unwrap_or, refl, sym, ap, ◌∙◌, arith, append_assoc, subst, inl, inr}
-use Rattle.std.proofs.lemmas.Bool.Decides.{eqb_tells}
+use Rattle.std.proofs.Common.{◌≡◌, ℕ, ◌+◌, ◌*◌, ◌<◌, Bool, true, false, ◌||◌, cond, eqb, ltb, min, List, [], ◌∷◌, ◌++◌, length, get_or, set, take, slice_set, is_none, unwrap_or, replicate, Option, Some, None, refl, sym, ap, ◌∙◌, arith, subst, inl, inr}
+use Rattle.std.proofs.Math.Path.{fun_ext}
+use Rattle.std.proofs.lemmas.Bool.Decides.{eqb_tells, nat_tests}
 use Rattle.std.proofs.lemmas.Bool.{cases_lt}
-use Rattle.std.proofs.lemmas.List.{append-nil, length-replicate, length-set, take-append-le, take_all, get_or-set_other, get_or-replicate, get_or_append_left, get_or_push}
-use Rattle.std.proofs.lemmas.Grind.{common_steps, get_or-set_at}
+use Rattle.std.proofs.lemmas.List.{length-replicate, length-set, take-append-le, take_all, get_or-set_other, get_or-replicate, get_or_append_left, get_or_push, get_or_past}
+use Rattle.std.proofs.lemmas.Grind.{get_or-set_at}
 use Rattle.std.specs.Option.{option_or}
+use Rattle.std.specs.Prelude.{IfSome}
+use Rattle.scc_base.specs.Setups.{SetupView}
+use Rattle.script_reader.specs.declared.checks.RankCheck.{RankCheck}
+use Rattle.script_reader.specs.declared.checks.RankCheck.TheVariants as check
 use Rattle.script_reader.specs.declared.script.Item.{Item}
 use Rattle.script_reader.specs.declared.script.Stmt.{Stmt}
 use Rattle.script_reader.specs.declared.script.Stmt.TheVariants as stmt
+use Rattle.script_reader.specs.declared.tally.Setting.{Setting}
 use Rattle.script_reader.specs.declared.tally.Tally.{Tally}
-use Rattle.script_reader.specs.Checks.{length_at, operations, printed, printed_behind, prints, sets_to}
+use Rattle.script_reader.specs.Checks.{cost_of, is_at, is_misshapen, is_not_split, is_split_of, is_unset, length_at, open_of, operations, posts_too_much, printed, prints, prints_too_much, refuses, run_of, set_by, setting, sets_to, turns_in}
 use Rattle.script_reader.specs.Script.{has_rank}
-use Rattle.script_reader.specs.Tally.{AreTallies, IsTally, empty_tally, lengths_after, noted, noted_at, printed_in, register_in, with_length}
+use Rattle.script_reader.specs.Tally.{AreTallies, IsMade, IsTally, empty_tally, length_in, noted, noted_at, refuses_by, with_length, with_split}
 
-pub IsTally-empty : (rank : ℕ) → IsTally empty_tally [] rank
-IsTally-empty rank = record {
+-- a default stands everywhere in a list of defaults
+defaults : {A : Type 0} (n k : ℕ) (d : A) → get_or (replicate n d) k d ≡ d
+defaults n k d = elim (cases_lt k n) [ inl below ↦ get_or-replicate n k d d below | inr past ↦ get_or_past (replicate n d) k d (omega (arith, past, length-replicate n d)) ]
+
+pub IsTally-empty : (nue rank : ℕ) → IsTally empty_tally nue [] rank
+IsTally-empty nue rank = record {
   operations_are = refl;
   printed_are = refl;
-  room = length-replicate {A = Option ℕ} 65 None;
-  lengths_are = λ reg h. get_or-replicate {A = Option ℕ} 65 reg None None h;
+  lengths_are = λ reg. defaults {A = Option ℕ} 256 reg None;
+  splits_are = λ comm. defaults {A = Bool} 256 comm false;
+  lengths_room = length-replicate {A = Option ℕ} 256 None;
+  splits_room = length-replicate {A = Bool} 256 false;
 }
-
-or_assoc : (a b c : Option ℕ) → option_or (option_or a b) c ≡ option_or a (option_or b c)
-or_assoc None b c = refl
-or_assoc (Some x) b c = refl
-
--- one more item: what it sets counts where no earlier one has set the register
-pub length_at-more : (items : List Item) (item : Item) (rank reg : ℕ) → length_at (items ++ item ∷ []) rank reg ≡ option_or (length_at items rank reg) (length_at (item ∷ []) rank reg)
-length_at-more [] item rank reg = refl
-length_at-more (first ∷ items) item rank reg =
-    ap (option_or (cond (has_rank first.who rank) (sets_to first.stmt reg) None)) (length_at-more items item rank reg)
-    ∙ sym (or_assoc (cond (has_rank first.who rank) (sets_to first.stmt reg) None) (length_at items rank reg) (length_at (item ∷ []) rank reg))
-
--- one more item is one more operation of each of its ranks
-pub operations-more : (items : List Item) (item : Item) (rank : ℕ) → operations (items ++ item ∷ []) rank ≡ operations items rank + cond (has_rank item.who rank) 1 0
-operations-more items item rank = grind (arith, common_steps)
-
-printed_behind-more : (before items : List Item) (item : Item) (rank : ℕ) → printed_behind before (items ++ item ∷ []) rank ≡ printed_behind before items rank + cond (has_rank item.who rank) (prints (before ++ items) item.stmt rank) 0
-printed_behind-more before [] item rank = rw append-nil (omega arith)
-printed_behind-more before (first ∷ items) item rank =
-    let rest = printed_behind-more (before ++ first ∷ []) items item rank in
-    let whole : printed_behind (before ++ first ∷ []) (items ++ item ∷ []) rank ≡ printed_behind (before ++ first ∷ []) items rank + cond (has_rank item.who rank) (prints (before ++ first ∷ items) item.stmt rank) 0 = rw append_assoc at rest in
-    omega arith
-
--- one more item prints what its register has
-pub printed-more : (items : List Item) (item : Item) (rank : ℕ) → printed (items ++ item ∷ []) rank ≡ printed items rank + cond (has_rank item.who rank) (prints items item.stmt rank) 0
-printed-more items item rank = printed_behind-more [] items item rank
 
 -- one more tally that is empty
 pub empty-more : (tallies : List Tally) (n : ℕ) → length tallies ≡ n → ((k : ℕ) (d : Tally) → k < n → get_or tallies k d ≡ empty_tally) → (k : ℕ) (d : Tally) → k < n + 1 → get_or (tallies ++ empty_tally ∷ []) k d ≡ empty_tally
@@ -55,6 +41,14 @@ empty-more tallies n long empty k d below =
 or_none : (a : Option ℕ) → option_or a None ≡ a
 or_none None = refl
 or_none (Some x) = refl
+
+or_false : (a : Bool) → (a || false) ≡ a
+or_false true = refl
+or_false false = refl
+
+or_true : (a : Bool) → (a || true) ≡ true
+or_true true = refl
+or_true false = refl
 
 -- a length that is set where none stands: it stands at its register, and the others stay
 set-lengths : (lengths : List (Option ℕ)) (set reg len : ℕ) (had : Option ℕ) → set < length lengths → get_or lengths set None ≡ had
@@ -73,52 +67,143 @@ set-lengths lengths set reg len (Some x) within had =
       | inr other ↦ rw other.0 (sym (or_none _))
     ]
 
-pub length-set_once : (lengths : List (Option ℕ)) (set reg len : ℕ) → set < length lengths → get_or (with_length lengths set len) reg None ≡ option_or (get_or lengths reg None) (cond (eqb set reg) (Some len) None)
-length-set_once lengths set reg len within = set-lengths lengths set reg len (get_or lengths set None) within refl
+-- a setting's register has a place
+abbrev IsPlaced : Option Setting → Type 0
+IsPlaced set = IfSome set (λ s. s.reg < 256)
 
-with_length-room : (lengths : List (Option ℕ)) (set len : ℕ) (had : Option ℕ) → length (cond (is_none had) (slice_set lengths set (Some len)) lengths) ≡ length lengths
-with_length-room lengths set len None = length-set lengths set (Some len)
-with_length-room lengths set len (Some x) = refl
+length-set_once : (lengths : List (Option ℕ)) (set : Option Setting) (reg : ℕ) → length lengths ≡ 256 → IsPlaced set → get_or (with_length lengths set) reg None ≡ option_or (get_or lengths reg None) (sets_to set reg)
+length-set_once lengths None reg long placed = sym (or_none _)
+length-set_once lengths (Some set) reg long placed = set-lengths lengths set.reg reg set.len (get_or lengths set.reg None) (omega (arith, long, placed)) refl
 
--- the lengths after a statement
-lengths-noted : (stmt : Stmt) (tally : Tally) (items : List Item) (rank : ℕ) → register_in stmt < 65 → IsTally tally items rank → (reg : ℕ) → reg < 65 → get_or (lengths_after tally.lengths stmt) reg None ≡ option_or (length_at items rank reg) (option_or (sets_to stmt reg) None)
-lengths-noted (stmt.Bytes set bytes) tally items rank within t reg below = length-set_once tally.lengths set reg (length bytes) (omega (arith, t.room)) ∙ rw (t.lengths_are reg below, or_none) refl
-lengths-noted (stmt.Send peer sent) tally items rank within t reg below = t.lengths_are reg below ∙ sym (or_none _)
-lengths-noted (stmt.Recv peer set len) tally items rank within t reg below = length-set_once tally.lengths set reg len (omega (arith, t.room)) ∙ rw (t.lengths_are reg below, or_none) refl
-lengths-noted (stmt.Print sent form) tally items rank within t reg below = t.lengths_are reg below ∙ sym (or_none _)
+set-room : (lengths : List (Option ℕ)) (set len : ℕ) (had : Option ℕ) → length (cond (is_none had) (slice_set lengths set (Some len)) lengths) ≡ length lengths
+set-room lengths set len None = length-set lengths set (Some len)
+set-room lengths set len (Some x) = refl
 
-room-noted : (stmt : Stmt) (lengths : List (Option ℕ)) → length (lengths_after lengths stmt) ≡ length lengths
-room-noted (stmt.Bytes set bytes) lengths = with_length-room lengths set (length bytes) (get_or lengths set None)
-room-noted (stmt.Send peer sent) lengths = refl
-room-noted (stmt.Recv peer set len) lengths = with_length-room lengths set len (get_or lengths set None)
-room-noted (stmt.Print sent form) lengths = refl
+with_length-room : (lengths : List (Option ℕ)) (set : Option Setting) → length (with_length lengths set) ≡ length lengths
+with_length-room lengths None = refl
+with_length-room lengths (Some set) = set-room lengths set.reg set.len (get_or lengths set.reg None)
 
--- a tally says what a statement prints
-prints-noted : (stmt : Stmt) (tally : Tally) (items : List Item) (rank : ℕ) → register_in stmt < 65 → IsTally tally items rank → printed_in tally stmt ≡ prints items stmt rank
-prints-noted (stmt.Bytes set bytes) tally items rank within t = refl
-prints-noted (stmt.Send peer sent) tally items rank within t = refl
-prints-noted (stmt.Recv peer set len) tally items rank within t = refl
-prints-noted (stmt.Print reg form) tally items rank within t = ap (λ o. unwrap_or o 0) (t.lengths_are reg within)
+placed_cond : (b : Bool) (x y : Option Setting) → IsPlaced x → IsPlaced y → IsPlaced (cond b x y)
+placed_cond true x y px py = px
+placed_cond false x y px py = py
 
-noted-tally : (item : Item) (tally : Tally) (items : List Item) (rank : ℕ) (has : Bool) → has_rank item.who rank ≡ has → register_in item.stmt < 65 → IsTally tally items rank → IsTally (cond has (noted item.stmt tally) tally) (items ++ item ∷ []) rank
-noted-tally item tally items rank true has within t = record {
-  operations_are = let more = operations-more items item rank in let one : operations (items ++ item ∷ []) rank ≡ operations items rank + 1 = rw has at more in omega (arith, t.operations_are);
-  printed_are = let more = printed-more items item rank in let some : printed (items ++ item ∷ []) rank ≡ printed items rank + prints items item.stmt rank = rw has at more in omega (arith, t.printed_are, prints-noted item.stmt tally items rank within t);
-  room = room-noted item.stmt tally.lengths ∙ t.room;
-  lengths_are = λ reg below. lengths-noted item.stmt tally items rank within t reg below ∙ sym (rw (length_at-more items item rank reg, has) refl);
+-- the register that a statement sets has a place
+set-placed : (stmt : Stmt) (run : SetupView) (had : ℕ → Option ℕ) (rank : ℕ) → IsMade stmt → IsPlaced (set_by run had stmt rank)
+set-placed (stmt.Bytes reg bytes) run had rank made = made
+set-placed (stmt.Fill reg len start) run had rank made = made
+set-placed (stmt.RankOf reg ty) run had rank made = made
+set-placed (stmt.Apply op ty dst src) run had rank made = tt
+set-placed (stmt.Send peer reg) run had rank made = tt
+set-placed (stmt.Post peer reg) run had rank made = tt
+set-placed (stmt.Recv peer reg len) run had rank made = made
+set-placed (stmt.Print reg form) run had rank made = tt
+set-placed (stmt.Barrier comm) run had rank made = tt
+set-placed (stmt.Split comm rule) run had rank made = tt
+set-placed (stmt.Bcast comm root reg len) run had rank made = placed_cond (is_at run comm rank root) None (setting reg len) tt made
+set-placed (stmt.Reduce comm root op ty dst src) run had rank made = placed_cond (is_at run comm rank root) (setting dst (unwrap_or (had src) 0)) None made tt
+set-placed (stmt.Allreduce comm op ty dst src) run had rank made = made
+set-placed (stmt.Repeat times end) run had rank made = tt
+set-placed (stmt.End start) run had rank made = tt
+
+-- the splits with one more
+mark-split : (splits : List Bool) (split comm : ℕ) → split < length splits → get_or (slice_set splits split true) comm false ≡ (get_or splits comm false || eqb split comm)
+mark-split splits split comm within =
+    elim (eqb_tells split comm) [
+      | inl same ↦ rw same.0 (get_or-set_at splits split comm true false (sym same.1) within ∙ sym (or_true _))
+      | inr other ↦ rw other.0 (get_or-set_other splits split comm true false (λ e. other.1 (sym e)) ∙ sym (or_false _))
+    ]
+
+split-marked : (stmt : Stmt) (splits : List Bool) (comm : ℕ) → length splits ≡ 256 → IsMade stmt → get_or (with_split splits stmt) comm false ≡ (get_or splits comm false || is_split_of stmt comm)
+split-marked (stmt.Split split rule) splits comm long made = mark-split splits split comm (omega (arith, long, made.0))
+split-marked (stmt.Bytes reg bytes) splits comm long made = sym (or_false _)
+split-marked (stmt.Fill reg len start) splits comm long made = sym (or_false _)
+split-marked (stmt.RankOf reg ty) splits comm long made = sym (or_false _)
+split-marked (stmt.Apply op ty dst src) splits comm long made = sym (or_false _)
+split-marked (stmt.Send peer reg) splits comm long made = sym (or_false _)
+split-marked (stmt.Post peer reg) splits comm long made = sym (or_false _)
+split-marked (stmt.Recv peer reg len) splits comm long made = sym (or_false _)
+split-marked (stmt.Print reg form) splits comm long made = sym (or_false _)
+split-marked (stmt.Barrier comm) splits place long made = sym (or_false _)
+split-marked (stmt.Bcast comm root reg len) splits place long made = sym (or_false _)
+split-marked (stmt.Reduce comm root op ty dst src) splits place long made = sym (or_false _)
+split-marked (stmt.Allreduce comm op ty dst src) splits place long made = sym (or_false _)
+split-marked (stmt.Repeat times end) splits comm long made = sym (or_false _)
+split-marked (stmt.End start) splits comm long made = sym (or_false _)
+
+with_split-room : (stmt : Stmt) (splits : List Bool) → length (with_split splits stmt) ≡ length splits
+with_split-room (stmt.Split split rule) splits = length-set splits split true
+with_split-room (stmt.Bytes reg bytes) splits = refl
+with_split-room (stmt.Fill reg len start) splits = refl
+with_split-room (stmt.RankOf reg ty) splits = refl
+with_split-room (stmt.Apply op ty dst src) splits = refl
+with_split-room (stmt.Send peer reg) splits = refl
+with_split-room (stmt.Post peer reg) splits = refl
+with_split-room (stmt.Recv peer reg len) splits = refl
+with_split-room (stmt.Print reg form) splits = refl
+with_split-room (stmt.Barrier comm) splits = refl
+with_split-room (stmt.Bcast comm root reg len) splits = refl
+with_split-room (stmt.Reduce comm root op ty dst src) splits = refl
+with_split-room (stmt.Allreduce comm op ty dst src) splits = refl
+with_split-room (stmt.Repeat times end) splits = refl
+with_split-room (stmt.End start) splits = refl
+
+capped : (a b c x m : ℕ) → a ≡ min b m → c ≡ b + x → min (a + x) m ≡ min c m
+capped a b c x m is more = omega arith
+
+-- the lengths after a statement of the rank
+lengths-noted : (item : Item) (tally : Tally) (nue : ℕ) (past : List Item) (rank : ℕ) → has_rank item.who rank ≡ true → IsMade item.stmt → IsTally tally nue past rank → (reg : ℕ)
+    → get_or (with_length tally.lengths (set_by (run_of nue past) (length_in tally) item.stmt rank)) reg None ≡ length_at nue (item ∷ past) rank reg
+lengths-noted item tally nue past rank has made t reg =
+    let run = run_of nue past in
+    let placed = set-placed item.stmt run (length_in tally) rank made in
+    length-set_once tally.lengths (set_by run (length_in tally) item.stmt rank) reg t.lengths_room placed
+    ∙ ap (λ o. option_or o (sets_to (set_by run (length_in tally) item.stmt rank) reg)) (t.lengths_are reg)
+    ∙ ap (λ (had : ℕ → Option ℕ). option_or (length_at nue past rank reg) (sets_to (set_by run had item.stmt rank) reg)) (fun_ext t.lengths_are)
+    ∙ sym (rw has refl)
+
+noted-tally : (item : Item) (tally : Tally) (nue : ℕ) (past : List Item) (rank : ℕ) (has : Bool) → has_rank item.who rank ≡ has → IsMade item.stmt → IsTally tally nue past rank
+    → IsTally (cond has (noted (run_of nue past) (turns_in (open_of past)) item.stmt rank tally) tally) nue (item ∷ past) rank
+noted-tally item tally nue past rank true has made t = record {
+  operations_are = capped tally.operations (operations nue past rank) (operations nue (item ∷ past) rank) (turns_in (open_of past) * cost_of (run_of nue past) item.stmt rank) 100001 t.operations_are (rw has refl);
+  printed_are =
+      ap (λ (had : ℕ → Option ℕ). min (tally.printed + turns_in (open_of past) * prints had item.stmt) 1048577) (fun_ext t.lengths_are)
+      ∙ capped tally.printed (printed nue past rank) (printed nue (item ∷ past) rank) (turns_in (open_of past) * prints (length_at nue past rank) item.stmt) 1048577 t.printed_are (rw has refl);
+  lengths_are = lengths-noted item tally nue past rank has made t;
+  splits_are = λ comm. split-marked item.stmt tally.splits comm t.splits_room made ∙ ap (λ b. b || is_split_of item.stmt comm) (t.splits_are comm) ∙ sym (rw has refl);
+  lengths_room = with_length-room tally.lengths (set_by (run_of nue past) (length_in tally) item.stmt rank) ∙ t.lengths_room;
+  splits_room = with_split-room item.stmt tally.splits ∙ t.splits_room;
 }
-noted-tally item tally items rank false has within t = record {
-  operations_are = let more = operations-more items item rank in let none : operations (items ++ item ∷ []) rank ≡ operations items rank + 0 = rw has at more in omega (arith, t.operations_are);
-  printed_are = let more = printed-more items item rank in let none : printed (items ++ item ∷ []) rank ≡ printed items rank + 0 = rw has at more in omega (arith, t.printed_are);
-  room = t.room;
-  lengths_are = λ reg below. t.lengths_are reg below ∙ sym (rw (length_at-more items item rank reg, has) (or_none _));
+noted-tally item tally nue past rank false has made t = record {
+  operations_are = let same : operations nue (item ∷ past) rank ≡ operations nue past rank + 0 = rw has refl in omega (arith, t.operations_are);
+  printed_are = let same : printed nue (item ∷ past) rank ≡ printed nue past rank + 0 = rw has refl in omega (arith, t.printed_are);
+  lengths_are = λ reg. t.lengths_are reg ∙ sym (or_none _) ∙ sym (rw has refl);
+  splits_are = λ comm. t.splits_are comm ∙ sym (or_false _) ∙ sym (rw has refl);
+  lengths_room = t.lengths_room;
+  splits_room = t.splits_room;
 }
 
 -- the tallies after one more item
-pub AreTallies-more : (tallies after : List Tally) (items : List Item) (item : Item) → register_in item.stmt < 65 → AreTallies tallies items → ((rank : ℕ) (d : Tally) → rank < 48 → get_or after rank d ≡ noted_at item rank (get_or tallies rank d)) → AreTallies after (items ++ item ∷ [])
-AreTallies-more tallies after items item within are noted rank d below =
-    subst (λ t. IsTally t (items ++ item ∷ []) rank) (sym (noted rank d below)) (noted-tally item (get_or tallies rank d) items rank (has_rank item.who rank) refl within (are rank d below))
+pub AreTallies-more : (tallies after : List Tally) (nue : ℕ) (past : List Item) (item : Item) → IsMade item.stmt → AreTallies tallies nue past
+    → ((rank : ℕ) (d : Tally) → rank < nue → get_or after rank d ≡ noted_at (run_of nue past) (turns_in (open_of past)) item rank (get_or tallies rank d)) → AreTallies after nue (item ∷ past)
+AreTallies-more tallies after nue past item made are noted rank d below =
+    subst (λ t. IsTally t nue (item ∷ past) rank) (sym (noted rank d below)) (noted-tally item (get_or tallies rank d) nue past rank (has_rank item.who rank) refl made (are rank d below))
 
 -- a list that is written back over one of its length
 pub written-back : {A : Type 0} (n : ℕ) (xs ys : List A) → length xs ≡ n → take n (xs ++ ys) ≡ xs
 written-back n xs ys same = take-append-le n xs ys (omega arith) ∙ take_all n xs (omega arith)
+
+over-cap : (a b x m : ℕ) → a ≡ min b (m + 1) → ltb m (a + x) ≡ ltb m (b + x)
+over-cap a b x m is = grind (arith, nat_tests)
+
+-- a check over what is kept is the check over the statements
+pub refuses-same : (check : RankCheck) (tally : Tally) (nue : ℕ) (past : List Item) (stmt : Stmt) (rank : ℕ) → IsTally tally nue past rank
+    → refuses_by check (run_of nue past) tally (turns_in (open_of past)) stmt rank ≡ refuses check nue past stmt rank
+refuses-same check.RootRange tally nue past stmt rank t = refl
+refuses-same check.SelfMessage tally nue past stmt rank t = refl
+refuses-same check.NotSplit tally nue past stmt rank t = ap (λ (split : ℕ → Bool). is_not_split split stmt) (fun_ext t.splits_are)
+refuses-same check.Unset tally nue past stmt rank t = ap (λ (had : ℕ → Option ℕ). is_unset (run_of nue past) had stmt rank) (fun_ext t.lengths_are)
+refuses-same check.Shape tally nue past stmt rank t = ap (λ (had : ℕ → Option ℕ). is_misshapen (run_of nue past) had stmt rank) (fun_ext t.lengths_are)
+refuses-same check.TooManyOps tally nue past stmt rank t = over-cap tally.operations (operations nue past rank) (turns_in (open_of past) * cost_of (run_of nue past) stmt rank) 100000 t.operations_are
+refuses-same check.TooLong tally nue past stmt rank t =
+    ap (λ (had : ℕ → Option ℕ). posts_too_much had stmt || prints_too_much had tally.printed (turns_in (open_of past)) stmt) (fun_ext t.lengths_are)
+    ∙ ap (λ b. posts_too_much (length_at nue past rank) stmt || b) (over-cap tally.printed (printed nue past rank) (turns_in (open_of past) * prints (length_at nue past rank) stmt) 1048576 t.printed_are)

@@ -1,14 +1,15 @@
 -- Lemmas on words, names and places.
 use Rattle.std.proofs.Common.{◌≡◌, ℕ, ◌<◌, ◌≤◌, Bool, true, false, cond, ltb, ◌&&◌, List, length, Some, None, unwrap_or, arith, inl, inr, lit<}
-use Rattle.std.proofs.lemmas.Bool.{cases_lt}
+use Rattle.std.proofs.lemmas.Bool.{and_parts, cases_lt, leb-true}
 use Rattle.std.proofs.lemmas.Bool.Decides.{nat_tests}
 use Rattle.std.proofs.lemmas.List.{get_or_past}
 use Rattle.std.proofs.lemmas.List.Elements.{All-get_or}
 use Rattle.std.proofs.lemmas.List.Sums.{AllPass-from_list_all, prefix_len-le-length}
 use Rattle.std.proofs.lemmas.Str.{IsUtf8-from_ascii}
-use Rattle.std.specs.List.{AllPass, position, position_or_len}
+use Rattle.std.specs.Prelude.{nat_le, slice_index}
+use Rattle.std.specs.List.{AllPass, list_all, position, position_or_len}
 use Rattle.std.specs.Str.{IsAscii, IsUtf8}
-use Rattle.script_reader.specs.Words.{is_name, is_name_byte}
+use Rattle.script_reader.specs.Words.{is_letter, is_name, is_name_byte}
 
 place-unwrapped : (n len : ℕ) → n ≤ len → unwrap_or (cond (ltb n len) (Some n) None) len ≡ n
 place-unwrapped n len h = grind (arith, nat_tests)
@@ -31,3 +32,10 @@ ascii-from_pass word h i =
 -- a name is text
 pub IsUtf8-from_name : (word : List ℕ) → is_name word ≡ true → IsUtf8 word
 IsUtf8-from_name word h = IsUtf8-from_ascii word (ascii-from_pass word (AllPass-from_list_all is_name_byte word (and-right _ _ h)))
+
+-- and has at most 16 bytes
+pub name-short : (word : List ℕ) → is_name word ≡ true → length word ≤ 16
+name-short word h =
+    let front = (and_parts (nat_le 1 (length word) && nat_le (length word) 16 && is_letter (slice_index word 0)) (list_all is_name_byte word) h).0 in
+    let lengths = (and_parts (nat_le 1 (length word) && nat_le (length word) 16) (is_letter (slice_index word 0)) front).0 in
+    leb-true (length word) 16 (and_parts (nat_le 1 (length word)) (nat_le (length word) 16) lengths).1

@@ -28,7 +28,6 @@ kind_name kind.TooDeep = codes "TooDeep"
 kind_name kind.TooManyOps = codes "TooManyOps"
 kind_name kind.TooLong = codes "TooLong"
 kind_name kind.TooManyNames = codes "TooManyNames"
-kind_name kind.NotBuilt = codes "NotBuilt"
 
 -- one step of a reading after another: the second, if the first gave a value
 infixl 10 ◌>>=◌

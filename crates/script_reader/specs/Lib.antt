@@ -1,8 +1,11 @@
 pub mod Checks
+pub mod Ends
 pub mod Faults
 pub mod Progress
 pub mod Reading
+pub mod Run
 pub mod Said
 pub mod Script
+pub mod Settled
 pub mod Tally
 pub mod Words

@@ -1,18 +1,44 @@
 -- The fifth layer of the grammar: what the lines of a file say, one after another (this project's profile).
-use Rattle.std.specs.Prelude.{ℕ, ◌+◌, nat_lt, if◌then◌else◌, List, [], ◌∷◌, length, Result, Ok, Err}
+use Rattle.std.specs.Prelude.{ℕ, ◌+◌, ◌==◌, ◌&&◌, Bool, false, nat_lt, if◌then◌else◌, List, [], ◌∷◌, codes, length, Option, Some, None, Result, Ok, Err}
+use Rattle.std.specs.Str.{bytes_eq}
 use Rattle.script_reader.specs.declared.fault.FaultKind.{FaultKind}
 use Rattle.script_reader.specs.declared.fault.FaultKind.TheVariants as kind
 use Rattle.script_reader.specs.declared.fault.ReadFault.{ReadFault}
+use Rattle.script_reader.specs.declared.version.Version.{Version}
+use Rattle.script_reader.specs.declared.version.Version.TheVariants as version
+use Rattle.script_reader.specs.Checks.{open_of}
+use Rattle.script_reader.specs.Ends.{with_ends}
 use Rattle.script_reader.specs.Faults.{◌>>=◌}
-use Rattle.script_reader.specs.Progress.{Progress, after, start}
+use Rattle.script_reader.specs.Progress.{Progress, after, past, start}
 use Rattle.script_reader.specs.Said.{said_of}
 use Rattle.script_reader.specs.Script.{Script}
-use Rattle.script_reader.specs.Words.{is_text, lines_of, words_of}
+use Rattle.script_reader.specs.Words.{is_text, line_count, lines_of, number_of, words_of}
+
+-- the words `rcce 2`
+abbrev pub is_number : Option ℕ → ℕ → Bool
+is_number None wanted = false
+is_number (Some number) wanted = number == wanted
+
+abbrev pub says_two : List (List ℕ) → Bool
+says_two (first ∷ number ∷ []) = bytes_eq first (codes "rcce") && is_number (number_of number) 2
+says_two _ = false
+
+-- the version of a file: 2 where its first line with words says so, and else 1
+abbrev pub version_of : List (List ℕ) → Version
+version_of [] = version.One
+version_of (line ∷ lines) =
+    if length (words_of line) == 0 then version_of lines
+    else if says_two (words_of line) then version.Two
+    else version.One
+
+-- a line with words has come
+abbrev pub begun : Progress → Progress
+begun p = record p { opening = false }
 
 -- what stands after a line with these words
 abbrev pub read_words : ℕ → Progress → List (List ℕ) → Result Progress FaultKind
 read_words number p [] = Ok p
-read_words number p (first ∷ words) = said_of first words >>= after number p
+read_words number p (first ∷ words) = said_of p.version p.opening first words >>= after number (begun p)
 
 -- what stands after a line
 abbrev pub read_line : ℕ → Progress → List ℕ → Result Progress FaultKind
@@ -28,21 +54,27 @@ abbrev pub read_lines : ℕ → Progress → List (List ℕ) → Result Progress
 read_lines before p [] = Ok p
 read_lines before p (line ∷ lines) = at_line (before + 1) (read_line (before + 1) p line) >>= λ q. read_lines (before + 1) q lines
 
--- what was read, as a script
+-- what was read, as a script: each repeat has the place of its end
 abbrev pub script_of : Progress → Script
-script_of p = record { nue = p.nue; items = p.items; names = p.names }
+script_of p = record { nue = p.nue; items = with_ends (length p.items) p.items; names = p.names }
 
--- the script that a file says, or its first fault, with the true line and kind
-abbrev pub read_file : List ℕ → ℕ → Result Script ReadFault
-read_file bytes nue =
+-- what was read, at the end of a file of so many lines: no repeat may be open there
+abbrev pub at_end : ℕ → Progress → Result Script ReadFault
+at_end lines p = if length (open_of (past p)) == 0 then Ok (script_of p) else Err (record { line = lines + 1; kind = kind.UnclosedRepeat })
+
+-- the script that a file says in a version of the language, or its first fault
+abbrev pub read_all_lines : Version → List (List ℕ) → ℕ → Result Script ReadFault
+read_all_lines version lines nue = read_lines 0 (start version nue) lines >>= at_end (line_count lines)
+
+abbrev pub read_as : Version → List ℕ → ℕ → Result Script ReadFault
+read_as version bytes nue =
     if nat_lt 4194304 (length bytes) then Err (record { line = 0; kind = kind.TooLong })
-    else read_lines 0 (start nue) (lines_of bytes) >>= λ p. Ok (script_of p)
+    else read_all_lines version (lines_of bytes) nue
 
--- as long as the reader knows only a part of the language, each fault stands as one that is not built
-abbrev pub or_not_built : {A : Type 0} → Result A ReadFault → Result A ReadFault
-or_not_built (Ok x) = Ok x
-or_not_built (Err fault) = Err (record { line = 0; kind = kind.NotBuilt })
+-- the script that a file says, or its first fault
+abbrev pub read_file : List ℕ → ℕ → Result Script ReadFault
+read_file bytes nue = read_as (version_of (lines_of bytes)) bytes nue
 
 -- the grammar: what a file means for a number of ranks
 abbrev pub parse_script : List ℕ → ℕ → Result Script ReadFault
-parse_script bytes nue = or_not_built (read_file bytes nue)
+parse_script bytes nue = read_file bytes nue

@@ -1,17 +1,40 @@
--- The second layer of the grammar: what a line says by its words alone (this project's profile).
-use Rattle.std.specs.Prelude.{ℕ, if◌then◌else◌, List, [], ◌∷◌, codes, Result, Ok, Err}
+-- The second layer of the grammar: what a line says by its words alone (this project's profile). In a line the number of
+-- words is checked first, then words that are fixed, then numbers, then bytes, then names.
+use Rattle.std.specs.Prelude.{ℕ, ◌+◌, ◌&&◌, ◌++◌, ◌==◌, nat_le, Bool, true, length, if◌then◌else◌, List, [], ◌∷◌, codes, drop, take, slice_index, Result, Ok, Err}
+use Rattle.std.specs.List.{position_or_len}
 use Rattle.std.specs.Option.{ok_or}
 use Rattle.std.specs.Str.{bytes_eq}
+use Rattle.groups.specs.declared.operations.Op.{Op}
+use Rattle.groups.specs.declared.operations.Op.TheVariants as op
+use Rattle.groups.specs.declared.operations.Ty.{Ty}
+use Rattle.groups.specs.declared.operations.Ty.TheVariants as ty
 use Rattle.script_reader.specs.declared.fault.FaultKind.{FaultKind}
 use Rattle.script_reader.specs.declared.fault.FaultKind.TheVariants as kind
+use Rattle.script_reader.specs.declared.said.Collective.TheVariants as group
+use Rattle.script_reader.specs.declared.said.Colour.{Colour}
+use Rattle.script_reader.specs.declared.said.Colour.TheVariants as colour
+use Rattle.script_reader.specs.declared.said.Local.TheVariants as local
+use Rattle.script_reader.specs.declared.said.Message.TheVariants as message
+use Rattle.script_reader.specs.declared.said.PeerSaid.{PeerSaid}
+use Rattle.script_reader.specs.declared.said.PeerSaid.TheVariants as peer
 use Rattle.script_reader.specs.declared.said.Said.{Said}
 use Rattle.script_reader.specs.declared.said.Said.TheVariants as said
+use Rattle.script_reader.specs.declared.said.Section.TheVariants as section
+use Rattle.script_reader.specs.declared.script.Form.TheVariants as form
+use Rattle.script_reader.specs.declared.version.Version.{Version}
+use Rattle.script_reader.specs.declared.version.Version.TheVariants as version
 use Rattle.script_reader.specs.Faults.{◌>>=◌}
-use Rattle.script_reader.specs.Words.{bytes_of, is_name, number_of}
+use Rattle.script_reader.specs.Words.{bytes_of, is_name, number_of, value_of_word}
 
--- a word as a number, as bytes, as a name; each with the kind of fault where it is none
+-- a word as a number, as one from a range, as bytes, as a name; each with the kind of fault where it is none
 abbrev pub number_said : List ℕ → Result ℕ FaultKind
 number_said word = ok_or (number_of word) kind.BadNumber
+
+abbrev pub from_range : ℕ → ℕ → ℕ → Result ℕ FaultKind
+from_range low high number = if nat_le low number && nat_le number high then Ok number else Err kind.BadNumber
+
+abbrev pub range_said : ℕ → ℕ → List ℕ → Result ℕ FaultKind
+range_said low high word = number_said word >>= from_range low high
 
 abbrev pub hex_said : List ℕ → Result (List ℕ) FaultKind
 hex_said word = ok_or (bytes_of word) kind.BadHex
@@ -19,11 +42,69 @@ hex_said word = ok_or (bytes_of word) kind.BadHex
 abbrev pub name_said : List ℕ → Result (List ℕ) FaultKind
 name_said word = if is_name word then Ok word else Err kind.BadName
 
--- `ue A`: the statements that follow belong to rank A
+-- a word that must be one of these
+abbrev pub type_said : List ℕ → Result Ty FaultKind
+type_said word =
+    if bytes_eq word (codes "int") then Ok ty.Int
+    else if bytes_eq word (codes "long") then Ok ty.Long
+    else Err kind.UnknownStatement
+
+abbrev pub operation_said : List ℕ → Result Op FaultKind
+operation_said word =
+    if bytes_eq word (codes "sum") then Ok op.Sum
+    else if bytes_eq word (codes "min") then Ok op.Min
+    else if bytes_eq word (codes "max") then Ok op.Max
+    else if bytes_eq word (codes "prod") then Ok op.Prod
+    else Err kind.UnknownStatement
+
+abbrev pub colour_said : List ℕ → Result Colour FaultKind
+colour_said word =
+    if bytes_eq word (codes "mod") then Ok colour.Mod
+    else if bytes_eq word (codes "div") then Ok colour.Div
+    else Err kind.UnknownStatement
+
+abbrev pub of_said : List ℕ → Result Bool FaultKind
+of_said word = if bytes_eq word (codes "of") then Ok true else Err kind.UnknownStatement
+
+-- PEER: a rank, or `+K` or `-K`
+abbrev pub peer_said : List ℕ → Result PeerSaid FaultKind
+peer_said word =
+    if slice_index word 0 == 43 then number_said (drop 1 word) >>= (λ up. Ok (peer.Plus up))
+    else if slice_index word 0 == 45 then number_said (drop 1 word) >>= (λ down. Ok (peer.Minus down))
+    else number_said word >>= (λ rank. Ok (peer.Abs rank))
+
+-- the bytes of the value that a word stands for, behind other bytes
+abbrev pub value_behind : Ty → List ℕ → List ℕ → Result (List ℕ) FaultKind
+value_behind type front word = ok_or (value_of_word type word) kind.BadNumber >>= λ bytes. Ok (front ++ bytes)
+
+-- the bytes of values, behind those of the values before
+abbrev pub values_said : Ty → List ℕ → List (List ℕ) → Result (List ℕ) FaultKind
+values_said type front [] = Ok front
+values_said type front (word ∷ words) = value_behind type front word >>= λ bytes. values_said type bytes words
+
+-- a line of one word: `all`, `even`, `odd`, `end`
+abbrev pub alone : Said → List (List ℕ) → Result Said FaultKind
+alone said [] = Ok said
+alone said _ = Err kind.WrongCount
+
+-- `ue A` and `ue A-B`
+abbrev pub span_said : List ℕ → List ℕ → Result Said FaultKind
+span_said first last = do
+  first ← number_said first
+  last ← number_said last
+  Ok (said.Section (section.Span first last))
+
+-- the place of the first `-` of a word, or its length
+abbrev pub dash_of : List ℕ → ℕ
+dash_of word = position_or_len (λ b. b == 45) word
+
+abbrev pub ranks_said : List ℕ → Result Said FaultKind
+ranks_said word =
+    if dash_of word == length word then span_said word word
+    else span_said (take (dash_of word) word) (drop (dash_of word + 1) word)
+
 abbrev pub ue_said : List (List ℕ) → Result Said FaultKind
-ue_said (rank ∷ []) = do
-  rank ← number_said rank
-  Ok (said.Ranks rank rank)
+ue_said (ranks ∷ []) = ranks_said ranks
 ue_said _ = Err kind.WrongCount
 
 -- `bytes NAME HEX`
@@ -31,39 +112,236 @@ abbrev pub bytes_said : List (List ℕ) → Result Said FaultKind
 bytes_said (name ∷ hex ∷ []) = do
   bytes ← hex_said hex
   name ← name_said name
-  Ok (said.SetBytes name bytes)
+  Ok (said.Local (local.Bytes name bytes))
 bytes_said _ = Err kind.WrongCount
 
--- `send PEER NAME`
-abbrev pub send_said : List (List ℕ) → Result Said FaultKind
-send_said (peer ∷ name ∷ []) = do
-  peer ← number_said peer
+-- `ints NAME V ..` and `longs NAME V ..`
+abbrev pub values_named : Ty → List ℕ → List (List ℕ) → Result Said FaultKind
+values_named type name values = do
+  bytes ← values_said type [] values
   name ← name_said name
-  Ok (said.SendTo peer name)
-send_said _ = Err kind.WrongCount
+  Ok (said.Local (local.Bytes name bytes))
 
--- `recv PEER NAME LEN`
-abbrev pub recv_said : List (List ℕ) → Result Said FaultKind
-recv_said (peer ∷ name ∷ len ∷ []) = do
-  peer ← number_said peer
+abbrev pub numbers_said : Ty → List (List ℕ) → Result Said FaultKind
+numbers_said type [] = Err kind.WrongCount
+numbers_said type (name ∷ values) = if length values == 0 then Err kind.WrongCount else values_named type name values
+
+-- `fill NAME LEN START`
+abbrev pub fill_words : List ℕ → List ℕ → List ℕ → Result Said FaultKind
+fill_words name len start = do
   len ← number_said len
+  start ← range_said 0 65535 start
   name ← name_said name
-  Ok (said.RecvFrom peer name len)
-recv_said _ = Err kind.WrongCount
+  Ok (said.Local (local.Fill name len start))
 
--- `print NAME`
-abbrev pub print_said : List (List ℕ) → Result Said FaultKind
-print_said (name ∷ []) = do
+abbrev pub fill_said : List (List ℕ) → Result Said FaultKind
+fill_said (name ∷ len ∷ start ∷ []) = fill_words name len start
+fill_said _ = Err kind.WrongCount
+
+-- `rank NAME TYPE`
+abbrev pub rank_of_said : List (List ℕ) → Result Said FaultKind
+rank_of_said (name ∷ type ∷ []) = do
+  type ← type_said type
   name ← name_said name
-  Ok (said.PrintHex name)
+  Ok (said.Local (local.RankOf name type))
+rank_of_said _ = Err kind.WrongCount
+
+-- `apply OP TYPE DST SRC`
+abbrev pub apply_words : List ℕ → List ℕ → List ℕ → List ℕ → Result Said FaultKind
+apply_words operation type dst src = do
+  operation ← operation_said operation
+  type ← type_said type
+  dst ← name_said dst
+  src ← name_said src
+  Ok (said.Local (local.Apply operation type dst src))
+
+abbrev pub apply_said : List (List ℕ) → Result Said FaultKind
+apply_said (operation ∷ type ∷ dst ∷ src ∷ []) = apply_words operation type dst src
+apply_said _ = Err kind.WrongCount
+
+-- `print NAME` and `print TYPE NAME`
+abbrev pub hex_print_said : List ℕ → Result Said FaultKind
+hex_print_said name = do
+  name ← name_said name
+  Ok (said.Local (local.Print name form.Hex))
+
+abbrev pub typed_print_said : List ℕ → List ℕ → Result Said FaultKind
+typed_print_said type name = do
+  type ← type_said type
+  name ← name_said name
+  Ok (said.Local (local.Print name (form.Decimal type)))
+
+abbrev pub print_said : List (List ℕ) → Result Said FaultKind
+print_said (name ∷ []) = hex_print_said name
+print_said (type ∷ name ∷ []) = typed_print_said type name
 print_said _ = Err kind.WrongCount
 
--- what a line says that has these words behind its first one
-abbrev pub said_of : List ℕ → List (List ℕ) → Result Said FaultKind
-said_of first words =
-    if bytes_eq first (codes "ue") then ue_said words
-    else if bytes_eq first (codes "bytes") then bytes_said words
-    else if bytes_eq first (codes "send") then send_said words
-    else if bytes_eq first (codes "recv") then recv_said words
-    else if bytes_eq first (codes "print") then print_said words
+-- `send PEER NAME`
+abbrev pub send_words : List ℕ → List ℕ → Result Said FaultKind
+send_words peer name = do
+  peer ← peer_said peer
+  name ← name_said name
+  Ok (said.Message (message.Send peer name))
+
+abbrev pub send_said : List (List ℕ) → Result Said FaultKind
+send_said (peer ∷ name ∷ []) = send_words peer name
+send_said _ = Err kind.WrongCount
+
+-- `post PEER NAME`
+abbrev pub post_words : List ℕ → List ℕ → Result Said FaultKind
+post_words peer name = do
+  peer ← peer_said peer
+  name ← name_said name
+  Ok (said.Message (message.Post peer name))
+
+abbrev pub post_said : List (List ℕ) → Result Said FaultKind
+post_said (peer ∷ name ∷ []) = post_words peer name
+post_said _ = Err kind.WrongCount
+
+-- `recv PEER NAME LEN`
+abbrev pub recv_words : List ℕ → List ℕ → List ℕ → Result Said FaultKind
+recv_words peer name len = do
+  peer ← peer_said peer
+  len ← number_said len
+  name ← name_said name
+  Ok (said.Message (message.Recv peer name len))
+
+abbrev pub recv_said : List (List ℕ) → Result Said FaultKind
+recv_said (peer ∷ name ∷ len ∷ []) = recv_words peer name len
+recv_said _ = Err kind.WrongCount
+
+-- `barrier` and `barrier COMM`
+abbrev pub barrier_said : List (List ℕ) → Result Said FaultKind
+barrier_said [] = Ok (said.Collective (group.Barrier 0))
+barrier_said (comm ∷ []) = do
+  comm ← number_said comm
+  Ok (said.Collective (group.Barrier comm))
+barrier_said _ = Err kind.WrongCount
+
+-- `split COMM mod K` and `split COMM div K`
+abbrev pub world_split_said : List ℕ → List ℕ → List ℕ → Result Said FaultKind
+world_split_said comm how parts = do
+  how ← colour_said how
+  comm ← number_said comm
+  parts ← range_said 1 48 parts
+  Ok (said.Collective (group.Split comm 0 how parts))
+
+-- `split COMM of PARENT mod K` and `split COMM of PARENT div K`
+abbrev pub parent_split_said : List ℕ → List ℕ → List ℕ → List ℕ → List ℕ → Result Said FaultKind
+parent_split_said comm of parent how parts = do
+  named ← of_said of
+  how ← colour_said how
+  comm ← number_said comm
+  parent ← number_said parent
+  parts ← range_said 1 48 parts
+  Ok (said.Collective (group.Split comm parent how parts))
+
+-- version 1 has splits of the world alone
+abbrev pub split_said : Version → List (List ℕ) → Result Said FaultKind
+split_said version (comm ∷ how ∷ parts ∷ []) = world_split_said comm how parts
+split_said version.Two (comm ∷ of ∷ parent ∷ how ∷ parts ∷ []) = parent_split_said comm of parent how parts
+split_said version _ = Err kind.WrongCount
+
+-- `bcast COMM ROOT NAME LEN`
+abbrev pub bcast_words : List ℕ → List ℕ → List ℕ → List ℕ → Result Said FaultKind
+bcast_words comm root name len = do
+  comm ← number_said comm
+  root ← number_said root
+  len ← number_said len
+  name ← name_said name
+  Ok (said.Collective (group.Bcast comm root name len))
+
+abbrev pub bcast_said : List (List ℕ) → Result Said FaultKind
+bcast_said (comm ∷ root ∷ name ∷ len ∷ []) = bcast_words comm root name len
+bcast_said _ = Err kind.WrongCount
+
+-- `reduce COMM ROOT OP TYPE DST SRC`
+abbrev pub reduce_words : List ℕ → List ℕ → List ℕ → List ℕ → List ℕ → List ℕ → Result Said FaultKind
+reduce_words comm root operation type dst src = do
+  operation ← operation_said operation
+  type ← type_said type
+  comm ← number_said comm
+  root ← number_said root
+  dst ← name_said dst
+  src ← name_said src
+  Ok (said.Collective (group.Reduce comm root operation type dst src))
+
+abbrev pub reduce_said : List (List ℕ) → Result Said FaultKind
+reduce_said (comm ∷ root ∷ operation ∷ type ∷ dst ∷ src ∷ []) = reduce_words comm root operation type dst src
+reduce_said _ = Err kind.WrongCount
+
+-- `allreduce COMM OP TYPE DST SRC`
+abbrev pub allreduce_words : List ℕ → List ℕ → List ℕ → List ℕ → List ℕ → Result Said FaultKind
+allreduce_words comm operation type dst src = do
+  operation ← operation_said operation
+  type ← type_said type
+  comm ← number_said comm
+  dst ← name_said dst
+  src ← name_said src
+  Ok (said.Collective (group.Allreduce comm operation type dst src))
+
+abbrev pub allreduce_said : List (List ℕ) → Result Said FaultKind
+allreduce_said (comm ∷ operation ∷ type ∷ dst ∷ src ∷ []) = allreduce_words comm operation type dst src
+allreduce_said _ = Err kind.WrongCount
+
+-- `repeat N`
+abbrev pub repeat_said : List (List ℕ) → Result Said FaultKind
+repeat_said (times ∷ []) = do
+  times ← range_said 1 100000 times
+  Ok (said.Repeat times)
+repeat_said _ = Err kind.WrongCount
+
+-- the number of a version of the language
+abbrev pub version_number : Version → ℕ
+version_number version.One = 1
+version_number version.Two = 2
+
+-- `rcce N`, with the number of the version
+abbrev pub rcce_said : Version → List (List ℕ) → Result Said FaultKind
+rcce_said version (number ∷ []) = do
+  number ← range_said (version_number version) (version_number version) number
+  Ok said.Version
+rcce_said version _ = Err kind.WrongCount
+
+-- a section line, by its first word
+abbrev pub section_said : List ℕ → List (List ℕ) → Result Said FaultKind
+section_said first words =
+    if bytes_eq first (codes "all") then alone (said.Section section.All) words
+    else if bytes_eq first (codes "even") then alone (said.Section section.Even) words
+    else if bytes_eq first (codes "odd") then alone (said.Section section.Odd) words
+    else if bytes_eq first (codes "ue") then ue_said words
+    else if bytes_eq first (codes "repeat") then repeat_said words
+    else if bytes_eq first (codes "end") then alone said.End words
     else Err kind.UnknownStatement
+
+-- a statement of the groups of a communicator, by its first word, or else a section line or a repeat
+abbrev pub group_said : Version → List ℕ → List (List ℕ) → Result Said FaultKind
+group_said version first words =
+    if bytes_eq first (codes "barrier") then barrier_said words
+    else if bytes_eq first (codes "split") then split_said version words
+    else if bytes_eq first (codes "bcast") then bcast_said words
+    else if bytes_eq first (codes "reduce") then reduce_said words
+    else if bytes_eq first (codes "allreduce") then allreduce_said words
+    else section_said first words
+
+-- a statement of registers, by its first word, or else another line
+abbrev pub register_said : Version → List ℕ → List (List ℕ) → Result Said FaultKind
+register_said version first words =
+    if bytes_eq first (codes "bytes") then bytes_said words
+    else if bytes_eq first (codes "ints") then numbers_said ty.Int words
+    else if bytes_eq first (codes "longs") then numbers_said ty.Long words
+    else if bytes_eq first (codes "fill") then fill_said words
+    else if bytes_eq first (codes "rank") then rank_of_said words
+    else if bytes_eq first (codes "apply") then apply_said words
+    else if bytes_eq first (codes "print") then print_said words
+    else group_said version first words
+
+-- what a line says that has these words behind its first one. `opening` is whether no line before it has words: `rcce`
+-- stands there alone
+abbrev pub said_of : Version → Bool → List ℕ → List (List ℕ) → Result Said FaultKind
+said_of version opening first words =
+    if bytes_eq first (codes "send") then send_said words
+    else if bytes_eq first (codes "post") then post_said words
+    else if bytes_eq first (codes "recv") then recv_said words
+    else if opening && bytes_eq first (codes "rcce") then rcce_said version words
+    else register_said version first words

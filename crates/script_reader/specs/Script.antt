@@ -1,4 +1,7 @@
-use Rattle.std.specs.Prelude.{ℕ, ◌≤◌, Bool, ◌&&◌, nat_le, List, length, All}
+use Rattle.std.specs.Prelude.{ℕ, ◌+◌, ◌-◌, ◌%◌, ◌≤◌, ◌==◌, Bool, true, ◌&&◌, nat_le, if◌then◌else◌, List, [], ◌∷◌, length, map}
+use Rattle.std.specs.List.{range_with_len}
+use Rattle.scc_base.specs.declared.communicators.CommRule.{CommRule}
+use Rattle.scc_base.specs.declared.communicators.CommRule.TheVariants as rule
 use Rattle.script_reader.specs.declared.script.Item.{Item}
 use Rattle.script_reader.specs.declared.script.Peer.{Peer}
 use Rattle.script_reader.specs.declared.script.Peer.TheVariants as peer
@@ -16,21 +19,42 @@ pub record Script : Type 0 where
 
 -- whether a section is one of this rank
 abbrev pub has_rank : Who → ℕ → Bool
+has_rank who.All rank = true
+has_rank who.Even rank = rank % 2 == 0
+has_rank who.Odd rank = rank % 2 == 1
 has_rank (who.Span first last) rank = nat_le first rank && nat_le rank last
 
--- the rank that a statement of the rank `caller` names as the other one of its message
-abbrev pub peer_of : Peer → ℕ → ℕ
-peer_of (peer.Abs rank) caller = rank
+-- the rank that a statement of the rank `caller` names as the other one of its message, in a run of `nue` ranks
+abbrev pub peer_of : ℕ → Peer → ℕ → ℕ
+peer_of nue (peer.Abs rank) caller = rank
+peer_of nue (peer.Plus up) caller = (caller + up) % nue
+peer_of nue (peer.Minus down) caller = (caller + (nue - down % nue)) % nue
+
+-- the rule by which a statement splits a communicator, if it does
+abbrev pub split_rule : Stmt → ℕ → CommRule
+split_rule (stmt.Split split by) comm = if split == comm then by else rule.Absent
+split_rule _ comm = rule.Absent
+
+-- the first of two rules
+abbrev pub or_rule : CommRule → CommRule → CommRule
+or_rule rule.Absent next = next
+or_rule rule.World next = rule.World
+or_rule (rule.Mod parent k) next = rule.Mod parent k
+or_rule (rule.Div parent k) next = rule.Div parent k
+
+-- the rule of the first split of a communicator
+abbrev pub first_split : List Item → ℕ → CommRule
+first_split [] comm = rule.Absent
+first_split (item ∷ items) comm = or_rule (split_rule item.stmt comm) (first_split items comm)
+
+-- the rules of the sixteen communicators: communicator 0 is the world, and each other one has the rule of its first split
+abbrev pub rules_of : List Item → List CommRule
+rules_of items = rule.World ∷ map (first_split items) (range_with_len 1 15)
 
 -- a length that the statement sets is at most 65,536, the most that a message has (this project's profile)
 abbrev pub IsSized : Stmt → Type 0
 IsSized (stmt.Bytes reg bytes) = length bytes ≤ 65536
-IsSized (stmt.Send peer reg) = Unit {0}
+IsSized (stmt.Fill reg len start) = len ≤ 65536
 IsSized (stmt.Recv peer reg len) = len ≤ 65536
-IsSized (stmt.Print reg form) = Unit {0}
-
--- what is true of each script that was read
-pub record IsWhole (nue : ℕ) (items : List Item) : Type 0 where
-  pub some : 1 ≤ nue
-  pub most : nue ≤ 48
-  pub sized : All (λ item. IsSized item.stmt) items
+IsSized (stmt.Bcast comm root reg len) = len ≤ 65536
+IsSized _ = Unit {0}

@@ -1,8 +1,12 @@
 -- The first layer of the grammar: lines, words, numbers, names and bytes (this project's profile).
-use Rattle.std.specs.Prelude.{ℕ, ◌+◌, ◌-◌, ◌*◌, ◌==◌, ◌&&◌, ◌||◌, nat_le, not, Bool, if◌then◌else◌, List, [], ◌∷◌, length, slice_index, filter, codes, Option, Some, None}
+use Rattle.std.specs.Prelude.{ℕ, ◌+◌, ◌-◌, ◌*◌, ◌^◌, ◌%◌, ◌==◌, ◌&&◌, ◌||◌, nat_le, not, Bool, if◌then◌else◌, List, [], ◌∷◌, length, drop, slice_index, slice_get, filter, codes, Option, Some, None}
+use Rattle.std.specs.Int.{w32, w64, to_le_bytes}
 use Rattle.std.specs.List.{before_first, list_all, slice_split}
+use Rattle.std.specs.Option.{option_map}
 use Rattle.std.specs.Result.{result_ok}
 use Rattle.std.specs.Str.{bytes_eq}
+use Rattle.groups.specs.declared.operations.Ty.{Ty}
+use Rattle.groups.specs.declared.operations.Ty.TheVariants as ty
 use Rattle.hex.specs.Hex.{decode_of}
 
 -- a tab, a carriage return or a space
@@ -13,9 +17,17 @@ is_blank b = b == 9 || b == 13 || b == 32
 abbrev pub is_text_byte : ℕ → Bool
 is_text_byte b = b == 9 || b == 10 || b == 13 || nat_le 32 b && nat_le b 126
 
--- the lines of a file: the parts between the line feeds. After a last line feed stands one more, empty, line, which says nothing
+-- the parts of a file between its line feeds
 abbrev pub lines_of : List ℕ → List (List ℕ)
 lines_of bytes = slice_split (λ b. b == 10) bytes
+
+-- the number of lines: the last one may lack its line feed, and after a last line feed there is no line more
+abbrev pub lines_before : List (List ℕ) → ℕ → Option (List ℕ) → ℕ
+lines_before lines others None = 0
+lines_before lines others (Some last) = if length last == 0 then others else length lines
+
+abbrev pub line_count : List (List ℕ) → ℕ
+line_count lines = lines_before lines (length lines - 1) (slice_get lines (length lines - 1))
 
 -- a line up to its first `#`
 abbrev pub uncommented : List ℕ → List ℕ
@@ -32,14 +44,39 @@ words_of line = filter (λ word. not (length word == 0)) (slice_split is_blank (
 abbrev pub is_digit : ℕ → Bool
 is_digit b = nat_le 48 b && nat_le b 57
 
--- the value of the decimal digits that follow those of the value `front`, as long as it is at most 4,294,967,295
-abbrev pub digits_value : ℕ → List ℕ → Option ℕ
-digits_value front [] = Some front
-digits_value front (b ∷ rest) = if is_digit b && nat_le (front * 10 + (b - 48)) 4294967295 then digits_value (front * 10 + (b - 48)) rest else None
+-- the value of the decimal digits that follow those of the value `front`, as long as it is at most `limit`
+abbrev pub digits_value : ℕ → ℕ → List ℕ → Option ℕ
+digits_value limit front [] = Some front
+digits_value limit front (b ∷ rest) = if is_digit b && nat_le (front * 10 + (b - 48)) limit then digits_value limit (front * 10 + (b - 48)) rest else None
 
--- a number: 1 to 10 decimal digits with a value of at most 4,294,967,295, leading zeros accepted
-abbrev pub number_of : List ℕ → Option ℕ
-number_of word = if nat_le 1 (length word) && nat_le (length word) 10 then digits_value 0 word else None
+-- one to so many decimal digits with a value of at most `limit`, leading zeros accepted
+abbrev pub decimal_of : ℕ → ℕ → List ℕ → Option ℕ
+decimal_of most limit word = if nat_le 1 (length word) && nat_le (length word) most then digits_value limit 0 word else None
+
+-- a number: 1 to 10 digits with a value of at most 4,294,967,295
+unfoldable pub number_of : List ℕ → Option ℕ
+number_of word = decimal_of 10 4294967295 word
+
+-- the greatest value of a type. The least one is one further below zero
+abbrev pub greatest : Ty → ℕ
+greatest ty.Int = 2147483647
+greatest ty.Long = 9223372036854775807
+
+-- the bytes of a value that is so far above zero, or so far below it: little-endian two's complement
+abbrev pub bytes_above : Ty → ℕ → List ℕ
+bytes_above ty.Int size = to_le_bytes w32 size
+bytes_above ty.Long size = to_le_bytes w64 size
+
+abbrev pub bytes_below : Ty → ℕ → List ℕ
+bytes_below ty.Int size = to_le_bytes w32 ((2 ^ 32 - size) % 2 ^ 32)
+bytes_below ty.Long size = to_le_bytes w64 ((2 ^ 64 - size) % 2 ^ 64)
+
+-- the bytes of a value: an optional `-` and 1 to 20 digits, within the type's range
+abbrev pub value_of_word : Ty → List ℕ → Option (List ℕ)
+value_of_word ty word =
+    if slice_index word 0 == 45
+    then option_map (bytes_below ty) (decimal_of 20 (greatest ty + 1) (drop 1 word))
+    else option_map (bytes_above ty) (decimal_of 20 (greatest ty) word)
 
 abbrev pub is_letter : ℕ → Bool
 is_letter b = nat_le 65 b && nat_le b 90 || nat_le 97 b && nat_le b 122

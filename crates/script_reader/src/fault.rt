@@ -5,8 +5,7 @@ ghost use Rattle.script_reader.specs.Faults.{kind_name};
 
 use std::alloc::{AllocError, AllocFailed};
 
-/// What is wrong in a line. In a line the checks go in this order, and the first that refuses counts. `NotBuilt`
-/// stands for all of them as long as the reader knows only a part of the language.
+/// What is wrong in a line. In a line the checks go in this order, and the first that refuses counts.
 #[derive(Clone, Copy, Debug, PartialEq, Eq)]
 pub enum FaultKind {
     NotText,
@@ -28,7 +27,6 @@ pub enum FaultKind {
     TooManyOps,
     TooLong,
     TooManyNames,
-    NotBuilt,
 }
 
 impl FaultKind {
@@ -56,7 +54,6 @@ impl FaultKind {
             FaultKind::TooManyOps => "TooManyOps",
             FaultKind::TooLong => "TooLong",
             FaultKind::TooManyNames => "TooManyNames",
-            FaultKind::NotBuilt => "NotBuilt",
         }
     }
 }

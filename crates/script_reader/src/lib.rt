@@ -2,19 +2,31 @@
 #![tactic(auto)]
 
 mod bytes;
+mod checks;
+mod ends;
 mod fault;
+mod laws;
 mod name;
 mod reader;
 mod reading;
+mod repeats;
+mod run;
 mod said;
+mod said_groups;
+mod said_locals;
 mod script;
+mod taking;
 mod tally;
 #[cfg(test)]
 mod tests;
+mod version;
 mod words;
 
 pub use bytes::Bytes;
+pub use checks::RankCheck;
 pub use fault::{FaultKind, ReadFault, ReadStop};
+pub use laws::version_law;
 pub use reading::read_script;
 pub use script::{Form, Item, Peer, Scripts, Stmt, Who};
+pub use version::Version;
 pub use words::number;

@@ -1,30 +1,32 @@
 //! The name of a register.
 
-ghost use Rattle.std.specs.Prelude.{◌≡◌, IfOk};
+ghost use Rattle.std.specs.Prelude.{◌≡◌, ◌≤◌, length};
 
-use std::alloc::{AllocError, Global};
+use arrayvec::ArrayString;
 use std::marker::Model;
 
-/// The name of a register, seen as its bytes.
+/// The name of a register, seen as its bytes. It takes no memory.
 #[derive(Debug, Drop)]
 pub(crate) struct Name {
-    text: String,
+    text: ArrayString<16>,
 }
 
 impl Model for Name {
-    ghost use Rattle.std.specs.Prelude.{List, ℕ, string_bytes};
+    ghost use Rattle.std.specs.Prelude.{List, ℕ};
 
     ghost Value = { List ℕ };
 
-    ghost view = { λ n. string_bytes n.text };
+    ghost view = { λ n. n.text.bytes };
 }
 
 impl Name {
-    pub(crate) fn new(alloc: Global, text: &str) -> Result<Name, AllocError>
-        ensures { IfOk result (λ n. n ≡ text.now) }
+    pub(crate) fn new(text: &str) -> Name
+        requires { length text.now ≤ 16 }
+        ensures { result ≡ text.now }
     {
-        let text = String::from_str(alloc, text)?;
-        Ok(Name { text })
+        let mut name = ArrayString::new();
+        name.push_str(text);
+        Name { text: name }
     }
 
     pub(crate) fn as_str(&self) -> &str

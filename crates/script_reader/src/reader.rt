@@ -1,34 +1,41 @@
 //! The lines so far, and what a line adds to them.
 
+use crate::checks::{RankCheck, has_no_parent, is_too_long, is_unknown, refuses_by};
+use crate::ends::tell_ends;
 use crate::fault::{FaultKind, LineStop};
 use crate::name::Name;
-use crate::said::Said;
-use crate::script::{Form, Item, Peer, Scripts, Stmt, Who};
-use crate::tally::{MOST_OPERATIONS, MOST_PRINTED, Tally, no_tallies, note_item};
-use scc_base::Rank;
+use crate::repeats::{
+    MOST_OPEN, Open, innermost, is_stray, is_too_deep, note_repeat, turns_in, turns_too_often,
+};
+use crate::run::Run;
+use crate::script::{Item, Scripts, Stmt, Who, rules_of};
+use crate::tally::{Tally, no_tallies, note_item};
+use crate::version::Version;
+use arrayvec::ArrayVec;
 use std::alloc::{AllocError, Global};
 use std::marker::Model;
 
 /// How many names a file may have.
 const MOST_NAMES: usize = 64;
 
-/// A check that holds where it holds for at least one rank of the section.
-#[derive(Clone, Copy, Debug, PartialEq, Eq)]
-pub(crate) enum RankCheck {
-    SelfMessage,
-    Unset,
-    Shape,
-    TooManyOps,
-    TooLong,
+/// Two registers of a statement.
+#[derive(Clone, Copy, Debug)]
+pub(crate) struct Pair {
+    pub(crate) dst: u8,
+    pub(crate) src: u8,
 }
 
-/// The statements, the names and the section that the lines so far have given.
-#[derive(Debug, Drop)]
+/// The statements, the names and the section that the lines so far have given, with what is kept of the statements.
+#[derive(Drop)]
 pub(crate) struct Reader {
+    version: Version,
     nue: u8,
+    opening: bool,
     items: Vec<Item>,
     names: Vec<Name>,
     section: Option<Who>,
+    run: Run,
+    repeats: ArrayVec<Open, MOST_OPEN>,
     tallies: Vec<Tally>,
 }
 
@@ -38,160 +45,130 @@ impl Model for Reader {
 
     ghost Value = { Progress };
 
-    ghost view = { λ r. record { nue = r.nue; items = r.items.items; names = r.names.items; section = r.section } };
+    ghost view = { λ r. record {
+      version = r.version;
+      nue = r.nue;
+      opening = r.opening;
+      items = r.items.items;
+      names = r.names.items;
+      section = r.section;
+    } };
 
-    ghost invariant = { λ r. IsKept r.nue r.items.items r.names.items r.tallies.items };
+    ghost invariant = { λ r. IsKept r.version r.nue r.items.items r.run r.repeats.items r.tallies.items };
 }
 
 impl Reader {
-    ghost use Rattle.std.specs.Prelude.{◌≡◌, ◌+◌, ◌<◌, ◌≤◌, ◌&&◌, IfOk, MatchResult, OnOk, [], ◌∷◌, ◌++◌, length, min};
-    ghost use Rattle.script_reader.specs.Checks.{differs, has_too_many_operations, is_misshapen, is_to_self, is_too_long, is_unset, length_at, operations, printed, prints, prints_too_much, some_below, some_rank, refuses};
+    ghost use Rattle.std.specs.Prelude.{◌≡◌, ◌+◌, ◌^◌, ◌<◌, ◌≤◌, ◌==◌, ◌&&◌, ◌++◌, ◌∷◌, [], false, IfNone, IfOk, MatchResult, OnOk, length};
+    ghost use Rattle.script_reader.specs.Checks.{has_no_parent, innermost, is_unknown, last_comm, open_of, refuses, run_of, some_below};
     ghost use Rattle.script_reader.specs.Faults.{LineGives};
-    ghost use Rattle.script_reader.specs.Progress.{after, checked, checked_in, open_section, place, rank_said, register_of, start, with_name};
+    ghost use Rattle.script_reader.specs.Progress.{checked, checked_in, fault_before, group_fault, is_refused, named, open_section, past, place, register_fault, register_of, start};
+    ghost use Rattle.script_reader.specs.Settled.{HasCommsTo};
     ghost use Rattle.script_reader.specs.Reading.{script_of};
     ghost use Rattle.script_reader.specs.Script.{IsSized, has_rank};
-    ghost use Rattle.script_reader.specs.Tally.{register_in};
+    ghost use Rattle.script_reader.specs.Tally.{IsAddable, IsAddressed, IsKnown, IsMade, IsShaped, IsUpTo, pair_of};
 
     /// Before the first line.
-    pub(crate) fn new(alloc: Global, nue: u8) -> Result<Reader, AllocError>
+    pub(crate) fn new(alloc: Global, version: Version, nue: u8) -> Result<Reader, AllocError>
         requires some { 1 ≤ nue }
         requires most { nue ≤ 48 }
-        ensures { IfOk result (λ r. r ≡ start nue) }
+        ensures { IfOk result (λ r. r ≡ start version nue) }
     {
-        let tallies = no_tallies(alloc)?;
+        let tallies = no_tallies(alloc, nue)?;
         Ok(Reader {
+            version,
             nue,
+            opening: true,
             items: Vec::new(alloc),
             names: Vec::new(alloc),
             section: None,
+            run: Run::new(nue, rules_of(&[])),
+            repeats: ArrayVec::new(),
             tallies,
         })
     }
 
     /// What was read, as a script.
     pub(crate) fn finish(self) -> Scripts
-        ensures { result ≡ script_of self }
+        requires { length self.items < 2 ^ 32 }
+        ensures same { result ≡ script_of self }
+        ensures low { HasCommsTo (last_comm self.version) result }
     {
         let Reader {
+            version: _,
             nue,
-            items,
+            opening: _,
+            mut items,
             names,
             section: _,
+            run: _,
+            repeats: _,
             tallies: _,
         } = self;
+        tell_ends(&mut items);
         Scripts::new(nue, items, names)
     }
 
-    /// The length of a register of a rank, if the rank has set it.
-    fn length_at(&self, rank: u8, reg: u8) -> Option<u64>
-        requires rank { rank < 48 }
-        requires register { reg < 65 }
-        ensures { result ≡ length_at self.now.items rank reg }
+    pub(crate) fn version(&self) -> Version
+        ensures { result ≡ self.now.version }
     {
-        self.tallies[rank as usize].length(reg)
+        self.version
     }
 
-    /// How many operations a rank has, up to one more than is allowed.
-    fn operations(&self, rank: u8) -> u64
-        requires { rank < 48 }
-        ensures { result ≡ min (operations self.now.items rank) 100001 }
+    pub(crate) fn nue(&self) -> u8
+        ensures same { result ≡ self.now.nue }
+        ensures some { 1 ≤ result }
+        ensures most { result ≤ 48 }
     {
-        self.tallies[rank as usize].operations
+        self.nue
     }
 
-    /// How many register bytes a rank has printed, up to one more than is allowed.
-    fn printed(&self, rank: u8) -> u64
-        requires { rank < 48 }
-        ensures { result ≡ min (printed self.now.items rank) 1048577 }
+    /// Whether no line has had words yet.
+    pub(crate) fn is_opening(&self) -> bool
+        ensures { result ≡ self.now.opening }
     {
-        self.tallies[rank as usize].printed
+        self.opening
     }
 
-    fn is_unset(&self, stmt: &Stmt, rank: u8) -> bool
-        requires rank { rank < 48 }
-        requires register { register_in stmt.now < 65 }
-        ensures { result ≡ is_unset self.now.items stmt.now rank }
+    /// Notes that a line has words.
+    pub(crate) fn begin(&mut self)
+        ensures { self.new ≡ record self.old { opening = false } }
     {
-        match stmt {
-            Stmt::Send { reg, .. } | Stmt::Print { reg, .. } => {
-                self.length_at(rank, *reg).is_none()
-            }
-            Stmt::Bytes { .. } | Stmt::Recv { .. } => false,
-        }
+        self.opening = false;
     }
 
-    /// Whether a register has another length than this one.
-    fn differs(&self, rank: u8, reg: u8, len: u64) -> bool
-        requires rank { rank < 48 }
-        requires register { reg < 65 }
-        ensures { result ≡ differs (length_at self.now.items rank reg) len }
+    /// Whether no repeat is open.
+    pub(crate) fn is_closed(&self) -> bool
+        ensures { result ≡ (length (open_of (past self.now)) == 0) }
     {
-        match self.length_at(rank, reg) {
-            Some(had) => had != len,
-            None => false,
-        }
+        self.repeats.is_empty()
     }
 
-    fn is_misshapen(&self, stmt: &Stmt, rank: u8) -> bool
-        requires rank { rank < 48 }
-        requires register { register_in stmt.now < 65 }
-        ensures { result ≡ is_misshapen self.now.items stmt.now rank }
+    /// The place of the innermost open repeat.
+    pub(crate) fn innermost(&self) -> u32
+        ensures { result ≡ innermost (open_of (past self.now)) }
     {
-        match stmt {
-            Stmt::Bytes { reg, bytes } => {
-                self.differs(rank, *reg, bytes.as_slice().len() as u64)
-            }
-            Stmt::Recv { reg, len, .. } => self.differs(rank, *reg, *len as u64),
-            Stmt::Send { .. } | Stmt::Print { .. } => false,
-        }
-    }
-
-    fn has_too_many_operations(&self, rank: u8) -> bool
-        requires { rank < 48 }
-        ensures { result ≡ has_too_many_operations self.now.items rank }
-    {
-        self.operations(rank) + 1 > MOST_OPERATIONS
-    }
-
-    /// How many register bytes a statement of a rank prints.
-    fn prints(&self, stmt: &Stmt, rank: u8) -> u64
-        requires rank { rank < 48 }
-        requires register { register_in stmt.now < 65 }
-        ensures { result ≡ prints self.now.items stmt.now rank }
-    {
-        match stmt {
-            Stmt::Print { reg, .. } => self.length_at(rank, *reg).unwrap_or(0),
-            _ => 0,
-        }
-    }
-
-    fn prints_too_much(&self, stmt: &Stmt, rank: u8) -> bool
-        requires rank { rank < 48 }
-        requires register { register_in stmt.now < 65 }
-        ensures { result ≡ prints_too_much self.now.items stmt.now rank }
-    {
-        self.printed(rank).saturating_add(self.prints(stmt, rank)) > MOST_PRINTED
+        innermost(self.repeats.as_slice())
     }
 
     /// Whether the check refuses the statement for a rank.
     fn refuses(&self, check: RankCheck, stmt: &Stmt, rank: u8) -> bool
-        requires rank { rank < 48 }
-        requires register { register_in stmt.now < 65 }
-        ensures { result ≡ refuses check self.now.items stmt.now rank }
+        requires { rank < self.now.nue }
+        ensures { result ≡ refuses check self.now.nue (past self.now) stmt.now rank }
     {
-        match check {
-            RankCheck::SelfMessage => is_to_self(stmt, rank),
-            RankCheck::Unset => self.is_unset(stmt, rank),
-            RankCheck::Shape => self.is_misshapen(stmt, rank),
-            RankCheck::TooManyOps => self.has_too_many_operations(rank),
-            RankCheck::TooLong => self.prints_too_much(stmt, rank),
-        }
+        let turns = turns_in(self.repeats.as_slice());
+        refuses_by(
+            check,
+            &self.run,
+            &self.tallies[rank as usize],
+            turns,
+            stmt,
+            rank,
+        )
     }
 
     /// Whether the check refuses the statement for some of these ranks.
-    fn some_rank_of(&self, who: &Who, check: RankCheck, stmt: &Stmt) -> bool
-        requires { register_in stmt.now < 65 }
-        ensures { result ≡ some_below self.now.nue (λ rank. has_rank who.now rank && refuses check self.now.items stmt.now rank) }
+    fn is_refused_by(&self, who: &Who, check: RankCheck, stmt: &Stmt) -> bool
+        ensures { result ≡ some_below self.now.nue (λ rank. has_rank who.now rank && refuses check self.now.nue (past self.now) stmt.now rank) }
     {
         for rank in 0..self.nue {
             if who.has(rank) && self.refuses(check, stmt, rank) {
@@ -202,169 +179,204 @@ impl Reader {
     }
 
     /// Whether the check refuses the statement for some rank of the section.
-    fn some_rank(&self, check: RankCheck, stmt: &Stmt) -> bool
-        requires { register_in stmt.now < 65 }
-        ensures { result ≡ some_rank self.now.nue self.now.section (refuses check self.now.items stmt.now) }
+    fn is_refused(&self, check: RankCheck, stmt: &Stmt) -> bool
+        ensures { result ≡ is_refused check self.now stmt.now }
     {
         match &self.section {
-            Some(who) => self.some_rank_of(who, check, stmt),
+            Some(who) => self.is_refused_by(who, check, stmt),
             None => false,
         }
     }
 
     /// The checks that come once a section is open.
-    fn checked_in(&self, who: &Who, names: usize, stmt: &Stmt) -> Result<Who, FaultKind>
-        requires { register_in stmt.now < 65 }
-        ensures same { result ≡ checked_in self.now names stmt.now (Some who.now) }
-        ensures sized { OnOk result (IsSized stmt.now) }
-        ensures named { OnOk result (names ≤ 64) }
+    fn checked_in(&self, who: &Who, stmt: &Stmt) -> Result<Who, FaultKind>
+        ensures same { result ≡ checked_in self.now stmt.now (Some who.now) }
+        ensures copied { IfOk result (λ copy. copy ≡ who.now) }
+        ensures addable { OnOk result (IsAddable self.now stmt.now) }
     {
-        if self.some_rank(RankCheck::TooManyOps, stmt) {
+        let turns = turns_in(self.repeats.as_slice());
+        if is_stray(self.repeats.as_slice(), stmt) {
+            return Err(FaultKind::StrayEnd);
+        }
+        if is_too_deep(self.repeats.as_slice(), stmt) {
+            return Err(FaultKind::TooDeep);
+        }
+        if turns_too_often(turns, stmt) || self.is_refused(RankCheck::TooManyOps, stmt) {
             return Err(FaultKind::TooManyOps);
         }
-        if is_too_long(stmt) || self.some_rank(RankCheck::TooLong, stmt) {
+        if is_too_long(stmt) || self.is_refused(RankCheck::TooLong, stmt) {
             return Err(FaultKind::TooLong);
         }
-        if names > MOST_NAMES {
+        if self.names.len() > MOST_NAMES {
             return Err(FaultKind::TooManyNames);
         }
         Ok(who.copy())
     }
 
-    /// The section of a statement behind the lines so far, or the first check that refuses it. `names` is how many
-    /// names the file then has.
-    fn checked(&self, names: usize, stmt: &Stmt) -> Result<Who, FaultKind>
-        requires { register_in stmt.now < 65 }
-        ensures same { result ≡ checked self.now names stmt.now }
-        ensures sized { OnOk result (IsSized stmt.now) }
-        ensures named { OnOk result (names ≤ 64) }
+    /// The first of the checks that come before it is asked whether a section is open.
+    fn fault_before(&self, stmt: &Stmt) -> Option<FaultKind>
+        ensures same { result ≡ fault_before self.now stmt.now }
+        ensures known { IfNone result (IsKnown self.now stmt.now) }
+        ensures shaped { IfNone result (IsShaped self.now stmt.now) }
+        ensures addressed { IfNone result (IsAddressed self.now stmt.now) }
     {
-        if self.some_rank(RankCheck::SelfMessage, stmt) {
-            return Err(FaultKind::SelfMessage);
+        if self.is_refused(RankCheck::RootRange, stmt) {
+            return Some(FaultKind::RankRange);
         }
-        if self.some_rank(RankCheck::Unset, stmt) {
-            return Err(FaultKind::Unset);
+        if self.is_refused(RankCheck::SelfMessage, stmt) {
+            return Some(FaultKind::SelfMessage);
         }
-        if self.some_rank(RankCheck::Shape, stmt) {
-            return Err(FaultKind::Shape);
+        self.group_fault(stmt)
+    }
+
+    /// Whether the statement names a communicator that it may not name.
+    fn is_unknown(&self, stmt: &Stmt) -> bool
+        ensures { result ≡ is_unknown self.now.version (run_of self.now.nue (past self.now)) stmt.now }
+    {
+        is_unknown(self.version, &self.run, stmt)
+    }
+
+    /// Whether the statement splits a parent that no earlier line splits.
+    fn has_no_parent(&self, stmt: &Stmt) -> bool
+        ensures { result ≡ has_no_parent (run_of self.now.nue (past self.now)) stmt.now }
+    {
+        has_no_parent(&self.run, stmt)
+    }
+
+    /// The first of the checks of communicators, and then of registers.
+    fn group_fault(&self, stmt: &Stmt) -> Option<FaultKind>
+        ensures same { result ≡ group_fault self.now stmt.now }
+        ensures known { IfNone result (IsKnown self.now stmt.now) }
+        ensures shaped { IfNone result (IsShaped self.now stmt.now) }
+    {
+        if self.is_unknown(stmt) {
+            return Some(FaultKind::UnknownComm);
         }
-        match &self.section {
-            Some(who) => self.checked_in(who, names, stmt),
-            None => Err(FaultKind::NoSection),
+        if self.has_no_parent(stmt) || self.is_refused(RankCheck::NotSplit, stmt) {
+            return Some(FaultKind::NotSplit);
+        }
+        self.register_fault(stmt)
+    }
+
+    /// The first of the checks of registers.
+    fn register_fault(&self, stmt: &Stmt) -> Option<FaultKind>
+        ensures same { result ≡ register_fault self.now stmt.now }
+        ensures shaped { IfNone result (IsShaped self.now stmt.now) }
+    {
+        if self.is_refused(RankCheck::Unset, stmt) {
+            return Some(FaultKind::Unset);
+        }
+        if self.is_refused(RankCheck::Shape, stmt) {
+            return Some(FaultKind::Shape);
+        }
+        None
+    }
+
+    /// The section of a statement behind the lines so far, or the first check that refuses it.
+    fn checked(&self, stmt: &Stmt) -> Result<Who, FaultKind>
+        ensures same { result ≡ checked self.now stmt.now }
+        ensures addable { OnOk result (IsAddable self.now stmt.now) }
+        ensures known { OnOk result (IsKnown self.now stmt.now) }
+        ensures shaped { OnOk result (IsShaped self.now stmt.now) }
+        ensures addressed { OnOk result (IsAddressed self.now stmt.now) }
+        ensures opened { IfOk result (λ who. self.now.section ≡ Some who) }
+    {
+        match self.fault_before(stmt) {
+            Some(kind) => Err(kind),
+            None => match &self.section {
+                Some(who) => self.checked_in(who, stmt),
+                None => Err(FaultKind::NoSection),
+            },
         }
     }
 
-    /// The number of a register: the place of its name, or the next place for a new name.
-    fn register(&self, name: &Name) -> u8
-        ensures same { result ≡ register_of self.now.names name.now }
-        ensures within { result < 65 }
+    /// The number of a register: the place of its name, which is put behind the others where it is new.
+    pub(crate) fn register(&mut self, name: Name) -> Result<u8, AllocError>
+        requires { length self.old.names ≤ 65 }
+        ensures gives { IfOk result (λ reg. reg ≡ register_of self.old.names name) }
+        ensures named { OnOk result (self.new ≡ named self.old name) }
+        ensures more { OnOk result (length self.new.names ≤ length self.old.names + 1) }
     {
-        let place = place_of(&self.names, name);
-        place as u8
-    }
-
-    /// How many names the file has with this one.
-    fn names_with(&self, name: &Name) -> usize
-        ensures { result ≡ length (with_name self.now.names name.now) }
-    {
-        if place_of(&self.names, name) == self.names.len() {
-            self.names.len() + 1
-        } else {
-            self.names.len()
-        }
-    }
-
-    /// Puts a name among the others.
-    fn add_name(&mut self, name: Name) -> Result<(), AllocError>
-        requires { length (with_name self.old.names name) ≤ 64 }
-        ensures { OnOk result (self.new ≡ record self.old { names = with_name self.old.names name }) }
-    {
-        if place_of(&self.names, &name) == self.names.len() {
+        let place = place_of(&self.names, &name);
+        if place == self.names.len() {
             self.names.push(name)?;
         }
-        Ok(())
+        Ok(place as u8)
+    }
+
+    /// The numbers of two registers, of which the first is named first.
+    pub(crate) fn registers(&mut self, dst: Name, src: Name) -> Result<Pair, AllocError>
+        requires { length self.old.names ≤ 64 }
+        ensures gives { IfOk result (λ pair. pair ≡ pair_of self.old dst src) }
+        ensures named { OnOk result (self.new ≡ named (named self.old dst) src) }
+    {
+        let dst = self.register(dst)?;
+        let src = self.register(src)?;
+        Ok(Pair { dst, src })
     }
 
     /// Puts an item behind the others.
     fn add_item(&mut self, item: Item) -> Result<(), AllocError>
-        requires register { register_in item.stmt < 65 }
-        requires sized { IsSized item.stmt }
+        requires made { IsMade item.stmt }
+        requires addable { IsAddable self.old item.stmt }
+        requires known { IsKnown self.old item.stmt }
+        requires shaped { IsShaped self.old item.stmt }
+        requires addressed { IsAddressed self.old item.stmt }
+        requires opened { self.old.section ≡ Some item.who }
+        requires counted { length self.old.items < item.line }
         ensures { OnOk result (self.new ≡ record self.old { items = self.old.items ++ item ∷ [] }) }
     {
+        let turns = turns_in(self.repeats.as_slice());
+        let place = self.items.len();
+        let is_split = is_new_split(&self.run, &item.stmt);
         self.items.push(item)?;
-        let last = &self.items[self.items.len() - 1];
-        note_item(&mut self.tallies, last);
+        let last = &self.items[place];
+        note_item(&mut self.tallies, &self.run, turns, last);
+        note_repeat(&mut self.repeats, &last.stmt, place as u32);
+        if is_split {
+            self.run = Run::new(self.nue, rules_of(self.items.as_slice()));
+        }
         Ok(())
     }
 
     /// Puts a statement behind the others, unless a check refuses it.
-    fn place(&mut self, line: u32, name: Name, stmt: Stmt) -> Result<(), LineStop>
-        requires { register_in stmt < 65 }
-        ensures { LineGives (λ _. self.new) result (place line self.old (with_name self.old.names name) stmt) }
+    pub(crate) fn place(&mut self, line: u32, stmt: Stmt) -> Result<(), LineStop>
+        requires made { IsMade stmt }
+        requires counted { length self.old.items < line }
+        ensures gives { LineGives (λ _. self.new) result (place line self.old stmt) }
+        ensures kept { OnOk result (IsUpTo self.old.version line self.new) }
     {
-        let names = self.names_with(&name);
-        let who = self.checked(names, &stmt)?;
-        self.add_name(name)?;
+        let who = self.checked(&stmt)?;
         self.add_item(Item { line, who, stmt })?;
         Ok(())
     }
 
-    /// A number as a rank.
-    fn rank(&self, number: u32) -> Result<Rank, FaultKind>
-        ensures { result ≡ rank_said self.now.nue number }
+    /// Opens a section of these ranks.
+    pub(crate) fn open_section(&mut self, who: Who) -> Result<(), FaultKind>
+        ensures { MatchResult result (λ _. open_section self.old who ≡ Ok self.new) (λ kind. open_section self.old who ≡ Err kind) }
     {
-        if number >= self.nue as u32 {
-            return Err(FaultKind::RankRange);
+        if !self.is_closed() {
+            return Err(FaultKind::UnclosedRepeat);
         }
-        Rank::new(number as u8).ok_or(FaultKind::RankRange)
-    }
-
-    /// A section line.
-    fn open_section(&mut self, first: u32, last: u32) -> Result<(), FaultKind>
-        ensures { MatchResult result (λ _. open_section self.old first last ≡ Ok self.new) (λ kind. open_section self.old first last ≡ Err kind) }
-    {
-        let first = self.rank(first)?;
-        let last = self.rank(last)?;
-        if last.number() < first.number() {
-            return Err(FaultKind::RankRange);
-        }
-        self.section = Some(Who::Span(first, last));
+        self.section = Some(who);
         Ok(())
-    }
-
-    /// Takes in what a line says.
-    pub(crate) fn take(&mut self, line: u32, said: Said) -> Result<(), LineStop>
-        ensures { LineGives (λ _. self.new) result (after line self.old said) }
-    {
-        match said {
-            Said::Ranks { first, last } => Ok(self.open_section(first, last)?),
-            Said::SetBytes { name, bytes } => {
-                let reg = self.register(&name);
-                self.place(line, name, Stmt::Bytes { reg, bytes })
-            }
-            Said::SendTo { peer, name } => {
-                let peer = Peer::Abs(self.rank(peer)?);
-                let reg = self.register(&name);
-                self.place(line, name, Stmt::Send { peer, reg })
-            }
-            Said::RecvFrom { peer, name, len } => {
-                let peer = Peer::Abs(self.rank(peer)?);
-                let reg = self.register(&name);
-                self.place(line, name, Stmt::Recv { peer, reg, len })
-            }
-            Said::PrintHex { name } => {
-                let reg = self.register(&name);
-                let form = Form::Hex;
-                self.place(line, name, Stmt::Print { reg, form })
-            }
-        }
     }
 }
 
 ghost use Rattle.std.specs.Prelude.{◌≡◌, ◌≤◌, length};
 ghost use Rattle.std.specs.List.{position_or_len};
 ghost use Rattle.std.specs.Str.{bytes_eq};
-ghost use Rattle.script_reader.specs.Checks.{is_to_self, is_too_long};
+ghost use Rattle.script_reader.specs.Tally.{is_new_split};
+
+/// Whether a statement splits a communicator that has no rule yet.
+fn is_new_split(run: &Run, stmt: &Stmt) -> bool
+    ensures { result ≡ is_new_split run.now stmt.now }
+{
+    match stmt {
+        Stmt::Split { comm, .. } => !run.is_known(*comm),
+        _ => false,
+    }
+}
 
 /// The place of a name among others, or their number where it is none of them.
 fn place_of(names: &[Name], name: &Name) -> usize
@@ -375,27 +387,4 @@ fn place_of(names: &[Name], name: &Name) -> usize
         .iter()
         .position(|other| other.as_str() == name.as_str())
         .unwrap_or(names.len())
-}
-
-/// Whether a statement is a message of a rank to or from itself.
-fn is_to_self(stmt: &Stmt, rank: u8) -> bool
-    ensures { result ≡ is_to_self stmt.now rank }
-{
-    match stmt {
-        Stmt::Send { peer, .. } | Stmt::Recv { peer, .. } => match peer {
-            Peer::Abs(other) => other.number() == rank,
-        },
-        Stmt::Bytes { .. } | Stmt::Print { .. } => false,
-    }
-}
-
-/// Whether a length that the statement sets is more than a message has.
-fn is_too_long(stmt: &Stmt) -> bool
-    ensures { result ≡ is_too_long stmt.now }
-{
-    match stmt {
-        Stmt::Bytes { bytes, .. } => bytes.as_slice().len() > 65_536,
-        Stmt::Recv { len, .. } => *len > 65_536,
-        Stmt::Send { .. } | Stmt::Print { .. } => false,
-    }
 }

@@ -1,18 +1,62 @@
 //! What the lines of a file say, one after another.
 
-ghost use Rattle.std.specs.Prelude.{◌≡◌, ◌<◌, ◌≤◌, ◌^◌, length, map};
+ghost use Rattle.std.specs.Prelude.{◌≡◌, ◌<◌, ◌≤◌, ◌^◌, IfOk, OnOk, length, map};
 ghost use Rattle.script_reader.specs.Faults.{Gives, LineGives, stop_of};
-ghost use Rattle.script_reader.specs.Reading.{parse_script, read_file, read_line, read_lines, read_words};
+ghost use Rattle.script_reader.specs.Reading.{is_number, parse_script, read_all_lines, read_file, read_line, read_lines, read_words, says_two, version_of};
+ghost use Rattle.script_reader.specs.Tally.{IsUpTo};
+ghost use Rattle.script_reader.specs.Checks.{last_comm};
+ghost use Rattle.script_reader.specs.Settled.{HasCommsTo, SplitsWorldAlone};
+ghost use Rattle.script_reader.specs.declared.version.Version.TheVariants.{One};
+ghost use Rattle.script_reader.specs.Words.{lines_of};
 
 use crate::fault::{FaultKind, LineStop, ReadFault, ReadStop};
 use crate::reader::Reader;
 use crate::said::said_of;
 use crate::script::Scripts;
-use crate::words::{is_text, lines, words};
-use std::alloc::Global;
+use crate::taking::take;
+use crate::version::Version;
+use crate::words::{is_text, line_count, lines, number, words};
+use std::alloc::{AllocError, Global};
 
 /// The most bytes that a file may have.
 const MOST_BYTES: usize = 4_194_304;
+
+fn is_number(number: Option<u32>, wanted: u32) -> bool
+    ensures { result ≡ is_number number wanted }
+{
+    match number {
+        Some(number) => number == wanted,
+        None => false,
+    }
+}
+
+/// Whether the words are `rcce 2`.
+fn says_two(words: &[&[u8]]) -> bool
+    ensures { result ≡ says_two (map (λ word. word.now) words.now) }
+{
+    match words {
+        [first, second] => *first == b"rcce".as_slice() && is_number(number(second), 2),
+        _ => false,
+    }
+}
+
+/// The version of a file, by its first line that has words.
+fn version_of(alloc: Global, lines: &[&[u8]]) -> Result<Version, AllocError>
+    ensures { IfOk result (λ version. version ≡ version_of (map (λ line. line.now) lines.now)) }
+{
+    for line in lines {
+        let words = words(alloc, line)?;
+        if !words.is_empty() {
+            let version = if says_two(words.as_slice()) {
+                Version::Two
+            } else {
+                Version::One
+            };
+            return Ok(version);
+        }
+    }
+    Ok(Version::One)
+}
 
 fn read_words(
     alloc: Global,
@@ -20,19 +64,26 @@ fn read_words(
     number: u32,
     words: &[&[u8]],
 ) -> Result<(), LineStop>
-    ensures { LineGives (λ _. reader.new) result (read_words number reader.old (map (λ word. word.now) words.now)) }
+    requires few { length reader.old.names ≤ 64 }
+    requires counted { length reader.old.items < number }
+    ensures gives { LineGives (λ _. reader.new) result (read_words number reader.old (map (λ word. word.now) words.now)) }
+    ensures kept { OnOk result (IsUpTo reader.old.version number reader.new) }
 {
     match words {
         [] => Ok(()),
         [first, rest @ ..] => {
-            let said = said_of(alloc, first, rest)?;
-            reader.take(number, said)
+            let said = said_of(alloc, reader.version(), reader.is_opening(), first, rest)?;
+            reader.begin();
+            take(reader, number, said)
         }
     }
 }
 
 fn read_line(alloc: Global, reader: &mut Reader, number: u32, line: &[u8]) -> Result<(), LineStop>
-    ensures { LineGives (λ _. reader.new) result (read_line number reader.old line.now) }
+    requires few { length reader.old.names ≤ 64 }
+    requires counted { length reader.old.items < number }
+    ensures gives { LineGives (λ _. reader.new) result (read_line number reader.old line.now) }
+    ensures kept { OnOk result (IsUpTo reader.old.version number reader.new) }
 {
     if !is_text(line) {
         return Err(LineStop::Kind(FaultKind::NotText));
@@ -52,8 +103,12 @@ fn stop_at(line: u32, stop: LineStop) -> ReadStop
 }
 
 fn read_lines(alloc: Global, reader: &mut Reader, lines: &[&[u8]]) -> Result<(), ReadStop>
-    requires { length lines.now < 2 ^ 32 }
-    ensures { Gives (λ _. reader.new) result (read_lines 0 reader.old (map (λ line. line.now) lines.now)) }
+    requires few { length lines.now < 2 ^ 32 }
+    requires unnamed { length reader.old.names ≡ 0 }
+    requires empty { length reader.old.items ≡ 0 }
+    ensures gives { Gives (λ _. reader.new) result (read_lines 0 reader.old (map (λ line. line.now) lines.now)) }
+    ensures counted { OnOk result (length reader.new.items ≤ length lines.now) }
+    ensures version { OnOk result (reader.new.version ≡ reader.old.version) }
 {
     let mut number: u32 = 0;
     for line in lines {
@@ -66,11 +121,36 @@ fn read_lines(alloc: Global, reader: &mut Reader, lines: &[&[u8]]) -> Result<(),
     Ok(())
 }
 
+/// The script that a file says in a version of the language, or its first fault with its line and kind.
+fn read_all_lines(
+    alloc: Global,
+    version: Version,
+    lines: &[&[u8]],
+    nue: u8,
+) -> Result<Scripts, ReadStop>
+    requires few { length lines.now < 4194306 }
+    requires some { 1 ≤ nue }
+    requires most { nue ≤ 48 }
+    ensures gives { Gives (λ script. script) result (read_all_lines version (map (λ line. line.now) lines.now) nue) }
+    ensures low { IfOk result (HasCommsTo (last_comm version)) }
+{
+    let mut reader = Reader::new(alloc, version, nue)?;
+    read_lines(alloc, &mut reader, lines)?;
+    if !reader.is_closed() {
+        return Err(ReadStop::Fault(ReadFault {
+            line: line_count(lines) as u32 + 1,
+            kind: FaultKind::UnclosedRepeat,
+        }));
+    }
+    Ok(reader.finish())
+}
+
 /// The script that a file says, or its first fault with its line and kind.
 pub(crate) fn read_file(alloc: Global, bytes: &[u8], nue: u8) -> Result<Scripts, ReadStop>
     requires some { 1 ≤ nue }
     requires most { nue ≤ 48 }
-    ensures { Gives (λ script. script) result (read_file bytes.now nue) }
+    ensures gives { Gives (λ script. script) result (read_file bytes.now nue) }
+    ensures low { IfOk result (HasCommsTo (last_comm (version_of (lines_of bytes.now)))) }
 {
     if bytes.len() > MOST_BYTES {
         return Err(ReadStop::Fault(ReadFault {
@@ -79,24 +159,18 @@ pub(crate) fn read_file(alloc: Global, bytes: &[u8], nue: u8) -> Result<Scripts,
         }));
     }
     let lines = lines(alloc, bytes)?;
-    let mut reader = Reader::new(alloc, nue)?;
-    read_lines(alloc, &mut reader, lines.as_slice())?;
-    Ok(reader.finish())
+    let version = version_of(alloc, lines.as_slice())?;
+    read_all_lines(alloc, version, lines.as_slice(), nue)
 }
 
-/// Reads a script for a number of ranks. As long as the reader knows only a part of the language, each fault is
-/// answered as `NotBuilt` at line 0.
+/// Reads a script for a number of ranks.
 pub fn read_script(alloc: Global, bytes: &[u8], nue: u8) -> Result<Scripts, ReadStop>
     requires some { 1 ≤ nue }
     requires most { nue ≤ 48 }
-    ensures { Gives (λ script. script) result (parse_script bytes.now nue) }
+    ensures gives { Gives (λ script. script) result (parse_script bytes.now nue) }
+    // A script of version 1 has no rule for the communicators from 8 on, and no parent but the world.
+    ensures low { IfOk result (HasCommsTo (last_comm (version_of (lines_of bytes.now)))) }
+    ensures flat { version_of (lines_of bytes.now) ≡ One → IfOk result SplitsWorldAlone }
 {
-    match read_file(alloc, bytes, nue) {
-        Ok(script) => Ok(script),
-        Err(ReadStop::Fault(_)) => Err(ReadStop::Fault(ReadFault {
-            line: 0,
-            kind: FaultKind::NotBuilt,
-        })),
-        Err(ReadStop::Memory) => Err(ReadStop::Memory),
-    }
+    read_file(alloc, bytes, nue)
 }

@@ -2,107 +2,292 @@
 
 ghost use Rattle.std.specs.Prelude.{◌≡◌, map};
 ghost use Rattle.script_reader.specs.Faults.{LineGives};
-ghost use Rattle.script_reader.specs.Said.{bytes_said, print_said, recv_said, said_of, send_said, ue_said};
+ghost use Rattle.script_reader.specs.Said.{dash_of, ranks_said, alone, group_said, rcce_said, register_said, repeat_said, said_of, section_said, span_said, ue_said};
 
 use crate::bytes::Bytes;
 use crate::fault::{FaultKind, LineStop};
 use crate::name::Name;
-use crate::words::{hex_said, name_said, number_said};
+use crate::said_groups::{allreduce_said, barrier_said, bcast_said, reduce_said, split_said};
+use crate::said_locals::{
+    apply_said, bytes_said, fill_said, numbers_said, post_said, print_said, rank_of_said,
+    recv_said, send_said,
+};
+use crate::script::Form;
+use crate::version::Version;
+use crate::words::{Parts, number_said, range_said};
+use groups::{Op, Ty};
 use std::alloc::Global;
 
 /// What a line says, before it is held against the lines before it.
 #[derive(Debug, Drop)]
 pub(crate) enum Said {
-    /// A section line: the ranks from one number to another.
-    Ranks { first: u32, last: u32 },
-    SetBytes { name: Name, bytes: Bytes },
-    SendTo { peer: u32, name: Name },
-    RecvFrom { peer: u32, name: Name, len: u32 },
-    PrintHex { name: Name },
+    /// The version of the language.
+    Version,
+    Section(Section),
+    Local(Local),
+    Message(Message),
+    Collective(Collective),
+    Repeat { times: u32 },
+    End,
+}
+
+/// The ranks of a section line.
+#[derive(Debug, Drop)]
+pub(crate) enum Section {
+    All,
+    Even,
+    Odd,
+    Span { first: u32, last: u32 },
+}
+
+/// A statement that a rank does by itself.
+#[derive(Debug, Drop)]
+pub(crate) enum Local {
+    Bytes {
+        name: Name,
+        bytes: Bytes,
+    },
+    Fill {
+        name: Name,
+        len: u32,
+        start: u32,
+    },
+    RankOf {
+        name: Name,
+        ty: Ty,
+    },
+    Apply {
+        op: Op,
+        ty: Ty,
+        dst: Name,
+        src: Name,
+    },
+    Print {
+        name: Name,
+        form: Form,
+    },
+}
+
+/// The other rank of a message: a rank, or a distance from the caller.
+#[derive(Clone, Copy, Debug)]
+pub(crate) enum PeerSaid {
+    Abs(u32),
+    Plus(u32),
+    Minus(u32),
+}
+
+/// A statement with a message.
+#[derive(Debug, Drop)]
+pub(crate) enum Message {
+    Send {
+        peer: PeerSaid,
+        name: Name,
+    },
+    Post {
+        peer: PeerSaid,
+        name: Name,
+    },
+    Recv {
+        peer: PeerSaid,
+        name: Name,
+        len: u32,
+    },
+}
+
+/// What a split keeps together: places with one remainder, or with one quotient.
+#[derive(Clone, Copy, Debug)]
+pub(crate) enum Colour {
+    Mod,
+    Div,
+}
+
+/// A statement of the groups of a communicator.
+#[derive(Debug, Drop)]
+pub(crate) enum Collective {
+    Barrier {
+        comm: u32,
+    },
+    Split {
+        comm: u32,
+        parent: u32,
+        colour: Colour,
+        parts: Parts,
+    },
+    Bcast {
+        comm: u32,
+        root: u32,
+        name: Name,
+        len: u32,
+    },
+    Reduce {
+        comm: u32,
+        root: u32,
+        op: Op,
+        ty: Ty,
+        dst: Name,
+        src: Name,
+    },
+    Allreduce {
+        comm: u32,
+        op: Op,
+        ty: Ty,
+        dst: Name,
+        src: Name,
+    },
+}
+
+/// A line of one word.
+fn alone(said: Said, words: &[&[u8]]) -> Result<Said, LineStop>
+    ensures { LineGives (λ said. said) result (alone said (map (λ word. word.now) words.now)) }
+{
+    match words {
+        [] => Ok(said),
+        _ => Err(LineStop::Kind(FaultKind::WrongCount)),
+    }
+}
+
+fn span_said(first: &[u8], last: &[u8]) -> Result<Said, LineStop>
+    ensures { LineGives (λ said. said) result (span_said first.now last.now) }
+{
+    let first = number_said(first)?;
+    let last = number_said(last)?;
+    Ok(Said::Section(Section::Span { first, last }))
+}
+
+/// The place of the first `-` of a word, or its length.
+fn dash_of(word: &[u8]) -> usize
+    ensures { result ≡ dash_of word.now }
+{
+    word.iter().position(|b| *b == b'-').unwrap_or(word.len())
+}
+
+fn ranks_said(word: &[u8]) -> Result<Said, LineStop>
+    ensures { LineGives (λ said. said) result (ranks_said word.now) }
+{
+    let dash = dash_of(word);
+    if dash >= word.len() {
+        return span_said(word, word);
+    }
+    span_said(&word[..dash], &word[dash + 1..])
 }
 
 fn ue_said(words: &[&[u8]]) -> Result<Said, LineStop>
     ensures { LineGives (λ said. said) result (ue_said (map (λ word. word.now) words.now)) }
 {
     match words {
-        [rank] => {
-            let rank = number_said(rank)?;
-            Ok(Said::Ranks {
-                first: rank,
-                last: rank,
-            })
-        }
+        [ranks] => ranks_said(ranks),
         _ => Err(LineStop::Kind(FaultKind::WrongCount)),
     }
 }
 
-fn bytes_said(alloc: Global, words: &[&[u8]]) -> Result<Said, LineStop>
-    ensures { LineGives (λ said. said) result (bytes_said (map (λ word. word.now) words.now)) }
+fn repeat_said(words: &[&[u8]]) -> Result<Said, LineStop>
+    ensures { LineGives (λ said. said) result (repeat_said (map (λ word. word.now) words.now)) }
 {
     match words {
-        [name, hex] => {
-            let bytes = hex_said(alloc, hex)?;
-            let name = name_said(alloc, name)?;
-            Ok(Said::SetBytes { name, bytes })
+        [times] => {
+            let times = range_said(times, 1, 100_000)?;
+            Ok(Said::Repeat { times })
         }
         _ => Err(LineStop::Kind(FaultKind::WrongCount)),
     }
 }
 
-fn send_said(alloc: Global, words: &[&[u8]]) -> Result<Said, LineStop>
-    ensures { LineGives (λ said. said) result (send_said (map (λ word. word.now) words.now)) }
+fn rcce_said(version: Version, words: &[&[u8]]) -> Result<Said, LineStop>
+    ensures { LineGives (λ said. said) result (rcce_said version (map (λ word. word.now) words.now)) }
 {
     match words {
-        [peer, name] => {
-            let peer = number_said(peer)?;
-            let name = name_said(alloc, name)?;
-            Ok(Said::SendTo { peer, name })
+        [number] => {
+            range_said(number, version.number(), version.number())?;
+            Ok(Said::Version)
         }
         _ => Err(LineStop::Kind(FaultKind::WrongCount)),
     }
 }
 
-fn recv_said(alloc: Global, words: &[&[u8]]) -> Result<Said, LineStop>
-    ensures { LineGives (λ said. said) result (recv_said (map (λ word. word.now) words.now)) }
+fn section_said(first: &[u8], words: &[&[u8]]) -> Result<Said, LineStop>
+    ensures { LineGives (λ said. said) result (section_said first.now (map (λ word. word.now) words.now)) }
 {
-    match words {
-        [peer, name, len] => {
-            let peer = number_said(peer)?;
-            let len = number_said(len)?;
-            let name = name_said(alloc, name)?;
-            Ok(Said::RecvFrom { peer, name, len })
-        }
-        _ => Err(LineStop::Kind(FaultKind::WrongCount)),
-    }
-}
-
-fn print_said(alloc: Global, words: &[&[u8]]) -> Result<Said, LineStop>
-    ensures { LineGives (λ said. said) result (print_said (map (λ word. word.now) words.now)) }
-{
-    match words {
-        [name] => {
-            let name = name_said(alloc, name)?;
-            Ok(Said::PrintHex { name })
-        }
-        _ => Err(LineStop::Kind(FaultKind::WrongCount)),
-    }
-}
-
-/// What a line says that has these words behind its first one.
-pub(crate) fn said_of(alloc: Global, first: &[u8], words: &[&[u8]]) -> Result<Said, LineStop>
-    ensures { LineGives (λ said. said) result (said_of first.now (map (λ word. word.now) words.now)) }
-{
-    if first == b"ue".as_slice() {
+    if first == b"all".as_slice() {
+        alone(Said::Section(Section::All), words)
+    } else if first == b"even".as_slice() {
+        alone(Said::Section(Section::Even), words)
+    } else if first == b"odd".as_slice() {
+        alone(Said::Section(Section::Odd), words)
+    } else if first == b"ue".as_slice() {
         ue_said(words)
-    } else if first == b"bytes".as_slice() {
-        bytes_said(alloc, words)
-    } else if first == b"send".as_slice() {
-        send_said(alloc, words)
-    } else if first == b"recv".as_slice() {
-        recv_said(alloc, words)
-    } else if first == b"print".as_slice() {
-        print_said(alloc, words)
+    } else if first == b"repeat".as_slice() {
+        repeat_said(words)
+    } else if first == b"end".as_slice() {
+        alone(Said::End, words)
     } else {
         Err(LineStop::Kind(FaultKind::UnknownStatement))
+    }
+}
+
+fn group_said(version: Version, first: &[u8], words: &[&[u8]]) -> Result<Said, LineStop>
+    ensures { LineGives (λ said. said) result (group_said version first.now (map (λ word. word.now) words.now)) }
+{
+    if first == b"barrier".as_slice() {
+        barrier_said(words)
+    } else if first == b"split".as_slice() {
+        split_said(version, words)
+    } else if first == b"bcast".as_slice() {
+        bcast_said(words)
+    } else if first == b"reduce".as_slice() {
+        reduce_said(words)
+    } else if first == b"allreduce".as_slice() {
+        allreduce_said(words)
+    } else {
+        section_said(first, words)
+    }
+}
+
+fn register_said(
+    alloc: Global,
+    version: Version,
+    first: &[u8],
+    words: &[&[u8]],
+) -> Result<Said, LineStop>
+    ensures { LineGives (λ said. said) result (register_said version first.now (map (λ word. word.now) words.now)) }
+{
+    if first == b"bytes".as_slice() {
+        bytes_said(alloc, words)
+    } else if first == b"ints".as_slice() {
+        numbers_said(alloc, Ty::Int, words)
+    } else if first == b"longs".as_slice() {
+        numbers_said(alloc, Ty::Long, words)
+    } else if first == b"fill".as_slice() {
+        fill_said(words)
+    } else if first == b"rank".as_slice() {
+        rank_of_said(words)
+    } else if first == b"apply".as_slice() {
+        apply_said(words)
+    } else if first == b"print".as_slice() {
+        print_said(words)
+    } else {
+        group_said(version, first, words)
+    }
+}
+
+/// What a line says that has these words behind its first one. `opening` is whether no line before it has words.
+pub(crate) fn said_of(
+    alloc: Global,
+    version: Version,
+    opening: bool,
+    first: &[u8],
+    words: &[&[u8]],
+) -> Result<Said, LineStop>
+    ensures { LineGives (λ said. said) result (said_of version opening first.now (map (λ word. word.now) words.now)) }
+{
+    if first == b"send".as_slice() {
+        send_said(words)
+    } else if first == b"post".as_slice() {
+        post_said(words)
+    } else if first == b"recv".as_slice() {
+        recv_said(words)
+    } else if opening && first == b"rcce".as_slice() {
+        rcce_said(version, words)
+    } else {
+        register_said(alloc, version, first, words)
     }
 }

@@ -1,16 +1,20 @@
 //! Statements as types, and a script that was read.
 
-ghost use Rattle.std.specs.Prelude.{◌≡◌};
-ghost use Rattle.script_reader.specs.Script.{IsSized, has_rank, peer_of};
+ghost use Rattle.std.specs.Prelude.{◌≡◌, ◌<◌, ◌≤◌};
+ghost use Rattle.script_reader.specs.Script.{IsSized, first_split, has_rank, peer_of, rules_of, split_rule};
 
 use crate::bytes::Bytes;
 use crate::name::Name;
-use scc_base::Rank;
+use groups::{Op, Ty};
+use scc_base::{CommRule, CoreId, Layout, Rank, Setup};
 use std::marker::Model;
 
 /// The ranks of a section.
 #[derive(Debug, Drop)]
 pub enum Who {
+    All,
+    Even,
+    Odd,
     /// From one rank to another, both included.
     Span(Rank, Rank),
 }
@@ -21,6 +25,9 @@ impl Who {
         ensures { result ≡ self.now }
     {
         match self {
+            Who::All => Who::All,
+            Who::Even => Who::Even,
+            Who::Odd => Who::Odd,
             Who::Span(first, last) => Who::Span(*first, *last),
         }
     }
@@ -30,6 +37,9 @@ impl Who {
         ensures { result ≡ has_rank self.now rank }
     {
         match self {
+            Who::All => true,
+            Who::Even => rank % 2 == 0,
+            Who::Odd => rank % 2 == 1,
             Who::Span(first, last) => first.number() <= rank && rank <= last.number(),
         }
     }
@@ -39,16 +49,29 @@ impl Who {
 #[derive(Debug, Drop)]
 pub enum Peer {
     Abs(Rank),
+    /// So many ranks above the caller, counted round the run.
+    Plus(u32),
+    /// So many ranks below the caller, counted round the run.
+    Minus(u32),
 }
 
 impl Peer {
-    /// The rank that is meant, in a statement of the rank `caller`.
-    pub fn rank(&self, caller: Rank) -> Rank
-        ensures { result ≡ peer_of self.now caller }
+    /// The rank that is meant, in a statement of the rank `caller` of a run of `nue` ranks.
+    pub fn rank(&self, nue: u8, caller: Rank) -> Rank
+        requires some { 1 ≤ nue }
+        requires most { nue ≤ 48 }
+        requires within { caller < nue }
+        ensures { result ≡ peer_of nue self.now caller }
     {
-        let _ = caller;
+        let ranks = nue as u64;
+        let here = caller.number() as u64;
         match self {
             Peer::Abs(rank) => *rank,
+            Peer::Plus(up) => Rank::of(((here + *up as u64) % ranks) as u8),
+            Peer::Minus(down) => {
+                let round = ranks - *down as u64 % ranks;
+                Rank::of(((here + round) % ranks) as u8)
+            }
         }
     }
 }
@@ -57,6 +80,8 @@ impl Peer {
 #[derive(Clone, Copy, Debug, PartialEq, Eq)]
 pub enum Form {
     Hex,
+    /// As values of this type.
+    Decimal(Ty),
 }
 
 /// A statement. Registers are numbered from 0 in the order of their first appearance in the file, and lengths count
@@ -64,13 +89,91 @@ pub enum Form {
 #[derive(Debug, Drop)]
 pub enum Stmt {
     /// Sets the register to these bytes.
-    Bytes { reg: u8, bytes: Bytes },
+    Bytes {
+        reg: u8,
+        bytes: Bytes,
+    },
+    /// Sets the register to this many bytes, of which byte i is `(start + i) mod 251`.
+    Fill {
+        reg: u8,
+        len: u32,
+        start: u32,
+    },
+    /// Sets the register to the rank, as one value of the type.
+    RankOf {
+        reg: u8,
+        ty: Ty,
+    },
+    /// DST becomes `DST op SRC`, value by value.
+    Apply {
+        op: Op,
+        ty: Ty,
+        dst: u8,
+        src: u8,
+    },
     /// A plain message with the register's bytes.
-    Send { peer: Peer, reg: u8 },
+    Send {
+        peer: Peer,
+        reg: u8,
+    },
+    /// A plain message with the register's bytes, for which the rank does not wait.
+    Post {
+        peer: Peer,
+        reg: u8,
+    },
     /// A plain message of this length into the register.
-    Recv { peer: Peer, reg: u8, len: u32 },
+    Recv {
+        peer: Peer,
+        reg: u8,
+        len: u32,
+    },
     /// Prints the register.
-    Print { reg: u8, form: Form },
+    Print {
+        reg: u8,
+        form: Form,
+    },
+    /// A barrier of the communicator.
+    Barrier {
+        comm: u8,
+    },
+    /// A barrier of the rule's parent; then the communicator is the group of the rank by this rule.
+    Split {
+        comm: u8,
+        rule: CommRule,
+    },
+    /// The root's register comes to each member of the group. A root is counted inside the group.
+    Bcast {
+        comm: u8,
+        root: u8,
+        reg: u8,
+        len: u32,
+    },
+    /// The fold of all members' SRC comes into the root's DST.
+    Reduce {
+        comm: u8,
+        root: u8,
+        op: Op,
+        ty: Ty,
+        dst: u8,
+        src: u8,
+    },
+    /// The fold of all members' SRC comes into each member's DST.
+    Allreduce {
+        comm: u8,
+        op: Op,
+        ty: Ty,
+        dst: u8,
+        src: u8,
+    },
+    /// The statements up to the item `end` run so many times.
+    Repeat {
+        times: u32,
+        end: u32,
+    },
+    /// Ends the repeat that is the item `start`.
+    End {
+        start: u32,
+    },
 }
 
 /// A statement with its line, counted from 1, and the ranks of its section.
@@ -90,7 +193,8 @@ pub struct Scripts {
 }
 
 impl Model for Scripts {
-    ghost use Rattle.script_reader.specs.Script.{IsWhole, Script};
+    ghost use Rattle.script_reader.specs.Script.{Script};
+    ghost use Rattle.script_reader.specs.Settled.{IsWhole};
 
     ghost Value = { Script };
 
@@ -112,8 +216,11 @@ impl Scripts {
         }
     }
 
-    ghost use Rattle.script_reader.specs.Script.{IsWhole};
-    ghost use Rattle.std.specs.Prelude.{◌≡◌, ◌<◌, ◌≤◌, [], length, slice_get, slice_index_or};
+    ghost use Rattle.scc_base.specs.Communicators.{AreRules};
+    ghost use Rattle.scc_base.specs.Setups.{AreApart};
+    ghost use Rattle.script_reader.specs.Script.{rules_of};
+    ghost use Rattle.script_reader.specs.Settled.{ArePassed, IsSettled, IsWhole};
+    ghost use Rattle.std.specs.Prelude.{◌≡◌, ◌<◌, ◌≤◌, [], length, reverse, slice_get, slice_index_or};
 
     /// How many statements the script has.
     pub fn len(&self) -> usize
@@ -127,8 +234,16 @@ impl Scripts {
         requires { i < length self.now.items }
         ensures found { slice_get self.now.items i ≡ Some result.now }
         ensures sized { IsSized result.now.stmt }
+        ensures settled { IsSettled self.now.nue (rules_of self.now.items) result.now }
     {
         &self.statements[i]
+    }
+
+    /// The statements, in the order of the file.
+    pub(crate) fn items(&self) -> &[Item]
+        ensures { result.now ≡ self.now.items }
+    {
+        self.statements.as_slice()
     }
 
     /// How many registers the script names.
@@ -148,6 +263,34 @@ impl Scripts {
         }
     }
 
+    /// The rules of the communicators: the world, and for each other one the rule of its first split. They are such that
+    /// a setup can have them.
+    pub fn comm_rules(&self) -> [CommRule; 16]
+        ensures gives { result ≡ rules_of self.now.items }
+        ensures valid { AreRules result }
+    {
+        rules_of(self.statements.as_slice())
+    }
+
+    /// The law of acceptance: no check of the table of faults refuses a statement of the script for a rank of its section,
+    /// over the statements before it.
+    pub fn acceptance_law(&self)
+        ensures accepted { ArePassed self.now.nue (reverse self.now.items) }
+    {
+        let _ranks = self.ranks;
+    }
+
+    /// The setup of a run of the script in this layout, on the first of these cores.
+    pub fn setup(&self, layout: Layout, hosts: [CoreId; 48]) -> Setup
+        requires apart { AreApart self.now.nue hosts }
+        ensures gives { result ≡ record { nue = self.now.nue; layout = layout; hosts = hosts; comms = rules_of self.now.items } }
+    {
+        match Setup::new(self.nue(), layout, hosts, self.comm_rules()) {
+            Some(setup) => setup,
+            None => unreachable!(),
+        }
+    }
+
     /// How many ranks the script runs on.
     pub fn nue(&self) -> u8
         ensures same { result ≡ self.now.nue }
@@ -156,4 +299,51 @@ impl Scripts {
     {
         self.ranks
     }
+}
+
+/// The rule by which a statement splits a communicator, if it does.
+fn split_rule(stmt: &Stmt, comm: u8) -> CommRule
+    ensures { result ≡ split_rule stmt.now comm }
+{
+    match stmt {
+        Stmt::Split { comm: split, rule } if *split == comm => *rule,
+        _ => CommRule::Absent,
+    }
+}
+
+/// The rule of the first split of a communicator.
+fn first_split(items: &[Item], comm: u8) -> CommRule
+    ensures { result ≡ first_split items.now comm }
+{
+    for item in items {
+        match split_rule(&item.stmt, comm) {
+            CommRule::Absent => {}
+            rule => return rule,
+        }
+    }
+    CommRule::Absent
+}
+
+/// The rules of the communicators behind these statements.
+pub(crate) fn rules_of(items: &[Item]) -> [CommRule; 16]
+    ensures { result ≡ rules_of items.now }
+{
+    [
+        CommRule::World,
+        first_split(items, 1),
+        first_split(items, 2),
+        first_split(items, 3),
+        first_split(items, 4),
+        first_split(items, 5),
+        first_split(items, 6),
+        first_split(items, 7),
+        first_split(items, 8),
+        first_split(items, 9),
+        first_split(items, 10),
+        first_split(items, 11),
+        first_split(items, 12),
+        first_split(items, 13),
+        first_split(items, 14),
+        first_split(items, 15),
+    ]
 }

@@ -1,16 +1,19 @@
 //! Lines, words, numbers, names and bytes.
 
-ghost use Rattle.std.specs.Prelude.{◌≡◌, map, IfOk};
+ghost use Rattle.std.specs.Prelude.{◌≡◌, ◌+◌, ◌≤◌, length, map, IfOk, IfSome, OnOk, [], ◌++◌};
 ghost use Rattle.std.specs.List.{list_all};
 ghost use Rattle.script_reader.specs.Faults.{LineGives};
-ghost use Rattle.script_reader.specs.Said.{hex_said, name_said, number_said};
-ghost use Rattle.script_reader.specs.Words.{is_blank, is_digit, is_letter, is_name, is_name_byte, is_text, is_text_byte, lines_of, number_of, uncommented, words_of};
+ghost use Rattle.script_reader.specs.Said.{colour_said, hex_said, name_said, number_said, of_said, operation_said, peer_said, range_said, type_said, value_behind, values_said};
+ghost use Rattle.script_reader.specs.Words.{bytes_above, bytes_below, decimal_of, greatest, is_blank, is_digit, is_letter, is_name, is_name_byte, is_text, is_text_byte, line_count, lines_of, number_of, uncommented, words_of};
 
 use crate::bytes::Bytes;
 use crate::fault::{FaultKind, LineStop};
 use crate::name::Name;
+use crate::said::{Colour, PeerSaid};
+use groups::{Op, Ty};
 use hex::FromHexError;
 use std::alloc::{AllocError, Global};
+use std::marker::Model;
 
 fn is_blank(b: u8) -> bool
     ensures { result ≡ is_blank b }
@@ -49,6 +52,18 @@ pub(crate) fn lines(alloc: Global, bytes: &[u8]) -> Result<Vec<&[u8]>, AllocErro
     bytes.split(|b| *b == b'\n').collect(alloc)
 }
 
+/// The number of lines: the last one may lack its line feed, and after a last line feed there is no line more.
+pub(crate) fn line_count(lines: &[&[u8]]) -> usize
+    ensures same { result ≡ line_count (map (λ line. line.now) lines.now) }
+    ensures within { result ≤ length lines.now }
+{
+    let others = lines.len().saturating_sub(1);
+    match lines.get(others) {
+        Some(last) => { if last.is_empty() { others } else { lines.len() } }
+        None => 0,
+    }
+}
+
 fn uncommented(line: &[u8]) -> &[u8]
     ensures { result.now ≡ uncommented line.now }
 {
@@ -73,26 +88,37 @@ pub(crate) fn words(alloc: Global, line: &[u8]) -> Result<Vec<&[u8]>, AllocError
         .collect(alloc)
 }
 
+/// The value of one to so many decimal digits, at most a limit, leading zeros accepted.
+fn decimal(word: &[u8], most: usize, limit: u64) -> Option<u64>
+    ensures gives { result ≡ decimal_of most limit word.now }
+    ensures within { IfSome result (λ value. value ≤ limit) }
+{
+    if word.is_empty() || word.len() > most {
+        return None;
+    }
+    let mut value: u64 = 0;
+    for b in word {
+        if !is_digit(*b) {
+            return None;
+        }
+        let next = value as u128 * 10 + (*b - b'0') as u128;
+        if next > limit as u128 {
+            return None;
+        }
+        value = next as u64;
+    }
+    Some(value)
+}
+
 /// The number that a word stands for: 1 to 10 decimal digits with a value of at most 4,294,967,295, leading zeros
 /// accepted.
 pub fn number(word: &[u8]) -> Option<u32>
     ensures { result ≡ number_of word.now }
 {
-    if word.is_empty() || word.len() > 10 {
-        return None;
+    match decimal(word, 10, u32::MAX as u64) {
+        Some(value) => Some(value as u32),
+        None => None,
     }
-    let mut value: u32 = 0;
-    for b in word {
-        if !is_digit(*b) {
-            return None;
-        }
-        let next = value as u64 * 10 + (*b - b'0') as u64;
-        if next > u32::MAX as u64 {
-            return None;
-        }
-        value = next as u32;
-    }
-    Some(value)
 }
 
 /// A word as a number.
@@ -100,6 +126,190 @@ pub(crate) fn number_said(word: &[u8]) -> Result<u32, FaultKind>
     ensures { result ≡ number_said word.now }
 {
     number(word).ok_or(FaultKind::BadNumber)
+}
+
+/// A word as a number from a range.
+pub(crate) fn range_said(word: &[u8], low: u32, high: u32) -> Result<u32, FaultKind>
+    ensures gives { result ≡ range_said low high word.now }
+    ensures least { IfOk result (λ number. low ≤ number) }
+    ensures most { IfOk result (λ number. number ≤ high) }
+{
+    let number = number_said(word)?;
+    if low <= number && number <= high {
+        Ok(number)
+    } else {
+        Err(FaultKind::BadNumber)
+    }
+}
+
+/// By how much a split takes the places of its parent's groups apart: 1 to 48.
+#[derive(Clone, Copy, Debug)]
+pub(crate) struct Parts {
+    count: u8,
+}
+
+impl Model for Parts {
+    ghost use Rattle.std.specs.Prelude.{ℕ, ◌≤◌};
+
+    ghost Value = { ℕ };
+
+    ghost view = { λ p. p.count };
+
+    ghost invariant = { λ p. (1 ≤ p.count) × (p.count ≤ 48) };
+
+    ghost inverse = { λ n. record { count = n } };
+}
+
+impl Parts {
+    ghost use Rattle.std.specs.Prelude.{◌≡◌, ◌≤◌};
+
+    fn new(count: u8) -> Parts
+        requires some { 1 ≤ count }
+        requires most { count ≤ 48 }
+        ensures { result ≡ count }
+    {
+        Parts { count }
+    }
+
+    pub(crate) fn count(self) -> u8
+        ensures same { result ≡ self }
+        ensures some { 1 ≤ result }
+        ensures most { result ≤ 48 }
+    {
+        self.count
+    }
+}
+
+/// A word as the number of a split.
+pub(crate) fn parts_said(word: &[u8]) -> Result<Parts, FaultKind>
+    ensures { result ≡ range_said 1 48 word.now }
+{
+    let count = range_said(word, 1, 48)?;
+    Ok(Parts::new(count as u8))
+}
+
+/// A word as a type.
+pub(crate) fn type_said(word: &[u8]) -> Result<Ty, FaultKind>
+    ensures { result ≡ type_said word.now }
+{
+    if word == b"int".as_slice() {
+        Ok(Ty::Int)
+    } else if word == b"long".as_slice() {
+        Ok(Ty::Long)
+    } else {
+        Err(FaultKind::UnknownStatement)
+    }
+}
+
+/// A word as an operation.
+pub(crate) fn operation_said(word: &[u8]) -> Result<Op, FaultKind>
+    ensures { result ≡ operation_said word.now }
+{
+    if word == b"sum".as_slice() {
+        Ok(Op::Sum)
+    } else if word == b"min".as_slice() {
+        Ok(Op::Min)
+    } else if word == b"max".as_slice() {
+        Ok(Op::Max)
+    } else if word == b"prod".as_slice() {
+        Ok(Op::Prod)
+    } else {
+        Err(FaultKind::UnknownStatement)
+    }
+}
+
+/// A word as what a split keeps together.
+pub(crate) fn colour_said(word: &[u8]) -> Result<Colour, FaultKind>
+    ensures { result ≡ colour_said word.now }
+{
+    if word == b"mod".as_slice() {
+        Ok(Colour::Mod)
+    } else if word == b"div".as_slice() {
+        Ok(Colour::Div)
+    } else {
+        Err(FaultKind::UnknownStatement)
+    }
+}
+
+/// The word `of`.
+pub(crate) fn of_said(word: &[u8]) -> Result<bool, FaultKind>
+    ensures { result ≡ of_said word.now }
+{
+    if word == b"of".as_slice() {
+        Ok(true)
+    } else {
+        Err(FaultKind::UnknownStatement)
+    }
+}
+
+/// A word as the other rank of a message.
+pub(crate) fn peer_said(word: &[u8]) -> Result<PeerSaid, FaultKind>
+    ensures { result ≡ peer_said word.now }
+{
+    match word {
+        [b'+', up @ ..] => Ok(PeerSaid::Plus(number_said(up)?)),
+        [b'-', down @ ..] => Ok(PeerSaid::Minus(number_said(down)?)),
+        _ => Ok(PeerSaid::Abs(number_said(word)?)),
+    }
+}
+
+/// Puts the bytes of a value that is so far above zero behind others.
+fn push_above(bytes: &mut Vec<u8>, ty: Ty, size: u64) -> Result<(), AllocError>
+    requires { size ≤ greatest ty }
+    ensures { OnOk result (bytes.new.items ≡ bytes.old.items ++ bytes_above ty size) }
+{
+    match ty {
+        Ty::Int => bytes.extend_from_slice(&(size as u32).to_le_bytes()),
+        Ty::Long => bytes.extend_from_slice(&size.to_le_bytes()),
+    }
+}
+
+/// Puts the bytes of a value that is so far below zero behind others.
+fn push_below(bytes: &mut Vec<u8>, ty: Ty, size: u64) -> Result<(), AllocError>
+    requires { size ≤ greatest ty + 1 }
+    ensures { OnOk result (bytes.new.items ≡ bytes.old.items ++ bytes_below ty size) }
+{
+    match ty {
+        Ty::Int => bytes.extend_from_slice(&(size as u32).wrapping_neg().to_le_bytes()),
+        Ty::Long => bytes.extend_from_slice(&size.wrapping_neg().to_le_bytes()),
+    }
+}
+
+/// The greatest value of a type.
+fn greatest(ty: Ty) -> u64
+    ensures { result ≡ greatest ty }
+{
+    match ty {
+        Ty::Int => 2_147_483_647,
+        Ty::Long => 9_223_372_036_854_775_807,
+    }
+}
+
+/// Puts the bytes of the value that a word stands for behind others.
+fn push_value(bytes: &mut Vec<u8>, ty: Ty, word: &[u8]) -> Result<(), LineStop>
+    ensures { LineGives (λ _. bytes.new.items) result (value_behind ty bytes.old.items word.now) }
+{
+    match word {
+        [b'-', digits @ ..] => match decimal(digits, 20, greatest(ty) + 1) {
+            Some(size) => Ok(push_below(bytes, ty, size)?),
+            None => Err(LineStop::Kind(FaultKind::BadNumber)),
+        },
+        _ => match decimal(word, 20, greatest(ty)) {
+            Some(size) => Ok(push_above(bytes, ty, size)?),
+            None => Err(LineStop::Kind(FaultKind::BadNumber)),
+        },
+    }
+}
+
+/// Words as values of a type.
+pub(crate) fn values_said(alloc: Global, ty: Ty, words: &[&[u8]]) -> Result<Bytes, LineStop>
+    ensures { LineGives (λ bytes. bytes) result (values_said ty [] (map (λ word. word.now) words.now)) }
+{
+    let mut bytes = Vec::new(alloc);
+    for word in words {
+        push_value(&mut bytes, ty, word)?;
+    }
+    Ok(Bytes::from_vec(bytes))
 }
 
 fn are_name_bytes(word: &[u8]) -> bool
@@ -118,14 +328,14 @@ fn is_name(word: &[u8]) -> bool
 }
 
 /// A word as the name of a register.
-pub(crate) fn name_said(alloc: Global, word: &[u8]) -> Result<Name, LineStop>
-    ensures { LineGives (λ name. name) result (name_said word.now) }
+pub(crate) fn name_said(word: &[u8]) -> Result<Name, FaultKind>
+    ensures { result ≡ name_said word.now }
 {
     if !is_name(word) {
-        return Err(LineStop::Kind(FaultKind::BadName));
+        return Err(FaultKind::BadName);
     }
     match str::from_utf8(word) {
-        Ok(text) => Ok(Name::new(alloc, text)?),
+        Ok(text) => Ok(Name::new(text)),
         Err(_) => unreachable!(),
     }
 }

@@ -10,4 +10,4 @@ loop-preserved c = record {
 }
 
 pub returns-clause-empty : goal.returns-clause-empty
-returns-clause-empty c = λ rank d below. subst (λ tally. IsTally tally [] rank) (sym (c.loop.invariant.empty rank d (omega arith))) (IsTally-empty rank)
+returns-clause-empty c = λ rank d below. subst (λ tally. IsTally tally c.args.nue [] rank) (sym (c.loop.invariant.empty rank d (omega arith))) (IsTally-empty c.args.nue rank)

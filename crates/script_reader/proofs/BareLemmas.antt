@@ -1,0 +1,179 @@
+-- No check looks at the place that a repeat has of its end.
+use Rattle.std.proofs.Common.{◌≡◌, ℕ, zero, suc, ◌+◌, ◌*◌, Bool, ◌||◌, ◌&&◌, cond, List, [], ◌∷◌, ◌++◌, map, Option, Some, None, length, reverse, slice_get, slice_set, refl, sym, ap, ◌∙◌, subst}
+use Rattle.std.proofs.Math.Path.{fun_ext}
+use Rattle.std.proofs.lemmas.List.{length-map, map-append, reverse-append}
+use Rattle.std.specs.List.{range_with_len}
+use Rattle.std.specs.Option.{option_or}
+use Rattle.scc_base.specs.Setups.{SetupView}
+use Rattle.scc_base.specs.declared.communicators.CommRule.{CommRule}
+use Rattle.scc_base.specs.declared.communicators.CommRule.TheVariants as rule
+use Rattle.scc_base.specs.declared.layouts.Layout.TheVariants as layout
+use Rattle.script_reader.specs.declared.checks.RankCheck.{RankCheck}
+use Rattle.script_reader.specs.declared.checks.RankCheck.TheVariants as check
+use Rattle.script_reader.specs.declared.repeats.Open.{Open}
+use Rattle.script_reader.specs.declared.script.Item.{Item}
+use Rattle.script_reader.specs.declared.script.Stmt.{Stmt}
+use Rattle.script_reader.specs.declared.script.Stmt.TheVariants as stmt
+use Rattle.script_reader.specs.Checks.{cost_of, has_no_root, has_split, is_misshapen, is_not_split, is_overworked, is_split_of, is_to_self, is_unset, length_at, open_of, opened, operations, posts_too_much, printed, prints, prints_too_much, refuses, run_of, set_by, sets_to, turns_in}
+use Rattle.script_reader.specs.Ends.{with_ends}
+use Rattle.script_reader.specs.Script.{first_split, has_rank, or_rule, rules_of, split_rule}
+use Rattle.script_reader.specs.Settled.{ArePassed}
+use Rattle.script_reader.proofs.EndLemmas.{with_ends-keeps}
+
+-- a statement without the place of its end
+abbrev bare : Stmt → Stmt
+bare (stmt.Repeat times end) = stmt.Repeat times 0
+bare s = s
+
+abbrev bared : Item → Item
+bared item = record item { stmt = bare item.stmt }
+
+abbrev all_bared : List Item → List Item
+all_bared items = map bared items
+
+bare-same : {X : Type 0} (f : Stmt → X) → ((times end : ℕ) → f (stmt.Repeat times 0) ≡ f (stmt.Repeat times end)) → (s : Stmt) → f (bare s) ≡ f s
+bare-same f same (stmt.Repeat times end) = same times end
+bare-same f same (stmt.Bytes reg bytes) = refl
+bare-same f same (stmt.Fill reg len start) = refl
+bare-same f same (stmt.RankOf reg ty) = refl
+bare-same f same (stmt.Apply op ty dst src) = refl
+bare-same f same (stmt.Send peer reg) = refl
+bare-same f same (stmt.Post peer reg) = refl
+bare-same f same (stmt.Recv peer reg len) = refl
+bare-same f same (stmt.Print reg form) = refl
+bare-same f same (stmt.Barrier comm) = refl
+bare-same f same (stmt.Split comm by) = refl
+bare-same f same (stmt.Bcast comm root reg len) = refl
+bare-same f same (stmt.Reduce comm root op ty dst src) = refl
+bare-same f same (stmt.Allreduce comm op ty dst src) = refl
+bare-same f same (stmt.End start) = refl
+
+bared-told : (first item : Item) (times end place : ℕ) → Some first ≡ Some item → item.stmt ≡ stmt.Repeat times end → bared (record item { stmt = stmt.Repeat times place }) ≡ bared first
+bared-told first item times end place found is =
+    let same : first ≡ item = cc in
+    sym (ap bared same ∙ ap (λ (s : Stmt). record item { stmt = bare s }) is)
+
+bared-set : (items : List Item) (start place : ℕ) (item : Item) (times end : ℕ) → slice_get items start ≡ Some item → item.stmt ≡ stmt.Repeat times end
+    → all_bared (slice_set items start (record item { stmt = stmt.Repeat times place })) ≡ all_bared items
+bared-set [] start place item times end found is = refl
+bared-set (first ∷ items) zero place item times end found is = ap (λ (i : Item). i ∷ all_bared items) (bared-told first item times end place found is)
+bared-set (first ∷ items) (suc start) place item times end found is = ap (λ (list : List Item). bared first ∷ list) (bared-set items start place item times end found is)
+
+bared-with_ends : (n : ℕ) (items : List Item) → all_bared (with_ends n items) ≡ all_bared items
+bared-with_ends n items =
+    with_ends-keeps (λ list. all_bared list ≡ all_bared items)
+    (record { keeps = λ list start place item times end found is p. bared-set list start place item times end found is ∙ p }) n items refl
+
+bared-reverse : (items : List Item) → all_bared (reverse items) ≡ reverse (all_bared items)
+bared-reverse [] = refl
+bared-reverse (item ∷ items) =
+    ap all_bared (reverse-append (item ∷ []) items)
+    ∙ map-append bared (reverse items) (item ∷ [])
+    ∙ ap (λ (list : List Item). list ++ bared item ∷ []) (bared-reverse items)
+    ∙ sym (reverse-append (bared item ∷ []) (all_bared items))
+
+-- what the checks ask of the statements so far
+first-bared : (items : List Item) (comm : ℕ) → first_split (all_bared items) comm ≡ first_split items comm
+first-bared [] comm = refl
+first-bared (item ∷ items) comm =
+    ap (λ (r : CommRule). or_rule r (first_split (all_bared items) comm)) (bare-same (λ s. split_rule s comm) (λ times end. refl) item.stmt)
+    ∙ ap (or_rule (split_rule item.stmt comm)) (first-bared items comm)
+
+rules-bared : (items : List Item) → rules_of (all_bared items) ≡ rules_of items
+rules-bared items = ap (λ (f : ℕ → CommRule). rule.World ∷ map f (range_with_len 1 15)) (fun_ext (λ comm. first-bared items comm))
+
+run-bared : (nue : ℕ) (past : List Item) → run_of nue (all_bared past) ≡ run_of nue past
+run-bared nue past =
+    ap (λ (rules : List CommRule). record { nue = nue; layout = layout.LineFlags; hosts = []; comms = rules })
+    (ap rules_of (sym (bared-reverse past)) ∙ rules-bared (reverse past))
+
+open-bared : (past : List Item) → open_of (all_bared past) ≡ open_of past
+open-bared [] = refl
+open-bared (item ∷ past) =
+    bare-same (λ s. opened s (length (all_bared past)) (open_of (all_bared past))) (λ times end. refl) item.stmt
+    ∙ ap (λ (n : ℕ). opened item.stmt n (open_of (all_bared past))) (length-map past bared)
+    ∙ ap (opened item.stmt (length past)) (open-bared past)
+
+split-bared : (past : List Item) (rank comm : ℕ) → has_split (all_bared past) rank comm ≡ has_split past rank comm
+split-bared [] rank comm = refl
+split-bared (item ∷ past) rank comm =
+    ap (λ (is : Bool). has_split (all_bared past) rank comm || (has_rank item.who rank && is)) (bare-same (λ s. is_split_of s comm) (λ times end. refl) item.stmt)
+    ∙ ap (λ (had : Bool). had || (has_rank item.who rank && is_split_of item.stmt comm)) (split-bared past rank comm)
+
+abbrev length_behind : Item → ℕ → ℕ → SetupView → (ℕ → Option ℕ) → Stmt → Option ℕ
+length_behind item rank reg run had s = option_or (had reg) (cond (has_rank item.who rank) (sets_to (set_by run had s rank) reg) None)
+
+length-bared : (nue : ℕ) (past : List Item) (rank reg : ℕ) → length_at nue (all_bared past) rank reg ≡ length_at nue past rank reg
+length-bared nue [] rank reg = refl
+length-bared nue (item ∷ past) rank reg =
+    bare-same (length_behind item rank reg (run_of nue (all_bared past)) (length_at nue (all_bared past) rank)) (λ times end. refl) item.stmt
+    ∙ ap (λ (run : SetupView). length_behind item rank reg run (length_at nue (all_bared past) rank) item.stmt) (run-bared nue past)
+    ∙ ap (λ (had : ℕ → Option ℕ). length_behind item rank reg (run_of nue past) had item.stmt) (fun_ext (λ r. length-bared nue past rank r))
+
+lengths-bared : (nue : ℕ) (past : List Item) (rank : ℕ) → length_at nue (all_bared past) rank ≡ length_at nue past rank
+lengths-bared nue past rank = fun_ext (λ reg. length-bared nue past rank reg)
+
+abbrev done_behind : Item → ℕ → ℕ → List Open → ℕ → ℕ
+done_behind item rank done repeats cost = done + cond (has_rank item.who rank) (turns_in repeats * cost) 0
+
+operations-bared : (nue : ℕ) (past : List Item) (rank : ℕ) → operations nue (all_bared past) rank ≡ operations nue past rank
+operations-bared nue [] rank = refl
+operations-bared nue (item ∷ past) rank =
+    ap (done_behind item rank (operations nue (all_bared past) rank) (open_of (all_bared past)))
+    (bare-same (λ s. cost_of (run_of nue (all_bared past)) s rank) (λ times end. refl) item.stmt ∙ ap (λ (run : SetupView). cost_of run item.stmt rank) (run-bared nue past))
+    ∙ ap (λ (repeats : List Open). done_behind item rank (operations nue (all_bared past) rank) repeats (cost_of (run_of nue past) item.stmt rank)) (open-bared past)
+    ∙ ap (λ (done : ℕ). done_behind item rank done (open_of past) (cost_of (run_of nue past) item.stmt rank)) (operations-bared nue past rank)
+
+printed-bared : (nue : ℕ) (past : List Item) (rank : ℕ) → printed nue (all_bared past) rank ≡ printed nue past rank
+printed-bared nue [] rank = refl
+printed-bared nue (item ∷ past) rank =
+    ap (done_behind item rank (printed nue (all_bared past) rank) (open_of (all_bared past)))
+    (bare-same (λ s. prints (length_at nue (all_bared past) rank) s) (λ times end. refl) item.stmt ∙ ap (λ (had : ℕ → Option ℕ). prints had item.stmt) (lengths-bared nue past rank))
+    ∙ ap (λ (repeats : List Open). done_behind item rank (printed nue (all_bared past) rank) repeats (prints (length_at nue past rank) item.stmt)) (open-bared past)
+    ∙ ap (λ (done : ℕ). done_behind item rank done (open_of past) (prints (length_at nue past rank) item.stmt)) (printed-bared nue past rank)
+
+abbrev too_long : Stmt → ℕ → List Open → (ℕ → Option ℕ) → Bool
+too_long s done repeats had = posts_too_much had s || prints_too_much had done (turns_in repeats) s
+
+refuses-bared : (check : RankCheck) (nue : ℕ) (past : List Item) (s : Stmt) (rank : ℕ) → refuses check nue (all_bared past) (bare s) rank ≡ refuses check nue past s rank
+refuses-bared check.RootRange nue past s rank =
+    bare-same (λ s. has_no_root (run_of nue (all_bared past)) s rank) (λ times end. refl) s
+    ∙ ap (λ (run : SetupView). has_no_root run s rank) (run-bared nue past)
+refuses-bared check.SelfMessage nue past s rank = bare-same (λ s. is_to_self nue s rank) (λ times end. refl) s
+refuses-bared check.NotSplit nue past s rank =
+    bare-same (λ s. is_not_split (has_split (all_bared past) rank) s) (λ times end. refl) s
+    ∙ ap (λ (split : ℕ → Bool). is_not_split split s) (fun_ext (λ comm. split-bared past rank comm))
+refuses-bared check.Unset nue past s rank =
+    bare-same (λ s. is_unset (run_of nue (all_bared past)) (length_at nue (all_bared past) rank) s rank) (λ times end. refl) s
+    ∙ ap (λ (run : SetupView). is_unset run (length_at nue (all_bared past) rank) s rank) (run-bared nue past)
+    ∙ ap (λ (had : ℕ → Option ℕ). is_unset (run_of nue past) had s rank) (lengths-bared nue past rank)
+refuses-bared check.Shape nue past s rank =
+    bare-same (λ s. is_misshapen (run_of nue (all_bared past)) (length_at nue (all_bared past) rank) s rank) (λ times end. refl) s
+    ∙ ap (λ (run : SetupView). is_misshapen run (length_at nue (all_bared past) rank) s rank) (run-bared nue past)
+    ∙ ap (λ (had : ℕ → Option ℕ). is_misshapen (run_of nue past) had s rank) (lengths-bared nue past rank)
+refuses-bared check.TooManyOps nue past s rank =
+    bare-same (λ s. is_overworked (run_of nue (all_bared past)) (operations nue (all_bared past) rank) (turns_in (open_of (all_bared past))) s rank) (λ times end. refl) s
+    ∙ ap (λ (run : SetupView). is_overworked run (operations nue (all_bared past) rank) (turns_in (open_of (all_bared past))) s rank) (run-bared nue past)
+    ∙ ap (λ (done : ℕ). is_overworked (run_of nue past) done (turns_in (open_of (all_bared past))) s rank) (operations-bared nue past rank)
+    ∙ ap (λ (repeats : List Open). is_overworked (run_of nue past) (operations nue past rank) (turns_in repeats) s rank) (open-bared past)
+refuses-bared check.TooLong nue past s rank =
+    bare-same (λ s. too_long s (printed nue (all_bared past) rank) (open_of (all_bared past)) (length_at nue (all_bared past) rank)) (λ times end. refl) s
+    ∙ ap (too_long s (printed nue (all_bared past) rank) (open_of (all_bared past))) (lengths-bared nue past rank)
+    ∙ ap (λ (repeats : List Open). too_long s (printed nue (all_bared past) rank) repeats (length_at nue past rank)) (open-bared past)
+    ∙ ap (λ (done : ℕ). too_long s done (open_of past) (length_at nue past rank)) (printed-bared nue past rank)
+
+passed-bare : (nue : ℕ) (past : List Item) → ArePassed nue past → ArePassed nue (all_bared past)
+passed-bare nue [] all = tt
+passed-bare nue (item ∷ past) all = (passed-bare nue past all.0, λ check rank below has. refuses-bared check nue past item.stmt rank ∙ all.1 check rank below has)
+
+passed-whole : (nue : ℕ) (past : List Item) → ArePassed nue (all_bared past) → ArePassed nue past
+passed-whole nue [] all = tt
+passed-whole nue (item ∷ past) all = (passed-whole nue past all.0, λ check rank below has. sym (refuses-bared check nue past item.stmt rank) ∙ all.1 check rank below has)
+
+-- what no check refuses, none refuses where the repeats are told their ends
+pub passed-with_ends : (nue n : ℕ) (items : List Item) → ArePassed nue (reverse items) → ArePassed nue (reverse (with_ends n items))
+passed-with_ends nue n items passed =
+    passed-whole nue (reverse (with_ends n items))
+    (subst (λ (past : List Item). ArePassed nue past)
+    (bared-reverse items ∙ ap reverse (sym (bared-with_ends n items)) ∙ sym (bared-reverse (with_ends n items)))
+    (passed-bare nue (reverse items) passed))

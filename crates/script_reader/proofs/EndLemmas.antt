@@ -1,0 +1,92 @@
+-- What stays where repeats are told their ends.
+use Rattle.std.proofs.Common.{◌≡◌, ℕ, zero, suc, List, [], ◌∷◌, All, map, Option, Some, None, length, slice_get, slice_set, refl, sym, ap, ◌∙◌}
+use Rattle.std.proofs.Math.Path.{fun_ext}
+use Rattle.std.proofs.lemmas.List.{length-set}
+use Rattle.std.proofs.lemmas.List.Elements.{All-set}
+use Rattle.std.specs.List.{range_with_len}
+use Rattle.std.specs.Option.{option_map_or}
+use Rattle.scc_base.specs.declared.communicators.CommRule.{CommRule}
+use Rattle.scc_base.specs.declared.communicators.CommRule.TheVariants as rule
+use Rattle.script_reader.specs.declared.script.Item.{Item}
+use Rattle.script_reader.specs.declared.script.Stmt.{Stmt}
+use Rattle.script_reader.specs.declared.script.Stmt.TheVariants as stmt
+use Rattle.script_reader.specs.Ends.{told, with_end, with_ends}
+use Rattle.script_reader.specs.Script.{IsSized, first_split, or_rule, rules_of, split_rule}
+
+-- what a list has, whatever its repeats say of their ends
+pub record IsKeptBy (P : List Item → Type 0) : Type 0 where
+  pub keeps : (items : List Item) (start place : ℕ) (item : Item) (times end : ℕ) → slice_get items start ≡ Some item → item.stmt ≡ stmt.Repeat times end → P items → P (slice_set items start (record item { stmt = stmt.Repeat times place }))
+
+with_end-keeps : (P : List Item → Type 0) → IsKeptBy P → (items : List Item) (start place : ℕ) (item : Item) (s : Stmt) → item.stmt ≡ s → slice_get items start ≡ Some item → P items → P (with_end items start place item s)
+with_end-keeps P k items start place item (stmt.Repeat times end) is found p = k.keeps items start place item times end found is p
+with_end-keeps P k items start place item (stmt.Bytes reg bytes) is found p = p
+with_end-keeps P k items start place item (stmt.Fill reg len start0) is found p = p
+with_end-keeps P k items start place item (stmt.RankOf reg ty) is found p = p
+with_end-keeps P k items start place item (stmt.Apply op ty dst src) is found p = p
+with_end-keeps P k items start place item (stmt.Send peer reg) is found p = p
+with_end-keeps P k items start place item (stmt.Post peer reg) is found p = p
+with_end-keeps P k items start place item (stmt.Recv peer reg len) is found p = p
+with_end-keeps P k items start place item (stmt.Print reg form) is found p = p
+with_end-keeps P k items start place item (stmt.Barrier comm) is found p = p
+with_end-keeps P k items start place item (stmt.Split comm by) is found p = p
+with_end-keeps P k items start place item (stmt.Bcast comm root reg len) is found p = p
+with_end-keeps P k items start place item (stmt.Reduce comm root op ty dst src) is found p = p
+with_end-keeps P k items start place item (stmt.Allreduce comm op ty dst src) is found p = p
+with_end-keeps P k items start place item (stmt.End first) is found p = p
+
+ended-keeps : (P : List Item → Type 0) → IsKeptBy P → (items : List Item) (start place : ℕ) (o : Option Item) → slice_get items start ≡ o → P items → P (option_map_or (λ item. with_end items start place item item.stmt) o items)
+ended-keeps P k items start place None found p = p
+ended-keeps P k items start place (Some item) found p = with_end-keeps P k items start place item item.stmt refl found p
+
+told-keeps : (P : List Item → Type 0) → IsKeptBy P → (items : List Item) (place : ℕ) (s : Stmt) → P items → P (told items place s)
+told-keeps P k items place (stmt.End start) p = ended-keeps P k items start place (slice_get items start) refl p
+told-keeps P k items place (stmt.Bytes reg bytes) p = p
+told-keeps P k items place (stmt.Fill reg len start) p = p
+told-keeps P k items place (stmt.RankOf reg ty) p = p
+told-keeps P k items place (stmt.Apply op ty dst src) p = p
+told-keeps P k items place (stmt.Send peer reg) p = p
+told-keeps P k items place (stmt.Post peer reg) p = p
+told-keeps P k items place (stmt.Recv peer reg len) p = p
+told-keeps P k items place (stmt.Print reg form) p = p
+told-keeps P k items place (stmt.Barrier comm) p = p
+told-keeps P k items place (stmt.Split comm by) p = p
+told-keeps P k items place (stmt.Bcast comm root reg len) p = p
+told-keeps P k items place (stmt.Reduce comm root op ty dst src) p = p
+told-keeps P k items place (stmt.Allreduce comm op ty dst src) p = p
+told-keeps P k items place (stmt.Repeat times end) p = p
+
+told_at-keeps : (P : List Item → Type 0) → IsKeptBy P → (items : List Item) (place : ℕ) (o : Option Item) → P items → P (option_map_or (λ item. told items place item.stmt) o items)
+told_at-keeps P k items place None p = p
+told_at-keeps P k items place (Some item) p = told-keeps P k items place item.stmt p
+
+pub with_ends-keeps : (P : List Item → Type 0) → IsKeptBy P → (n : ℕ) (items : List Item) → P items → P (with_ends n items)
+with_ends-keeps P k zero items p = p
+with_ends-keeps P k (suc n) items p = told_at-keeps P k (with_ends n items) n (slice_get (with_ends n items) n) (with_ends-keeps P k n items p)
+
+-- the first split of a communicator stays
+split-of : (c : ℕ) (first item : Item) (items : List Item) (times end place : ℕ) → Some first ≡ Some item → item.stmt ≡ stmt.Repeat times end → or_rule (split_rule first.stmt c) (first_split items c) ≡ first_split items c
+split-of c first item items times end place found is =
+    let same : first ≡ item = cc in
+    ap (λ (s : Stmt). or_rule (split_rule s c) (first_split items c)) (ap (λ (i : Item). i.stmt) same ∙ is)
+
+split-stays : (c : ℕ) (items : List Item) (start place : ℕ) (item : Item) (times end : ℕ) → slice_get items start ≡ Some item → item.stmt ≡ stmt.Repeat times end
+    → first_split (slice_set items start (record item { stmt = stmt.Repeat times place })) c ≡ first_split items c
+split-stays c [] start place item times end found is = refl
+split-stays c (first ∷ items) zero place item times end found is = sym (split-of c first item items times end place found is)
+split-stays c (first ∷ items) (suc start) place item times end found is = ap (or_rule (split_rule first.stmt c)) (split-stays c items start place item times end found is)
+
+pub rules-with_ends : (n : ℕ) (items : List Item) → rules_of (with_ends n items) ≡ rules_of items
+rules-with_ends n items =
+    ap (λ (f : ℕ → CommRule). rule.World ∷ map f (range_with_len 1 15))
+    (fun_ext (λ c. with_ends-keeps (λ list. first_split list c ≡ first_split items c)
+    (record { keeps = λ list start place item times end found is p. split-stays c list start place item times end found is ∙ p }) n items refl))
+
+pub length-with_ends : (n : ℕ) (items : List Item) → length (with_ends n items) ≡ length items
+length-with_ends n items =
+    with_ends-keeps (λ list. length list ≡ length items)
+    (record { keeps = λ list start place item times end found is p. length-set list start (record item { stmt = stmt.Repeat times place }) ∙ p }) n items refl
+
+pub sized-with_ends : (n : ℕ) (items : List Item) → All (λ (i : Item). IsSized i.stmt) items → All (λ (i : Item). IsSized i.stmt) (with_ends n items)
+sized-with_ends n items all =
+    with_ends-keeps (λ list. All (λ (i : Item). IsSized i.stmt) list)
+    (record { keeps = λ list start place item times end found is p. All-set (λ (i : Item). IsSized i.stmt) list start (record item { stmt = stmt.Repeat times place }) tt p }) n items all

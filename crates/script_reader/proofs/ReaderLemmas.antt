@@ -1,0 +1,78 @@
+-- What the reader keeps after one more statement.
+use Rattle.std.proofs.Common.{◌≡◌, ℕ, ◌<◌, false, List, [], ◌∷◌, ◌++◌, Some, length, get_or, reverse, sym, ap, ◌∙◌, subst}
+use Rattle.std.proofs.lemmas.Bool.{ltb-false}
+use Rattle.std.proofs.lemmas.List.{length-reverse}
+use Rattle.std.proofs.lemmas.List.Elements.{All-push}
+use Rattle.scc_base.specs.Communicators.{AreRules}
+use Rattle.scc_base.specs.Setups.{SetupView}
+use Rattle.scc_base.specs.declared.communicators.CommRule.{CommRule}
+use Rattle.scc_base.specs.declared.layouts.Layout.TheVariants as layout
+use Rattle.script_reader.specs.declared.repeats.Open.{Open}
+use Rattle.script_reader.specs.declared.script.Item.{Item}
+use Rattle.script_reader.specs.declared.script.Stmt.{Stmt}
+use Rattle.script_reader.specs.declared.script.Stmt.TheVariants as stmt
+use Rattle.script_reader.specs.declared.tally.Tally.{Tally}
+use Rattle.script_reader.specs.Checks.{is_too_long, is_unknown, open_of, opened, refuses, run_of, some_rank, turns_in}
+use Rattle.script_reader.specs.declared.checks.RankCheck.{RankCheck}
+use Rattle.script_reader.specs.Script.{IsSized, or_rule, rules_of, split_rule}
+use Rattle.script_reader.specs.declared.version.Version.{Version}
+use Rattle.script_reader.specs.Tally.{AreTallies, IsKept, IsMade, noted_at}
+use Rattle.script_reader.proofs.RuleLemmas.{first_split-more, past-more, run-straight, split-low}
+use Rattle.script_reader.proofs.SettledLemmas.{made-rule, none-of, settled-push}
+use Rattle.script_reader.proofs.TallyLemmas.{AreTallies-more}
+use Rattle.script_reader.specs.Settled.{ArePassed, HaveRules, IsSettled}
+
+short-sized : (s : Stmt) → is_too_long s ≡ false → IsSized s
+short-sized (stmt.Bytes reg bytes) short = ltb-false 65536 (length bytes) short
+short-sized (stmt.Fill reg len start) short = ltb-false 65536 len short
+short-sized (stmt.Recv peer reg len) short = ltb-false 65536 len short
+short-sized (stmt.Bcast comm root reg len) short = ltb-false 65536 len short
+short-sized (stmt.RankOf reg ty) short = tt
+short-sized (stmt.Apply op ty dst src) short = tt
+short-sized (stmt.Send peer reg) short = tt
+short-sized (stmt.Post peer reg) short = tt
+short-sized (stmt.Print reg form) short = tt
+short-sized (stmt.Barrier comm) short = tt
+short-sized (stmt.Split comm rule) short = tt
+short-sized (stmt.Reduce comm root op ty dst src) short = tt
+short-sized (stmt.Allreduce comm op ty dst src) short = tt
+short-sized (stmt.Repeat times end) short = tt
+short-sized (stmt.End start) short = tt
+
+-- a run of the rules behind these statements
+pub run-after : (nue : ℕ) (items : List Item) (rules : List CommRule) → rules ≡ rules_of items → record { nue = nue; layout = layout.LineFlags; hosts = []; comms = rules } ≡ run_of nue (reverse items)
+run-after nue items rules same = ap {A = List CommRule} {B = SetupView} (λ r. record { nue = nue; layout = layout.LineFlags; hosts = []; comms = r }) same ∙ sym (run-straight nue items)
+
+-- a run that stays, where the rules do
+pub run-stays : (nue : ℕ) (items : List Item) (item : Item) (run : SetupView) → run ≡ run_of nue (reverse items) → rules_of (items ++ item ∷ []) ≡ rules_of items → run ≡ run_of nue (reverse (items ++ item ∷ []))
+run-stays nue items item run is same = is ∙ run-straight nue items ∙ run-after nue (items ++ item ∷ []) (rules_of items) (sym same)
+
+pub kept-more : (version : Version) (nue : ℕ) (items : List Item) (item : Item) (run after : SetupView) (repeats later : List Open) (tallies noted : List Tally)
+    → IsKept version nue items run repeats tallies → is_unknown version (run_of nue (reverse items)) item.stmt ≡ false → IsMade item.stmt → is_too_long item.stmt ≡ false → after ≡ run_of nue (reverse (items ++ item ∷ []))
+    → later ≡ opened item.stmt (length items) repeats → AreRules (rules_of (items ++ item ∷ [])) → length noted ≡ nue → IsSettled nue (rules_of items) item
+    → ((check : RankCheck) → some_rank nue (Some item.who) (refuses check nue (reverse items) item.stmt) ≡ false)
+    → ((rank : ℕ) (d : Tally) → rank < nue → get_or noted rank d ≡ noted_at run (turns_in repeats) item rank (get_or tallies rank d))
+    → IsKept version nue (items ++ item ∷ []) after later noted
+kept-more version nue items item run after repeats later tallies noted k known made short is opens rules long new none counts =
+    let counted = λ (rank : ℕ) (d : Tally) (below : rank < nue).
+    counts rank d below
+    ∙ ap (λ (r : SetupView). noted_at r (turns_in repeats) item rank (get_or tallies rank d)) k.run_is
+    ∙ ap (λ (r : List Open). noted_at (run_of nue (reverse items)) (turns_in r) item rank (get_or tallies rank d)) k.repeats_are in
+    record {
+      some = k.some;
+      most = k.most;
+      sized = All-push (λ (item : Item). IsSized item.stmt) items item k.sized (short-sized item.stmt short);
+      run_is = is;
+      repeats_are =
+          opens
+          ∙ ap (λ (r : List Open). opened item.stmt (length items) r) k.repeats_are
+          ∙ ap (λ (n : ℕ). opened item.stmt n (open_of (reverse items))) (sym (length-reverse items))
+          ∙ ap open_of (sym (past-more items item));
+      rules = rules;
+      settled = settled-push nue items item k.rules k.settled new;
+      have = subst HaveRules (sym (past-more items item)) (k.have, made-rule item.stmt made);
+      low = λ comm above. first_split-more items item comm ∙ ap (λ (r : CommRule). or_rule r (split_rule item.stmt comm)) (k.low comm above) ∙ split-low item.stmt version (run_of nue (reverse items)) comm known above;
+      passed = subst (λ (past : List Item). ArePassed nue past) (sym (past-more items item)) (k.passed, λ check. none-of nue item.who (refuses check nue (reverse items) item.stmt) (none check));
+      ranked = long;
+      tallied = subst (λ (past : List Item). AreTallies noted nue past) (sym (past-more items item)) (AreTallies-more tallies noted nue (reverse items) item made k.tallied counted);
+    }

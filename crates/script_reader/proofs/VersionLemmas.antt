@@ -1,0 +1,330 @@
+-- What version 1 says: each split of it takes apart the world.
+use Rattle.std.proofs.Common.{◌≡◌, ℕ, zero, suc, Bool, true, false, cond, min, List, [], ◌∷◌, Option, Some, None, Result, Ok, Err, length, refl, sym, ap, ◌∙◌, arith, subst, inl, inr}
+use Rattle.std.proofs.lemmas.Bool.{cases_lt}
+use Rattle.std.proofs.lemmas.List.{get_or_past}
+use Rattle.std.proofs.lemmas.List.FromFn.{length-map-range_with_len}
+use Rattle.std.specs.Prelude.{◌+◌, ◌==◌, ◌&&◌, IfOk, codes, drop, nat_lt, take}
+use Rattle.std.specs.Str.{bytes_eq}
+use Rattle.groups.specs.declared.operations.Ty.{Ty}
+use Rattle.groups.specs.declared.operations.Ty.TheVariants as ty
+use Rattle.scc_base.specs.Communicators.{rule_of}
+use Rattle.scc_base.specs.declared.communicators.CommRule.{CommRule}
+use Rattle.scc_base.specs.declared.communicators.CommRule.TheVariants as rule
+use Rattle.script_reader.specs.declared.fault.FaultKind.{FaultKind}
+use Rattle.script_reader.specs.declared.fault.FaultKind.TheVariants as kind
+use Rattle.script_reader.specs.declared.fault.ReadFault.{ReadFault}
+use Rattle.script_reader.specs.declared.fault.ReadStop.{ReadStop}
+use Rattle.script_reader.specs.declared.fault.ReadStop.TheVariants as stop
+use Rattle.script_reader.specs.declared.said.Collective.{Collective}
+use Rattle.script_reader.specs.declared.said.Collective.TheVariants as group
+use Rattle.script_reader.specs.declared.said.Colour.{Colour}
+use Rattle.script_reader.specs.declared.said.Colour.TheVariants as colour
+use Rattle.script_reader.specs.declared.said.Local.{Local}
+use Rattle.script_reader.specs.declared.said.Local.TheVariants as local
+use Rattle.script_reader.specs.declared.said.Message.{Message}
+use Rattle.script_reader.specs.declared.said.Message.TheVariants as message
+use Rattle.script_reader.specs.declared.said.Said.{Said}
+use Rattle.script_reader.specs.declared.said.Said.TheVariants as said
+use Rattle.script_reader.specs.declared.said.Section.{Section}
+use Rattle.script_reader.specs.declared.said.Section.TheVariants as section
+use Rattle.script_reader.specs.declared.script.Item.{Item}
+use Rattle.script_reader.specs.declared.script.Stmt.{Stmt}
+use Rattle.script_reader.specs.declared.script.Stmt.TheVariants as stmt
+use Rattle.script_reader.specs.declared.script.Who.{Who}
+use Rattle.script_reader.specs.declared.script.Who.TheVariants as who
+use Rattle.script_reader.specs.declared.version.Version.{Version}
+use Rattle.script_reader.specs.declared.version.Version.TheVariants as version
+use Rattle.script_reader.specs.Checks.{innermost, open_of, parent_of}
+use Rattle.script_reader.specs.Ends.{with_ends}
+use Rattle.script_reader.specs.Faults.{◌>>=◌, Gives}
+use Rattle.script_reader.specs.Progress.{Progress, after, after_group, after_local, after_message, after_section, checked, named, open_section, past, peer_in, place, rank_said, register_of, rule_said, small, start}
+use Rattle.script_reader.specs.Reading.{at_end, at_line, begun, read_all_lines, read_as, read_line, read_lines, read_words, script_of}
+use Rattle.script_reader.specs.Said.{allreduce_said, alone, apply_said, barrier_said, bcast_said, bytes_said, colour_said, dash_of, fill_said, hex_said, name_said, number_said, operation_said, peer_said, range_said, type_said, values_said, group_said, numbers_said, post_said, print_said, ranks_said, rank_of_said, rcce_said, recv_said, reduce_said, register_said, repeat_said, said_of, section_said, send_said, span_said, split_said, ue_said, values_named}
+use Rattle.script_reader.specs.Script.{Script, first_split, rules_of, split_rule}
+use Rattle.script_reader.specs.Settled.{SplitsWorldAlone}
+use Rattle.script_reader.specs.Words.{is_text, line_count, lines_of, words_of}
+use Rattle.script_reader.proofs.EndLemmas.{rules-with_ends}
+use Rattle.script_reader.proofs.RuleLemmas.{first_split-more, or_rule-either, split-at}
+
+-- what a reading gives has a property, where all that its last step gives has it
+then : {A B E : Type 0} (P : B → Type 0) (r : Result A E) (next : A → Result B E) → ((x : A) → IfOk (next x) P) → IfOk (r >>= next) P
+then P (Ok x) next has = has x
+then P (Err e) next has = tt
+
+behind : {A B E : Type 0} (Q : A → Type 0) (P : B → Type 0) (r : Result A E) (next : A → Result B E) → IfOk r Q → ((x : A) → Q x → IfOk (next x) P) → IfOk (r >>= next) P
+behind Q P (Ok x) next is has = has x is
+behind Q P (Err e) next is has = tt
+
+either : {B E : Type 0} (P : B → Type 0) (b : Bool) (x y : Result B E) → IfOk x P → IfOk y P → IfOk (cond b x y) P
+either P true x y one other = one
+either P false x y one other = other
+
+-- a line that splits nothing but the world
+abbrev IsPlain : Said → Type 0
+IsPlain (said.Collective (group.Split comm parent how parts)) = parent ≡ 0
+IsPlain _ = Unit {0}
+
+alone-plain : (s : Said) → IsPlain s → (words : List (List ℕ)) → IfOk (alone s words) IsPlain
+alone-plain s is [] = is
+alone-plain s is (a ∷ rest) = tt
+
+span-plain : (first last : List ℕ) → IfOk (span_said first last) IsPlain
+span-plain first last = then IsPlain (number_said first) _ (λ x1. then IsPlain (number_said last) _ (λ x2. tt))
+
+ranks-plain : (word : List ℕ) → IfOk (ranks_said word) IsPlain
+ranks-plain word = either IsPlain (dash_of word == length word) _ _ (span-plain word word) (span-plain (take (dash_of word) word) (drop (dash_of word + 1) word))
+
+ue-plain : (words : List (List ℕ)) → IfOk (ue_said words) IsPlain
+ue-plain [] = tt
+ue-plain (a ∷ []) = ranks-plain a
+ue-plain (a ∷ b ∷ rest) = tt
+
+bytes-plain : (words : List (List ℕ)) → IfOk (bytes_said words) IsPlain
+bytes-plain [] = tt
+bytes-plain (a ∷ []) = tt
+bytes-plain (a ∷ b ∷ []) = then IsPlain (hex_said b) _ (λ x1. then IsPlain (name_said a) _ (λ x2. tt))
+bytes-plain (a ∷ b ∷ c ∷ rest) = tt
+
+named-plain : (ty : Ty) (name : List ℕ) (values : List (List ℕ)) → IfOk (values_named ty name values) IsPlain
+named-plain ty name values = then IsPlain (values_said ty [] values) _ (λ x1. then IsPlain (name_said name) _ (λ x2. tt))
+
+numbers-plain : (ty : Ty) (words : List (List ℕ)) → IfOk (numbers_said ty words) IsPlain
+numbers-plain ty [] = tt
+numbers-plain ty (name ∷ values) = either IsPlain (length values == 0) _ _ tt (named-plain ty name values)
+
+fill-plain : (words : List (List ℕ)) → IfOk (fill_said words) IsPlain
+fill-plain [] = tt
+fill-plain (a ∷ []) = tt
+fill-plain (a ∷ b ∷ []) = tt
+fill-plain (a ∷ b ∷ c ∷ []) = then IsPlain (number_said b) _ (λ x1. then IsPlain (range_said 0 65535 c) _ (λ x2. then IsPlain (name_said a) _ (λ x3. tt)))
+fill-plain (a ∷ b ∷ c ∷ d ∷ rest) = tt
+
+rank-plain : (words : List (List ℕ)) → IfOk (rank_of_said words) IsPlain
+rank-plain [] = tt
+rank-plain (a ∷ []) = tt
+rank-plain (a ∷ b ∷ []) = then IsPlain (type_said b) _ (λ x1. then IsPlain (name_said a) _ (λ x2. tt))
+rank-plain (a ∷ b ∷ c ∷ rest) = tt
+
+apply-plain : (words : List (List ℕ)) → IfOk (apply_said words) IsPlain
+apply-plain [] = tt
+apply-plain (a ∷ []) = tt
+apply-plain (a ∷ b ∷ []) = tt
+apply-plain (a ∷ b ∷ c ∷ []) = tt
+apply-plain (a ∷ b ∷ c ∷ d ∷ []) = then IsPlain (operation_said a) _ (λ x1. then IsPlain (type_said b) _ (λ x2. then IsPlain (name_said c) _ (λ x3. then IsPlain (name_said d) _ (λ x4. tt))))
+apply-plain (a ∷ b ∷ c ∷ d ∷ e ∷ rest) = tt
+
+print-plain : (words : List (List ℕ)) → IfOk (print_said words) IsPlain
+print-plain [] = tt
+print-plain (a ∷ []) = then IsPlain (name_said a) _ (λ x1. tt)
+print-plain (a ∷ b ∷ []) = then IsPlain (type_said a) _ (λ x1. then IsPlain (name_said b) _ (λ x2. tt))
+print-plain (a ∷ b ∷ c ∷ rest) = tt
+
+send-plain : (words : List (List ℕ)) → IfOk (send_said words) IsPlain
+send-plain [] = tt
+send-plain (a ∷ []) = tt
+send-plain (a ∷ b ∷ []) = then IsPlain (peer_said a) _ (λ x1. then IsPlain (name_said b) _ (λ x2. tt))
+send-plain (a ∷ b ∷ c ∷ rest) = tt
+
+post-plain : (words : List (List ℕ)) → IfOk (post_said words) IsPlain
+post-plain [] = tt
+post-plain (a ∷ []) = tt
+post-plain (a ∷ b ∷ []) = then IsPlain (peer_said a) _ (λ x1. then IsPlain (name_said b) _ (λ x2. tt))
+post-plain (a ∷ b ∷ c ∷ rest) = tt
+
+recv-plain : (words : List (List ℕ)) → IfOk (recv_said words) IsPlain
+recv-plain [] = tt
+recv-plain (a ∷ []) = tt
+recv-plain (a ∷ b ∷ []) = tt
+recv-plain (a ∷ b ∷ c ∷ []) = then IsPlain (peer_said a) _ (λ x1. then IsPlain (number_said c) _ (λ x2. then IsPlain (name_said b) _ (λ x3. tt)))
+recv-plain (a ∷ b ∷ c ∷ d ∷ rest) = tt
+
+barrier-plain : (words : List (List ℕ)) → IfOk (barrier_said words) IsPlain
+barrier-plain [] = tt
+barrier-plain (a ∷ []) = then IsPlain (number_said a) _ (λ x1. tt)
+barrier-plain (a ∷ b ∷ rest) = tt
+
+-- version 1 has splits of the world alone
+split-plain : (words : List (List ℕ)) → IfOk (split_said version.One words) IsPlain
+split-plain [] = tt
+split-plain (a ∷ []) = tt
+split-plain (a ∷ b ∷ []) = tt
+split-plain (a ∷ b ∷ c ∷ []) = then IsPlain (colour_said b) _ (λ x1. then IsPlain (number_said a) _ (λ x2. then IsPlain (range_said 1 48 c) _ (λ x3. refl)))
+split-plain (a ∷ b ∷ c ∷ d ∷ []) = tt
+split-plain (a ∷ b ∷ c ∷ d ∷ e ∷ []) = tt
+split-plain (a ∷ b ∷ c ∷ d ∷ e ∷ f ∷ rest) = tt
+
+bcast-plain : (words : List (List ℕ)) → IfOk (bcast_said words) IsPlain
+bcast-plain [] = tt
+bcast-plain (a ∷ []) = tt
+bcast-plain (a ∷ b ∷ []) = tt
+bcast-plain (a ∷ b ∷ c ∷ []) = tt
+bcast-plain (a ∷ b ∷ c ∷ d ∷ []) = then IsPlain (number_said a) _ (λ x1. then IsPlain (number_said b) _ (λ x2. then IsPlain (number_said d) _ (λ x3. then IsPlain (name_said c) _ (λ x4. tt))))
+bcast-plain (a ∷ b ∷ c ∷ d ∷ e ∷ rest) = tt
+
+reduce-plain : (words : List (List ℕ)) → IfOk (reduce_said words) IsPlain
+reduce-plain [] = tt
+reduce-plain (a ∷ []) = tt
+reduce-plain (a ∷ b ∷ []) = tt
+reduce-plain (a ∷ b ∷ c ∷ []) = tt
+reduce-plain (a ∷ b ∷ c ∷ d ∷ []) = tt
+reduce-plain (a ∷ b ∷ c ∷ d ∷ e ∷ []) = tt
+reduce-plain (a ∷ b ∷ c ∷ d ∷ e ∷ f ∷ []) = then IsPlain (operation_said c) _ (λ x1. then IsPlain (type_said d) _ (λ x2. then IsPlain (number_said a) _ (λ x3. then IsPlain (number_said b) _ (λ x4. then IsPlain (name_said e) _ (λ x5. then IsPlain (name_said f) _ (λ x6. tt))))))
+reduce-plain (a ∷ b ∷ c ∷ d ∷ e ∷ f ∷ g ∷ rest) = tt
+
+allreduce-plain : (words : List (List ℕ)) → IfOk (allreduce_said words) IsPlain
+allreduce-plain [] = tt
+allreduce-plain (a ∷ []) = tt
+allreduce-plain (a ∷ b ∷ []) = tt
+allreduce-plain (a ∷ b ∷ c ∷ []) = tt
+allreduce-plain (a ∷ b ∷ c ∷ d ∷ []) = tt
+allreduce-plain (a ∷ b ∷ c ∷ d ∷ e ∷ []) = then IsPlain (operation_said b) _ (λ x1. then IsPlain (type_said c) _ (λ x2. then IsPlain (number_said a) _ (λ x3. then IsPlain (name_said d) _ (λ x4. then IsPlain (name_said e) _ (λ x5. tt)))))
+allreduce-plain (a ∷ b ∷ c ∷ d ∷ e ∷ f ∷ rest) = tt
+
+repeat-plain : (words : List (List ℕ)) → IfOk (repeat_said words) IsPlain
+repeat-plain [] = tt
+repeat-plain (a ∷ []) = then IsPlain (range_said 1 100000 a) _ (λ x1. tt)
+repeat-plain (a ∷ b ∷ rest) = tt
+
+rcce-plain : (words : List (List ℕ)) → IfOk (rcce_said version.One words) IsPlain
+rcce-plain [] = tt
+rcce-plain (a ∷ []) = then IsPlain (range_said 1 1 a) _ (λ x1. tt)
+rcce-plain (a ∷ b ∷ rest) = tt
+
+section-plain : (first : List ℕ) (words : List (List ℕ)) → IfOk (section_said first words) IsPlain
+section-plain first words =
+    either IsPlain (bytes_eq first (codes "all")) _ _ (alone-plain (said.Section section.All) tt words)
+    (either IsPlain (bytes_eq first (codes "even")) _ _ (alone-plain (said.Section section.Even) tt words)
+    (either IsPlain (bytes_eq first (codes "odd")) _ _ (alone-plain (said.Section section.Odd) tt words)
+    (either IsPlain (bytes_eq first (codes "ue")) _ _ (ue-plain words)
+    (either IsPlain (bytes_eq first (codes "repeat")) _ _ (repeat-plain words)
+    (either IsPlain (bytes_eq first (codes "end")) _ _ (alone-plain said.End tt words)
+    (tt))))))
+
+group-plain : (first : List ℕ) (words : List (List ℕ)) → IfOk (group_said version.One first words) IsPlain
+group-plain first words =
+    either IsPlain (bytes_eq first (codes "barrier")) _ _ (barrier-plain words)
+    (either IsPlain (bytes_eq first (codes "split")) _ _ (split-plain words)
+    (either IsPlain (bytes_eq first (codes "bcast")) _ _ (bcast-plain words)
+    (either IsPlain (bytes_eq first (codes "reduce")) _ _ (reduce-plain words)
+    (either IsPlain (bytes_eq first (codes "allreduce")) _ _ (allreduce-plain words)
+    (section-plain first words)))))
+
+register-plain : (first : List ℕ) (words : List (List ℕ)) → IfOk (register_said version.One first words) IsPlain
+register-plain first words =
+    either IsPlain (bytes_eq first (codes "bytes")) _ _ (bytes-plain words)
+    (either IsPlain (bytes_eq first (codes "ints")) _ _ (numbers-plain ty.Int words)
+    (either IsPlain (bytes_eq first (codes "longs")) _ _ (numbers-plain ty.Long words)
+    (either IsPlain (bytes_eq first (codes "fill")) _ _ (fill-plain words)
+    (either IsPlain (bytes_eq first (codes "rank")) _ _ (rank-plain words)
+    (either IsPlain (bytes_eq first (codes "apply")) _ _ (apply-plain words)
+    (either IsPlain (bytes_eq first (codes "print")) _ _ (print-plain words)
+    (group-plain first words)))))))
+
+said-plain : (opening : Bool) (first : List ℕ) (words : List (List ℕ)) → IfOk (said_of version.One opening first words) IsPlain
+said-plain opening first words =
+    either IsPlain (bytes_eq first (codes "send")) _ _ (send-plain words)
+    (either IsPlain (bytes_eq first (codes "post")) _ _ (post-plain words)
+    (either IsPlain (bytes_eq first (codes "recv")) _ _ (recv-plain words)
+    (either IsPlain (opening && bytes_eq first (codes "rcce")) _ _ (rcce-plain words)
+    (register-plain first words))))
+
+-- the lines so far are of version 1, and their splits take apart the world
+abbrev IsFlat : Progress → Type 0
+IsFlat p = (p.version ≡ version.One) × ((comm : ℕ) → parent_of (first_split p.items comm) ≡ 0)
+
+place-flat : (line : ℕ) (p : Progress) (s : Stmt) → IsFlat p → ((comm : ℕ) → parent_of (split_rule s comm) ≡ 0) → IfOk (place line p s) IsFlat
+place-flat line p s flat is =
+    then IsFlat (checked p s) _ (λ who.
+    let item : Item = record { line = line; who = who; stmt = s } in
+    (flat.0, λ comm. ap parent_of (first_split-more p.items item comm) ∙ or_rule-either (λ (r : CommRule). parent_of r ≡ 0) (first_split p.items comm) (split_rule s comm) (flat.1 comm) (is comm)))
+
+open-flat : (p : Progress) (ranks : Who) → IsFlat p → IfOk (open_section p ranks) IsFlat
+open-flat p ranks flat = either IsFlat (length (open_of (past p)) == 0) (Ok (record p { section = Some ranks })) (Err kind.UnclosedRepeat) flat tt
+
+section-flat : (p : Progress) (s : Section) → IsFlat p → IfOk (after_section p s) IsFlat
+section-flat p section.All flat = open-flat p who.All flat
+section-flat p section.Even flat = open-flat p who.Even flat
+section-flat p section.Odd flat = open-flat p who.Odd flat
+section-flat p (section.Span first last) flat = then IsFlat (rank_said p.nue first) _ (λ a. then IsFlat (rank_said p.nue last) _ (λ b. either IsFlat (nat_lt b a) (Err kind.RankRange) (open_section p (who.Span a b)) tt (open-flat p (who.Span a b) flat)))
+
+local-flat : (line : ℕ) (p : Progress) (s : Local) → IsFlat p → IfOk (after_local line p s) IsFlat
+local-flat line p (local.Bytes name bytes) flat = place-flat line (named p name) (stmt.Bytes (register_of p.names name) bytes) flat (λ comm. refl)
+local-flat line p (local.Fill name len start) flat = place-flat line (named p name) (stmt.Fill (register_of p.names name) len start) flat (λ comm. refl)
+local-flat line p (local.RankOf name ty) flat = place-flat line (named p name) (stmt.RankOf (register_of p.names name) ty) flat (λ comm. refl)
+local-flat line p (local.Apply op ty dst src) flat = place-flat line (named (named p dst) src) (stmt.Apply op ty (register_of p.names dst) (register_of (named p dst).names src)) flat (λ comm. refl)
+local-flat line p (local.Print name form) flat = place-flat line (named p name) (stmt.Print (register_of p.names name) form) flat (λ comm. refl)
+
+message-flat : (line : ℕ) (p : Progress) (s : Message) → IsFlat p → IfOk (after_message line p s) IsFlat
+message-flat line p (message.Send peer name) flat = then IsFlat (peer_in p.nue peer) _ (λ other. place-flat line (named p name) (stmt.Send other (register_of p.names name)) flat (λ comm. refl))
+message-flat line p (message.Post peer name) flat = then IsFlat (peer_in p.nue peer) _ (λ other. place-flat line (named p name) (stmt.Post other (register_of p.names name)) flat (λ comm. refl))
+message-flat line p (message.Recv peer name len) flat = then IsFlat (peer_in p.nue peer) _ (λ other. place-flat line (named p name) (stmt.Recv other (register_of p.names name) len) flat (λ comm. refl))
+
+parent-said : (how : Colour) (parent parts : ℕ) → parent_of (rule_said how parent parts) ≡ parent
+parent-said colour.Mod parent parts = refl
+parent-said colour.Div parent parts = refl
+
+parent-split : (b : Bool) (r : CommRule) → parent_of r ≡ 0 → parent_of (cond b r rule.Absent) ≡ 0
+parent-split true r is = is
+parent-split false r is = refl
+
+group-flat : (line : ℕ) (p : Progress) (s : Collective) → IsPlain (said.Collective s) → IsFlat p → IfOk (after_group line p s) IsFlat
+group-flat line p (group.Barrier comm) is flat = place-flat line p (stmt.Barrier (small comm)) flat (λ comm. refl)
+group-flat line p (group.Split comm parent how parts) is flat =
+    place-flat line p (stmt.Split (small comm) (rule_said how (small parent) parts)) flat (λ other. parent-split (small comm == other) (rule_said how (small parent) parts) (parent-said how (small parent) parts ∙ ap small is))
+group-flat line p (group.Bcast comm root name len) is flat = place-flat line (named p name) (stmt.Bcast (small comm) (small root) (register_of p.names name) len) flat (λ comm. refl)
+group-flat line p (group.Reduce comm root op ty dst src) is flat = place-flat line (named (named p dst) src) (stmt.Reduce (small comm) (small root) op ty (register_of p.names dst) (register_of (named p dst).names src)) flat (λ comm. refl)
+group-flat line p (group.Allreduce comm op ty dst src) is flat = place-flat line (named (named p dst) src) (stmt.Allreduce (small comm) op ty (register_of p.names dst) (register_of (named p dst).names src)) flat (λ comm. refl)
+
+after-flat : (line : ℕ) (p : Progress) (s : Said) → IsPlain s → IsFlat p → IfOk (after line p s) IsFlat
+after-flat line p said.Version is flat = flat
+after-flat line p (said.Section s) is flat = section-flat p s flat
+after-flat line p (said.Local s) is flat = local-flat line p s flat
+after-flat line p (said.Message s) is flat = message-flat line p s flat
+after-flat line p (said.Collective s) is flat = group-flat line p s is flat
+after-flat line p (said.Repeat times) is flat = place-flat line p (stmt.Repeat times 0) flat (λ comm. refl)
+after-flat line p said.End is flat = place-flat line p (stmt.End (innermost (open_of (past p)))) flat (λ comm. refl)
+
+words-flat : (number : ℕ) (p : Progress) (words : List (List ℕ)) → IsFlat p → IfOk (read_words number p words) IsFlat
+words-flat number p [] flat = flat
+words-flat number p (first ∷ words) flat =
+    behind IsPlain IsFlat (said_of p.version p.opening first words) _
+    (subst (λ (v : Version). IfOk (said_of v p.opening first words) IsPlain) (sym flat.0) (said-plain p.opening first words))
+    (λ s is. after-flat number (begun p) s is flat)
+
+line-flat : (number : ℕ) (p : Progress) (line : List ℕ) → IsFlat p → IfOk (read_line number p line) IsFlat
+line-flat number p line flat = either IsFlat (is_text line) (read_words number p (words_of line)) (Err kind.NotText) (words-flat number p (words_of line) flat) tt
+
+at_line-flat : (number : ℕ) (r : Result Progress FaultKind) → IfOk r IsFlat → IfOk (at_line number r) IsFlat
+at_line-flat number (Ok p) flat = flat
+at_line-flat number (Err kind) flat = tt
+
+lines-flat : (before : ℕ) (p : Progress) (lines : List (List ℕ)) → IsFlat p → IfOk (read_lines before p lines) IsFlat
+lines-flat before p [] flat = flat
+lines-flat before p (line ∷ lines) flat =
+    behind IsFlat IsFlat (at_line (before + 1) (read_line (before + 1) p line)) _ (at_line-flat (before + 1) (read_line (before + 1) p line) (line-flat (before + 1) p line flat))
+    (λ q is. lines-flat (before + 1) q lines is)
+
+rule-flat : (items : List Item) (comm : ℕ) → ((comm : ℕ) → parent_of (first_split items comm) ≡ 0) → parent_of (rule_of (rules_of items) comm) ≡ 0
+rule-flat items zero flat = refl
+rule-flat items (suc c) flat =
+    elim (cases_lt (suc c) 16) [
+      | inl below ↦ ap parent_of (split-at items (suc c) (omega arith) below) ∙ flat (suc c)
+      | inr past ↦ ap parent_of (get_or_past (rules_of items) (suc c) rule.Absent (omega (arith, past, length-map-range_with_len (first_split items) 1 15)))
+    ]
+
+end-flat : (count : ℕ) (p : Progress) → IsFlat p → IfOk (at_end count p) SplitsWorldAlone
+end-flat count p flat =
+    either SplitsWorldAlone (length (open_of (past p)) == 0) (Ok (script_of p)) _ (λ comm. ap (λ (rules : List CommRule). parent_of (rule_of rules comm)) (rules-with_ends (length p.items) p.items) ∙ rule-flat p.items comm flat.1) tt
+
+all-flat : (lines : List (List ℕ)) (nue : ℕ) → IfOk (read_all_lines version.One lines nue) SplitsWorldAlone
+all-flat lines nue = behind IsFlat SplitsWorldAlone (read_lines 0 (start version.One nue) lines) _ (lines-flat 0 (start version.One nue) lines (refl, λ comm. refl)) (λ p flat. end-flat (line_count lines) p flat)
+
+-- a script of version 1 splits the world alone
+pub first-flat : (bytes : List ℕ) (nue : ℕ) → IfOk (read_as version.One bytes nue) SplitsWorldAlone
+first-flat bytes nue = either SplitsWorldAlone (nat_lt 4194304 (length bytes)) _ _ tt (all-flat (lines_of bytes) nue)
+
+-- what a reading gives has what the script has that the grammar gives
+pub IfOk-given : (P : Script → Type 0) (r : Result Script ReadStop) (meant : Result Script ReadFault) → Gives (λ script. script) r meant → IfOk meant P → IfOk r P
+IfOk-given P (Ok script) meant gives is = subst (λ (m : Result Script ReadFault). IfOk m P) gives is
+IfOk-given P (Err (stop.Fault fault)) meant gives is = tt
+IfOk-given P (Err stop.Memory) meant gives is = tt

@@ -1,8 +1,0 @@
-use Rattle.std.proofs.Common.{◌≡◌, ◌&&◌, false}
-use Rattle.script_reader.specs.Checks.{refuses, some_below}
-use Rattle.script_reader.specs.Script.{has_rank}
-use Rattle.script_reader.proofs.reader.Reader.some_rank_of.Given as goal
-
--- no rank so far is refused
-abbrev pub invariant-loop-rank : goal.invariant-loop-rank
-invariant-loop-rank l = some_below l.rank (λ rank. has_rank l.who rank && refuses l.check l.self.items l.stmt rank) ≡ false

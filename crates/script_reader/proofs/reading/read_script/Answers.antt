@@ -1,0 +1,14 @@
+use Rattle.std.proofs.Common.{subst, sym}
+use Rattle.std.specs.Prelude.{IfOk}
+use Rattle.script_reader.specs.declared.version.Version.{Version}
+use Rattle.script_reader.specs.Reading.{read_as}
+use Rattle.script_reader.specs.Settled.{SplitsWorldAlone}
+use Rattle.script_reader.proofs.VersionLemmas.{IfOk-given, first-flat}
+use Rattle.script_reader.proofs.reading.read_script.Goals as goal
+
+-- what is true of the script that the grammar gives
+pub returns-clause-flat : goal.returns-clause-flat
+returns-clause-flat c = λ is.
+    let bytes = c.args.bytes.now in
+    IfOk-given SplitsWorldAlone c.read_file.result _ c.read_file.ensures.gives
+    (subst (λ (version : Version). IfOk (read_as version bytes c.args.nue) SplitsWorldAlone) (sym is) (first-flat bytes c.args.nue))

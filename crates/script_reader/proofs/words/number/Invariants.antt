@@ -1,7 +1,0 @@
-use Rattle.std.proofs.Common.{◌≡◌, drop}
-use Rattle.script_reader.specs.Words.{digits_value}
-use Rattle.script_reader.proofs.words.number.Given as goal
-
--- the digits that are left, behind the value so far, have the value of all
-abbrev pub invariant-loop-b : goal.invariant-loop-b
-invariant-loop-b l = digits_value l.value (drop l.b-index l.word) ≡ digits_value 0 l.word

@@ -1,0 +1,44 @@
+//! The places of the ends of repeats.
+
+ghost use Rattle.std.specs.Prelude.{◌≡◌, ◌<◌, ◌≤◌, ◌^◌, All, length};
+ghost use Rattle.script_reader.specs.Ends.{ended, told_at, with_ends};
+ghost use Rattle.script_reader.specs.Script.{IsSized};
+
+use crate::script::{Item, Stmt};
+
+/// Gives the repeat at a place the place of its end.
+fn end_at(items: &mut [Item], start: usize, place: u32)
+    ensures gives { items.new ≡ ended items.old start place }
+{
+    if start >= items.len() {
+        return;
+    }
+    let Stmt::Repeat { times, .. } = &items[start].stmt else {
+        return;
+    };
+    let times = *times;
+    items[start].stmt = Stmt::Repeat { times, end: place };
+}
+
+/// Tells a repeat the place of its end, if that stands here.
+fn tell_at(items: &mut [Item], place: usize)
+    requires known { place < length items.old }
+    requires few { length items.old < 2 ^ 32 }
+    ensures gives { items.new ≡ told_at items.old place }
+{
+    let Stmt::End { start } = &items[place].stmt else {
+        return;
+    };
+    let start = *start as usize;
+    end_at(items, start, place as u32);
+}
+
+/// Tells each repeat the place of its end.
+pub(crate) fn tell_ends(items: &mut [Item])
+    requires few { length items.old < 2 ^ 32 }
+    ensures gives { items.new ≡ with_ends (length items.old) items.old }
+{
+    for place in 0..items.len() {
+        tell_at(items, place);
+    }
+}

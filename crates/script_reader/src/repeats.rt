@@ -1,0 +1,91 @@
+//! The repeats that are open.
+
+ghost use Rattle.std.specs.Prelude.{◌≡◌, false};
+ghost use Rattle.script_reader.specs.Checks.{innermost, is_stray, is_too_deep, opened, turns_in, turns_too_often};
+
+use crate::script::Stmt;
+use arrayvec::ArrayVec;
+
+/// How many repeats may be open.
+pub(crate) const MOST_OPEN: usize = 8;
+
+/// How often a statement may run.
+const MOST_TURNS: u64 = 100_000;
+
+/// An open repeat: its place among the statements, and how often a statement in it runs.
+#[derive(Clone, Copy, Debug, Default)]
+pub(crate) struct Open {
+    pub(crate) start: u32,
+    pub(crate) turns: u32,
+}
+
+/// How often a statement runs that stands inside these repeats.
+pub(crate) fn turns_in(repeats: &[Open]) -> u32
+    ensures { result ≡ turns_in repeats.now }
+{
+    match repeats.last() {
+        Some(repeat) => repeat.turns,
+        None => 1,
+    }
+}
+
+/// The place of the innermost of these repeats.
+pub(crate) fn innermost(repeats: &[Open]) -> u32
+    ensures { result ≡ innermost repeats.now }
+{
+    match repeats.last() {
+        Some(repeat) => repeat.start,
+        None => 0,
+    }
+}
+
+/// Whether a statement is an end with no open repeat.
+pub(crate) fn is_stray(repeats: &[Open], stmt: &Stmt) -> bool
+    ensures { result ≡ is_stray repeats.now stmt.now }
+{
+    match stmt {
+        Stmt::End { .. } => repeats.is_empty(),
+        _ => false,
+    }
+}
+
+/// Whether a statement opens one repeat too many.
+pub(crate) fn is_too_deep(repeats: &[Open], stmt: &Stmt) -> bool
+    ensures { result ≡ is_too_deep repeats.now stmt.now }
+{
+    match stmt {
+        Stmt::Repeat { .. } => repeats.len() >= MOST_OPEN,
+        _ => false,
+    }
+}
+
+/// Whether statements in this repeat would run too often.
+pub(crate) fn turns_too_often(turns: u32, stmt: &Stmt) -> bool
+    ensures { result ≡ turns_too_often turns stmt.now }
+{
+    match stmt {
+        Stmt::Repeat { times, .. } => (turns as u64).saturating_mul(*times as u64) > MOST_TURNS,
+        _ => false,
+    }
+}
+
+/// Opens or closes a repeat, if the statement does that.
+pub(crate) fn note_repeat(repeats: &mut ArrayVec<Open, MOST_OPEN>, stmt: &Stmt, place: u32)
+    requires flat { is_too_deep repeats.old.items stmt.now ≡ false }
+    requires turning { turns_too_often (turns_in repeats.old.items) stmt.now ≡ false }
+    ensures { repeats.new.items ≡ opened stmt.now place repeats.old.items }
+{
+    match stmt {
+        Stmt::Repeat { times, .. } => {
+            let turns = (turns_in(repeats.as_slice()) as u64).saturating_mul(*times as u64);
+            repeats.push(Open {
+                start: place,
+                turns: turns as u32,
+            });
+        }
+        Stmt::End { .. } => {
+            repeats.pop();
+        }
+        _ => {}
+    }
+}

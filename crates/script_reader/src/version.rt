@@ -1,0 +1,22 @@
+//! The versions of the script language.
+
+/// A version of the language. Version 2 has sixteen communicators, and splits of other communicators than the world.
+#[derive(Clone, Copy, Debug, PartialEq, Eq)]
+pub enum Version {
+    One,
+    Two,
+}
+
+impl Version {
+    ghost use Rattle.std.specs.Prelude.{◌≡◌, ◌≤◌};
+    ghost use Rattle.script_reader.specs.Said.{version_number};
+
+    pub(crate) fn number(self) -> u32
+        ensures { result ≡ version_number self }
+    {
+        match self {
+            Version::One => 1,
+            Version::Two => 2,
+        }
+    }
+}
