@@ -6,28 +6,36 @@ use Rattle.std.proofs.lemmas.List.FromFn.{length-map-range_with_len, map-range_w
 use Rattle.scc_base.specs.Heads.{MessageHead}
 use Rattle.scc_base.specs.Calls.{DataCall}
 use Rattle.script_reader.specs.Script.{Script}
-use Rattle.script_plain.specs.declared.prims.Act.{Act}
-use Rattle.script_plain.specs.declared.prims.Act.TheVariants as act
-use Rattle.script_plain.specs.declared.prims.Prim.{Prim}
+use Rattle.script_plain.specs.Program.{Act, Prim}
+use Rattle.script_plain.specs.Program.Act.{Set, Apply, Print, Send, Post, Recv, Gather, Bar, Begin, Fold, Accept, Finish, Pass}
 use Rattle.script_plain.specs.declared.prims.Standing.{Standing}
 use Rattle.script_plain.specs.declared.prims.Standing.TheVariants as standing
 use Rattle.script_plain.specs.Local.{Local, local_start, local_next, next_by_act, next_by_prim, prim_by_standing, cost_of, runs}
 use Rattle.script_plain.specs.Next.{Next}
-use Rattle.script_plain.specs.Next.Next.{Ends, Goes, Sends, Recvs, Bars}
-use Rattle.script_plain.specs.Step.{lowest, lowest_step, run_on}
+use Rattle.script_plain.specs.Next.Next.{Ends, Goes, Posts, Sends, Recvs, Bars}
+use Rattle.script_plain.specs.Step.{Configuration, lowest, lowest_step, run_on}
 use Rattle.script_plain.specs.Code.{StepsAt, StepsLowest}
-use Rattle.script_plain.specs.Meaning.{State, recorded, next_of, plain_step, plain_end, start_of, steps_left, locals_of}
+use Rattle.script_plain.specs.Meaning.{State, recorded, next_of, keys_of, plain_step, plain_end, start_of, steps_left, locals_of, seen_of}
 use Rattle.script_plain.proofs.Costs.{Lowers, next_map}
-use Rattle.script_plain.proofs.StepLaws
+use Rattle.script_plain.proofs.RunLaws
 use Rattle.script_plain.proofs.ViewLaws
 
 lowers_act : (u : Local) (line : ℕ) (a : Act) → length (drop 1 u.left) < length u.left → u.standing ≡ standing.Running → Lowers cost_of (cost_of u) (next_by_act u line a)
-lowers_act u line (act.Set reg content) less running = omega (arith, less)
-lowers_act u line (act.Print reg form) less running = omega (arith, less)
-lowers_act u line (act.Send to reg) less running = omega (arith, less)
-lowers_act u line (act.Recv from reg head) less running =
+lowers_act u line (Set reg content) less running = omega (arith, less)
+lowers_act u line (Apply op ty dst src) less running = omega (arith, less)
+lowers_act u line (Print reg form) less running = omega (arith, less)
+lowers_act u line (Send to head source) less running = omega (arith, less)
+lowers_act u line (Post to reg) less running = omega (arith, less)
+lowers_act u line (Recv from reg head) less running =
     (λ (bytes : List ℕ). omega (arith, less), λ (sent : MessageHead). omega (arith, ap runs running))
-lowers_act u line (act.Bar comm) less running = omega (arith, less)
+lowers_act u line (Gather from head sized) less running =
+    (λ (bytes : List ℕ). omega (arith, less), λ (sent : MessageHead). omega (arith, ap runs running))
+lowers_act u line (Bar comm) less running = omega (arith, less)
+lowers_act u line (Begin reg) less running = omega (arith, less)
+lowers_act u line (Fold op ty) less running = omega (arith, less)
+lowers_act u line (Accept reg) less running = omega (arith, less)
+lowers_act u line (Finish reg) less running = omega (arith, less)
+lowers_act u line Pass less running = omega (arith, less)
 
 lowers_left : (u : Local) (l : List Prim) → u.left ≡ l → u.standing ≡ standing.Running → Lowers cost_of (cost_of u) (next_by_prim u (slice_get l 0))
 lowers_left u [] left running = tt
@@ -40,11 +48,13 @@ lowers_standing u (standing.Mismatched line from sent asked) is = tt
 
 -- whatever a rank does next, less is left after it
 pub local_lowers : (u : Local) → Lowers cost_of (cost_of u) (local_next u)
+unfolding local_next
 local_lowers u = lowers_standing u u.standing refl
 
 recorded_lowers : (calls : List DataCall) (k : ℕ) (n : Next Local) → Lowers cost_of k n → Lowers (λ (u : State). cost_of u.local) k (recorded calls n)
 recorded_lowers calls k Ends low = tt
 recorded_lowers calls k (Goes after) low = low
+recorded_lowers calls k (Posts message after) low = low
 recorded_lowers calls k (Sends to head bytes after) low = low
 recorded_lowers calls k (Recvs from head take refuse) low = low
 recorded_lowers calls k (Bars comm after) low = low
@@ -55,6 +65,7 @@ state_lowers u = recorded_lowers u.matched (cost_of u.local) (local_next u.local
 recorded_seen : (calls : List DataCall) (n : Next Local) → n ≡ next_map (λ (u : State). u.local) (recorded calls n)
 recorded_seen calls Ends = refl
 recorded_seen calls (Goes after) = refl
+recorded_seen calls (Posts message after) = refl
 recorded_seen calls (Sends to head bytes after) = refl
 recorded_seen calls (Recvs from head take refuse) = refl
 recorded_seen calls (Bars comm after) = refl
@@ -63,9 +74,9 @@ state_seen : (u : State) → local_next u.local ≡ next_map (λ (v : State). v.
 state_seen u = recorded_seen u.matched (local_next u.local)
 
 -- the end takes no step
-pub plain_end_still : (script : Script) → plain_step (plain_end script) ≡ None
+pub plain_end_still : (script : Script) → plain_step (keys_of script) (plain_end script) ≡ None
 plain_end_still script =
-    StepLaws.stopped next_of (λ (u : State). cost_of u.local) state_lowers (steps_left (start_of script)) (start_of script) (omega arith)
+    RunLaws.stopped (keys_of script) next_of (λ (u : State). cost_of u.local) state_lowers (steps_left (start_of script)) (start_of script) (omega arith)
 
 starts : (script : Script) (ranks : List ℕ) → map (λ (u : State). u.local) (map (λ (rank : ℕ). record { local = local_start script rank; matched = [] }) ranks) ≡ map (local_start script) ranks
 starts script [] = refl
@@ -75,6 +86,9 @@ starts script (rank ∷ ranks) = ap (λ (c : List Local). local_start script ran
 pub locals_of-start_of : (script : Script) → locals_of (start_of script) ≡ map (local_start script) (range_with_len 0 script.nue)
 locals_of-start_of script = starts script (range_with_len 0 script.nue)
 
+pub length-start_of : (script : Script) → length (locals_of (start_of script)) ≡ script.nue
+length-start_of script = ap length (locals_of-start_of script) ∙ length-map-range_with_len (local_start script) 0 script.nue
+
 -- one rank more at the start
 pub start_more : (script : Script) (number rank : ℕ) (before after : List Local) (u : Local) → before ≡ map (local_start script) (range_with_len 0 number) → rank ≡ number → u ≡ local_start script rank → after ≡ before ++ u ∷ [] → after ≡ map (local_start script) (range_with_len 0 (number + 1))
 start_more script number rank before after u was here made now =
@@ -83,29 +97,29 @@ start_more script number rank before after u was here made now =
     ∙ sym (map-range_with_len_more (local_start script) 0 number number (omega arith))
 
 -- what the ranks hold at the end comes of a run over what they hold
-pub locals_of-plain_end : (script : Script) → run_on local_next (sum_by cost_of (locals_of (start_of script))) (locals_of (start_of script)) ≡ locals_of (plain_end script)
-locals_of-plain_end script =
-    ap (λ (n : ℕ). run_on local_next n (locals_of (start_of script))) (ViewLaws.sum_by-map cost_of (λ (u : State). u.local) (start_of script))
-    ∙ ViewLaws.run_on-map (λ (u : State). u.local) next_of local_next state_seen (steps_left (start_of script)) (start_of script)
+pub seen_of-plain_end : (script : Script) → run_on (keys_of script) local_next (sum_by cost_of (locals_of (start_of script))) (seen_of (start_of script)) ≡ seen_of (plain_end script)
+seen_of-plain_end script =
+    ap (λ (n : ℕ). run_on (keys_of script) local_next n (seen_of (start_of script))) (ViewLaws.sum_by-map cost_of (λ (u : State). u.local) (start_of script).cells)
+    ∙ ViewLaws.run_on-map (λ (u : State). u.local) (keys_of script) next_of local_next state_seen (steps_left (start_of script)) (start_of script)
 
 -- as many ranks as the script runs on
 pub length-plain_end : (script : Script) → length (locals_of (plain_end script)) ≡ script.nue
 length-plain_end script =
-    length-map (plain_end script) (λ (u : State). u.local)
-    ∙ StepLaws.length-run_on next_of (steps_left (start_of script)) (start_of script)
+    length-map (plain_end script).cells (λ (u : State). u.local)
+    ∙ RunLaws.length-run_on (keys_of script) next_of (steps_left (start_of script)) (start_of script)
     ∙ length-map-range_with_len (λ (rank : ℕ). record { local = local_start script rank; matched = [] }) 0 script.nue
 
 -- what an answer of the code says: a step was taken
-pub was_taken : (b : Bool) (old new : List Local) → b ≡ true → StepsLowest b old new → lowest_step local_next old ≡ Some new
-was_taken b old new moved said = let P : Bool → Type 0 = λ t. StepsLowest t old new in subst P moved said
+pub was_taken : (keys : ℕ → ℕ → ℕ) (b : Bool) (old new : Configuration Local) → b ≡ true → StepsLowest keys b old new → lowest_step keys local_next old ≡ Some new
+was_taken keys b old new moved said = let P : Bool → Type 0 = λ t. StepsLowest keys t old new in subst P moved said
 
 -- or the rank owns none, and the search goes on behind it
-pub was_passed : (b : Bool) (i : ℕ) (old new : List Local) → b ≡ false → StepsAt b i old new → i < length old → lowest local_next old (length old - i) i ≡ lowest_step local_next old → (new ≡ old) × (lowest local_next new (length new - (i + 1)) (i + 1) ≡ lowest_step local_next new)
-was_passed b i old new rested said within left =
-    let P : Bool → Type 0 = λ t. StepsAt t i old new in
+pub was_passed : (keys : ℕ → ℕ → ℕ) (b : Bool) (i : ℕ) (old new : Configuration Local) → b ≡ false → StepsAt keys b i old new → i < length old.cells → lowest keys local_next old (length old.cells - i) i ≡ lowest_step keys local_next old → (new ≡ old) × (lowest keys local_next new (length new.cells - (i + 1)) (i + 1) ≡ lowest_step keys local_next new)
+was_passed keys b i old new rested said within left =
+    let P : Bool → Type 0 = λ t. StepsAt keys t i old new in
     let none = subst P rested said in
-    let more : length old - i ≡ suc (length old - (i + 1)) = omega (arith, within) in
-    let on : lowest local_next old (length old - (i + 1)) (i + 1) ≡ lowest_step local_next old =
-    sym (StepLaws.lowest_skips local_next old (length old - i) (length old - (i + 1)) i more none.0) ∙ left in
-    let Q : List Local → Type 0 = λ c. lowest local_next c (length c - (i + 1)) (i + 1) ≡ lowest_step local_next c in
+    let more : length old.cells - i ≡ suc (length old.cells - (i + 1)) = omega (arith, within) in
+    let on : lowest keys local_next old (length old.cells - (i + 1)) (i + 1) ≡ lowest_step keys local_next old =
+    sym (RunLaws.lowest_skips keys local_next old (length old.cells - i) (length old.cells - (i + 1)) i more none.0) ∙ left in
+    let Q : Configuration Local → Type 0 = λ c. lowest keys local_next c (length c.cells - (i + 1)) (i + 1) ≡ lowest_step keys local_next c in
     (none.1, subst Q (sym none.1) on)

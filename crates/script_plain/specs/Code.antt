@@ -1,15 +1,42 @@
 -- Words of the contracts inside the crate.
-use Rattle.std.specs.Prelude.{◌≡◌, ℕ, ◌==◌, Bool, ◌&&◌, not, true, false, if◌then◌else◌, List, Option, Some, None, ◌++◌, ◌∷◌, []}
+use Rattle.std.specs.Prelude.{◌≡◌, ℕ, ◌<◌, ◌==◌, Bool, ◌&&◌, not, true, false, if◌then◌else◌, List, Option, Some, None, ◌++◌, ◌∷◌, [], length, slice_get, slice_index_or, sum_by}
+use Rattle.std.specs.Option.{option_map_or}
+use Rattle.scc_base.specs.Groups.{is_with, root_in}
 use Rattle.scc_base.specs.Heads.{MessageHead}
+use Rattle.scc_base.specs.Setups.{SetupView}
 use Rattle.scc_base.specs.declared.calls.Call.{Call}
 use Rattle.scc_base.specs.declared.calls.Call.TheVariants as call
 use Rattle.script_reader.specs.declared.script.Form.{Form}
+use Rattle.script_plain.specs.declared.posts.Posted.{Posted}
+use Rattle.script_plain.specs.declared.prims.Action.{Action}
 use Rattle.script_plain.specs.declared.steps.Step.{Step}
 use Rattle.script_plain.specs.declared.steps.Step.TheVariants as step
-use Rattle.script_plain.specs.Local.{Local, local_next, register_at}
+use Rattle.script_plain.specs.Local.{Local, cost_of, local_next, register_at}
 use Rattle.script_plain.specs.Next.{Next, call_of, is_going}
-use Rattle.script_plain.specs.Next.Next.{Sends, Recvs}
-use Rattle.script_plain.specs.Step.{same_head, next_at, step_of, lowest_step}
+use Rattle.script_plain.specs.Next.Next.{Ends, Posts, Sends, Recvs}
+use Rattle.script_plain.specs.Program.{Act}
+use Rattle.script_plain.specs.Program.Act.{Set, Apply, Print, Begin, Fold, Accept, Finish, Pass}
+use Rattle.script_plain.specs.Walk.{act_meant}
+use Rattle.script_plain.specs.Step.{Configuration, same_head, all_at_barrier, step_of, lowest_step, run_on}
+
+-- a setup with as many ranks as these, each with a slot, and with sixteen communicators
+pub record IsRun (setup : SetupView) (ues : List Local) (slots : List (Option Posted)) : Type 0 where
+  pub ranks : length ues ≡ setup.nue
+  pub slotted : length slots ≡ setup.nue
+  pub sixteen : length setup.comms ≡ 16
+
+-- the configuration of these ranks with these slots
+abbrev pub config : List Local → List (Option Posted) → Configuration Local
+config cells slots = record { cells = cells; slots = slots }
+
+-- what stands next is a post; this message was posted, and this is the state after it
+abbrev pub IsAtPost : Next Local → Type 0
+IsAtPost (Posts message after) = Unit {0}
+IsAtPost _ = ⊥
+
+abbrev pub HasPosted : Next Local → Posted → Local → Type 0
+HasPosted (Posts message after) posted new = (posted ≡ message) × (new ≡ after)
+HasPosted _ posted new = ⊥
 
 -- what stands next is a send; these bytes were sent, and this is the state after it
 abbrev pub IsAtSend : Next Local → Type 0
@@ -38,40 +65,96 @@ abbrev pub printing : Local → ℕ → Form → Local
 printing u reg form =
     record u { printed = u.printed ++ record { reg = reg; form = form; bytes = register_at u reg } ∷ [] }
 
+-- whether a primitive is one of the rank alone
+abbrev pub is_own_act : Act → Bool
+is_own_act (Set reg content) = true
+is_own_act (Apply op ty dst src) = true
+is_own_act (Print reg form) = true
+is_own_act (Begin reg) = true
+is_own_act (Fold op ty) = true
+is_own_act (Accept reg) = true
+is_own_act (Finish reg) = true
+is_own_act Pass = true
+is_own_act _ = false
+
+abbrev pub is_own : Action → Bool
+is_own action = is_own_act (act_meant action)
+
 -- the call at which a rank stands
 abbrev pub call_at : List Local → ℕ → Option Call
-call_at c rank = call_of (next_at local_next c rank)
+call_at ues rank = call_of (option_map_or local_next (slice_get ues rank) Ends)
 
-abbrev pub match_decision : ℕ → ℕ → MessageHead → Option Call → Step
-match_decision i to head (Some (call.Recv from asked)) =
+abbrev pub post_decision : Option Posted → Step
+post_decision None = step.Posts
+post_decision (Some earlier) = step.Stays
+
+abbrev pub match_decision : ℕ → ℕ → MessageHead → Option Posted → Option Call → Step
+match_decision i to head None (Some (call.Recv from asked)) =
     if (from == i) && same_head head asked then step.Matches to else step.Stays
-match_decision i to head _ = step.Stays
+match_decision i to head _ _ = step.Stays
 
-abbrev pub mismatch_decision : ℕ → MessageHead → Option Call → Step
-mismatch_decision i asked (Some (call.Send to head)) =
+abbrev pub fetch_decision : ℕ → ℕ → MessageHead → ℕ → MessageHead → Step
+fetch_decision i from asked to sent =
+    if to == i then (if same_head sent asked then step.Takes from else step.Mismatches sent) else step.Stays
+
+abbrev pub receive_decision : ℕ → ℕ → MessageHead → Option Posted → Option Call → Step
+receive_decision i from asked (Some message) _ = fetch_decision i from asked message.to message.head
+receive_decision i from asked None (Some (call.Send to head)) =
     if (to == i) && not (same_head head asked) then step.Mismatches head else step.Stays
-mismatch_decision i asked _ = step.Stays
+receive_decision i from asked None _ = step.Stays
 
-abbrev pub call_decision : List Local → ℕ → Option Call → Step
-call_decision c i (Some (call.Send to head)) = match_decision i to head (call_at c to)
-call_decision c i (Some (call.Recv from head)) = mismatch_decision i head (call_at c from)
-call_decision c i _ = step.Stays
+abbrev pub barrier_decision : (ℕ → ℕ → ℕ) → List Local → ℕ → ℕ → Step
+barrier_decision keys ues i comm =
+    if (root_in (keys comm) i == i) && all_at_barrier local_next comm (is_with (keys comm) i) ues
+    then step.Passes comm
+    else step.Stays
+
+abbrev pub call_decision : (ℕ → ℕ → ℕ) → List Local → List (Option Posted) → ℕ → Option Call → Step
+call_decision keys ues slots i None = step.Stays
+call_decision keys ues slots i (Some (call.Post to head)) = post_decision (slice_index_or slots i None)
+call_decision keys ues slots i (Some (call.Send to head)) =
+    match_decision i to head (slice_index_or slots i None) (call_at ues to)
+call_decision keys ues slots i (Some (call.Recv from head)) =
+    receive_decision i from head (slice_index_or slots from None) (call_at ues from)
+call_decision keys ues slots i (Some (call.Bar comm)) = barrier_decision keys ues i comm
 
 -- the step that a rank owns
-abbrev pub decision : List Local → ℕ → Step
-decision c i =
-    if is_going (next_at local_next c i) then step.Goes else call_decision c i (call_at c i)
-
--- a rank stands at a send to another, which stands at a receive from it that asks for the same head
-abbrev pub IsMatch : List Local → ℕ → ℕ → Type 0
-IsMatch c i j = decision c i ≡ step.Matches j
+abbrev pub decision : (ℕ → ℕ → ℕ) → List Local → List (Option Posted) → ℕ → Step
+decision keys ues slots i =
+    if is_going (option_map_or local_next (slice_get ues i) Ends)
+    then step.Goes
+    else call_decision keys ues slots i (call_at ues i)
 
 -- rank i's step was taken, or it owns none
-abbrev pub StepsAt : Bool → ℕ → List Local → List Local → Type 0
-StepsAt true i old new = step_of local_next old i ≡ Some new
-StepsAt false i old new = (step_of local_next old i ≡ None) × (new ≡ old)
+abbrev pub StepsAt : (ℕ → ℕ → ℕ) → Bool → ℕ → Configuration Local → Configuration Local → Type 0
+StepsAt keys true i old new = step_of keys local_next old i ≡ Some new
+StepsAt keys false i old new = (step_of keys local_next old i ≡ None) × (new ≡ old)
 
 -- the enabled step with the lowest owner was taken, or none is enabled
-abbrev pub StepsLowest : Bool → List Local → List Local → Type 0
-StepsLowest true old new = lowest_step local_next old ≡ Some new
-StepsLowest false old new = (lowest_step local_next old ≡ None) × (new ≡ old)
+abbrev pub StepsLowest : (ℕ → ℕ → ℕ) → Bool → Configuration Local → Configuration Local → Type 0
+StepsLowest keys true old new = lowest_step keys local_next old ≡ Some new
+StepsLowest keys false old new = (lowest_step keys local_next old ≡ None) × (new ≡ old)
+
+-- no rank stands at a statement of its own
+abbrev pub IsNoneGoing : List Local → Type 0
+IsNoneGoing ues = (i : ℕ) (u : Local) → slice_get ues i ≡ Some u → is_going (local_next u) ≡ false
+
+-- from the one configuration and from the other a run comes to one end, and less is left of the other
+pub record IsOnTheWay (keys : ℕ → ℕ → ℕ) (old new : Configuration Local) : Type 0 where
+  pub same_end : run_on keys local_next (sum_by cost_of new.cells) new ≡ run_on keys local_next (sum_by cost_of old.cells) old
+  pub less : sum_by cost_of new.cells < sum_by cost_of old.cells
+
+-- something was done, or nothing
+abbrev pub Moves : (ℕ → ℕ → ℕ) → Bool → Configuration Local → Configuration Local → Type 0
+Moves keys true old new = IsOnTheWay keys old new
+Moves keys false old new = new ≡ old
+
+-- something was done, or nothing, since rank i owns no enabled step
+abbrev pub GoesOn : (ℕ → ℕ → ℕ) → Bool → ℕ → Configuration Local → Configuration Local → Type 0
+GoesOn keys true i old new = IsOnTheWay keys old new
+GoesOn keys false i old new = (step_of keys local_next old i ≡ None) × (new ≡ old)
+
+-- something was done, or nothing, since none of the first n ranks owns an enabled step
+abbrev pub Sweeps : (ℕ → ℕ → ℕ) → Bool → ℕ → Configuration Local → Configuration Local → Type 0
+Sweeps keys true n old new = IsOnTheWay keys old new
+Sweeps keys false n old new = ((k : ℕ) → k < n → step_of keys local_next old k ≡ None) × (new ≡ old)

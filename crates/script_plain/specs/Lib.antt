@@ -1,6 +1,11 @@
 pub mod Program
+pub mod Walk
 pub mod Next
 pub mod Local
+pub mod Ends
 pub mod Step
 pub mod Meaning
 pub mod Code
+pub mod Barriers
+pub mod Messages
+pub mod Collectives

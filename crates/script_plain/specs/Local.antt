@@ -1,25 +1,33 @@
 -- What a rank holds, and what it does next. A register is its number and the bytes that it has; one that is not set
 -- has none.
-use Rattle.std.specs.Prelude.{ℕ, ◌+◌, List, [], ◌∷◌, ◌++◌, Option, Some, None, length, drop, slice_get, slice_index_or, slice_set, replicate}
+use Rattle.std.specs.Prelude.{ℕ, ◌+◌, ◌%◌, ◌==◌, ◌&&◌, min, if◌then◌else◌, List, [], ◌∷◌, ◌++◌, Option, Some, None, length, drop, slice_get, slice_index_or, slice_set, replicate}
 use Rattle.scc_base.specs.Heads.{MessageHead, plain_head}
 use Rattle.scc_base.specs.declared.calls.Call.{Call}
+use Rattle.scc_base.specs.declared.calls.Call.TheVariants as call
+use Rattle.groups.specs.declared.operations.Op.{Op}
+use Rattle.groups.specs.declared.operations.Ty.{Ty}
+use Rattle.groups.specs.Folds.{bytes_in, fold_values}
 use Rattle.script_reader.specs.declared.script.Form.{Form}
 use Rattle.script_reader.specs.Script.{Script}
 use Rattle.script_plain.specs.declared.ends.UeEnd.{UeEnd}
 use Rattle.script_plain.specs.declared.ends.UeEnd.TheVariants as ue_end
-use Rattle.script_plain.specs.declared.prims.Act.{Act}
-use Rattle.script_plain.specs.declared.prims.Act.TheVariants as act
-use Rattle.script_plain.specs.declared.prims.Prim.{Prim}
+use Rattle.script_plain.specs.declared.posts.Posted.{Posted}
 use Rattle.script_plain.specs.declared.prims.Printed.{Printed}
+use Rattle.script_plain.specs.declared.prims.Source.{Source}
+use Rattle.script_plain.specs.declared.prims.Source.TheVariants as source
 use Rattle.script_plain.specs.declared.prims.Standing.{Standing}
 use Rattle.script_plain.specs.declared.prims.Standing.TheVariants as standing
 use Rattle.script_plain.specs.Next.{Next, call_of}
-use Rattle.script_plain.specs.Next.Next.{Ends, Goes, Sends, Recvs, Bars}
-use Rattle.script_plain.specs.Program.{program_of}
+use Rattle.script_plain.specs.Next.Next.{Ends, Goes, Posts, Sends, Recvs, Bars}
+use Rattle.script_plain.specs.Program.{Act, Prim, program_of}
+use Rattle.script_plain.specs.Program.Act.{Set, Apply, Print, Send, Post, Recv, Gather, Bar, Begin, Fold, Accept, Finish, Pass}
 
--- the registers by number, the primitives left, the items printed so far, and whether the rank is running
+-- the registers by number, the two work buffers of collective calls (the accumulator and the received bytes), the
+-- primitives left, the items printed so far, and whether the rank is running
 pub record Local : Type 0 where
   pub registers : List (List ℕ)
+  pub accumulator : List ℕ
+  pub received : List ℕ
   pub left : List Prim
   pub printed : List Printed
   pub standing : Standing
@@ -29,6 +37,8 @@ abbrev pub local_start : Script → ℕ → Local
 local_start script rank =
     record {
       registers = replicate (length script.names) [];
+      accumulator = [];
+      received = [];
       left = program_of script rank;
       printed = [];
       standing = standing.Running;
@@ -50,16 +60,57 @@ abbrev pub gone_on_printing : Local → ℕ → Form → Local
 gone_on_printing u reg form =
     record u { left = drop 1 u.left; printed = u.printed ++ record { reg = reg; form = form; bytes = register_at u reg } ∷ [] }
 
+-- past the next primitive, which set the accumulator
+abbrev pub gone_on_folding : Local → List ℕ → Local
+gone_on_folding u bytes = record u { left = drop 1 u.left; accumulator = bytes }
+
+-- past the next primitive, which received these bytes
+abbrev pub gone_on_gathering : Local → List ℕ → Local
+gone_on_gathering u bytes = record u { left = drop 1 u.left; received = bytes }
+
 -- stopped by a message whose head is not the one asked for
 abbrev pub stopped_at : Local → ℕ → ℕ → MessageHead → MessageHead → Local
 stopped_at u line from asked sent = record u { standing = standing.Mismatched line from sent asked }
 
+-- acc op more, value by value. (Lists that do not fit stay as they are: a script that was read folds none.)
+abbrev pub folded : Op → Ty → List ℕ → List ℕ → List ℕ
+folded op ty acc more =
+    if (length acc == length more) && (length acc % bytes_in ty == 0) then fold_values op ty acc more else acc
+
+-- the bytes that a send takes
+abbrev pub source_bytes : Local → Source → List ℕ
+source_bytes u (source.Own reg) = register_at u reg
+source_bytes u source.Accumulator = u.accumulator
+
+-- a head with another length
+abbrev pub with_length : MessageHead → ℕ → MessageHead
+with_length head len = record head { len = len }
+
+-- the head that a receive of a collective call asks for
+abbrev pub asked_head : Local → MessageHead → Option ℕ → MessageHead
+asked_head u head None = head
+asked_head u head (Some reg) = with_length head (length (register_at u reg))
+
+-- the message that a post leaves behind. (A register that is posted has at most 3,584 bytes: the grammar sees to it.)
+abbrev pub message_of : Local → ℕ → ℕ → ℕ → Posted
+message_of u line to reg =
+    record { to = to; head = plain_head (min (length (register_at u reg)) 3584); bytes = register_at u reg; line = line }
+
 abbrev pub next_by_act : Local → ℕ → Act → Next Local
-next_by_act u line (act.Set reg content) = Goes (gone_on_with u reg content)
-next_by_act u line (act.Print reg form) = Goes (gone_on_printing u reg form)
-next_by_act u line (act.Send to reg) = Sends to (plain_head (length (register_at u reg))) (register_at u reg) (gone_on u)
-next_by_act u line (act.Recv from reg head) = Recvs from head (gone_on_with u reg) (stopped_at u line from head)
-next_by_act u line (act.Bar comm) = Bars comm (gone_on u)
+next_by_act u line (Set reg content) = Goes (gone_on_with u reg content)
+next_by_act u line (Apply op ty dst src) = Goes (gone_on_with u dst (folded op ty (register_at u dst) (register_at u src)))
+next_by_act u line (Print reg form) = Goes (gone_on_printing u reg form)
+next_by_act u line (Send to head source) = Sends to (with_length head (length (source_bytes u source))) (source_bytes u source) (gone_on u)
+next_by_act u line (Post to reg) = Posts (message_of u line to reg) (gone_on u)
+next_by_act u line (Recv from reg head) = Recvs from head (gone_on_with u reg) (stopped_at u line from head)
+next_by_act u line (Gather from head sized) =
+    Recvs from (asked_head u head sized) (gone_on_gathering u) (stopped_at u line from (asked_head u head sized))
+next_by_act u line (Bar comm) = Bars comm (gone_on u)
+next_by_act u line (Begin reg) = Goes (gone_on_folding u (register_at u reg))
+next_by_act u line (Fold op ty) = Goes (gone_on_folding u (folded op ty u.accumulator u.received))
+next_by_act u line (Accept reg) = Goes (gone_on_with u reg u.received)
+next_by_act u line (Finish reg) = Goes (gone_on_with u reg u.accumulator)
+next_by_act u line Pass = Goes (gone_on u)
 
 -- the primitive at which a rank stands: a rank that a mismatch stopped stands at none
 abbrev pub prim_by_standing : Standing → List Prim → Option Prim
@@ -74,7 +125,7 @@ next_by_prim u None = Ends
 next_by_prim u (Some prim) = next_by_act u prim.line prim.act
 
 -- what stands next at a rank
-abbrev pub local_next : Local → Next Local
+unfoldable pub local_next : Local → Next Local
 local_next u = next_by_prim u (next_prim u)
 
 -- at most how many steps are the rank's own or stop it
@@ -91,21 +142,27 @@ abbrev pub waits_at : ℕ → Option Call → UeEnd
 waits_at line (Some call) = ue_end.Waits line call
 waits_at line None = ue_end.Finished
 
-abbrev pub end_by_prim : Local → Option Prim → UeEnd
-end_by_prim u None = ue_end.Finished
-end_by_prim u (Some prim) = waits_at prim.line (call_of (next_by_act u prim.line prim.act))
+-- a rank with nothing left waits until the message that it posted is taken
+abbrev pub end_by_slot : Option Posted → UeEnd
+end_by_slot None = ue_end.Finished
+end_by_slot (Some message) = ue_end.Waits message.line (call.Post message.to message.head)
 
-abbrev pub end_by_standing : Local → Standing → UeEnd
-end_by_standing u standing.Running = end_by_prim u (slice_get u.left 0)
-end_by_standing u (standing.Mismatched line from sent asked) = ue_end.Mismatch line from sent asked
+abbrev pub end_by_prim : Option Posted → Local → Option Prim → UeEnd
+end_by_prim slot u None = end_by_slot slot
+end_by_prim slot u (Some prim) = waits_at prim.line (call_of (next_by_act u prim.line prim.act))
 
--- how a rank's run ended: finished where nothing is left, stopped by a mismatch, or else waiting at its next call
-abbrev pub end_of : Local → UeEnd
-end_of u = end_by_standing u u.standing
+abbrev pub end_by_standing : Option Posted → Local → Standing → UeEnd
+end_by_standing slot u standing.Running = end_by_prim slot u (slice_get u.left 0)
+end_by_standing slot u (standing.Mismatched line from sent asked) = ue_end.Mismatch line from sent asked
+
+-- how a rank's run ended: stopped by a mismatch, finished where nothing is left and its slot is empty, else waiting at
+-- the post in its slot or at its next call
+abbrev pub end_of : Option Posted → Local → UeEnd
+end_of slot u = end_by_standing slot u u.standing
 
 -- a rank of which nothing is known
 abbrev pub nobody : Local
-nobody = record { registers = []; left = []; printed = []; standing = standing.Running }
+nobody = record { registers = []; accumulator = []; received = []; left = []; printed = []; standing = standing.Running }
 
 abbrev pub local_at : List Local → ℕ → Local
 local_at c rank = slice_index_or c rank nobody

@@ -1,24 +1,28 @@
 -- The plain meaning of scripts: what their ranks come to where sends meet receives (RCCE specification 2.0) and nothing
 -- is said of a chip.
-use Rattle.std.specs.Prelude.{ℕ, List, [], ◌∷◌, ◌++◌, Option, map, sum_by}
+use Rattle.std.specs.Prelude.{◌≡◌, ℕ, List, [], ◌∷◌, ◌++◌, Option, None, Some, map, replicate, sum_by}
 use Rattle.std.specs.List.{range_with_len}
 use Rattle.scc_base.specs.Calls.{DataCall}
-use Rattle.scc_base.specs.Calls.DataCall.{Send, Recv, Bar}
-use Rattle.script_reader.specs.Script.{Script}
+use Rattle.scc_base.specs.Calls.DataCall.{Send, Recv, Post, Bar}
+use Rattle.scc_base.specs.Communicators.{key_of}
+use Rattle.script_reader.specs.Script.{Script, rules_of}
+use Rattle.script_plain.specs.Ends.{Ended, ends_of}
 use Rattle.script_plain.specs.Local.{Local, local_start, local_next, cost_of}
 use Rattle.script_plain.specs.Next.{Next}
-use Rattle.script_plain.specs.Next.Next.{Ends, Goes, Sends, Recvs, Bars}
-use Rattle.script_plain.specs.Step.{lowest_step, run_on}
+use Rattle.script_plain.specs.Next.Next.{Ends, Goes, Posts, Sends, Recvs, Bars}
+use Rattle.script_plain.specs.Step.{Configuration, step_of, lowest_step, run_on}
 
--- a rank with the calls that were matched for it so far, in order and with their bytes
+-- a rank with the calls that it has done so far, in order and with their bytes
 pub record State : Type 0 where
   pub local : Local
   pub matched : List DataCall
 
--- what stands next at a rank, with the call that it makes put behind the matched ones
+-- what stands next at a rank, with the call that it makes put behind those done
 abbrev pub recorded : List DataCall → Next Local → Next State
 recorded calls Ends = Ends
 recorded calls (Goes after) = Goes (record { local = after; matched = calls })
+recorded calls (Posts message after) =
+    Posts message (record { local = after; matched = calls ++ Post message.to message.head message.bytes ∷ [] })
 recorded calls (Sends to head bytes after) =
     Sends to head bytes (record { local = after; matched = calls ++ Send to head bytes ∷ [] })
 recorded calls (Recvs from head take refuse) =
@@ -30,26 +34,46 @@ recorded calls (Bars comm after) = Bars comm (record { local = after; matched = 
 abbrev pub next_of : State → Next State
 next_of u = recorded u.matched (local_next u.local)
 
--- a configuration: the state of each rank
-abbrev pub Configuration : Type 0
-Configuration = List State
+-- the key of each rank in each communicator: ranks with equal keys are one group
+abbrev pub keys_of : Script → ℕ → ℕ → ℕ
+keys_of script = key_of (rules_of script.items)
 
 -- the plain step: the enabled one with the lowest owner
-abbrev pub plain_step : Configuration → Option Configuration
-plain_step c = lowest_step next_of c
+abbrev pub plain_step : (ℕ → ℕ → ℕ) → Configuration State → Option (Configuration State)
+plain_step keys c = lowest_step keys next_of c
 
--- the start: nothing is done
-abbrev pub start_of : Script → Configuration
-start_of script = map (λ rank. record { local = local_start script rank; matched = [] }) (range_with_len 0 script.nue)
+-- the start: nothing is done, and all slots are empty
+abbrev pub start_of : Script → Configuration State
+start_of script =
+    record {
+      cells = map (λ rank. record { local = local_start script rank; matched = [] }) (range_with_len 0 script.nue);
+      slots = replicate script.nue None;
+    }
 
 -- at most how many steps are left: each step uses up a primitive or stops a rank
-abbrev pub steps_left : Configuration → ℕ
-steps_left c = sum_by (λ u. cost_of u.local) c
+abbrev pub steps_left : Configuration State → ℕ
+steps_left c = sum_by (λ u. cost_of u.local) c.cells
 
 -- the end: from the start the enabled step with the lowest owner is taken, until none is enabled
-abbrev pub plain_end : Script → Configuration
-plain_end script = run_on next_of (steps_left (start_of script)) (start_of script)
+abbrev pub plain_end : Script → Configuration State
+plain_end script = run_on (keys_of script) next_of (steps_left (start_of script)) (start_of script)
 
--- what the ranks hold, without the matched calls
-abbrev pub locals_of : Configuration → List Local
-locals_of c = map (λ u. u.local) c
+-- what the ranks hold, without the calls done
+abbrev pub locals_of : Configuration State → List Local
+locals_of c = map (λ u. u.local) c.cells
+
+-- the configuration, without the calls done
+abbrev pub seen_of : Configuration State → Configuration Local
+seen_of c = record { cells = locals_of c; slots = c.slots }
+
+-- a plain step whose owner is this rank
+abbrev pub IsPlainStep : (ℕ → ℕ → ℕ) → ℕ → Configuration State → Configuration State → Type 0
+IsPlainStep keys owner c d = step_of keys next_of c owner ≡ Some d
+
+-- what ranks leave behind in a configuration
+abbrev pub ends_at : Configuration Local → List Ended
+ends_at c = ends_of c.cells c.slots
+
+-- what a script's ranks leave behind at the end
+abbrev pub plain_ends : Script → List Ended
+plain_ends script = ends_at (seen_of (plain_end script))

@@ -1,14 +1,17 @@
 -- What stands next at a rank: all that the step of a run needs to know of it. `U` is whatever a rank's state is.
-use Rattle.std.specs.Prelude.{ℕ, Bool, true, false, List, Option, Some, None}
+use Rattle.std.specs.Prelude.{ℕ, ◌==◌, Bool, true, false, List, Option, Some, None}
 use Rattle.scc_base.specs.Heads.{MessageHead}
 use Rattle.scc_base.specs.declared.calls.Call.{Call}
 use Rattle.scc_base.specs.declared.calls.Call.TheVariants as call
+use Rattle.script_plain.specs.declared.posts.Posted.{Posted}
 
 pub data Next (U : Type 0) : Type 0 where
   -- nothing: the rank's program has ended, or the rank was stopped
   Ends : Next U
   -- a statement of this rank alone, and the state after it
   Goes : (after : U) → Next U
+  -- a post: the message that it leaves behind, and the state after it
+  Posts : (message : Posted) → (after : U) → Next U
   -- a send, and the state after it
   Sends : (to : ℕ) → (head : MessageHead) → (bytes : List ℕ) → (after : U) → Next U
   -- a receive: the state after taking bytes, and the state after refusing a message with another head
@@ -20,6 +23,7 @@ pub data Next (U : Type 0) : Type 0 where
 abbrev pub call_of : {U : Type 0} → Next U → Option Call
 call_of Ends = None
 call_of (Goes after) = None
+call_of (Posts message after) = Some (call.Post message.to message.head)
 call_of (Sends to head bytes after) = Some (call.Send to head)
 call_of (Recvs from head take refuse) = Some (call.Recv from head)
 call_of (Bars comm after) = Some (call.Bar comm)
@@ -28,3 +32,13 @@ call_of (Bars comm after) = Some (call.Bar comm)
 abbrev pub is_going : {U : Type 0} → Next U → Bool
 is_going (Goes after) = true
 is_going _ = false
+
+-- whether a barrier of this communicator stands next
+abbrev pub is_at_barrier : {U : Type 0} → ℕ → Next U → Bool
+is_at_barrier comm (Bars asked after) = asked == comm
+is_at_barrier comm _ = false
+
+-- a state, past the barrier that stands next there
+abbrev pub past_barrier : {U : Type 0} → Next U → U → U
+past_barrier (Bars comm after) u = after
+past_barrier _ u = u

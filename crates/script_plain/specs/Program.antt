@@ -1,25 +1,196 @@
--- The program of a rank: what its statements make, in the order of the file (this project's profile).
-use Rattle.std.specs.Prelude.{ℕ, List, map, filter}
-use Rattle.scc_base.specs.Heads.{plain_head}
+-- The program of a rank: what its statements make, in the order of the file (this project's profile; the steps of a
+-- collective call are those of `groups`).
+use Rattle.std.specs.Prelude.{ℕ, zero, suc, ◌+◌, ◌-◌, ◌%◌, Bool, true, false, ◌&&◌, not, nat_le, nat_lt, if◌then◌else◌, List, [], ◌∷◌, ◌++◌, map, Option, Some, None, pos}
+use Rattle.std.specs.List.{range_with_len}
+use Rattle.std.specs.Option.{option_to_list}
+use Rattle.scc_base.specs.Communicators.{rule_of}
+use Rattle.scc_base.specs.Heads.{MessageHead, plain_head}
+use Rattle.scc_base.specs.Setups.{SetupView, size_of}
+use Rattle.scc_base.specs.declared.communicators.CommRule.{CommRule}
+use Rattle.scc_base.specs.declared.communicators.CommRule.TheVariants as rule
+use Rattle.scc_base.specs.declared.layouts.Layout.TheVariants as layout
+use Rattle.groups.specs.declared.collectives.Coll.{Coll}
+use Rattle.groups.specs.declared.collectives.Coll.TheVariants as coll
+use Rattle.groups.specs.declared.collectives.Step.{Step}
+use Rattle.groups.specs.declared.collectives.Step.TheVariants as step
+use Rattle.groups.specs.declared.operations.Op.{Op}
+use Rattle.groups.specs.declared.operations.Op.TheVariants as op
+use Rattle.groups.specs.declared.operations.Ty.{Ty}
+use Rattle.groups.specs.declared.operations.Ty.TheVariants as ty
+use Rattle.groups.specs.Collectives.{comm_of, len_of, steps_of}
+use Rattle.groups.specs.Folds.{bytes_of}
+use Rattle.script_plain.specs.declared.prims.Collective.{Collective}
+use Rattle.script_plain.specs.declared.prims.Nesting.{Nesting}
+use Rattle.script_plain.specs.declared.prims.Nesting.TheVariants as nesting
+use Rattle.script_plain.specs.declared.prims.Operands.{Operands}
+use Rattle.script_plain.specs.declared.prims.Source.{Source}
+use Rattle.script_plain.specs.declared.prims.Source.TheVariants as source
+use Rattle.script_reader.specs.declared.script.Form.{Form}
 use Rattle.script_reader.specs.declared.script.Item.{Item}
 use Rattle.script_reader.specs.declared.script.Stmt.{Stmt}
 use Rattle.script_reader.specs.declared.script.Stmt.TheVariants as stmt
-use Rattle.script_reader.specs.Script.{Script, has_rank, peer_of}
-use Rattle.script_plain.specs.declared.prims.Act.{Act}
-use Rattle.script_plain.specs.declared.prims.Act.TheVariants as act
-use Rattle.script_plain.specs.declared.prims.Prim.{Prim}
+use Rattle.script_reader.specs.Script.{Script, has_rank, peer_of, rules_of}
 
--- what a statement is for a rank
-abbrev pub act_of : ℕ → Stmt → Act
-act_of rank (stmt.Bytes reg bytes) = act.Set reg bytes
-act_of rank (stmt.Send peer reg) = act.Send (peer_of peer rank) reg
-act_of rank (stmt.Recv peer reg len) = act.Recv (peer_of peer rank) reg (plain_head len)
-act_of rank (stmt.Print reg form) = act.Print reg form
+-- what a primitive does
+pub data Act : Type 0 where
+  -- the register becomes these bytes
+  Set : (reg : ℕ) → (content : List ℕ) → Act
+  -- dst becomes dst op src, value by value
+  Apply : (op : Op) → (ty : Ty) → (dst : ℕ) → (src : ℕ) → Act
+  Print : (reg : ℕ) → (form : Form) → Act
+  -- a send of the source's bytes: the head has their length
+  Send : (to : ℕ) → (head : MessageHead) → (source : Source) → Act
+  -- a plain send of the register's bytes for which the rank does not wait
+  Post : (to : ℕ) → (reg : ℕ) → Act
+  -- a receive into the register
+  Recv : (from : ℕ) → (reg : ℕ) → (head : MessageHead) → Act
+  -- a receive into the buffer of received bytes: of this head, with the length of a register where one is named
+  Gather : (from : ℕ) → (head : MessageHead) → (sized : Option ℕ) → Act
+  Bar : (comm : ℕ) → Act
+  -- the accumulator becomes the register's bytes
+  Begin : (reg : ℕ) → Act
+  -- the accumulator becomes accumulator op received, value by value
+  Fold : (op : Op) → (ty : Ty) → Act
+  -- the register becomes the received bytes, or the accumulator
+  Accept : (reg : ℕ) → Act
+  Finish : (reg : ℕ) → Act
+  -- a pass of a repeat ends: nothing changes
+  Pass : Act
 
--- the primitive that an item is for a rank: it keeps the item's line
-abbrev pub prim_of : ℕ → Item → Prim
-prim_of rank item = record { line = item.line; act = act_of rank item.stmt }
+-- a primitive keeps the line of its statement
+pub record Prim : Type 0 where
+  pub line : ℕ
+  pub act : Act
 
--- the primitives of a rank: those of its items, in the order of the file
+-- byte i is (start + i) mod 251
+abbrev pub filling : ℕ → ℕ → List ℕ
+filling len start = map (λ i. (start + i) % 251) (range_with_len 0 len)
+
+-- the parent of a split
+abbrev pub parent_of : CommRule → ℕ
+parent_of (rule.Mod parent k) = parent
+parent_of (rule.Div parent k) = parent
+parent_of _ = 0
+
+-- a statement that is one primitive: a barrier is one of its communicator, and a split is one of its parent
+abbrev pub single_of : ℕ → ℕ → Stmt → Option Act
+single_of nue rank (stmt.Bytes reg bytes) = Some (Set reg bytes)
+single_of nue rank (stmt.Fill reg len start) = Some (Set reg (filling len start))
+single_of nue rank (stmt.RankOf reg ty) = Some (Set reg (bytes_of ty (pos rank)))
+single_of nue rank (stmt.Apply op ty dst src) = Some (Apply op ty dst src)
+single_of nue rank (stmt.Send peer reg) = Some (Send (peer_of nue peer rank) (plain_head 0) (source.Own reg))
+single_of nue rank (stmt.Post peer reg) = Some (Post (peer_of nue peer rank) reg)
+single_of nue rank (stmt.Recv peer reg len) = Some (Recv (peer_of nue peer rank) reg (plain_head len))
+single_of nue rank (stmt.Print reg form) = Some (Print reg form)
+single_of nue rank (stmt.Barrier comm) = Some (Bar comm)
+single_of nue rank (stmt.Split comm rule) = Some (Bar (parent_of rule))
+single_of nue rank (stmt.Bcast comm root reg len) = None
+single_of nue rank (stmt.Reduce comm root op ty dst src) = None
+single_of nue rank (stmt.Allreduce comm op ty dst src) = None
+single_of nue rank (stmt.Repeat times end) = None
+single_of nue rank (stmt.End start) = Some Pass
+
+-- a statement that is a collective call: a broadcast says its length, and folds nothing; the messages of the others are
+-- as long as their source
+abbrev pub collective_of : Stmt → Option Collective
+collective_of (stmt.Bcast comm root reg len) =
+    Some (record { coll = coll.Bcast comm root len; operands = record { op = op.Sum; ty = ty.Int; dst = reg; src = reg; sized = None } })
+collective_of (stmt.Reduce comm root op ty dst src) =
+    Some (record { coll = coll.Reduce comm root 0; operands = record { op = op; ty = ty; dst = dst; src = src; sized = Some src } })
+collective_of (stmt.Allreduce comm op ty dst src) =
+    Some (record { coll = coll.Allreduce comm 0; operands = record { op = op; ty = ty; dst = dst; src = src; sized = Some src } })
+collective_of _ = None
+
+abbrev pub is_absent : CommRule → Bool
+is_absent rule.Absent = true
+is_absent _ = false
+
+abbrev pub has_root : SetupView → ℕ → Coll → Bool
+has_root s r (coll.Bcast comm root len) = nat_lt root (size_of s comm r)
+has_root s r (coll.Reduce comm root len) = nat_lt root (size_of s comm r)
+has_root s r (coll.Allreduce comm len) = true
+
+-- a collective call that rank r may make. (A script that was read has no others.)
+abbrev pub can_call : SetupView → ℕ → Coll → Bool
+can_call s r c =
+    nat_lt (comm_of c) 16 && not (is_absent (rule_of s.comms (comm_of c))) && nat_le (len_of c) 65536 && nat_lt r s.nue && has_root s r c
+
+-- a step of a collective call: a send is one of the accumulator where the call has begun, else of the source
+abbrev pub part_of : Operands → Bool → Step → Act
+part_of o begun step.Begin = Begin o.src
+part_of o begun (step.Send to head) = Send to head (if begun then source.Accumulator else source.Own o.src)
+part_of o begun (step.Recv from head) = Gather from head o.sized
+part_of o begun step.Fold = Fold o.op o.ty
+part_of o begun step.Accept = Accept o.dst
+part_of o begun step.Finish = Finish o.dst
+
+abbrev pub is_begin : Step → Bool
+is_begin step.Begin = true
+is_begin _ = false
+
+-- whether the steps begin with the source in the accumulator
+abbrev pub begins : List Step → Bool
+begins [] = false
+begins (step ∷ steps) = is_begin step
+
+abbrev pub call_steps : SetupView → ℕ → Coll → List Step
+call_steps s rank c = if can_call s rank c then steps_of s rank c else []
+
+abbrev pub parts_of : Operands → List Step → List Act
+parts_of o steps = map (part_of o (begins steps)) steps
+
+abbrev pub acts_by : SetupView → ℕ → Stmt → Option Collective → List Act
+acts_by s rank stmt None = option_to_list (single_of s.nue rank stmt)
+acts_by s rank stmt (Some call) = parts_of call.operands (call_steps s rank call.coll)
+
+-- what a statement does for a rank, in order
+abbrev pub acts_of : SetupView → ℕ → Stmt → List Act
+acts_of s rank stmt = acts_by s rank stmt (collective_of stmt)
+
+-- an item of another rank makes nothing
+abbrev pub prims_of : SetupView → ℕ → Item → List Prim
+prims_of s rank item = if has_rank item.who rank then map (λ act. record { line = item.line; act = act }) (acts_of s rank item.stmt) else []
+
+-- what a statement does to the repeats: it opens one, it closes the innermost one, or it stays within it
+abbrev pub nesting_of : Stmt → Nesting
+nesting_of (stmt.Repeat times end) = nesting.Opens times
+nesting_of (stmt.End start) = nesting.Closes
+nesting_of _ = nesting.Stays
+
+abbrev pub nesting_at : ℕ → Item → Nesting
+nesting_at rank item = if has_rank item.who rank then nesting_of item.stmt else nesting.Stays
+
+-- what items make: up to the end of the repeat that stands open before them, and then, behind each end that closes a
+-- repeat which stands open before them, up to the next such end
+pub record Unrolled : Type 0 where
+  pub here : List Prim
+  pub behind : List (List Prim)
+
+-- a list that many times
+abbrev pub copies : ℕ → List Prim → List Prim
+copies zero prims = []
+copies (suc n) prims = prims ++ copies n prims
+
+-- a repeat's body as often as the repeat says, and then what comes behind its end. (A script that was read has an end for
+-- each repeat, which is at least 1.)
+abbrev pub repeated : ℕ → List Prim → List (List Prim) → Unrolled
+repeated times body [] = record { here = body; behind = [] }
+repeated times body (next ∷ behind) = record { here = body ++ (copies (times - 1) body ++ next); behind = behind }
+
+-- one item more, in front of what the items behind it make
+abbrev pub in_front : Nesting → List Prim → Unrolled → Unrolled
+in_front (nesting.Opens times) prims u = repeated times u.here u.behind
+in_front nesting.Closes prims u = record { here = prims; behind = u.here ∷ u.behind }
+in_front nesting.Stays prims u = record { here = prims ++ u.here; behind = u.behind }
+
+unfoldable pub unrolled : SetupView → ℕ → List Item → Unrolled
+unrolled s rank [] = record { here = []; behind = [] }
+unrolled s rank (item ∷ items) = in_front (nesting_at rank item) (prims_of s rank item) (unrolled s rank items)
+
+-- the setup by which the collective calls of a script are made: neither its layout nor its hosts matter
+abbrev pub setup_of : Script → SetupView
+setup_of script = record { nue = script.nue; layout = layout.LineFlags; hosts = range_with_len 0 48; comms = rules_of script.items }
+
+-- the primitives of a rank: those of its items, in the order of the file, a repeat's body as often as the repeat says
 abbrev pub program_of : Script → ℕ → List Prim
-program_of script rank = map (prim_of rank) (filter (λ item. has_rank item.who rank) script.items)
+program_of script rank = (unrolled (setup_of script) rank script.items).here

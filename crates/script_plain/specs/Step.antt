@@ -1,54 +1,108 @@
--- The plain step: what ranks do in one step of a run, over the list of their states (this project's profile; a send and
--- a receive are those of RCCE specification 2.0, which meet). Each step has one owner.
-use Rattle.std.specs.Prelude.{ℕ, zero, suc, ◌+◌, ◌==◌, Bool, ◌&&◌, not, if◌then◌else◌, List, length, Option, Some, None, slice_get, slice_set}
+-- The plain step: what ranks do in one step of a run, over the list of their states and the messages that they posted
+-- (this project's profile; a send and a receive are those of RCCE specification 2.0, which meet, and so do the barriers
+-- of a group). Each step has one owner.
+use Rattle.std.specs.Prelude.{ℕ, zero, suc, ◌+◌, ◌==◌, Bool, true, ◌&&◌, not, if◌then◌else◌, List, [], ◌∷◌, length, Option, Some, None, slice_get, slice_index_or, slice_set}
 use Rattle.std.specs.Option.{option_map_or, option_or}
+use Rattle.scc_base.specs.Groups.{is_with, root_in}
 use Rattle.scc_base.specs.Heads.{MessageHead}
-use Rattle.script_plain.specs.Next.{Next}
-use Rattle.script_plain.specs.Next.Next.{Ends, Goes, Sends, Recvs, Bars}
+use Rattle.script_plain.specs.declared.posts.Posted.{Posted}
+use Rattle.script_plain.specs.Next.{Next, is_at_barrier, past_barrier}
+use Rattle.script_plain.specs.Next.Next.{Ends, Goes, Posts, Sends, Recvs, Bars}
+
+-- a configuration: the state of each rank, and each rank's slot: the message that it posted and nobody took yet
+pub record Configuration (U : Type 0) : Type 0 where
+  pub cells : List U
+  pub slots : List (Option Posted)
+
+-- what stands next at rank i: nothing where there is no such rank
+abbrev pub next_at : {U : Type 0} → (U → Next U) → Configuration U → ℕ → Next U
+next_at next c i = option_map_or next (slice_get c.cells i) Ends
+
+abbrev pub slot_at : {U : Type 0} → Configuration U → ℕ → Option Posted
+slot_at c i = slice_index_or c.slots i None
+
+-- rank i goes on
+abbrev pub with_cell : {U : Type 0} → Configuration U → ℕ → U → Configuration U
+with_cell c i after = record c { cells = slice_set c.cells i after }
+
+-- the slot of rank i holds this message, or none
+abbrev pub with_slot : {U : Type 0} → Configuration U → ℕ → Option Posted → Configuration U
+with_slot c i message = record c { slots = slice_set c.slots i message }
 
 abbrev pub same_head : MessageHead → MessageHead → Bool
 same_head sent asked = (sent.kind == asked.kind) && (sent.comm == asked.comm) && (sent.len == asked.len)
 
--- what stands next at rank i: nothing where there is no such rank
-abbrev pub next_at : {U : Type 0} → (U → Next U) → List U → ℕ → Next U
-next_at next c i = option_map_or next (slice_get c i) Ends
+-- a post: rank i stands at one, and its slot is empty. The slot holds the message, and i goes on.
+abbrev pub post_step : {U : Type 0} → Configuration U → ℕ → Posted → U → Option Posted → Option (Configuration U)
+post_step c i message after None = Some (with_slot (with_cell c i after) i (Some message))
+post_step c i message after (Some earlier) = None
 
--- a match: rank i stands at a send to j, and j stands at a receive from i that asks for the same head. j takes the
--- bytes, and both go on. Its owner is the sender.
-abbrev pub match_step : {U : Type 0} → List U → ℕ → ℕ → MessageHead → List ℕ → U → Next U → Option (List U)
-match_step c i j head bytes after (Recvs from asked take refuse) =
-    if (from == i) && same_head head asked then Some (slice_set (slice_set c i after) j (take bytes)) else None
-match_step c i j head bytes after _ = None
+-- a match: rank i stands at a send to j, its slot is empty, and j stands at a receive from i that asks for the same
+-- head. j takes the bytes, and both go on. Its owner is the sender.
+abbrev pub match_step : {U : Type 0} → Configuration U → ℕ → ℕ → MessageHead → List ℕ → U → Option Posted → Next U → Option (Configuration U)
+match_step c i j head bytes after None (Recvs from asked take refuse) =
+    if (from == i) && same_head head asked then Some (with_cell (with_cell c i after) j (take bytes)) else None
+match_step c i j head bytes after _ _ = None
 
--- a mismatch: as a match, with unequal heads. j refuses the message and is stopped, and the sender stays. Its owner is
--- the receiver.
-abbrev pub mismatch_step : {U : Type 0} → List U → ℕ → MessageHead → (MessageHead → U) → Next U → Option (List U)
-mismatch_step c j asked refuse (Sends to head bytes after) =
-    if (to == j) && not (same_head head asked) then Some (slice_set c j (refuse head)) else None
-mismatch_step c j asked refuse _ = None
+-- a take: rank j stands at a receive from i, and the slot of i holds a message to j with the head that j asks for. j
+-- takes the bytes and goes on, and the slot is empty. A mismatch: the message in the slot of i, or the one that i
+-- stands at sending while its slot is empty, has another head. j refuses it and is stopped, and i and its slot stay.
+abbrev pub receive_step : {U : Type 0} → Configuration U → ℕ → ℕ → MessageHead → (List ℕ → U) → (MessageHead → U) → Option Posted → Next U → Option (Configuration U)
+receive_step c j i asked take refuse (Some message) _ =
+    if message.to == j
+    then (if same_head message.head asked
+    then Some (with_slot (with_cell c j (take message.bytes)) i None)
+    else Some (with_cell c j (refuse message.head)))
+    else None
+receive_step c j i asked take refuse None (Sends to sent bytes after) =
+    if (to == j) && not (same_head sent asked) then Some (with_cell c j (refuse sent)) else None
+receive_step c j i asked take refuse None _ = None
 
--- the step that rank i owns, by what stands next there. A local step is a statement of this rank alone. (A barrier has
--- no step yet: no statement makes one.)
-abbrev pub step_by : {U : Type 0} → (U → Next U) → List U → ℕ → Next U → Option (List U)
-step_by next c i Ends = None
-step_by next c i (Goes after) = Some (slice_set c i after)
-step_by next c i (Sends to head bytes after) = match_step c i to head bytes after (next_at next c to)
-step_by next c i (Recvs from head take refuse) = mismatch_step c i head refuse (next_at next c from)
-step_by next c i (Bars comm after) = None
+-- each rank's state changed by the rank's number
+abbrev pub by_rank : {U : Type 0} → (ℕ → U → U) → List U → List U
+by_rank change [] = []
+by_rank change (u ∷ us) = change 0 u ∷ by_rank (λ rank. change (suc rank)) us
 
-abbrev pub step_of : {U : Type 0} → (U → Next U) → List U → ℕ → Option (List U)
-step_of next c i = step_by next c i (next_at next c i)
+-- whether each rank whose number passes the test stands at a barrier of this communicator
+abbrev pub all_at_barrier : {U : Type 0} → (U → Next U) → ℕ → (ℕ → Bool) → List U → Bool
+all_at_barrier next comm test [] = true
+all_at_barrier next comm test (u ∷ us) =
+    (if test 0 then is_at_barrier comm (next u) else true) && all_at_barrier next comm (λ rank. test (suc rank)) us
+
+-- a state past its barrier where the test passes, and as it is otherwise
+abbrev pub past_if : {U : Type 0} → (U → Next U) → Bool → U → U
+past_if next member u = if member then past_barrier (next u) u else u
+
+-- a barrier: all members of the group of rank i stand at one of their communicator. All go on. Its owner is member 0.
+-- The members are the ranks with the key of i in the communicator.
+abbrev pub barrier_step : {U : Type 0} → (ℕ → ℕ → ℕ) → (U → Next U) → Configuration U → ℕ → ℕ → Option (Configuration U)
+barrier_step keys next c i comm =
+    if (root_in (keys comm) i == i) && all_at_barrier next comm (is_with (keys comm) i) c.cells
+    then Some (record c { cells = by_rank (λ rank. past_if next (is_with (keys comm) i rank)) c.cells })
+    else None
+
+-- the step that rank i owns, by what stands next there. A local step is a statement of this rank alone.
+abbrev pub step_by : {U : Type 0} → (ℕ → ℕ → ℕ) → (U → Next U) → Configuration U → ℕ → Next U → Option (Configuration U)
+step_by keys next c i Ends = None
+step_by keys next c i (Goes after) = Some (with_cell c i after)
+step_by keys next c i (Posts message after) = post_step c i message after (slot_at c i)
+step_by keys next c i (Sends to head bytes after) = match_step c i to head bytes after (slot_at c i) (next_at next c to)
+step_by keys next c i (Recvs from head take refuse) = receive_step c i from head take refuse (slot_at c from) (next_at next c from)
+step_by keys next c i (Bars comm after) = barrier_step keys next c i comm
+
+abbrev pub step_of : {U : Type 0} → (ℕ → ℕ → ℕ) → (U → Next U) → Configuration U → ℕ → Option (Configuration U)
+step_of keys next c i = step_by keys next c i (next_at next c i)
 
 -- the enabled step with the lowest owner among n ranks from i on
-abbrev pub lowest : {U : Type 0} → (U → Next U) → List U → ℕ → ℕ → Option (List U)
-lowest next c zero i = None
-lowest next c (suc n) i = option_or (step_of next c i) (lowest next c n (i + 1))
+abbrev pub lowest : {U : Type 0} → (ℕ → ℕ → ℕ) → (U → Next U) → Configuration U → ℕ → ℕ → Option (Configuration U)
+lowest keys next c zero i = None
+lowest keys next c (suc n) i = option_or (step_of keys next c i) (lowest keys next c n (i + 1))
 
 -- the enabled step with the lowest owner
-abbrev pub lowest_step : {U : Type 0} → (U → Next U) → List U → Option (List U)
-lowest_step next c = lowest next c (length c) 0
+abbrev pub lowest_step : {U : Type 0} → (ℕ → ℕ → ℕ) → (U → Next U) → Configuration U → Option (Configuration U)
+lowest_step keys next c = lowest keys next c (length c.cells) 0
 
 -- what comes of taking the enabled step with the lowest owner, again and again until none is enabled, at most n times
-abbrev pub run_on : {U : Type 0} → (U → Next U) → ℕ → List U → List U
-run_on next zero c = c
-run_on next (suc n) c = option_map_or (run_on next n) (lowest_step next c) c
+abbrev pub run_on : {U : Type 0} → (ℕ → ℕ → ℕ) → (U → Next U) → ℕ → Configuration U → Configuration U
+run_on keys next zero c = c
+run_on keys next (suc n) c = option_map_or (run_on keys next n) (lowest_step keys next c) c

@@ -1,8 +1,14 @@
-//! The configuration that a run comes to.
+//! What a run leaves behind.
 
+ghost use Rattle.std.specs.Prelude.{◌≡◌, ◌<◌, length, IfOk};
+ghost use Rattle.script_plain.specs.Code.{IsNoneGoing};
+ghost use Rattle.script_plain.specs.Ends.{ends_of};
+
+use crate::posts::Posted;
 use crate::prims::Printed;
 use crate::ues::Ue;
 use scc_base::{Call, Head, Rank};
+use std::alloc::{AllocError, Global};
 use std::marker::Model;
 
 /// How the run of a rank ended.
@@ -24,66 +30,150 @@ pub enum UeEnd {
     },
 }
 
-/// The configuration at the end of a run: no rank can take a step.
+impl UeEnd {
+    ghost use Rattle.std.specs.Prelude.{◌≡◌};
+
+    /// The same end once more.
+    pub fn copy(&self) -> UeEnd
+        ensures { result ≡ self.now }
+    {
+        match self {
+            UeEnd::Finished => UeEnd::Finished,
+            UeEnd::Waits { line, call } => UeEnd::Waits {
+                line: *line,
+                call: call.copy(),
+            },
+            UeEnd::Mismatch {
+                line,
+                from,
+                sent,
+                asked,
+            } => UeEnd::Mismatch {
+                line: *line,
+                from: *from,
+                sent: *sent,
+                asked: *asked,
+            },
+        }
+    }
+}
+
+/// What a rank's run leaves behind.
+#[derive(Debug, Drop)]
+pub struct Rest {
+    how: UeEnd,
+    items: Vec<Printed>,
+    target: Option<Rank>,
+}
+
+impl Model for Rest {
+    ghost use Rattle.script_plain.specs.Ends.{Ended};
+
+    ghost Value = { Ended };
+
+    ghost view = { λ r. record { end = r.how; printed = r.items.items; on_its_way = r.target } };
+}
+
+/// What the run of a script leaves behind: no rank can take a step.
 #[derive(Debug, Drop)]
 pub struct End {
-    ues: Vec<Ue>,
+    ranks: Vec<Rest>,
 }
 
 impl Model for End {
-    ghost use Rattle.std.specs.Prelude.{◌≡◌, List, None};
-    ghost use Rattle.script_plain.specs.Local.{Local, local_next};
-    ghost use Rattle.script_plain.specs.Step.{lowest_step};
+    ghost use Rattle.std.specs.Prelude.{List};
+    ghost use Rattle.script_plain.specs.Ends.{Ended};
 
-    ghost Value = { List Local };
+    ghost Value = { List Ended };
 
-    ghost view = { λ e. e.ues.items };
+    ghost view = { λ e. e.ranks.items };
+}
 
-    ghost invariant = { λ e. lowest_step local_next e.ues.items ≡ None };
+impl Rest {
+    ghost use Rattle.std.specs.Prelude.{◌≡◌, false};
+    ghost use Rattle.script_plain.specs.Ends.{ended};
+    ghost use Rattle.script_plain.specs.Local.{local_next};
+    ghost use Rattle.script_plain.specs.Next.{is_going};
+
+    /// What is left of a rank with this message in its slot.
+    fn of(alloc: Global, ue: &mut Ue<'_>, slot: &Option<Posted>) -> Rest
+        requires { is_going (local_next ue.old) ≡ false }
+        ensures { result ≡ ended slot.now ue.old }
+    {
+        let how = ue.end(slot);
+        Rest {
+            how,
+            items: ue.take_items(alloc),
+            target: match slot {
+                Some(message) => Some(message.to),
+                None => None,
+            },
+        }
+    }
+}
+
+/// What is left of ranks of which none stands at a statement of its own, with these messages in their slots.
+pub fn end_all(
+    alloc: Global,
+    ues: &mut [Ue<'_>],
+    slots: &[Option<Posted>],
+) -> Result<End, AllocError>
+    requires still { IsNoneGoing ues.old }
+    requires slots { length ues.old ≡ length slots.now }
+    ensures { IfOk result (λ end. end ≡ ends_of ues.old slots.now) }
+{
+    let mut ranks = Vec::new(alloc);
+    for i in 0..ues.len() {
+        ranks.push(Rest::of(alloc, &mut ues[i], &slots[i]))?;
+    }
+    Ok(End { ranks })
 }
 
 impl End {
-    ghost use Rattle.std.specs.Prelude.{◌≡◌, ◌<◌, length, slice_get, Some, None};
-    ghost use Rattle.script_plain.specs.Local.{end_of, local_at, local_next};
-    ghost use Rattle.script_plain.specs.Step.{lowest_step};
-
-    /// The end of ranks of which none can take a step.
-    pub fn new(ues: Vec<Ue>) -> End
-        requires { lowest_step local_next ues.items ≡ None }
-        ensures { result ≡ ues.items }
-    {
-        End { ues }
-    }
+    ghost use Rattle.std.specs.Prelude.{◌≡◌, ◌<◌, length, slice_get, Some};
+    ghost use Rattle.script_plain.specs.Ends.{ended_at};
 
     /// How many ranks there are.
     pub fn nue(&self) -> usize
         ensures { result ≡ length self.now }
     {
-        self.ues.len()
+        self.ranks.len()
     }
 
     /// How the run of a rank ended.
     pub fn ue(&self, rank: Rank) -> UeEnd
         requires { rank < length self.now }
-        ensures { result ≡ end_of (local_at self.now rank) }
+        ensures { result ≡ (ended_at self.now rank).end }
     {
-        self.ues[rank.number() as usize].end()
+        let rest = &self.ranks[rank.number() as usize];
+        rest.how.copy()
     }
 
     /// How many items a rank printed.
     pub fn items(&self, rank: Rank) -> usize
         requires { rank < length self.now }
-        ensures { result ≡ length (local_at self.now rank).printed }
+        ensures { result ≡ length (ended_at self.now rank).printed }
     {
-        self.ues[rank.number() as usize].items().len()
+        let rest = &self.ranks[rank.number() as usize];
+        rest.items.len()
     }
 
     /// An item that a rank printed, in their order.
     pub fn item(&self, rank: Rank, i: usize) -> &Printed
         requires known { rank < length self.now }
-        requires within { i < length (local_at self.now rank).printed }
-        ensures { slice_get (local_at self.now rank).printed i ≡ Some result.now }
+        requires within { i < length (ended_at self.now rank).printed }
+        ensures { slice_get (ended_at self.now rank).printed i ≡ Some result.now }
     {
-        &self.ues[rank.number() as usize].items()[i]
+        let rest = &self.ranks[rank.number() as usize];
+        &rest.items[i]
+    }
+
+    /// The target of a rank's posted message that is not taken, if there is one.
+    pub fn on_its_way(&self, rank: Rank) -> Option<Rank>
+        requires { rank < length self.now }
+        ensures { result ≡ (ended_at self.now rank).on_its_way }
+    {
+        let rest = &self.ranks[rank.number() as usize];
+        rest.target
     }
 }

@@ -1,34 +1,94 @@
 //! The primitives of a rank, and what a rank's run leaves behind.
 
-ghost use Rattle.std.specs.Prelude.{◌≡◌, IfOk};
-ghost use Rattle.script_plain.specs.Program.{program_of};
+ghost use Rattle.std.specs.Prelude.{◌≡◌, ◌<◌, ◌≤◌, length, slice_get, IfSome};
+ghost use Rattle.std.specs.Option.{option_map};
+ghost use Rattle.scc_base.specs.Heads.{plain_head};
+ghost use Rattle.script_reader.specs.Script.{IsSized};
+ghost use Rattle.script_plain.specs.Program.{acts_of, call_steps, collective_of, is_begin, nesting_of, parent_of, part_of, parts_of, single_of};
+ghost use Rattle.script_plain.specs.Walk.{IsShort, act_meant};
 
 use crate::registers::{Register, plain_message};
-use scc_base::{Head, Rank};
-use script_reader::{Bytes, Form, Item, Scripts, Stmt};
-use std::alloc::{AllocError, Global};
-use std::collections::VecDeque;
+use groups::{Coll, Op, Step, Ty, step, steps};
+use scc_base::{CommRule, Head, Rank, Setup};
+use script_reader::{Bytes, Form, Stmt};
+
+/// The bytes that a register is set to.
+#[derive(Clone, Copy, Debug)]
+pub enum Content<'s> {
+    Bytes(&'s Bytes),
+    /// This many bytes, of which byte i is `(start + i) mod 251`.
+    Filling { len: u32, start: u32 },
+    /// A number as one value of a type.
+    Number { ty: Ty, number: u8 },
+}
+
+/// What a send takes its bytes from.
+#[derive(Clone, Copy, Debug, PartialEq, Eq)]
+pub enum Source {
+    Own { reg: u8 },
+    Accumulator,
+}
 
 /// What a primitive does.
 #[derive(Debug, Drop)]
-pub enum Act {
-    /// Sets the register.
-    Set { reg: u8, content: Register },
-    /// Prints the register.
-    Print { reg: u8, form: Form },
-    /// A send of the register's bytes, with a plain head.
-    Send { to: Rank, reg: u8 },
-    /// A receive of a message with this head into the register.
-    Recv { from: Rank, reg: u8, head: Head },
-    /// A barrier of a communicator. No statement makes one yet, and a rank that stands at one waits.
-    Bar { comm: u8 },
+pub enum Action<'s> {
+    Set {
+        reg: u8,
+        content: Content<'s>,
+    },
+    Apply {
+        op: Op,
+        ty: Ty,
+        dst: u8,
+        src: u8,
+    },
+    Print {
+        reg: u8,
+        form: Form,
+    },
+    Send {
+        to: Rank,
+        head: Head,
+        source: Source,
+    },
+    Post {
+        to: Rank,
+        reg: u8,
+    },
+    Recv {
+        from: Rank,
+        reg: u8,
+        head: Head,
+    },
+    Gather {
+        from: Rank,
+        head: Head,
+        sized: Option<u8>,
+    },
+    Bar {
+        comm: u8,
+    },
+    Begin {
+        reg: u8,
+    },
+    Fold {
+        op: Op,
+        ty: Ty,
+    },
+    Accept {
+        reg: u8,
+    },
+    Finish {
+        reg: u8,
+    },
+    Pass,
 }
 
 /// A primitive with the line of its statement, counted from 1.
 #[derive(Debug, Drop)]
-pub struct Prim {
+pub struct Primitive<'s> {
     pub line: u32,
-    pub act: Act,
+    pub action: Action<'s>,
 }
 
 /// A printed register.
@@ -51,52 +111,278 @@ pub enum Standing {
     },
 }
 
-impl Prim {
-    ghost use Rattle.std.specs.Prelude.{◌≡◌, IfOk};
-    ghost use Rattle.script_reader.specs.Script.{IsSized};
-    ghost use Rattle.script_plain.specs.Program.{prim_of};
+/// The registers and the values of a collective call, and the register whose length its receives ask for.
+#[derive(Clone, Copy, Debug)]
+pub struct Operands {
+    pub op: Op,
+    pub ty: Ty,
+    pub dst: u8,
+    pub src: u8,
+    pub sized: Option<u8>,
+}
 
-    /// The primitive that an item is for a rank.
-    fn from_item(alloc: Global, item: &Item, rank: Rank) -> Result<Prim, AllocError>
-        requires { IsSized item.now.stmt }
-        ensures { IfOk result (λ prim. prim ≡ prim_of rank item.now) }
-    {
-        let act = match &item.stmt {
-            Stmt::Bytes { reg, bytes } => Act::Set {
-                reg: *reg,
-                content: Register::from_bytes(alloc, bytes)?,
-            },
-            Stmt::Send { peer, reg } => Act::Send {
-                to: peer.rank(rank),
-                reg: *reg,
-            },
-            Stmt::Recv { peer, reg, len } => Act::Recv {
-                from: peer.rank(rank),
-                reg: *reg,
-                head: plain_message(*len),
-            },
-            Stmt::Print { reg, form } => Act::Print {
-                reg: *reg,
-                form: *form,
-            },
-        };
-        Ok(Prim {
-            line: item.line,
-            act,
-        })
+/// A collective call of a statement.
+#[derive(Clone, Copy, Debug)]
+pub struct Collective {
+    pub coll: Coll,
+    pub operands: Operands,
+}
+
+/// What a statement does to the repeats.
+#[derive(Clone, Copy, Debug, PartialEq, Eq)]
+pub enum Nesting {
+    /// It opens one.
+    Opens(u32),
+    /// It closes the innermost one.
+    Closes,
+    Stays,
+}
+
+/// What a statement does to the repeats.
+pub fn nesting_of(stmt: &Stmt) -> Nesting
+    ensures { result ≡ nesting_of stmt.now }
+{
+    match stmt {
+        Stmt::Repeat { times, .. } => Nesting::Opens(*times),
+        Stmt::End { .. } => Nesting::Closes,
+        _ => Nesting::Stays,
     }
 }
 
-/// The primitives of a rank, in the order of the file.
-pub fn program(alloc: Global, scripts: &Scripts, rank: Rank) -> Result<VecDeque<Prim>, AllocError>
-    ensures { IfOk result (λ prims. prims.items ≡ program_of scripts.now rank) }
+fn parent_of(rule: CommRule) -> u8
+    ensures { result ≡ parent_of rule }
 {
-    let mut prims = VecDeque::new(alloc);
-    for i in 0..scripts.len() {
-        let item = scripts.item(i);
-        if item.who.has(rank.number()) {
-            prims.push_back(Prim::from_item(alloc, item, rank)?)?;
+    match rule {
+        CommRule::Mod { parent, .. } | CommRule::Div { parent, .. } => parent,
+        CommRule::Absent | CommRule::World => 0,
+    }
+}
+
+/// The primitive of a statement that is one.
+fn single_of<'s>(nue: u8, rank: Rank, stmt: &'s Stmt) -> Option<Action<'s>>
+    requires some { 1 ≤ nue }
+    requires most { nue ≤ 48 }
+    requires within { rank < nue }
+    requires sized { IsSized stmt.now }
+    ensures same { option_map act_meant result ≡ single_of nue rank stmt.now }
+    ensures short { IfSome result IsShort }
+{
+    match stmt {
+        Stmt::Bytes { reg, bytes } => Some(Action::Set {
+            reg: *reg,
+            content: Content::Bytes(bytes),
+        }),
+        Stmt::Fill { reg, len, start } => Some(Action::Set {
+            reg: *reg,
+            content: Content::Filling {
+                len: *len,
+                start: *start,
+            },
+        }),
+        Stmt::RankOf { reg, ty } => Some(Action::Set {
+            reg: *reg,
+            content: Content::Number {
+                ty: *ty,
+                number: rank.number(),
+            },
+        }),
+        Stmt::Apply { op, ty, dst, src } => Some(Action::Apply {
+            op: *op,
+            ty: *ty,
+            dst: *dst,
+            src: *src,
+        }),
+        Stmt::Send { peer, reg } => Some(Action::Send {
+            to: peer.rank(nue, rank),
+            head: plain_message(0),
+            source: Source::Own { reg: *reg },
+        }),
+        Stmt::Post { peer, reg } => Some(Action::Post {
+            to: peer.rank(nue, rank),
+            reg: *reg,
+        }),
+        Stmt::Recv { peer, reg, len } => Some(Action::Recv {
+            from: peer.rank(nue, rank),
+            reg: *reg,
+            head: plain_message(*len),
+        }),
+        Stmt::Print { reg, form } => Some(Action::Print {
+            reg: *reg,
+            form: *form,
+        }),
+        Stmt::Barrier { comm } => Some(Action::Bar { comm: *comm }),
+        Stmt::Split { rule, .. } => Some(Action::Bar {
+            comm: parent_of(*rule),
+        }),
+        Stmt::Bcast { .. } | Stmt::Reduce { .. } | Stmt::Allreduce { .. } | Stmt::Repeat { .. } =>
+            None,
+        Stmt::End { .. } => Some(Action::Pass),
+    }
+}
+
+/// The collective call of a statement that is one.
+fn collective_of(stmt: &Stmt) -> Option<Collective>
+    ensures { result ≡ collective_of stmt.now }
+{
+    match stmt {
+        Stmt::Bcast {
+            comm,
+            root,
+            reg,
+            len,
+        } => Some(Collective {
+            coll: Coll::Bcast {
+                comm: *comm,
+                root: *root,
+                len: *len,
+            },
+            operands: Operands {
+                op: Op::Sum,
+                ty: Ty::Int,
+                dst: *reg,
+                src: *reg,
+                sized: None,
+            },
+        }),
+        Stmt::Reduce {
+            comm,
+            root,
+            op,
+            ty,
+            dst,
+            src,
+        } => Some(Collective {
+            coll: Coll::Reduce {
+                comm: *comm,
+                root: *root,
+                len: 0,
+            },
+            operands: Operands {
+                op: *op,
+                ty: *ty,
+                dst: *dst,
+                src: *src,
+                sized: Some(*src),
+            },
+        }),
+        Stmt::Allreduce {
+            comm,
+            op,
+            ty,
+            dst,
+            src,
+        } => Some(Collective {
+            coll: Coll::Allreduce {
+                comm: *comm,
+                len: 0,
+            },
+            operands: Operands {
+                op: *op,
+                ty: *ty,
+                dst: *dst,
+                src: *src,
+                sized: Some(*src),
+            },
+        }),
+        _ => None,
+    }
+}
+
+impl Operands {
+    ghost use Rattle.std.specs.Prelude.{◌≡◌};
+    ghost use Rattle.script_plain.specs.Program.{part_of};
+    ghost use Rattle.script_plain.specs.Walk.{IsShort, act_meant};
+
+    /// What a step of the call does.
+    fn part<'s>(self, begun: bool, step: Step) -> Action<'s>
+        ensures same { act_meant result ≡ part_of self begun step }
+        ensures short { IsShort result }
+    {
+        match step {
+            Step::Begin => Action::Begin { reg: self.src },
+            Step::Send { to, head } => Action::Send {
+                to,
+                head,
+                source: if begun {
+                    Source::Accumulator
+                } else {
+                    Source::Own { reg: self.src }
+                },
+            },
+            Step::Recv { from, head } => Action::Gather {
+                from,
+                head,
+                sized: self.sized,
+            },
+            Step::Fold => Action::Fold {
+                op: self.op,
+                ty: self.ty,
+            },
+            Step::Accept => Action::Accept { reg: self.dst },
+            Step::Finish => Action::Finish { reg: self.dst },
         }
     }
-    Ok(prims)
+}
+
+/// Whether a step puts the source into the accumulator.
+fn is_begin(step: &Step) -> bool
+    ensures { result ≡ is_begin step.now }
+{
+    matches!(step, Step::Begin)
+}
+
+/// How many steps a collective call has.
+fn count_steps(setup: &Setup, rank: Rank, coll: Coll) -> u32
+    ensures { result ≡ length (call_steps setup.now rank coll) }
+{
+    if coll.is_callable(setup, rank) {
+        steps(setup, rank, coll)
+    } else {
+        0
+    }
+}
+
+/// What a step of a collective call does.
+fn take_part<'s>(setup: &Setup, rank: Rank, call: Collective, k: u32) -> Action<'s>
+    requires { k < length (call_steps setup.now rank call.coll) }
+    ensures same { slice_get (parts_of call.operands (call_steps setup.now rank call.coll)) k ≡ Some (act_meant result) }
+    ensures short { IsShort result }
+{
+    if !call.coll.is_callable(setup, rank) {
+        unreachable!()
+    }
+    let begun = is_begin(&step(setup, rank, call.coll, 0));
+    call.operands.part(begun, step(setup, rank, call.coll, k))
+}
+
+/// How many primitives a statement is for a rank.
+pub fn count(setup: &Setup, rank: Rank, stmt: &Stmt) -> u32
+    requires within { rank < setup.now.nue }
+    requires sized { IsSized stmt.now }
+    ensures { result ≡ length (acts_of setup.now rank stmt.now) }
+{
+    match collective_of(stmt) {
+        Some(call) => count_steps(setup, rank, call.coll),
+        None => match single_of(setup.nue(), rank, stmt) {
+            Some(_) => 1,
+            None => 0,
+        },
+    }
+}
+
+/// A primitive that a statement is for a rank.
+pub fn action_of<'s>(setup: &Setup, rank: Rank, stmt: &'s Stmt, k: u32) -> Action<'s>
+    requires within { rank < setup.now.nue }
+    requires sized { IsSized stmt.now }
+    requires there { k < length (acts_of setup.now rank stmt.now) }
+    ensures same { slice_get (acts_of setup.now rank stmt.now) k ≡ Some (act_meant result) }
+    ensures short { IsShort result }
+{
+    match collective_of(stmt) {
+        Some(call) => take_part(setup, rank, call, k),
+        None => match single_of(setup.nue(), rank, stmt) {
+            Some(action) => action,
+            None => unreachable!(),
+        },
+    }
 }

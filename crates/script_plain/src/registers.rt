@@ -1,8 +1,12 @@
 //! What a register holds.
 
-ghost use Rattle.std.specs.Prelude.{◌≡◌, ◌≤◌};
+ghost use Rattle.std.specs.Prelude.{◌≡◌, ◌≤◌, ◌%◌, ◌+◌, length, pos, IfOk};
+ghost use Rattle.groups.specs.Folds.{bytes_of};
 ghost use Rattle.scc_base.specs.Heads.{plain_head};
+ghost use Rattle.script_plain.specs.Program.{filling};
 
+use crate::prims::Content;
+use groups::{Op, Ty, fold_into};
 use scc_base::Head;
 use script_reader::Bytes;
 use std::alloc::{AllocError, Global};
@@ -19,10 +23,37 @@ pub fn plain_message(len: u32) -> Head
     }
 }
 
+/// This many bytes, of which byte i is `(start + i) mod 251`.
+fn filled(alloc: Global, len: u32, start: u32) -> Result<Vec<u8>, AllocError>
+    ensures { IfOk result (λ bytes. bytes.items ≡ filling len start) }
+{
+    let mut bytes = Vec::new(alloc);
+    for i in 0..len {
+        bytes.push(((start as u64 + i as u64) % 251) as u8)?;
+    }
+    Ok(bytes)
+}
+
+/// The bytes of a number.
+fn number(alloc: Global, ty: Ty, number: u8) -> Result<Vec<u8>, AllocError>
+    ensures { IfOk result (λ bytes. bytes.items ≡ bytes_of ty (pos number)) }
+{
+    match ty {
+        Ty::Int => {
+            let bytes = i32::from(number).to_le_bytes();
+            Vec::from_slice(alloc, &bytes)
+        }
+        Ty::Long => {
+            let bytes = i64::from(number).to_le_bytes();
+            Vec::from_slice(alloc, &bytes)
+        }
+    }
+}
+
 /// The bytes of a register: at most as many as a message may have.
 #[derive(Debug, Drop)]
 pub struct Register {
-    bytes: Bytes,
+    bytes: Vec<u8>,
 }
 
 impl Model for Register {
@@ -30,38 +61,44 @@ impl Model for Register {
 
     ghost Value = { List ℕ };
 
-    ghost view = { λ r. r.bytes };
+    ghost view = { λ r. r.bytes.items };
 
-    ghost invariant = { λ r. length r.bytes ≤ 65536 };
+    ghost invariant = { λ r. length r.bytes.items ≤ 65536 };
 }
 
 impl Register {
     ghost use Rattle.std.specs.Prelude.{◌≡◌, ◌≤◌, [], length, IfOk};
-    ghost use Rattle.scc_base.specs.Heads.{plain_head};
+    ghost use Rattle.script_plain.specs.Local.{folded};
+    ghost use Rattle.script_plain.specs.Walk.{content_of};
 
     /// A register that is not set.
     pub fn empty(alloc: Global) -> Register
         ensures { result ≡ [] }
     {
         Register {
-            bytes: Bytes::from_vec(Vec::new(alloc)),
+            bytes: Vec::new(alloc),
         }
     }
 
-    /// A register that has a copy of these bytes.
-    pub fn from_bytes(alloc: Global, bytes: &Bytes) -> Result<Register, AllocError>
-        requires { length bytes.now ≤ 65536 }
-        ensures { IfOk result (λ r. r ≡ bytes.now) }
+    /// A register that is set to this.
+    pub fn new(alloc: Global, content: &Content) -> Result<Register, AllocError>
+        requires { length (content_of content.now) ≤ 65536 }
+        ensures { IfOk result (λ r. r ≡ content_of content.now) }
     {
-        Ok(Register {
-            bytes: Bytes::from_slice(alloc, bytes.as_slice())?,
-        })
+        let bytes = match content {
+            Content::Bytes(bytes) => Vec::from_slice(alloc, bytes.as_slice())?,
+            Content::Filling { len, start } => filled(alloc, *len, *start)?,
+            Content::Number { ty, number: n } => number(alloc, *ty, *n)?,
+        };
+        Ok(Register { bytes })
     }
 
     pub fn copy(&self, alloc: Global) -> Result<Register, AllocError>
         ensures { IfOk result (λ r. r ≡ self.now) }
     {
-        Register::from_bytes(alloc, &self.bytes)
+        Ok(Register {
+            bytes: Vec::from_slice(alloc, self.bytes.as_slice())?,
+        })
     }
 
     /// A copy of the bytes.
@@ -71,10 +108,18 @@ impl Register {
         Bytes::from_slice(alloc, self.bytes.as_slice())
     }
 
-    /// The head of the plain message that has these bytes.
-    pub fn head(&self) -> Head
-        ensures { result ≡ plain_head (length self.now) }
+    /// How many bytes the register has.
+    pub fn len(&self) -> u32
+        ensures same { result ≡ length self.now }
+        ensures within { result ≤ 65536 }
     {
-        plain_message(self.bytes.as_slice().len() as u32)
+        self.bytes.len() as u32
+    }
+
+    /// Becomes `register op more`, value by value, where the two fit.
+    pub fn fold(&mut self, op: Op, ty: Ty, more: &Register)
+        ensures { self.new ≡ folded op ty self.old more.now }
+    {
+        let _ = fold_into(op, ty, self.bytes.as_mut_slice(), more.bytes.as_slice());
     }
 }

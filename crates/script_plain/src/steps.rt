@@ -1,14 +1,22 @@
 //! The plain step, and the run that takes it again and again.
 
-ghost use Rattle.std.specs.Prelude.{◌≡◌, ◌<◌, true, length, IfOk, OnOk, sum_by};
-ghost use Rattle.script_plain.specs.Code.{IsMatch, StepsAt, StepsLowest, call_at, decision, match_decision, mismatch_decision};
+ghost use Rattle.std.specs.Prelude.{◌≡◌, ◌<◌, None, Some, true, length, IfOk, OnOk, replicate, slice_index_or, sum_by};
+ghost use Rattle.scc_base.specs.Setups.{setup_key};
+ghost use Rattle.script_plain.specs.Barriers.{AreMet};
+ghost use Rattle.script_plain.specs.Collectives.{CollectivesHold};
+ghost use Rattle.script_plain.specs.Code.{GoesOn, IsRun, StepsAt, Sweeps, barrier_decision, call_at, config, decision, fetch_decision, match_decision, post_decision, receive_decision};
+ghost use Rattle.script_reader.specs.Script.{rules_of};
 ghost use Rattle.script_plain.specs.Local.{cost_of, local_next};
-ghost use Rattle.script_plain.specs.Meaning.{locals_of, plain_end, plain_step, start_of};
+ghost use Rattle.script_plain.specs.Meaning.{keys_of, locals_of, plain_end, plain_ends, plain_step, start_of};
+ghost use Rattle.script_plain.specs.Meaning.{ends_at};
 ghost use Rattle.script_plain.specs.Step.{lowest_step, run_on};
+ghost use Rattle.script_plain.specs.declared.steps.Step.TheVariants as variant;
 
-use crate::ends::End;
+use crate::barriers::{all_at_barrier, pass_barrier, root_of, setup_of};
+use crate::ends::{End, end_all};
+use crate::posts::Posted;
 use crate::ues::Ue;
-use scc_base::{Call, Head, Rank};
+use scc_base::{Call, Head, Rank, Setup};
 use script_reader::Scripts;
 use std::alloc::{AllocError, Global};
 
@@ -19,28 +27,61 @@ pub enum Step {
     Stays,
     /// Its own statement.
     Goes,
+    /// It leaves its message behind.
+    Posts,
     /// Its message is taken by this rank.
     Matches { to: Rank },
+    /// It takes the message that this rank left behind.
+    Takes { from: Rank },
     /// It refuses a message with this head.
     Mismatches { sent: Head },
+    /// Its group goes past a barrier of this communicator.
+    Passes { comm: u8 },
 }
 
-/// The end of the plain run of scripts: from the start the enabled step with the lowest owner is taken, until no step is
-/// enabled.
+/// The end of the plain run of scripts: from the start enabled steps are taken, until no step is enabled. A rank goes on as
+/// long as its own step is enabled, then the next rank that can.
 pub fn plain_run(alloc: Global, scripts: &Scripts) -> Result<End, AllocError>
     // The end is that of the plain meaning.
-    ensures end { IfOk result (λ end. end ≡ locals_of (plain_end scripts.now)) }
+    ensures end { IfOk result (λ end. end ≡ plain_ends scripts.now) }
     // No step is enabled there.
-    ensures still { plain_step (plain_end scripts.now) ≡ None }
+    ensures still { plain_step (keys_of scripts.now) (plain_end scripts.now) ≡ None }
     ensures ranks { IfOk result (λ end. length end ≡ scripts.now.nue) }
+    // And nobody has finished more barriers of a communicator than each member of its group has entered.
+    ensures barriers { AreMet (keys_of scripts.now) (plain_end scripts.now) }
+    // Messages have come as they were sent, and collective calls have given what they give.
+    ensures collectives { CollectivesHold scripts.now (plain_end scripts.now) }
 {
-    let mut ues = start(alloc, scripts)?;
-    run_on(alloc, &mut ues)?;
-    Ok(End::new(ues))
+    let setup = setup_of(scripts);
+    let mut ues = start(alloc, scripts, &setup)?;
+    let mut slots = empty_slots(alloc, scripts.nue() as usize)?;
+    let end = run_to_end(alloc, &setup, &mut ues, &mut slots)?;
+    Ok(end)
+}
+
+/// What ranks leave behind once no step is enabled.
+fn run_to_end(
+    alloc: Global,
+    setup: &Setup,
+    ues: &mut [Ue],
+    slots: &mut [Option<Posted>],
+) -> Result<End, AllocError>
+    requires run { IsRun setup.now ues.old slots.old }
+    ensures { IfOk result (λ end. end ≡ ends_at (run_on (setup_key setup.now) local_next (sum_by cost_of ues.old) (config ues.old slots.old))) }
+{
+    run_on(alloc, setup, ues, slots)?;
+    let end = end_all(alloc, ues, slots)?;
+    Ok(end)
 }
 
 /// The ranks at the start.
-fn start(alloc: Global, scripts: &Scripts) -> Result<Vec<Ue>, AllocError>
+pub(crate) fn start<'s>(
+    alloc: Global,
+    scripts: &'s Scripts,
+    setup: &'s Setup,
+) -> Result<Vec<Ue<'s>>, AllocError>
+    requires ranks { setup.now.nue ≡ scripts.now.nue }
+    requires communicators { setup.now.comms ≡ rules_of scripts.now.items }
     ensures { IfOk result (λ ues. ues.items ≡ locals_of (start_of scripts.now)) }
 {
     let mut ues = Vec::new(alloc);
@@ -48,101 +89,244 @@ fn start(alloc: Global, scripts: &Scripts) -> Result<Vec<Ue>, AllocError>
         let Some(rank) = Rank::new(number) else {
             unreachable!()
         };
-        ues.push(Ue::new(alloc, scripts, rank)?)?;
+        ues.push(Ue::new(alloc, scripts, setup, rank)?)?;
     }
     Ok(ues)
 }
 
-/// Takes the enabled step with the lowest owner until no step is enabled.
-fn run_on(alloc: Global, ues: &mut [Ue]) -> Result<(), AllocError>
-    ensures end { OnOk result (ues.new ≡ run_on local_next (sum_by cost_of ues.old) ues.old) }
-    ensures still { OnOk result (lowest_step local_next ues.new ≡ None) }
+/// This many empty slots.
+pub(crate) fn empty_slots(alloc: Global, count: usize) -> Result<Vec<Option<Posted>>, AllocError>
+    ensures { IfOk result (λ slots. slots.items ≡ replicate count None) }
 {
-    while step_lowest(alloc, ues)? {}
+    let mut slots = Vec::new(alloc);
+    for _ in 0..count {
+        slots.push(None)?;
+    }
+    Ok(slots)
+}
+
+/// Takes enabled steps until no step is enabled.
+fn run_on(
+    alloc: Global,
+    setup: &Setup,
+    ues: &mut [Ue],
+    slots: &mut [Option<Posted>],
+) -> Result<(), AllocError>
+    requires run { IsRun setup.now ues.old slots.old }
+    ensures end { OnOk result (config ues.new slots.new ≡ run_on (setup_key setup.now) local_next (sum_by cost_of ues.old) (config ues.old slots.old)) }
+    ensures still { OnOk result (lowest_step (setup_key setup.now) local_next (config ues.new slots.new) ≡ None) }
+{
+    while sweep(alloc, setup, ues, slots)? {}
     Ok(())
 }
 
-/// Takes the enabled step with the lowest owner, if there is one.
-fn step_lowest(alloc: Global, ues: &mut [Ue]) -> Result<bool, AllocError>
-    ensures { IfOk result (λ moved. StepsLowest moved ues.old ues.new) }
+/// Lets each rank go on as far as it can, one after the other. Answers whether any did.
+fn sweep(
+    alloc: Global,
+    setup: &Setup,
+    ues: &mut [Ue],
+    slots: &mut [Option<Posted>],
+) -> Result<bool, AllocError>
+    requires run { IsRun setup.now ues.old slots.old }
+    ensures { IfOk result (λ moved. Sweeps (setup_key setup.now) moved setup.now.nue (config ues.old slots.old) (config ues.new slots.new)) }
 {
-    for i in 0..ues.len() {
-        if step_at(alloc, ues, i)? {
-            return Ok(true);
+    let mut moved = false;
+    for number in 0..setup.nue() {
+        if go_on(alloc, setup, ues, slots, Rank::of(number))? {
+            moved = true;
         }
     }
-    Ok(false)
+    Ok(moved)
 }
 
-/// Takes the step that rank i owns, if it is enabled.
-fn step_at(alloc: Global, ues: &mut [Ue], i: usize) -> Result<bool, AllocError>
-    requires { i < length ues.old }
-    ensures { IfOk result (λ moved. StepsAt moved i ues.old ues.new) }
+/// Takes the step that a rank owns, as long as it is enabled. Answers whether it was.
+fn go_on(
+    alloc: Global,
+    setup: &Setup,
+    ues: &mut [Ue],
+    slots: &mut [Option<Posted>],
+    rank: Rank,
+) -> Result<bool, AllocError>
+    requires rank { rank < setup.now.nue }
+    requires run { IsRun setup.now ues.old slots.old }
+    ensures { IfOk result (λ moved. GoesOn (setup_key setup.now) moved rank (config ues.old slots.old) (config ues.new slots.new)) }
 {
-    match decide(ues, i) {
+    let mut moved = false;
+    while step_at(alloc, setup, ues, slots, rank)? {
+        moved = true;
+    }
+    Ok(moved)
+}
+
+/// Takes the step that a rank owns, if it is enabled.
+pub(crate) fn step_at(
+    alloc: Global,
+    setup: &Setup,
+    ues: &mut [Ue],
+    slots: &mut [Option<Posted>],
+    rank: Rank,
+) -> Result<bool, AllocError>
+    requires rank { rank < setup.now.nue }
+    requires run { IsRun setup.now ues.old slots.old }
+    ensures { IfOk result (λ moved. StepsAt (setup_key setup.now) moved rank (config ues.old slots.old) (config ues.new slots.new)) }
+{
+    let i = rank.number() as usize;
+    match decide(setup, ues, slots, rank) {
         Step::Stays => Ok(false),
         Step::Goes => {
             ues[i].go(alloc)?;
             Ok(true)
         }
+        Step::Posts => {
+            slots[i] = Some(ues[i].post(alloc)?);
+            Ok(true)
+        }
         Step::Matches { to } => {
-            deliver(alloc, ues, i, to.number() as usize)?;
+            deliver(alloc, setup, ues, slots, i, to.number() as usize)?;
+            Ok(true)
+        }
+        Step::Takes { from } => {
+            take(setup, ues, slots, i, from.number() as usize)?;
             Ok(true)
         }
         Step::Mismatches { sent } => {
             ues[i].refuse(sent);
             Ok(true)
         }
+        Step::Passes { comm } => {
+            pass_barrier(setup, ues, comm, rank)?;
+            Ok(true)
+        }
     }
 }
 
 /// Brings the message of a rank to the rank that receives it.
-fn deliver(alloc: Global, ues: &mut [Ue], from: usize, to: usize) -> Result<(), AllocError>
-    requires { IsMatch ues.old from to }
-    ensures { OnOk result (StepsAt true from ues.old ues.new) }
+fn deliver(
+    alloc: Global,
+    setup: &Setup,
+    ues: &mut [Ue],
+    slots: &[Option<Posted>],
+    from: usize,
+    to: usize,
+) -> Result<(), AllocError>
+    requires { decision (setup_key setup.now) ues.old slots.now from ≡ variant.Matches to }
+    ensures { OnOk result (StepsAt (setup_key setup.now) true from (config ues.old slots.now) (config ues.new slots.now)) }
 {
     let bytes = ues[from].send(alloc)?;
-    ues[to].receive(bytes);
+    ues[to].receive(bytes)?;
     Ok(())
 }
 
-/// The step that rank i owns.
-fn decide(ues: &[Ue], i: usize) -> Step
-    requires { i < length ues.now }
-    ensures { result ≡ decision ues.now i }
+/// Brings the message in a slot to the rank that receives it.
+fn take(
+    setup: &Setup,
+    ues: &mut [Ue],
+    slots: &mut [Option<Posted>],
+    to: usize,
+    from: usize,
+) -> Result<(), AllocError>
+    requires { decision (setup_key setup.now) ues.old slots.old to ≡ variant.Takes from }
+    ensures { OnOk result (StepsAt (setup_key setup.now) true to (config ues.old slots.old) (config ues.new slots.new)) }
 {
-    let ue = &ues[i];
+    let Some(message) = slots[from].take() else {
+        unreachable!()
+    };
+    ues[to].receive(message.bytes)?;
+    Ok(())
+}
+
+/// The step that a rank owns.
+fn decide(setup: &Setup, ues: &[Ue], slots: &[Option<Posted>], rank: Rank) -> Step
+    requires rank { rank < setup.now.nue }
+    requires run { IsRun setup.now ues.now slots.now }
+    ensures { result ≡ decision (setup_key setup.now) ues.now slots.now rank }
+{
+    let ue = &ues[rank.number() as usize];
     if ue.is_going() {
         return Step::Goes;
     }
     match &ue.call() {
-        Some(Call::Send { to, head }) => match_of(ues, i, *to, *head),
-        Some(Call::Recv { from, head }) => mismatch_of(ues, i, *from, *head),
-        _ => Step::Stays,
+        None => Step::Stays,
+        Some(Call::Post { .. }) => post_of(slots, rank),
+        Some(Call::Send { to, head }) => match_of(ues, slots, rank, *to, *head),
+        Some(Call::Recv { from, head }) => receive_of(ues, slots, rank, *from, *head),
+        Some(Call::Bar { comm }) => barrier_of(setup, ues, rank, *comm),
     }
 }
 
-/// The step of rank i, which stands at a send of this head.
-fn match_of(ues: &[Ue], i: usize, to: Rank, head: Head) -> Step
-    ensures { result ≡ match_decision i to head (call_at ues.now to) }
+/// The step of a rank that stands at a post.
+fn post_of(slots: &[Option<Posted>], rank: Rank) -> Step
+    ensures { result ≡ post_decision (slice_index_or slots.now rank None) }
 {
+    match slots.get(rank.number() as usize) {
+        Some(Some(_)) => Step::Stays,
+        _ => Step::Posts,
+    }
+}
+
+/// The step of a rank that stands at a send of this head.
+fn match_of(ues: &[Ue], slots: &[Option<Posted>], rank: Rank, to: Rank, head: Head) -> Step
+    ensures { result ≡ match_decision rank to head (slice_index_or slots.now rank None) (call_at ues.now to) }
+{
+    if let Some(Some(_)) = slots.get(rank.number() as usize) {
+        return Step::Stays;
+    }
     match &call_at(ues, to) {
-        Some(Call::Recv { from, head: asked }) if from.number() as usize == i && head == *asked => {
+        Some(Call::Recv { from, head: asked }) if *from == rank && head == *asked => {
             Step::Matches { to }
         }
         _ => Step::Stays,
     }
 }
 
-/// The step of rank i, which stands at a receive of this head.
-fn mismatch_of(ues: &[Ue], i: usize, from: Rank, asked: Head) -> Step
-    ensures { result ≡ mismatch_decision i asked (call_at ues.now from) }
+/// The step of a rank that stands at a receive of this head.
+fn receive_of(ues: &[Ue], slots: &[Option<Posted>], rank: Rank, from: Rank, asked: Head) -> Step
+    ensures { result ≡ receive_decision rank from asked (slice_index_or slots.now from None) (call_at ues.now from) }
+{
+    match slots.get(from.number() as usize) {
+        Some(Some(message)) => fetch_of(message.to, message.head.head(), rank, from, asked),
+        _ => mismatch_of(ues, rank, from, asked),
+    }
+}
+
+/// The step of a rank that stands at a receive of this head from a rank that left a message with this other head
+/// behind, for the rank `to`.
+fn fetch_of(to: Rank, sent: Head, rank: Rank, from: Rank, asked: Head) -> Step
+    ensures { result ≡ fetch_decision rank from asked to sent }
+{
+    if to != rank {
+        return Step::Stays;
+    }
+    if sent == asked {
+        Step::Takes { from }
+    } else {
+        Step::Mismatches { sent }
+    }
+}
+
+/// The step of a rank that stands at a receive of this head from a rank that left no message behind.
+fn mismatch_of(ues: &[Ue], rank: Rank, from: Rank, asked: Head) -> Step
+    ensures { result ≡ receive_decision rank from asked None (call_at ues.now from) }
 {
     match &call_at(ues, from) {
-        Some(Call::Send { to, head: sent }) if to.number() as usize == i && *sent != asked => {
+        Some(Call::Send { to, head: sent }) if *to == rank && *sent != asked => {
             Step::Mismatches { sent: *sent }
         }
         _ => Step::Stays,
+    }
+}
+
+/// The step of a rank that stands at a barrier of this communicator.
+fn barrier_of(setup: &Setup, ues: &[Ue], rank: Rank, comm: u8) -> Step
+    requires rank { rank < setup.now.nue }
+    requires ranks { length ues.now ≡ setup.now.nue }
+    requires sixteen { length setup.now.comms ≡ 16 }
+    ensures { result ≡ barrier_decision (setup_key setup.now) ues.now rank comm }
+{
+    if root_of(setup, comm, rank) == rank && all_at_barrier(setup, ues, comm, rank) {
+        Step::Passes { comm }
+    } else {
+        Step::Stays
     }
 }
 

@@ -3,6 +3,7 @@
 ghost use Rattle.std.specs.Prelude.{◌≤◌};
 
 use super::*;
+use crate::lowest::lowest_run;
 use scc_base::{Call, Head, Rank};
 use script_reader::read_script;
 use std::alloc::Global;
@@ -149,5 +150,79 @@ fn a_message_goes_on_by_a_rank_in_between(rt: HostRuntime) -> Result<(), Fail> {
     let end = end_of(rt.alloc(), text, 3)?;
     assert!(rt; is_finished(&rt, &end, 2)?);
     assert!(rt; has_printed(&rt, &end, 0, &[(2, &[1])])?);
+    Ok(())
+}
+
+/// Whether a rank waits at this line, in a send of one byte to another.
+fn waits_in_a_send<R: Abort>(
+    rt: &R,
+    end: &End,
+    number: u8,
+    line: u32,
+    to: u8,
+) -> Result<bool, Fail> {
+    let call = Call::Send {
+        to: rank(to)?,
+        head: plain(1)?,
+    };
+    let wanted = UeEnd::Waits { line, call };
+    Ok(ue(rt, end, number)? == wanted)
+}
+
+#[test]
+fn a_ring_that_all_send_first_waits_for_good(rt: HostRuntime) -> Result<(), Fail> {
+    let text = b"all\nfill x 1 9\nsend +1 x\nrecv -1 y 1\nprint y\n";
+    let end = end_of(rt.alloc(), text, 4)?;
+    for number in 0..4 {
+        let to = (number + 1) % 4;
+        assert!(rt;
+            waits_in_a_send(&rt, &end, number, 3, to)?,
+            "at rank {number}"
+        );
+        assert!(rt; has_printed(&rt, &end, number, &[])?, "at rank {number}");
+    }
+    Ok(())
+}
+
+/// Whether two ends are the same for a rank.
+fn has_same_end<R: Abort>(rt: &R, one: &End, other: &End, number: u8) -> Result<bool, Fail> {
+    let rank = rank(number)?;
+    assert!(rt; (rank.number() as usize) < one.nue());
+    assert!(rt; (rank.number() as usize) < other.nue());
+    if one.ue(rank) != other.ue(rank) || one.items(rank) != other.items(rank) {
+        return Ok(false);
+    }
+    for i in 0..one.items(rank) {
+        let printed = one.item(rank, i);
+        let again = other.item(rank, i);
+        if printed.reg != again.reg || printed.bytes.as_slice() != again.bytes.as_slice() {
+            return Ok(false);
+        }
+    }
+    Ok(true)
+}
+
+#[test]
+fn any_order_comes_to_the_end_of_the_lowest_owner_first(rt: HostRuntime) -> Result<(), Fail> {
+    let texts: [&[u8]; 10] = [
+        b"",
+        b"ue 0\nbytes x 01020304\nsend 1 x\nue 1\nrecv 0 y 4\nprint y\n",
+        b"ue 0\nbytes x aa\nsend 1 x\nsend 1 x\nue 1\nrecv 0 y 1\nprint y\n",
+        b"ue 0\nbytes x 0001020304050607\nsend 1 x\nue 1\nrecv 0 y 4\nprint y\n",
+        b"ue 2\nbytes x 01\nsend 1 x\nue 1\nrecv 2 y 1\nsend 0 y\nue 0\nrecv 1 z 1\nprint z\n",
+        b"ue 0\nbytes x 01\nsend 1 x\nue 1\nbytes x 02\nsend 2 x\nue 2\nbytes x 03\nsend 0 x\n",
+        b"ue 0\nbytes x 01\nsend 1 x\nrecv 2 y 1\nprint y\nue 1\nrecv 0 y 1\nbytes x 02\nsend 2 x\nue 2\nrecv 1 y 1\nprint y\nsend 0 y\n",
+        b"all\nsplit 1 mod 2\nrank x int\nreduce 1 0 max int y x\nue 0\nbarrier 1\nprint y\nue 2\nbarrier 1\n",
+        b"all\nfill x 1 9\npost +1 x\nrecv -1 y 1\npost +1 y\nprint y\n",
+        b"all\nrank x long\nrepeat 3\nallreduce 0 sum long x x\nbcast 0 1 x 8\nend\nprint long x\nue 0-1\nbarrier\n",
+    ];
+    for text in texts {
+        let scripts = read_script(rt.alloc(), text, 3)?;
+        let one = plain_run(rt.alloc(), &scripts)?;
+        let other = lowest_run(rt.alloc(), &scripts)?;
+        for number in 0..3 {
+            assert!(rt; has_same_end(&rt, &one, &other, number)?);
+        }
+    }
     Ok(())
 }

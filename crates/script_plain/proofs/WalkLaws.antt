@@ -1,0 +1,334 @@
+-- Laws of a walk: its place and its open repeats tell what is left of the list.
+use Rattle.std.proofs.Common.{◌≡◌, ℕ, zero, suc, ◌+◌, ◌-◌, ◌<◌, ◌≤◌, Bool, true, false, cond, List, [], ◌∷◌, ◌++◌, map, length, drop, slice_get, Option, Some, refl, sym, ap, subst, ◌∙◌, arith, append_assoc}
+use Rattle.std.specs.Option.{option_map}
+use Rattle.std.proofs.Math.ListN.{drop_of_length-le}
+use Rattle.std.proofs.Math.Seq.{drop-append_seam}
+use Rattle.std.proofs.lemmas.List.{at_drop_more, at_drop_all, append-nil, length-map, drop-drop}
+use Rattle.std.proofs.lemmas.Option.{slice_get_within, slice_get_past, slice_get-map, get_or_from_slice_get}
+use Rattle.scc_base.specs.Setups.{SetupView}
+use Rattle.groups.specs.declared.collectives.Coll.{Coll}
+use Rattle.groups.specs.declared.collectives.Step.{Step}
+use Rattle.groups.specs.Collectives.{steps_of}
+use Rattle.script_reader.specs.declared.script.Item.{Item}
+use Rattle.script_reader.specs.declared.script.Stmt.{Stmt}
+use Rattle.script_reader.specs.declared.script.Stmt.TheVariants as stmt
+use Rattle.script_reader.specs.Script.{Script, has_rank, rules_of}
+use Rattle.scc_base.specs.declared.communicators.CommRule.{CommRule}
+use Rattle.scc_base.specs.declared.layouts.Layout.TheVariants.{LineFlags}
+use Rattle.std.specs.List.{range_with_len}
+use Rattle.script_plain.specs.declared.prims.Nesting.{Nesting}
+use Rattle.script_plain.specs.declared.prims.Nesting.TheVariants as nesting
+use Rattle.script_plain.specs.declared.prims.Operands.{Operands}
+use Rattle.script_plain.specs.declared.walk.Open.{Open}
+use Rattle.script_plain.specs.Program.{Act, Prim, Unrolled, acts_of, call_steps, can_call, copies, in_front, is_begin, nesting_at, nesting_of, part_of, parts_of, prims_of, program_of, repeated, setup_of, unrolled}
+use Rattle.script_plain.specs.Walk.{AreOpen, AreOpenAt, HasMore, StandsAt, again, closed_by, left_at, left_of, next_pass, opened, passed, passed_to, woven}
+
+-- the k-th of the parts of a collective call
+pub part_at : (o : Operands) (steps : List Step) (k : ℕ) (first step : Step) → slice_get steps 0 ≡ Some first → slice_get steps k ≡ Some step → slice_get (parts_of o steps) k ≡ Some (part_of o (is_begin first) step)
+part_at o [] k first step at_first at_k = absurd (cc)
+part_at o (x ∷ steps) k first step at_first at_k =
+    let same : x ≡ first = cc in
+    slice_get-map (part_of o (is_begin x)) (x ∷ steps) k ∙ ap (option_map (part_of o (is_begin x))) at_k
+    ∙ ap (λ (s : Step). Some (part_of o (is_begin s) step)) same
+
+called_by : (o : Operands) (steps : List Step) (k : ℕ) (first step : Step) (b : Bool) → k < length (cond b steps []) → slice_get steps 0 ≡ Some first → slice_get steps k ≡ Some step → slice_get (parts_of o (cond b steps [])) k ≡ Some (part_of o (is_begin first) step)
+called_by o steps k first step true there at_first at_k = part_at o steps k first step at_first at_k
+called_by o steps k first step false there at_first at_k = absurd (omega (arith, there))
+
+-- of a call that the rank may make
+pub part_called : (s : SetupView) (rank : ℕ) (c : Coll) (o : Operands) (k : ℕ) (first step : Step) → k < length (call_steps s rank c) → slice_get (steps_of s rank c) 0 ≡ Some first → slice_get (steps_of s rank c) k ≡ Some step → slice_get (parts_of o (call_steps s rank c)) k ≡ Some (part_of o (is_begin first) step)
+part_called s rank c o k first step there at_first at_k = called_by o (steps_of s rank c) k first step (can_call s rank c) there at_first at_k
+
+module _ (s : SetupView) (rank : ℕ) where
+  -- what items make from a place on, by the item that stands there
+  pub unrolled-at : (items : List Item) (at : ℕ) (item : Item) → slice_get items at ≡ Some item → unrolled s rank (drop at items) ≡ in_front (nesting_at rank item) (prims_of s rank item) (unrolled s rank (drop (at + 1) items))
+  unfolding unrolled
+  unrolled-at items at item here =
+      at_drop_more (unrolled s rank) items at item (slice_get_within items at item here)
+      ∙ ap (λ (x : Item). in_front (nesting_at rank x) (prims_of s rank x) (unrolled s rank (drop (at + 1) items))) (get_or_from_slice_get items at item item here)
+
+  -- past the last item nothing is made
+  pub unrolled-past : (items : List Item) (at : ℕ) → length items ≤ at → unrolled s rank (drop at items) ≡ record { here = []; behind = [] }
+  unfolding unrolled
+  unrolled-past items at past = at_drop_all (unrolled s rank) items at past
+
+-- what is left goes on behind what comes first
+woven-append : (prims here : List Prim) (behind more : List (List Prim)) → woven (prims ++ here) behind more ≡ prims ++ woven here behind more
+woven-append prims here [] more = refl
+woven-append prims here (next ∷ behind) [] = refl
+woven-append prims here (next ∷ behind) (passes ∷ more) = append_assoc prims here _
+
+-- a repeat is one pass, and then the further ones
+woven-repeated : (times : ℕ) (here : List Prim) (behind more : List (List Prim)) → left_of (repeated times here behind) more ≡ woven here behind (copies (times - 1) here ∷ more)
+woven-repeated times here [] more = refl
+woven-repeated times here (next ∷ behind) more =
+    woven-append here (copies (times - 1) here ++ next) behind more
+    ∙ ap (λ (l : List Prim). here ++ l) (woven-append (copies (times - 1) here) next behind more)
+
+-- past the end of the items nothing is left
+left-past : (s : SetupView) (rank : ℕ) (items : List Item) (at : ℕ) (repeats : List Open) → length items ≤ at → left_at s rank items at repeats ≡ []
+left-past s rank items at repeats past = ap (λ (u : Unrolled). left_of u (map (again s rank items) repeats)) (unrolled-past s rank items at past)
+
+pub open-past : (s : SetupView) (rank : ℕ) (items : List Item) (at : ℕ) (repeats : List Open) → length items ≤ at → AreOpenAt s rank items at repeats
+open-past s rank items at repeats past =
+    let P : Unrolled → Type 0 = λ u. AreOpen s rank items u.behind repeats in
+    subst P (sym (unrolled-past s rank items at past)) tt
+
+-- the end of a pass is a primitive
+one_pass : (s : SetupView) (rank line : ℕ) (stmt : Stmt) → nesting_of stmt ≡ nesting.Closes → length (acts_of s rank stmt) ≡ 1
+one_pass s rank line (stmt.End start) closes = refl
+one_pass s rank line (stmt.Bytes reg bytes) closes = absurd (cc)
+one_pass s rank line (stmt.Fill reg len start) closes = absurd (cc)
+one_pass s rank line (stmt.RankOf reg ty) closes = absurd (cc)
+one_pass s rank line (stmt.Apply op ty dst src) closes = absurd (cc)
+one_pass s rank line (stmt.Send peer reg) closes = absurd (cc)
+one_pass s rank line (stmt.Post peer reg) closes = absurd (cc)
+one_pass s rank line (stmt.Recv peer reg len) closes = absurd (cc)
+one_pass s rank line (stmt.Print reg form) closes = absurd (cc)
+one_pass s rank line (stmt.Barrier comm) closes = absurd (cc)
+one_pass s rank line (stmt.Split comm rule) closes = absurd (cc)
+one_pass s rank line (stmt.Bcast comm root reg len) closes = absurd (cc)
+one_pass s rank line (stmt.Reduce comm root op ty dst src) closes = absurd (cc)
+one_pass s rank line (stmt.Allreduce comm op ty dst src) closes = absurd (cc)
+one_pass s rank line (stmt.Repeat times end) closes = absurd (cc)
+
+-- and the beginning of a repeat is none
+no_pass : (s : SetupView) (rank : ℕ) (stmt : Stmt) (times : ℕ) → nesting_of stmt ≡ nesting.Opens times → length (acts_of s rank stmt) ≡ 0
+no_pass s rank (stmt.Repeat most end) times opens = refl
+no_pass s rank (stmt.End start) times opens = absurd (cc)
+no_pass s rank (stmt.Bytes reg bytes) times opens = absurd (cc)
+no_pass s rank (stmt.Fill reg len start) times opens = absurd (cc)
+no_pass s rank (stmt.RankOf reg ty) times opens = absurd (cc)
+no_pass s rank (stmt.Apply op ty dst src) times opens = absurd (cc)
+no_pass s rank (stmt.Send peer reg) times opens = absurd (cc)
+no_pass s rank (stmt.Post peer reg) times opens = absurd (cc)
+no_pass s rank (stmt.Recv peer reg len) times opens = absurd (cc)
+no_pass s rank (stmt.Print reg form) times opens = absurd (cc)
+no_pass s rank (stmt.Barrier comm) times opens = absurd (cc)
+no_pass s rank (stmt.Split comm rule) times opens = absurd (cc)
+no_pass s rank (stmt.Bcast comm root reg len) times opens = absurd (cc)
+no_pass s rank (stmt.Reduce comm root op ty dst src) times opens = absurd (cc)
+no_pass s rank (stmt.Allreduce comm op ty dst src) times opens = absurd (cc)
+
+closes_by : (s : SetupView) (rank : ℕ) (item : Item) (b : Bool) → has_rank item.who rank ≡ b → nesting_at rank item ≡ nesting.Closes → length (prims_of s rank item) ≡ 1
+closes_by s rank item true has closes =
+    let closing : nesting_of item.stmt ≡ nesting.Closes = sym (ap (λ (b : Bool). cond b (nesting_of item.stmt) nesting.Stays) has) ∙ closes in
+    rw has (length-map (acts_of s rank item.stmt) (λ (act : Act). record { line = item.line; act = act }) ∙ one_pass s rank item.line item.stmt closing)
+closes_by s rank item false has closes =
+    let staying = sym (ap (λ (b : Bool). cond b (nesting_of item.stmt) nesting.Stays) has) ∙ closes in absurd (cc)
+
+opens_by : (s : SetupView) (rank : ℕ) (item : Item) (times : ℕ) (b : Bool) → has_rank item.who rank ≡ b → nesting_at rank item ≡ nesting.Opens times → length (prims_of s rank item) ≡ 0
+opens_by s rank item times true has opens =
+    let opening : nesting_of item.stmt ≡ nesting.Opens times = sym (ap (λ (b : Bool). cond b (nesting_of item.stmt) nesting.Stays) has) ∙ opens in
+    rw has (length-map (acts_of s rank item.stmt) (λ (act : Act). record { line = item.line; act = act }) ∙ no_pass s rank item.stmt times opening)
+opens_by s rank item times false has opens =
+    let staying = sym (ap (λ (b : Bool). cond b (nesting_of item.stmt) nesting.Stays) has) ∙ opens in absurd (cc)
+
+empty : (prims : List Prim) → length prims ≡ 0 → prims ≡ []
+empty [] none = refl
+empty (x ∷ prims) none = absurd (omega (arith, none))
+
+-- the repeats that stand open in a repeat
+entered : (s : SetupView) (rank : ℕ) (items : List Item) (start times : ℕ) (repeats : List Open) (here : List Prim) (behind : List (List Prim)) → unrolled s rank (drop start items) ≡ record { here = here; behind = behind } → AreOpen s rank items (repeated times here behind).behind repeats → AreOpen s rank items behind (record { start = start; left = times - 1 } ∷ repeats)
+entered s rank items start times repeats here [] is opens = tt
+entered s rank items start times repeats here (next ∷ behind) is opens = (ap (λ (u : Unrolled). u.behind) is, opens)
+
+-- over an item that has no primitives
+over_by : (s : SetupView) (rank : ℕ) (items : List Item) (at : ℕ) (item : Item) (repeats : List Open) (n : Nesting) → slice_get items at ≡ Some item → nesting_at rank item ≡ n → length (prims_of s rank item) ≡ 0
+    → (left_at s rank items (at + 1) (opened n at repeats) ≡ left_at s rank items at repeats) × (AreOpenAt s rank items at repeats → AreOpenAt s rank items (at + 1) (opened n at repeats))
+over_by s rank items at item repeats nesting.Stays here is none =
+    let u = unrolled s rank (drop (at + 1) items) in
+    let now : unrolled s rank (drop at items) ≡ u =
+    unrolled-at s rank items at item here ∙ ap (λ (n : Nesting). in_front n (prims_of s rank item) u) is ∙ ap (λ (l : List Prim). in_front nesting.Stays l u) (empty (prims_of s rank item) none) in
+    let P : Unrolled → Type 0 = λ v. AreOpen s rank items v.behind repeats in
+    (ap (λ (v : Unrolled). left_of v (map (again s rank items) repeats)) (sym now), λ opens. subst P now opens)
+over_by s rank items at item repeats (nesting.Opens times) here is none =
+    let u = unrolled s rank (drop (at + 1) items) in
+    let now : unrolled s rank (drop at items) ≡ repeated times u.here u.behind =
+    unrolled-at s rank items at item here ∙ ap (λ (n : Nesting). in_front n (prims_of s rank item) u) is in
+    let P : Unrolled → Type 0 = λ v. AreOpen s rank items v.behind repeats in (
+      sym (ap (λ (v : Unrolled). left_of v (map (again s rank items) repeats)) now ∙ woven-repeated times u.here u.behind (map (again s rank items) repeats)),
+      λ opens. entered s rank items (at + 1) times repeats u.here u.behind refl (subst P now opens),
+    )
+over_by s rank items at item repeats nesting.Closes here is none =
+    absurd (omega (arith, none, closes_by s rank item (has_rank item.who rank) refl is))
+
+pub over_same : (s : SetupView) (rank : ℕ) (items : List Item) (at : ℕ) (item : Item) (before after : List Open) → slice_get items at ≡ Some item → length (prims_of s rank item) ≡ 0 → after ≡ opened (nesting_at rank item) at before → left_at s rank items (at + 1) after ≡ left_at s rank items at before
+over_same s rank items at item before after here none now =
+    ap (left_at s rank items (at + 1)) now ∙ (over_by s rank items at item before (nesting_at rank item) here refl none).0
+
+pub over_open : (s : SetupView) (rank : ℕ) (items : List Item) (at : ℕ) (item : Item) (before after : List Open) → slice_get items at ≡ Some item → length (prims_of s rank item) ≡ 0 → after ≡ opened (nesting_at rank item) at before → AreOpenAt s rank items at before → AreOpenAt s rank items (at + 1) after
+over_open s rank items at item before after here none now opens =
+    let P : List Open → Type 0 = λ r. AreOpenAt s rank items (at + 1) r in
+    subst P (sym now) ((over_by s rank items at item before (nesting_at rank item) here refl none).1 opens)
+
+-- what an item makes stands in front of what is left behind it
+front_by : (s : SetupView) (rank : ℕ) (items : List Item) (at : ℕ) (item : Item) (repeats : List Open) (n : Nesting) → slice_get items at ≡ Some item → nesting_at rank item ≡ n → 0 < length (prims_of s rank item) → (rest : List Prim) × (left_at s rank items at repeats ≡ prims_of s rank item ++ rest)
+front_by s rank items at item repeats nesting.Stays here is some =
+    let u = unrolled s rank (drop (at + 1) items) in
+    let now : unrolled s rank (drop at items) ≡ in_front nesting.Stays (prims_of s rank item) u =
+    unrolled-at s rank items at item here ∙ ap (λ (n : Nesting). in_front n (prims_of s rank item) u) is in (
+      left_of u (map (again s rank items) repeats),
+      ap (λ (v : Unrolled). left_of v (map (again s rank items) repeats)) now ∙ woven-append (prims_of s rank item) u.here u.behind (map (again s rank items) repeats),
+    )
+front_by s rank items at item repeats (nesting.Opens times) here is some =
+    absurd (omega (arith, some, opens_by s rank item times (has_rank item.who rank) refl is))
+front_by s rank items at item [] nesting.Closes here is some =
+    let u = unrolled s rank (drop (at + 1) items) in
+    let now : unrolled s rank (drop at items) ≡ in_front nesting.Closes (prims_of s rank item) u =
+    unrolled-at s rank items at item here ∙ ap (λ (n : Nesting). in_front n (prims_of s rank item) u) is in
+    ([], ap (λ (v : Unrolled). left_of v []) now ∙ sym (append-nil (prims_of s rank item)))
+front_by s rank items at item (o ∷ repeats) nesting.Closes here is some =
+    let u = unrolled s rank (drop (at + 1) items) in
+    let now : unrolled s rank (drop at items) ≡ in_front nesting.Closes (prims_of s rank item) u =
+    unrolled-at s rank items at item here ∙ ap (λ (n : Nesting). in_front n (prims_of s rank item) u) is in
+    (again s rank items o ++ woven u.here u.behind (map (again s rank items) repeats), ap (λ (v : Unrolled). left_of v (map (again s rank items) (o ∷ repeats))) now)
+
+get_within : (prims rest : List Prim) (step : ℕ) (prim : Prim) → slice_get prims step ≡ Some prim → slice_get (drop step (prims ++ rest)) 0 ≡ Some prim
+get_within [] rest step prim here = absurd (cc)
+get_within (x ∷ prims) rest zero prim here = here
+get_within (x ∷ prims) rest (suc step) prim here = get_within prims rest step prim here
+
+prim_by : (s : SetupView) (rank : ℕ) (item : Item) (step : ℕ) (act : Act) (b : Bool) → has_rank item.who rank ≡ b → step < length (prims_of s rank item) → slice_get (acts_of s rank item.stmt) step ≡ Some act → slice_get (prims_of s rank item) step ≡ Some (record { line = item.line; act = act })
+prim_by s rank item step act true has there here =
+    rw has (slice_get-map (λ (act : Act). record { line = item.line; act = act }) (acts_of s rank item.stmt) step ∙ ap (option_map (λ (act : Act). record { line = item.line; act = act })) here)
+prim_by s rank item step act false has there here =
+    let none : length (prims_of s rank item) ≡ 0 = rw has refl in
+    absurd (omega (arith, there, none))
+
+-- the primitive that comes next
+pub front_is : (s : SetupView) (rank : ℕ) (items : List Item) (at step : ℕ) (item : Item) (repeats : List Open) (act : Act) → slice_get items at ≡ Some item → step < length (prims_of s rank item) → slice_get (acts_of s rank item.stmt) step ≡ Some act → slice_get (drop step (left_at s rank items at repeats)) 0 ≡ Some (record { line = item.line; act = act })
+front_is s rank items at step item repeats act here there acts =
+    let front = front_by s rank items at item repeats (nesting_at rank item) here refl (omega (arith, there)) in
+    ap (λ (l : List Prim). slice_get (drop step l) 0) front.1
+    ∙ get_within (prims_of s rank item) front.0 step (record { line = item.line; act = act }) (prim_by s rank item step act (has_rank item.who rank) refl there acts)
+
+-- more primitives than were done stand at the item
+pub stands_there : (s : SetupView) (rank : ℕ) (items : List Item) (at step : ℕ) (item : Item) → slice_get items at ≡ Some item → StandsAt s rank items at step → step < length (prims_of s rank item)
+stands_there s rank items at step item here stands = let P : Option Item → Type 0 = λ o. HasMore s rank o step in subst P here stands
+
+acts_by_rank : (s : SetupView) (rank step : ℕ) (item : Item) (b : Bool) → has_rank item.who rank ≡ b → step < length (prims_of s rank item) → step < length (acts_of s rank item.stmt)
+acts_by_rank s rank step item true has there =
+    let all : length (prims_of s rank item) ≡ length (acts_of s rank item.stmt) = rw has (length-map (acts_of s rank item.stmt) (λ (act : Act). record { line = item.line; act = act })) in
+    omega (arith, there, all)
+acts_by_rank s rank step item false has there =
+    let none : length (prims_of s rank item) ≡ 0 = rw has refl in
+    absurd (omega (arith, there, none))
+
+pub acts_there : (s : SetupView) (rank : ℕ) (items : List Item) (at step : ℕ) (item : Item) → slice_get items at ≡ Some item → StandsAt s rank items at step → step < length (acts_of s rank item.stmt)
+acts_there s rank items at step item here stands = acts_by_rank s rank step item (has_rank item.who rank) refl (stands_there s rank items at step item here stands)
+
+pub none_there : (s : SetupView) (rank : ℕ) (items : List Item) (at step : ℕ) → length items ≤ at → StandsAt s rank items at step
+none_there s rank items at step past = let P : Option Item → Type 0 = λ o. HasMore s rank o step in subst P (sym (slice_get_past items at past)) tt
+
+pub some_there : (s : SetupView) (rank : ℕ) (items : List Item) (at step : ℕ) (item : Item) → slice_get items at ≡ Some item → step < length (prims_of s rank item) → StandsAt s rank items at step
+some_there s rank items at step item here there = let P : Option Item → Type 0 = λ o. HasMore s rank o step in subst P (sym here) there
+
+-- nothing is left past the end, whatever was done there
+pub nothing_past : (s : SetupView) (rank : ℕ) (items : List Item) (at step : ℕ) (repeats : List Open) → length items ≤ at → drop step (left_at s rank items at repeats) ≡ []
+nothing_past s rank items at step repeats past = ap (drop step) (left-past s rank items at repeats past) ∙ drop_of_length-le [] (omega arith)
+
+-- behind the end of a pass
+next_by : (s : SetupView) (rank : ℕ) (items : List Item) (at end start left : ℕ) (repeats : List Open) (u : Unrolled) → unrolled s rank (drop (at + 1) items) ≡ u
+    → ((unrolled s rank (drop start items)).behind ≡ u.here ∷ u.behind) × AreOpen s rank items u.behind repeats
+    → (left_at s rank items (next_pass at start left) (closed_by start left repeats) ≡ copies left (unrolled s rank (drop start items)).here ++ left_of u (map (again s rank items) repeats))
+    × AreOpenAt s rank items (next_pass at start left) (closed_by start left repeats)
+next_by s rank items at end start zero repeats u is opens =
+    let P : Unrolled → Type 0 = λ v. AreOpen s rank items v.behind repeats in
+    (ap (λ (v : Unrolled). left_of v (map (again s rank items) repeats)) is, subst P (sym is) opens.1)
+next_by s rank items at end start (suc left) repeats u is opens =
+    let body = unrolled s rank (drop start items) in
+    let more = map (again s rank items) repeats in
+    let P : List (List Prim) → Type 0 = λ b. AreOpen s rank items b (record { start = start; left = left } ∷ repeats) in (
+      ap (λ (b : List (List Prim)). woven body.here b (copies left body.here ∷ more)) opens.0 ∙ sym (append_assoc body.here (copies left body.here) (left_of u more)),
+      subst P (sym opens.0) opens,
+    )
+
+-- the place behind an item that has primitives
+behind_by : (s : SetupView) (rank : ℕ) (items : List Item) (at end : ℕ) (item : Item) (repeats : List Open) (n : Nesting) → slice_get items at ≡ Some item → nesting_at rank item ≡ n → 0 < length (prims_of s rank item) → length items ≤ end → AreOpenAt s rank items at repeats
+    → (left_at s rank items (passed_to n at end repeats) (passed n repeats) ≡ drop (length (prims_of s rank item)) (left_at s rank items at repeats)) × AreOpenAt s rank items (passed_to n at end repeats) (passed n repeats)
+behind_by s rank items at end item repeats nesting.Stays here is some past opens =
+    let u = unrolled s rank (drop (at + 1) items) in
+    let prims = prims_of s rank item in
+    let now : unrolled s rank (drop at items) ≡ in_front nesting.Stays prims u =
+    unrolled-at s rank items at item here ∙ ap (λ (n : Nesting). in_front n prims u) is in
+    let P : Unrolled → Type 0 = λ v. AreOpen s rank items v.behind repeats in (
+      sym (ap (λ (v : Unrolled). drop (length prims) (left_of v (map (again s rank items) repeats))) now
+          ∙ ap (drop (length prims)) (woven-append prims u.here u.behind (map (again s rank items) repeats))
+          ∙ drop-append_seam prims (left_of u (map (again s rank items) repeats))),
+      subst P now opens,
+    )
+behind_by s rank items at end item repeats (nesting.Opens times) here is some past opens =
+    absurd (omega (arith, some, opens_by s rank item times (has_rank item.who rank) refl is))
+behind_by s rank items at end item [] nesting.Closes here is some past opens =
+    let u = unrolled s rank (drop (at + 1) items) in
+    let prims = prims_of s rank item in
+    let now : unrolled s rank (drop at items) ≡ in_front nesting.Closes prims u =
+    unrolled-at s rank items at item here ∙ ap (λ (n : Nesting). in_front n prims u) is in
+    (left-past s rank items end [] past ∙ sym (ap (λ (v : Unrolled). drop (length prims) (left_of v [])) now ∙ drop_of_length-le prims (omega arith)), open-past s rank items end [] past)
+behind_by s rank items at end item (o ∷ repeats) nesting.Closes here is some past opens =
+    let u = unrolled s rank (drop (at + 1) items) in
+    let prims = prims_of s rank item in
+    let now : unrolled s rank (drop at items) ≡ in_front nesting.Closes prims u =
+    unrolled-at s rank items at item here ∙ ap (λ (n : Nesting). in_front n prims u) is in
+    let P : Unrolled → Type 0 = λ v. AreOpen s rank items v.behind (o ∷ repeats) in
+    let was : drop (length prims) (left_at s rank items at (o ∷ repeats)) ≡ again s rank items o ++ left_of u (map (again s rank items) repeats) =
+    ap (λ (v : Unrolled). drop (length prims) (left_of v (map (again s rank items) (o ∷ repeats)))) now ∙ drop-append_seam prims (again s rank items o ++ left_of u (map (again s rank items) repeats)) in
+    let next = next_by s rank items at end o.start o.left repeats u refl (subst P now opens) in
+    (next.0 ∙ sym was, next.1)
+
+pub behind_same : (s : SetupView) (rank : ℕ) (items : List Item) (at end to : ℕ) (item : Item) (before after : List Open) → slice_get items at ≡ Some item → 0 < length (prims_of s rank item) → length items ≤ end → AreOpenAt s rank items at before → to ≡ passed_to (nesting_at rank item) at end before → after ≡ passed (nesting_at rank item) before
+    → left_at s rank items to after ≡ drop (length (prims_of s rank item)) (left_at s rank items at before)
+behind_same s rank items at end to item before after here some past opens goes now =
+    ap (λ (n : ℕ). left_at s rank items n after) goes ∙ ap (left_at s rank items (passed_to (nesting_at rank item) at end before)) now
+    ∙ (behind_by s rank items at end item before (nesting_at rank item) here refl some past opens).0
+
+pub behind_open : (s : SetupView) (rank : ℕ) (items : List Item) (at end to : ℕ) (item : Item) (before after : List Open) → slice_get items at ≡ Some item → 0 < length (prims_of s rank item) → length items ≤ end → AreOpenAt s rank items at before → to ≡ passed_to (nesting_at rank item) at end before → after ≡ passed (nesting_at rank item) before
+    → AreOpenAt s rank items to after
+behind_open s rank items at end to item before after here some past opens goes now =
+    let P : ℕ → Type 0 = λ n. AreOpenAt s rank items n after in
+    let Q : List Open → Type 0 = λ r. AreOpenAt s rank items (passed_to (nesting_at rank item) at end before) r in
+    subst P (sym goes) (subst Q (sym now) (behind_by s rank items at end item before (nesting_at rank item) here refl some past opens).1)
+
+-- past the end all places are one
+pub past_same : (s : SetupView) (rank : ℕ) (items : List Item) (at to : ℕ) (repeats : List Open) → length items ≤ at → length items ≤ to → left_at s rank items to repeats ≡ left_at s rank items at repeats
+past_same s rank items at to repeats here there = left-past s rank items to repeats there ∙ sym (left-past s rank items at repeats here)
+
+-- before the first item everything is left
+pub all_left : (s : SetupView) (rank : ℕ) (items : List Item) → left_at s rank items 0 [] ≡ (unrolled s rank items).here
+all_left s rank items = no_more (unrolled s rank items)
+  where
+    no_more : (u : Unrolled) → left_of u [] ≡ u.here
+    no_more u = none u.here u.behind
+      where
+        none : (here : List Prim) (behind : List (List Prim)) → woven here behind [] ≡ here
+        none here [] = refl
+        none here (next ∷ behind) = refl
+
+pub none_open : (s : SetupView) (rank : ℕ) (items : List Item) (at : ℕ) → AreOpenAt s rank items at []
+none_open s rank items at = none (unrolled s rank (drop at items)).behind
+  where
+    none : (behind : List (List Prim)) → AreOpen s rank items behind []
+    none [] = tt
+    none (next ∷ behind) = tt
+
+-- past the last primitive of an item
+pub last_done : (l : List Prim) (step count : ℕ) → step < count → count ≤ step + 1 → drop count l ≡ drop 1 (drop step l)
+last_done l step count there done = ap (λ (n : ℕ). drop n l) (omega (arith, there, done)) ∙ sym (drop-drop 1 step l)
+
+-- neither the layout nor the hosts matter
+made_by : (s : SetupView) → SetupView
+made_by s = record { nue = s.nue; layout = LineFlags; hosts = range_with_len 0 48; comms = s.comms }
+
+unrolled-made_by : (s : SetupView) (rank : ℕ) (items : List Item) → unrolled s rank items ≡ unrolled (made_by s) rank items
+unfolding unrolled made_by
+unrolled-made_by s rank [] = refl
+unrolled-made_by s rank (item ∷ items) = ap (in_front (nesting_at rank item) (prims_of s rank item)) (unrolled-made_by s rank items)
+
+pub unrolled_by_script : (s : SetupView) (rank : ℕ) (script : Script) → s.nue ≡ script.nue → s.comms ≡ rules_of script.items → (unrolled s rank script.items).here ≡ program_of script rank
+unfolding made_by
+unrolled_by_script s rank script ranks communicators =
+    let made : made_by s ≡ setup_of script =
+    ap (λ (n : ℕ). record { nue = n; layout = LineFlags; hosts = range_with_len 0 48; comms = s.comms }) ranks
+    ∙ ap (λ (comms : List CommRule). record { nue = script.nue; layout = LineFlags; hosts = range_with_len 0 48; comms = comms }) communicators in
+    ap (λ (u : Unrolled). u.here) (unrolled-made_by s rank script.items ∙ ap (λ (t : SetupView). unrolled t rank script.items) made)

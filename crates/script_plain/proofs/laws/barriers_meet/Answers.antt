@@ -1,0 +1,5 @@
+use Rattle.script_plain.proofs.BarrierLaws.{met}
+use Rattle.script_plain.proofs.laws.barriers_meet.Goals as goal
+
+pub returns : goal.returns
+returns c = record { law = met }

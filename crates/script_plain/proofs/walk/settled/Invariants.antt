@@ -1,0 +1,9 @@
+use Rattle.std.proofs.Common.{◌≡◌}
+use Rattle.script_plain.specs.Walk.{AreOpenAt, left_at}
+use Rattle.script_plain.proofs.walk.settled.Given as goal
+
+abbrev pub invariant-loop-at : goal.invariant-loop-at
+invariant-loop-at l = record {
+  same : left_at l.setup l.rank l.scripts.items l.at l.repeats.items ≡ left_at l.setup l.rank l.scripts.items l.place l.initial.repeats.items;
+  opens : AreOpenAt l.setup l.rank l.scripts.items l.at l.repeats.items;
+}

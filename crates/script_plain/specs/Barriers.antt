@@ -1,0 +1,28 @@
+-- Barriers that a rank has entered and finished (RCCE specification 2.0: nobody leaves a barrier before all members of
+-- the group have entered it).
+use Rattle.std.specs.Prelude.{◌≡◌, ℕ, ◌+◌, ◌≤◌, ◌==◌, Bool, false, if◌then◌else◌, Some, slice_get}
+use Rattle.std.specs.List.{count_by}
+use Rattle.scc_base.specs.Calls.{DataCall}
+use Rattle.scc_base.specs.Calls.DataCall.{Bar}
+use Rattle.script_plain.specs.Meaning.{State, next_of}
+use Rattle.script_plain.specs.Next.{is_at_barrier}
+use Rattle.script_plain.specs.Step.{Configuration}
+
+-- whether a call is a barrier of this communicator
+abbrev pub is_barrier : ℕ → DataCall → Bool
+is_barrier comm (Bar asked) = asked == comm
+is_barrier comm _ = false
+
+-- how many barriers of a communicator a rank has finished
+abbrev pub finished_barriers : ℕ → State → ℕ
+finished_barriers comm u = count_by (is_barrier comm) u.matched
+
+-- how many it has entered: these, and one more where it stands at one
+abbrev pub entered_barriers : ℕ → State → ℕ
+entered_barriers comm u = finished_barriers comm u + (if is_at_barrier comm (next_of u) then 1 else 0)
+
+-- no rank has finished more barriers of a communicator than each member of its group has entered
+abbrev pub AreMet : (ℕ → ℕ → ℕ) → Configuration State → Type 0
+AreMet keys c =
+    (comm i j : ℕ) (u v : State) → slice_get c.cells i ≡ Some u → slice_get c.cells j ≡ Some v → keys comm i ≡ keys comm j
+    → finished_barriers comm u ≤ entered_barriers comm v

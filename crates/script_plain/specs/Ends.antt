@@ -1,0 +1,28 @@
+-- What a run leaves behind.
+use Rattle.std.specs.Prelude.{ℕ, List, length, map, Option, None, slice_index_or}
+use Rattle.std.specs.List.{range_with_len}
+use Rattle.std.specs.Option.{option_map}
+use Rattle.script_plain.specs.declared.ends.UeEnd.{UeEnd}
+use Rattle.script_plain.specs.declared.posts.Posted.{Posted}
+use Rattle.script_plain.specs.declared.prims.Printed.{Printed}
+use Rattle.script_plain.specs.Local.{Local, end_of, local_at, nobody}
+
+-- how a rank's run ended, the items that it printed, and the target of its posted message that was not taken
+pub record Ended : Type 0 where
+  pub end : UeEnd
+  pub printed : List Printed
+  pub on_its_way : Option ℕ
+
+abbrev pub ended : Option Posted → Local → Ended
+ended slot u = record { end = end_of slot u; printed = u.printed; on_its_way = option_map (λ message. message.to) slot }
+
+-- a rank of which nothing is known
+abbrev pub nothing_ended : Ended
+nothing_ended = ended None nobody
+
+-- what the ranks leave behind that hold this, with these messages in their slots
+abbrev pub ends_of : List Local → List (Option Posted) → List Ended
+ends_of cells slots = map (λ rank. ended (slice_index_or slots rank None) (local_at cells rank)) (range_with_len 0 (length cells))
+
+abbrev pub ended_at : List Ended → ℕ → Ended
+ended_at ends rank = slice_index_or ends rank nothing_ended

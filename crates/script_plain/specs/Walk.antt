@@ -1,0 +1,122 @@
+-- A walk through the items of a rank that keeps its place and the repeats that are open.
+use Rattle.std.specs.Prelude.{◌≡◌, ℕ, zero, suc, ◌+◌, ◌-◌, ◌<◌, ◌≤◌, List, [], ◌∷◌, ◌++◌, map, length, drop, slice_get, Option, Some, None}
+use Rattle.scc_base.specs.Setups.{SetupView}
+use Rattle.script_plain.specs.declared.prims.Action.{Action}
+use Rattle.script_plain.specs.declared.prims.Action.TheVariants as action
+use Rattle.script_plain.specs.declared.prims.Content.{Content}
+use Rattle.script_plain.specs.declared.prims.Content.TheVariants as content
+use Rattle.script_plain.specs.declared.prims.Nesting.{Nesting}
+use Rattle.script_plain.specs.declared.prims.Nesting.TheVariants as nesting
+use Rattle.script_plain.specs.declared.prims.Primitive.{Primitive}
+use Rattle.script_plain.specs.declared.walk.Open.{Open}
+use Rattle.script_reader.specs.declared.script.Item.{Item}
+use Rattle.script_plain.specs.Program.{Act, Prim, Unrolled, copies, filling, prims_of, unrolled}
+use Rattle.script_plain.specs.Program.Act.{Set, Apply, Print, Send, Post, Recv, Gather, Bar, Begin, Fold, Accept, Finish, Pass}
+use Rattle.groups.specs.Folds.{bytes_of}
+use Rattle.std.specs.Prelude.{pos}
+
+-- the bytes that a register is set to
+abbrev pub content_of : Content → List ℕ
+content_of (content.Bytes bytes) = bytes.now
+content_of (content.Filling len start) = filling len start
+content_of (content.Number ty number) = bytes_of ty (pos number)
+
+-- a register is set to at most as many bytes as a message may have
+abbrev pub IsShort : Action → Type 0
+IsShort (action.Set reg content) = length (content_of content) ≤ 65536
+IsShort _ = Unit {0}
+
+-- the primitive that is meant
+abbrev pub act_meant : Action → Act
+act_meant (action.Set reg content) = Set reg (content_of content)
+act_meant (action.Apply op ty dst src) = Apply op ty dst src
+act_meant (action.Print reg form) = Print reg form
+act_meant (action.Send to head source) = Send to head source
+act_meant (action.Post to reg) = Post to reg
+act_meant (action.Recv from reg head) = Recv from reg head
+act_meant (action.Gather from head sized) = Gather from head sized
+act_meant (action.Bar comm) = Bar comm
+act_meant (action.Begin reg) = Begin reg
+act_meant (action.Fold op ty) = Fold op ty
+act_meant (action.Accept reg) = Accept reg
+act_meant (action.Finish reg) = Finish reg
+act_meant action.Pass = Pass
+
+abbrev pub prim_meant : Primitive → Prim
+prim_meant p = record { line = p.line; act = act_meant p.action }
+
+-- what the further passes of an open repeat make
+abbrev pub again : SetupView → ℕ → List Item → Open → List Prim
+again s rank items o = copies o.left (unrolled s rank (drop o.start items)).here
+
+-- what is left: up to the end of the innermost open repeat, its further passes, then up to the next one's end, and so on
+abbrev pub woven : List Prim → List (List Prim) → List (List Prim) → List Prim
+woven here [] more = here
+woven here (next ∷ behind) [] = here
+woven here (next ∷ behind) (passes ∷ more) = here ++ (passes ++ woven next behind more)
+
+abbrev pub left_of : Unrolled → List (List Prim) → List Prim
+left_of u more = woven u.here u.behind more
+
+-- what is left from a place on, with these repeats open, the innermost one first
+abbrev pub left_at : SetupView → ℕ → List Item → ℕ → List Open → List Prim
+left_at s rank items place open_repeats =
+    left_of (unrolled s rank (drop place items)) (map (again s rank items) open_repeats)
+
+-- behind the end of each open repeat stands what stands behind the end that comes next
+abbrev pub AreOpen : SetupView → ℕ → List Item → List (List Prim) → List Open → Type 0
+AreOpen s rank items [] open_repeats = Unit {0}
+AreOpen s rank items (next ∷ behind) [] = Unit {0}
+AreOpen s rank items (next ∷ behind) (o ∷ open_repeats) =
+    ((unrolled s rank (drop o.start items)).behind ≡ next ∷ behind) × AreOpen s rank items behind open_repeats
+
+abbrev pub AreOpenAt : SetupView → ℕ → List Item → ℕ → List Open → Type 0
+AreOpenAt s rank items place open_repeats = AreOpen s rank items (unrolled s rank (drop place items)).behind open_repeats
+
+-- at a place stands an item with more than this many primitives, or none
+abbrev pub HasMore : SetupView → ℕ → Option Item → ℕ → Type 0
+HasMore s rank None step = Unit {0}
+HasMore s rank (Some item) step = step < length (prims_of s rank item)
+
+abbrev pub StandsAt : SetupView → ℕ → List Item → ℕ → ℕ → Type 0
+StandsAt s rank items place step = HasMore s rank (slice_get items place) step
+
+-- a walk stands where it can go on: each open repeat has its end, and the item there has more primitives than were done
+pub record IsAt (s : SetupView) (rank : ℕ) (items : List Item) (place step : ℕ) (repeats : List Open) : Type 0 where
+  pub within : rank < s.nue
+  pub opens : AreOpenAt s rank items place repeats
+  pub stands : StandsAt s rank items place step
+
+-- the repeats that are open behind the beginning of a repeat
+abbrev pub opened : Nesting → ℕ → List Open → List Open
+opened (nesting.Opens times) at repeats = record { start = at + 1; left = times - 1 } ∷ repeats
+opened nesting.Closes at repeats = repeats
+opened nesting.Stays at repeats = repeats
+
+-- behind the end of a pass: the place, and the repeats that are open there
+abbrev pub next_pass : ℕ → ℕ → ℕ → ℕ
+next_pass at start zero = at + 1
+next_pass at start (suc left) = start
+
+abbrev pub closed_to : ℕ → ℕ → List Open → ℕ
+closed_to at end [] = end
+closed_to at end (o ∷ repeats) = next_pass at o.start o.left
+
+abbrev pub closed_by : ℕ → ℕ → List Open → List Open
+closed_by start zero repeats = repeats
+closed_by start (suc left) repeats = record { start = start; left = left } ∷ repeats
+
+abbrev pub closed : List Open → List Open
+closed [] = []
+closed (o ∷ repeats) = closed_by o.start o.left repeats
+
+-- behind an item that has primitives: the place, and the repeats that are open there
+abbrev pub passed_to : Nesting → ℕ → ℕ → List Open → ℕ
+passed_to (nesting.Opens times) at end repeats = at + 1
+passed_to nesting.Closes at end repeats = closed_to at end repeats
+passed_to nesting.Stays at end repeats = at + 1
+
+abbrev pub passed : Nesting → List Open → List Open
+passed (nesting.Opens times) repeats = repeats
+passed nesting.Closes repeats = closed repeats
+passed nesting.Stays repeats = repeats
