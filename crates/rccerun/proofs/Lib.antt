@@ -3,3 +3,4 @@ pub mod MeaningLemmas
 pub mod OutputLemmas
 pub mod ReportLemmas
 pub mod TextLemmas
+pub mod ValueLemmas

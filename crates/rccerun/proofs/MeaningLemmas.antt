@@ -4,11 +4,9 @@ use Rattle.std.proofs.lemmas.Bool.{cases_lt, lt-ltb}
 use Rattle.std.proofs.lemmas.List.{take_all, length-take}
 use Rattle.script_reader.specs.declared.fault.FaultKind.TheVariants as kind
 use Rattle.script_reader.specs.declared.fault.ReadFault.{ReadFault}
-use Rattle.script_reader.specs.Reading.{parse_script, or_not_built, read_lines, script_of}
-use Rattle.script_reader.specs.Faults.{◌>>=◌}
-use Rattle.script_reader.specs.Progress.{start}
+use Rattle.script_reader.specs.Reading.{parse_script, read_all_lines, version_of}
 use Rattle.script_reader.specs.Words.{lines_of}
-use Rattle.script_plain.specs.Local.{Local}
+use Rattle.script_plain.specs.Ends.{Ended}
 use Rattle.script_reader.specs.Script.{Script}
 use Rattle.rcce_io.specs.declared.reading.ReadEnd.TheVariants as ends
 use Rattle.rcce_io.specs.Faults.{IsSteady}
@@ -41,10 +39,10 @@ front_tells limit f refused bytes =
 -- a script of which only that was read
 parse_front : (limit : ℕ) → limit ≡ 4194304 → (bytes : List ℕ) (nue : ℕ) → parse_script (take (limit + 1) bytes) nue ≡ parse_script bytes nue
 parse_front limit is bytes nue =
-    let f : List ℕ → Result Script ReadFault = λ b. read_lines 0 (start nue) (lines_of b) >>= λ p. Ok (script_of p) in
+    let f : List ℕ → Result Script ReadFault = λ b. read_all_lines (version_of (lines_of b)) (lines_of b) nue in
     let refused : Result Script ReadFault = Err (record { line = 0; kind = kind.TooLong }) in
-    let Same : ℕ → Type 0 = λ n. or_not_built (cond (nat_lt n (length (take (limit + 1) bytes))) refused (f (take (limit + 1) bytes))) ≡ or_not_built (cond (nat_lt n (length bytes)) refused (f bytes)) in
-    subst Same is (ap or_not_built (front_tells limit f refused bytes))
+    let Same : ℕ → Type 0 = λ n. cond (nat_lt n (length (take (limit + 1) bytes))) refused (f (take (limit + 1) bytes)) ≡ cond (nat_lt n (length bytes)) refused (f bytes) in
+    subst Same is (front_tells limit f refused bytes)
 
 -- the outcome of what was read is that of the file
 same_outcome : (limit : ℕ) → limit ≡ 4194304 → (command : Command) (contents : Option (List ℕ)) (bytes : List ℕ) →
@@ -71,7 +69,7 @@ record HasStatus (o : Outcome) : Type 0 where
   not_words : o.status ≡ status.Words → ⊥
   not_write : o.status ≡ status.Write → ⊥
 
-run_status : (names : List (List ℕ)) (ues : List Local) (finished : Bool) → all_finished ues ≡ finished → HasStatus (run_outcome names ues)
+run_status : (names : List (List ℕ)) (ues : List Ended) (finished : Bool) → all_finished ues ≡ finished → HasStatus (run_outcome names ues)
 run_status names ues true is = record { not_files = rw is (λ e. cc); quiet = rw is (λ e. cc); not_words = rw is (λ e. cc); not_write = rw is (λ e. cc) }
 run_status names ues false is = record { not_files = rw is (λ e. cc); quiet = rw is (λ e. cc); not_words = rw is (λ e. cc); not_write = rw is (λ e. cc) }
 

@@ -4,11 +4,11 @@ use Rattle.std.specs.List.{list_all}
 use Rattle.std.proofs.lemmas.List.{take-append-drop, take_more, append-nil, length-take}
 use Rattle.std.proofs.lemmas.List.Folds.{list_all-append, list_all_more}
 use Rattle.script_plain.specs.declared.ends.UeEnd.{UeEnd}
-use Rattle.script_plain.specs.Local.{Local, end_of, local_at, nobody}
+use Rattle.script_plain.specs.Ends.{Ended, ended_at, nothing_ended}
 use Rattle.rccerun.specs.Outcome.{by_rank, end_text, unfinished_text}
 
 -- the lines of two lists, the second of which goes on in the ranks
-by_rank-append : (text : ℕ → Local → List ℕ) (rank : ℕ) (a b : List Local) →
+by_rank-append : (text : ℕ → Ended → List ℕ) (rank : ℕ) (a b : List Ended) →
     by_rank text rank (a ++ b) ≡ by_rank text rank a ++ by_rank text (rank + length a) b
 by_rank-append text rank [] b = ap (λ r. by_rank text r b) (sym (add-zero rank))
 by_rank-append text rank (ue ∷ a) b =
@@ -18,7 +18,7 @@ by_rank-append text rank (ue ∷ a) b =
     ∙ ap (λ r. (text rank ue ++ by_rank text (rank + 1) a) ++ by_rank text r b) next
 
 -- the lines of the first ranks, and of the next one
-pub by_rank-more : (text : ℕ → Local → List ℕ) (ues : List Local) (i : ℕ) (d : Local) → i < length ues →
+pub by_rank-more : (text : ℕ → Ended → List ℕ) (ues : List Ended) (i : ℕ) (d : Ended) → i < length ues →
     by_rank text 0 (take (i + 1) ues) ≡ by_rank text 0 (take i ues) ++ text i (get_or ues i d)
 by_rank-more text ues i d within =
     let at : 0 + length (take i ues) ≡ i = omega (arith, length-take i ues) in
@@ -26,7 +26,7 @@ by_rank-more text ues i d within =
     ∙ ap (λ t. by_rank text 0 (take i ues) ++ t) (append-nil _) ∙ ap (λ r. by_rank text 0 (take i ues) ++ text r (get_or ues i d)) at
 
 -- and of the ranks behind it
-pub by_rank-parts : (text : ℕ → Local → List ℕ) (ues : List Local) (i : ℕ) (d : Local) → i < length ues →
+pub by_rank-parts : (text : ℕ → Ended → List ℕ) (ues : List Ended) (i : ℕ) (d : Ended) → i < length ues →
     by_rank text 0 ues ≡ by_rank text 0 (take i ues) ++ (text i (get_or ues i d) ++ by_rank text (0 + length (take (i + 1) ues)) (drop (i + 1) ues))
 by_rank-parts text ues i d within =
     ap (by_rank text 0) (sym (take-append-drop (i + 1) ues)) ∙ by_rank-append text 0 (take (i + 1) ues) (drop (i + 1) ues)
@@ -45,21 +45,21 @@ list_all-at_false p xs i d within fails =
     ∙ and_false (list_all p (take i xs)) (list_all p (drop (i + 1) xs))
 
 -- the line of an end that a rank came to
-end_text-at : (ues : List Local) (number rank : ℕ) (end : UeEnd) → end ≡ end_of (local_at ues rank) → rank ≡ number →
-    unfinished_text number (local_at ues number) ≡ end_text rank end
+end_text-at : (ues : List Ended) (number rank : ℕ) (end : UeEnd) → end ≡ (ended_at ues rank).end → rank ≡ number →
+    unfinished_text number (ended_at ues number) ≡ end_text rank end
 end_text-at ues number rank end ended same =
-    sym (ap (end_text rank) ended ∙ ap (λ r. end_text r (end_of (local_at ues r))) same)
+    sym (ap (end_text rank) ended ∙ ap (λ r. end_text r (ended_at ues r).end) same)
 
 -- the lines of the first ends, and of the next one
-pub unfinished-more : (ues : List Local) (number rank : ℕ) (end : UeEnd) → number < length ues → end ≡ end_of (local_at ues rank) → rank ≡ number →
+pub unfinished-more : (ues : List Ended) (number rank : ℕ) (end : UeEnd) → number < length ues → end ≡ (ended_at ues rank).end → rank ≡ number →
     by_rank unfinished_text 0 (take (number + 1) ues) ≡ by_rank unfinished_text 0 (take number ues) ++ end_text rank end
 unfinished-more ues number rank end within ended same =
-    by_rank-more unfinished_text ues number nobody within
+    by_rank-more unfinished_text ues number nothing_ended within
     ∙ ap (λ t. by_rank unfinished_text 0 (take number ues) ++ t) (end_text-at ues number rank end ended same)
 
 -- and of the ends behind it
-pub unfinished-parts : (ues : List Local) (number rank : ℕ) (end : UeEnd) → number < length ues → end ≡ end_of (local_at ues rank) → rank ≡ number →
+pub unfinished-parts : (ues : List Ended) (number rank : ℕ) (end : UeEnd) → number < length ues → end ≡ (ended_at ues rank).end → rank ≡ number →
     by_rank unfinished_text 0 ues ≡ by_rank unfinished_text 0 (take number ues) ++ (end_text rank end ++ by_rank unfinished_text (0 + length (take (number + 1) ues)) (drop (number + 1) ues))
 unfinished-parts ues number rank end within ended same =
-    by_rank-parts unfinished_text ues number nobody within
+    by_rank-parts unfinished_text ues number nothing_ended within
     ∙ ap (λ t. by_rank unfinished_text 0 (take number ues) ++ (t ++ by_rank unfinished_text (0 + length (take (number + 1) ues)) (drop (number + 1) ues))) (end_text-at ues number rank end ended same)

@@ -8,8 +8,8 @@ use Rattle.script_reader.specs.Script.{Script}
 use Rattle.script_plain.specs.declared.ends.UeEnd.{UeEnd}
 use Rattle.script_plain.specs.declared.ends.UeEnd.TheVariants as ue_end
 use Rattle.script_plain.specs.declared.prims.Printed.{Printed}
-use Rattle.script_plain.specs.Local.{Local, end_of}
-use Rattle.script_plain.specs.Meaning.{plain_end, locals_of}
+use Rattle.script_plain.specs.Ends.{Ended}
+use Rattle.script_plain.specs.Meaning.{plain_ends}
 use Rattle.rccerun.specs.declared.status.Status.{Status}
 use Rattle.rccerun.specs.declared.status.Status.TheVariants as status
 use Rattle.rcce_io.specs.Files.{NamedFile, contents_of}
@@ -18,7 +18,7 @@ use Rattle.rccerun.specs.Delivery.{Outcome}
 use Rattle.rccerun.specs.Texts.{joined, item_line, call_pieces, waiting_line, mismatch_line}
 
 -- the lines of each unit of execution, by rank from `rank` on
-abbrev pub by_rank : (ℕ → Local → List ℕ) → ℕ → List Local → List ℕ
+abbrev pub by_rank : (ℕ → Ended → List ℕ) → ℕ → List Ended → List ℕ
 by_rank text rank [] = []
 by_rank text rank (ue ∷ ues) = text rank ue ++ by_rank text (rank + 1) ues
 
@@ -27,7 +27,7 @@ abbrev pub printed_line : List (List ℕ) → ℕ → Printed → List ℕ
 printed_line names rank item = item_line rank (slice_index_or names item.reg []) item.form item.bytes
 
 -- what a unit of execution printed, a line each, in the order of printing
-abbrev pub printed_text : List (List ℕ) → ℕ → Local → List ℕ
+abbrev pub printed_text : List (List ℕ) → ℕ → Ended → List ℕ
 printed_text names rank ue = joined (map (printed_line names rank) ue.printed)
 
 -- where a unit of execution stands that has not finished
@@ -36,19 +36,19 @@ end_text rank ue_end.Finished = []
 end_text rank (ue_end.Waits line call) = waiting_line rank line (call_pieces call)
 end_text rank (ue_end.Mismatch line from sent asked) = mismatch_line rank line from sent asked
 
-abbrev pub unfinished_text : ℕ → Local → List ℕ
-unfinished_text rank ue = end_text rank (end_of ue)
+abbrev pub unfinished_text : ℕ → Ended → List ℕ
+unfinished_text rank ue = end_text rank ue.end
 
 abbrev pub is_finished : UeEnd → Bool
 is_finished ue_end.Finished = true
 is_finished (ue_end.Waits line call) = false
 is_finished (ue_end.Mismatch line from sent asked) = false
 
-abbrev pub all_finished : List Local → Bool
-all_finished ues = list_all (λ ue. is_finished (end_of ue)) ues
+abbrev pub all_finished : List Ended → Bool
+all_finished ues = list_all (λ ue. is_finished ue.end) ues
 
 -- a script that has run, by what its units of execution came to
-abbrev pub run_outcome : List (List ℕ) → List Local → Outcome
+abbrev pub run_outcome : List (List ℕ) → List Ended → Outcome
 run_outcome names ues = record {
   status = if all_finished ues then status.Finished else status.Stuck;
   out = by_rank (printed_text names) 0 ues;
@@ -77,7 +77,7 @@ read_fault file = complaint status.Files (codes "rccerun: " ∷ file ∷ codes "
 -- a script that was read, or its first fault
 abbrev pub script_outcome : List ℕ → Result Script ReadFault → Outcome
 script_outcome file (Err fault) = script_refused file fault
-script_outcome file (Ok script) = run_outcome script.names (locals_of (plain_end script))
+script_outcome file (Ok script) = run_outcome script.names (plain_ends script)
 
 -- the contents of the script's file, if there is one
 abbrev pub file_outcome : Command → Option (List ℕ) → Outcome

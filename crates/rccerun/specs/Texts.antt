@@ -1,5 +1,10 @@
 -- The pieces of printed lines, and the lines (this project's profile of `rccerun`).
-use Rattle.std.specs.Prelude.{ℕ, List, [], ◌∷◌, ◌++◌, codes, decimal}
+use Rattle.std.specs.Prelude.{ℕ, ◌/◌, List, [], ◌∷◌, ◌++◌, codes, decimal, length, map}
+use Rattle.std.specs.Fmt.{signed_decimal}
+use Rattle.std.specs.List.{range_with_len}
+use Rattle.groups.specs.declared.operations.Ty.{Ty}
+use Rattle.groups.specs.declared.operations.Ty.TheVariants.{Int, Long}
+use Rattle.groups.specs.Folds.{bytes_in, value_at}
 use Rattle.hex.specs.Hex.{encode_lower}
 use Rattle.scc_base.specs.declared.kinds.Kind.{Kind}
 use Rattle.scc_base.specs.declared.kinds.Kind.TheVariants.{Plain, Bcast, Reduce, AllUp, AllDown}
@@ -42,9 +47,24 @@ call_pieces (call.Recv from head) = message_pieces (codes "recv from ") from hea
 call_pieces (call.Post to head) = message_pieces (codes "post to ") to head
 call_pieces (call.Bar comm) = codes "barrier " ∷ decimal comm ∷ []
 
+-- the name of a type of values
+abbrev pub type_text : Ty → List ℕ
+type_text Int = codes "int"
+type_text Long = codes "long"
+
+-- the i-th value of a list of bytes, behind a blank
+abbrev pub value_text : Ty → List ℕ → ℕ → List ℕ
+value_text ty bytes i = codes " " ++ signed_decimal (value_at ty bytes i)
+
+-- the values of a list of bytes, each behind a blank
+abbrev pub values_text : Ty → List ℕ → List ℕ
+values_text ty bytes = joined (map (value_text ty bytes) (range_with_len 0 (length bytes / bytes_in ty)))
+
 -- a register that a unit of execution printed, by the form that it was printed in
 abbrev pub item_line : ℕ → List ℕ → Form → List ℕ → List ℕ
 item_line rank name form.Hex bytes = joined (codes "ue " ∷ decimal rank ∷ codes " " ∷ name ∷ codes " " ∷ hex_text bytes ∷ codes "\n" ∷ [])
+item_line rank name (form.Decimal ty) bytes =
+    joined (codes "ue " ∷ decimal rank ∷ codes " " ∷ name ∷ codes " " ∷ type_text ty ∷ values_text ty bytes ∷ codes "\n" ∷ [])
 
 -- a unit of execution that waits at a line of the script
 abbrev pub waiting_line : ℕ → ℕ → List (List ℕ) → List ℕ

@@ -2,7 +2,7 @@
 use Rattle.std.specs.Prelude.{◌≡◌, ℕ, List, Result, Ok, Err}
 use Rattle.script_reader.specs.declared.fault.ReadFault.{ReadFault}
 use Rattle.script_reader.specs.Script.{Script}
-use Rattle.script_plain.specs.Meaning.{plain_end, locals_of}
+use Rattle.script_plain.specs.Meaning.{plain_ends}
 use Rattle.rccerun.specs.declared.verdict.Verdict.{Verdict}
 use Rattle.rccerun.specs.declared.verdict.Verdict.TheVariants as verdict
 use Rattle.rccerun.specs.Delivery.{Outcome}
@@ -18,7 +18,7 @@ verdict_outcome file verdict.Memory = no_memory
 
 -- the verdict on the bytes of a file: the plain end of the script that they are, or the script's fault
 abbrev pub IsJudged : Result Script ReadFault → Verdict → Type 0
-IsJudged meant (verdict.Ran report) = (meant ≡ Ok report.script) × (report.end ≡ locals_of (plain_end report.script))
+IsJudged meant (verdict.Ran report) = (meant ≡ Ok report.script) × (report.end ≡ plain_ends report.script)
 IsJudged meant (verdict.Refused fault) = meant ≡ Err fault
 IsJudged meant verdict.Absent = ⊥
 IsJudged meant verdict.Failed = ⊥

@@ -4,10 +4,11 @@ ghost use Rattle.std.specs.Prelude.{◌≡◌, ◌≤◌, [], ◌∷◌, codes, 
 ghost use Rattle.rcce_io.specs.Sending.{Sends};
 ghost use Rattle.scc_base.specs.Heads.{kind_at};
 ghost use Rattle.rccerun.specs.Outcome.{end_text, is_finished};
-ghost use Rattle.rccerun.specs.Texts.{call_pieces, item_line, kind_text, message_pieces, mismatch_line, waiting_line};
+ghost use Rattle.rccerun.specs.Texts.{call_pieces, item_line, kind_text, message_pieces, mismatch_line, type_text, waiting_line};
 
-use crate::pieces::Piece::{Hex, Number, Text};
+use crate::pieces::Piece::{Hex, Number, Text, Values};
 use crate::pieces::write_line;
+use groups::Ty;
 use rcce_io::{Sink, WriteFault};
 use scc_base::{Call, Head, Kind, Rank};
 use script_plain::{Printed, UeEnd};
@@ -23,6 +24,16 @@ fn kind_text(head: Head) -> &'static str
         Kind::Reduce => "reduce",
         Kind::AllUp => "allup",
         Kind::AllDown => "alldown",
+    }
+}
+
+/// The name of a type of values.
+fn type_text(ty: Ty) -> &'static str
+    ensures { result.now ≡ type_text ty }
+{
+    match ty {
+        Ty::Int => "int",
+        Ty::Long => "long",
     }
 }
 
@@ -49,6 +60,19 @@ pub fn write_item<'a, S: Sink>(
                 Text(name),
                 Text(" "),
                 Hex(bytes),
+                Text("\n"),
+            ],
+        ),
+        Form::Decimal(ty) => write_line(
+            sink,
+            &[
+                Text("ue "),
+                Number(ue),
+                Text(" "),
+                Text(name),
+                Text(" "),
+                Text(type_text(ty)),
+                Values(ty, bytes),
                 Text("\n"),
             ],
         ),

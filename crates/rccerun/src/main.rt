@@ -7,6 +7,8 @@ mod launcher;
 mod lines;
 mod pieces;
 mod report;
+#[cfg(test)]
+mod runs;
 mod status;
 #[cfg(test)]
 mod tests;

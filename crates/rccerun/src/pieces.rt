@@ -1,11 +1,14 @@
 //! The pieces of a line, written one after the other. No memory is taken.
 
-ghost use Rattle.std.specs.Prelude.{◌≡◌, ◌≤◌, ◌<◌, ◌*◌, length, flat_map, decimal, map};
+ghost use Rattle.std.specs.Prelude.{◌≡◌, ◌≤◌, ◌<◌, ◌*◌, ◌/◌, ◌++◌, codes, length, flat_map, decimal, map};
+ghost use Rattle.std.specs.Fmt.{signed_decimal};
+ghost use Rattle.groups.specs.Folds.{bytes_in, value_of};
 ghost use Rattle.hex.specs.Hex.{encode_lower};
 ghost use Rattle.rcce_io.specs.Sending.{Sends};
-ghost use Rattle.rccerun.specs.Texts.{hex_text, joined};
+ghost use Rattle.rccerun.specs.Texts.{hex_text, joined, value_text, values_text};
 ghost use Rattle.rccerun.specs.Pieces.{piece_text};
 
+use groups::Ty;
 use rcce_io::{Sink, WriteFault, write_all};
 
 /// How many bytes go to the sink as hex digits at a time.
@@ -18,6 +21,8 @@ pub enum Piece<'a> {
     Number(u32),
     /// Bytes as hex digits in lower case, and `-` for none.
     Hex(&'a [u8]),
+    /// Bytes as values of a type, each behind a blank.
+    Values(Ty, &'a [u8]),
 }
 
 /// Writes a line of these pieces.
@@ -41,6 +46,7 @@ fn write_piece<S: Sink>(sink: &mut S, piece: &Piece) -> Result<(), WriteFault>
         Piece::Text(text) => write_all(sink, text.as_bytes()),
         Piece::Number(n) => write_number(sink, *n),
         Piece::Hex(bytes) => write_hex(sink, bytes),
+        Piece::Values(ty, bytes) => write_values(sink, *ty, bytes),
     }
 }
 
@@ -90,5 +96,54 @@ fn write_block<S: Sink>(sink: &mut S, bytes: &[u8]) -> Result<(), WriteFault>
     match hex::encode_to_slice(bytes, text) {
         Ok(()) => write_all(sink, text),
         Err(_) => unreachable!(),
+    }
+}
+
+/// Writes bytes as values of a type.
+fn write_values<S: Sink>(sink: &mut S, ty: Ty, bytes: &[u8]) -> Result<(), WriteFault>
+    ensures later { S.faults sink.old ≤ S.faults sink.new }
+    ensures sends { Sends (S.taken sink.old) (S.taken sink.new) (S.faults sink.old) (S.faults sink.new)
+        (values_text ty bytes.now) result }
+{
+    let width = ty.width();
+    for i in 0..bytes.len() / width {
+        write_value_at(sink, ty, bytes, i)?;
+    }
+    Ok(())
+}
+
+/// Writes a value of a type among bytes.
+fn write_value_at<S: Sink>(sink: &mut S, ty: Ty, bytes: &[u8], i: usize) -> Result<(), WriteFault>
+    requires { i < length bytes.now / bytes_in ty }
+    ensures later { S.faults sink.old ≤ S.faults sink.new }
+    ensures sends { Sends (S.taken sink.old) (S.taken sink.new) (S.faults sink.old) (S.faults sink.new)
+        (value_text ty bytes.now i) result }
+{
+    let width = ty.width();
+    let at = i * width;
+    write_all(sink, b" ")?;
+    write_value(sink, ty, &bytes[at..at + width])
+}
+
+/// Writes a value of a type.
+fn write_value<S: Sink>(sink: &mut S, ty: Ty, bytes: &[u8]) -> Result<(), WriteFault>
+    requires { length bytes.now ≡ bytes_in ty }
+    ensures later { S.faults sink.old ≤ S.faults sink.new }
+    ensures sends { Sends (S.taken sink.old) (S.taken sink.new) (S.faults sink.old) (S.faults sink.new)
+        (signed_decimal (value_of ty bytes.now)) result }
+{
+    match ty {
+        Ty::Int => {
+            let value = i32::from_le_bytes([bytes[0], bytes[1], bytes[2], bytes[3]]);
+            let mut buffer = itoa::Buffer::new();
+            write_all(sink, buffer.format(value).as_bytes())
+        }
+        Ty::Long => {
+            let value = i64::from_le_bytes([
+                bytes[0], bytes[1], bytes[2], bytes[3], bytes[4], bytes[5], bytes[6], bytes[7],
+            ]);
+            let mut buffer = itoa::Buffer::new();
+            write_all(sink, buffer.format(value).as_bytes())
+        }
     }
 }

@@ -19,7 +19,7 @@ pub struct Report {
 impl Report {
     ghost use Rattle.std.specs.Prelude.{◌≡◌, ◌≤◌, ◌<◌, length};
     ghost use Rattle.rcce_io.specs.Sending.{Sends};
-    ghost use Rattle.script_plain.specs.Local.{local_at};
+    ghost use Rattle.script_plain.specs.Ends.{ended_at};
     ghost use Rattle.rccerun.specs.Outcome.{all_finished, by_rank, printed_text, unfinished_text};
 
     /// Writes what the units of execution printed, by rank and in the order of printing.
@@ -39,7 +39,7 @@ impl Report {
         requires { rank < length self.now.end }
         ensures later { S.faults sink.old ≤ S.faults sink.new }
         ensures sends { Sends (S.taken sink.old) (S.taken sink.new) (S.faults sink.old) (S.faults sink.new)
-            (printed_text self.now.script.names rank (local_at self.now.end rank)) result }
+            (printed_text self.now.script.names rank (ended_at self.now.end rank)) result }
     {
         for i in 0..self.end.items(rank) {
             let item = self.end.item(rank, i);

@@ -1,13 +1,13 @@
 use Rattle.std.proofs.Common.{◌≡◌, ◌<◌, length, get_or, arith}
 use Rattle.std.proofs.lemmas.Option.{get_or_from_slice_get}
-use Rattle.script_plain.specs.Local.{local_at}
+use Rattle.script_plain.specs.Ends.{ended_at}
 use Rattle.rccerun.specs.Outcome.{printed_line}
 use Rattle.rccerun.proofs.TextLemmas.{whole_within, cut_within, sends_err, joined-more, joined-parts}
 use Rattle.rccerun.proofs.report.Report.write_items.Goals as goal
 
 pub returns-in_err-write_item-clause-sends : goal.returns-in_err-write_item-clause-sends
 returns-in_err-write_item-clause-sends g c =
-    let items = (local_at c.args.self.now.end c.args.rank).printed in
+    let items = (ended_at c.args.self.now.end c.args.rank).printed in
     let item = c.item-item.result.now in
     let line = printed_line c.args.self.now.script.names c.args.rank in
     let within : c.loop-i.i < length items = omega arith in
@@ -19,7 +19,7 @@ returns-in_err-write_item-clause-sends g c =
 
 pub loop-i-preserved : goal.loop-i-preserved
 loop-i-preserved g c =
-    let items = (local_at c.args.self.now.end c.args.rank).printed in
+    let items = (ended_at c.args.self.now.end c.args.rank).printed in
     let item = c.item-item.result.now in
     let line = printed_line c.args.self.now.script.names c.args.rank in
     let within : c.loop-i.i < length items = omega arith in

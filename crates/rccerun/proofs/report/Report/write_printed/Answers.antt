@@ -1,5 +1,5 @@
 use Rattle.std.proofs.Common.{◌<◌, length, arith}
-use Rattle.script_plain.specs.Local.{nobody}
+use Rattle.script_plain.specs.Ends.{nothing_ended}
 use Rattle.rccerun.specs.Outcome.{printed_text}
 use Rattle.rccerun.proofs.ReportLemmas.{by_rank-more, by_rank-parts}
 use Rattle.rccerun.proofs.TextLemmas.{whole_within, cut_within, sends_err}
@@ -11,7 +11,7 @@ returns-in_err-write_items-clause-sends g c =
     let within : c.loop-number.number < length ues = omega arith in
     sends_err _ _ _ _ _ _ c.from_residual.ensures.0 (
     cut_within (g.S.Sink.taken c.args.sink.now) (g.S.Sink.taken c.loop-number.sink) (g.S.Sink.taken c.write_items.new.sink) _ _ _ _ _ _ _
-    (by_rank-parts (printed_text c.args.self.now.script.names) ues c.loop-number.number nobody within) c.loop-number.invariant
+    (by_rank-parts (printed_text c.args.self.now.script.names) ues c.loop-number.number nothing_ended within) c.loop-number.invariant
     (rw c.of.ensures.gives at c.in_err-write_items.ensures.sends))
 
 pub loop-number-preserved : goal.loop-number-preserved
@@ -19,5 +19,5 @@ loop-number-preserved g c =
     let ues = c.args.self.now.end in
     let within : c.loop-number.number < length ues = omega arith in
     whole_within (g.S.Sink.taken c.args.sink.now) (g.S.Sink.taken c.loop-number.sink) (g.S.Sink.taken c.write_items.new.sink) _ _ _ _ _ _
-    (by_rank-more (printed_text c.args.self.now.script.names) ues c.loop-number.number nobody within) c.loop-number.invariant
+    (by_rank-more (printed_text c.args.self.now.script.names) ues c.loop-number.number nothing_ended within) c.loop-number.invariant
     (rw c.of.ensures.gives at c.in_ok-write_items.ensures.sends)
