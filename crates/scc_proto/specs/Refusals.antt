@@ -1,22 +1,34 @@
--- Lists of moves and events after which one more is not permitted.
-use Rattle.std.specs.Prelude.{◌≡◌, ℕ, false, List, [], ◌∷◌, ◌++◌}
+-- Lists of moves and events, each permitted in turn, after which one more is not permitted.
+use Rattle.std.specs.Prelude.{◌≡◌, ℕ, Bool, true, false, not, ◌&&◌, ◌==◌, List, [], ◌∷◌, ◌++◌}
+use Rattle.scc_base.specs.Events.{take_of}
 use Rattle.scc_base.specs.Setups.{SetupView}
-use Rattle.scc_proto.specs.Stages.{blank}
-use Rattle.scc_proto.specs.Moves.{Move, DraftHeader, DraftChunk, RaiseSent, LookSent, ReadHeader, LowerSent, LookReady, LowerReady, FlipGather, LookGather}
+use Rattle.scc_base.specs.declared.communicators.CommRule.TheVariants.{World, Mod}
+use Rattle.scc_base.specs.declared.layouts.Layout.TheVariants.{LineFlags, BitFlags}
+use Rattle.scc_proto.specs.Stages.{Record, blank}
+use Rattle.scc_proto.specs.Moves.{Move, DraftHeader, DraftChunk, RaiseSent, LookSent, ReadHeader, ReadChunk, LowerSent, RaiseReady, LookReady, LowerReady, FlipGather, LookGather, after}
 use Rattle.scc_proto.specs.Permission.{permits}
 use Rattle.scc_proto.specs.Words.{RankEvent}
-use Rattle.scc_proto.specs.Records.{look_at, is_permitted, record_of}
-use Rattle.scc_proto.specs.Histories.{events_of}
-use Rattle.scc_proto.specs.Examples.{moved}
+use Rattle.scc_proto.specs.Records.{look_at, is_permitted, record_after}
+use Rattle.scc_proto.specs.Examples.{loads, stores, takes, frees}
 
--- from the start these moves lead to a record that does not permit the next one, where a whole chunk has
+-- each of these moves is permitted in turn, and the next one is not, where a whole chunk has `size` bytes
+abbrev pub stops_before : ℕ → Move → Record → List Move → Bool
+stops_before size next rec [] = not (permits size next rec)
+stops_before size next rec (move ∷ moves) = permits size move rec && stops_before size next (after size move rec) moves
+
+-- from the start these moves are permitted in turn, and then the next one is not, where a whole chunk has
 -- 32 bytes
 abbrev pub Refuses : List Move → Move → Type 0
-Refuses moves next = permits 32 next (moved 32 blank moves) ≡ false
+Refuses moves next = stops_before 32 next blank moves ≡ true
 
--- the events of a rank lead to a record that does not permit its next one
+-- each of these events is one of rank `me` and is permitted in turn, and its next one is not
+abbrev pub stops_before_event : SetupView → ℕ → RankEvent → Record → List RankEvent → Bool
+stops_before_event s me next rec [] = (next.rank == me) && not (is_permitted s me rec next.event)
+stops_before_event s me next rec (e ∷ es) = (e.rank == me) && (is_permitted s me rec e.event && stops_before_event s me next (record_after s me rec e.event) es)
+
+-- from the start these events of a rank are permitted in turn, and then its next one is not
 abbrev pub RefusesEvent : SetupView → ℕ → List RankEvent → RankEvent → Type 0
-RefusesEvent s me events next = is_permitted s me (record_of s me (events_of me events)) next.event ≡ false
+RefusesEvent s me events next = stops_before_event s me next blank events ≡ true
 
 -- a header line with these words, last word first
 abbrev pub drafts_line : (kind comm len post : ℕ) → List Move
@@ -30,22 +42,90 @@ drafts_words word = DraftChunk 3 0 ∷ DraftChunk 2 0 ∷ DraftChunk 1 0 ∷ Dra
 abbrev pub raises_four : List Move
 raises_four = drafts_line 0 0 4 0 ++ (drafts_words 7 ++ RaiseSent 1 ∷ [])
 
+-- and its `ready` is seen
+abbrev pub sees_ready : List Move
+sees_ready = raises_four ++ LookReady (look_at 1 1) ∷ []
+
 -- a post of four bytes on its way to rank 1
 abbrev pub posts : List Move
 posts = drafts_line 0 0 4 1 ++ (drafts_words 7 ++ RaiseSent 1 ∷ [])
 
--- the first chunk of 33 bytes is through to rank 1, and the second is drafted
+-- the first chunk of 33 bytes is through to rank 1
+abbrev pub sends_first : List Move
+sends_first = drafts_line 0 0 33 0 ++ (drafts_words 7 ++ RaiseSent 1 ∷ LookReady (look_at 1 1) ∷ LowerReady 1 ∷ [])
+
+-- and the second is drafted
 abbrev pub drafts_second : List Move
-drafts_second = drafts_line 0 0 33 0 ++ (drafts_words 7 ++ (RaiseSent 1 ∷ LookReady (look_at 1 1) ∷ LowerReady 1 ∷ drafts_words 9))
+drafts_second = sends_first ++ drafts_words 9
+
+-- `sent` of a rank is seen, and its head of a plain message is read
+abbrev pub reads_plain : (from len : ℕ) → List Move
+reads_plain from len = LookSent (look_at from 1) ∷ ReadHeader from 0 0 ∷ ReadHeader from 1 0 ∷ ReadHeader from 2 len ∷ []
 
 -- `sent` of rank 0 is seen, and its head of four bytes is read
 abbrev pub reads_head : List Move
-reads_head = LookSent (look_at 0 1) ∷ ReadHeader 0 0 0 ∷ ReadHeader 0 1 0 ∷ ReadHeader 0 2 4 ∷ []
+reads_head = reads_plain 0 4
 
 -- the chunk of rank 0 is being taken
 abbrev pub begins_taking : List Move
 begins_taking = reads_head ++ LowerSent 0 ∷ []
 
+-- a chunk line of a rank is loaded
+abbrev pub reads_words : ℕ → List Move
+reads_words from = ReadChunk from 0 7 ∷ ReadChunk from 1 0 ∷ ReadChunk from 2 0 ∷ ReadChunk from 3 0 ∷ []
+
+-- the first chunk of 33 bytes of rank 0 is taken
+abbrev pub takes_first : List Move
+takes_first = reads_plain 0 33 ++ LowerSent 0 ∷ (reads_words 0 ++ RaiseReady 0 ∷ [])
+
 -- the root of three has flipped, and has seen its first member
 abbrev pub sees_first : List Move
 sees_first = FlipGather 0 1 2 ∷ LookGather 0 1 1 1 ∷ []
+
+-- and its second one, which is its last
+abbrev pub sees_all : List Move
+sees_all = sees_first ++ LookGather 0 2 2 1 ∷ []
+
+-- a rank drafts the header of a message without bytes, at its core
+abbrev pub drafts_empty : (rank core : ℕ) → List RankEvent
+drafts_empty rank core = stores rank core 0 3 0 ∷ stores rank core 0 2 0 ∷ stores rank core 0 1 0 ∷ stores rank core 0 0 0 ∷ []
+
+-- a rank loads it from there
+abbrev pub reads_empty : (rank core : ℕ) → List RankEvent
+reads_empty rank core = loads rank core 0 0 0 ∷ loads rank core 0 1 0 ∷ loads rank core 0 2 0 ∷ []
+
+-- a rank finds a core's register taken
+abbrev pub misses : ℕ → ℕ → RankEvent
+misses rank core = record { rank = rank; event = take_of core false }
+
+-- line flags, ranks on cores 7, 5 and 40: rank 2 has seen `sent` of rank 0 and read its head
+abbrev pub sees_sent : List RankEvent
+sees_sent = loads 2 40 1 0 1 ∷ reads_empty 2 7
+
+-- the same ranks: rank 0 has raised `sent` at rank 2
+abbrev pub raises_empty : List RankEvent
+raises_empty = drafts_empty 0 7 ++ stores 0 40 1 0 1 ∷ []
+
+-- two ranks with bit flags: rank 0 has seen the bit of rank 1 and read its head
+abbrev pub sees_bit : List RankEvent
+sees_bit = loads 0 0 1 0 2 ∷ reads_empty 0 1
+
+-- and has lowered it under its register
+abbrev pub takes_bit : List RankEvent
+takes_bit = sees_bit ++ takes 0 0 ∷ loads 0 0 1 0 2 ∷ stores 0 0 1 0 0 ∷ frees 0 0 ∷ []
+
+-- the same ranks: rank 1 has a draft and the register of rank 0
+abbrev pub holds_draft : List RankEvent
+holds_draft = drafts_empty 1 1 ++ takes 1 0 ∷ []
+
+-- and has set its bit there
+abbrev pub sets_bit : List RankEvent
+sets_bit = holds_draft ++ loads 1 0 1 0 0 ∷ stores 1 0 1 0 2 ∷ []
+
+-- three ranks with bit flags, each on the core of its number
+abbrev pub three_ranks_bits : SetupView
+three_ranks_bits = record { nue = 3; layout = BitFlags; hosts = 0 ∷ 1 ∷ 2 ∷ []; comms = World ∷ [] }
+
+-- four ranks with line flags, of which communicator 1 takes 0 and 2 together, and 1 and 3
+abbrev pub four_ranks : SetupView
+four_ranks = record { nue = 4; layout = LineFlags; hosts = 0 ∷ 1 ∷ 2 ∷ 3 ∷ []; comms = World ∷ Mod 0 2 ∷ [] }

@@ -1,16 +1,21 @@
-//! What a record does not permit, one condition a function.
+//! What a record does not permit, one condition a function: each list is permitted up to its end, and then
+//! one more move or event is not.
 
 ghost use Rattle.std.specs.Prelude.{[], ◌∷◌, ◌++◌};
 ghost use Rattle.scc_base.specs.Places.{WordAt};
-ghost use Rattle.scc_proto.specs.Moves.{DraftHeader, DraftChunk, RaiseSent, LookSent, ReadHeader, LowerSent, RaiseReady, LowerReady, FlipGather, WriteRelease, StoreHeap, LookReady};
+ghost use Rattle.scc_proto.specs.Moves.{DraftHeader, DraftChunk, RaiseSent, LookSent, ReadHeader, ReadChunk, LowerSent, RaiseReady, LookReady, LowerReady, FlipGather, LookGather, WriteRelease, LookRelease, StoreHeap};
 ghost use Rattle.scc_proto.specs.Records.{look_at};
-ghost use Rattle.scc_proto.specs.Examples.{two_ranks, two_ranks_bits, loads, stores, takes, frees};
-ghost use Rattle.scc_proto.specs.Refusals.{Refuses, RefusesEvent, drafts_line, drafts_words, raises_four, posts, drafts_second, reads_head, begins_taking, sees_first};
+ghost use Rattle.scc_proto.specs.Examples.{two_ranks, two_ranks_bits, three_ranks, loads, stores, takes, frees};
+ghost use Rattle.scc_proto.specs.Refusals.{Refuses, RefusesEvent, drafts_line, drafts_words, raises_four, sees_ready, posts, sends_first, drafts_second, reads_plain, reads_head, begins_taking, reads_words, takes_first, sees_first, sees_all, drafts_empty, reads_empty, misses, sees_sent, raises_empty, sees_bit, takes_bit, holds_draft, sets_bit, three_ranks_bits, four_ranks};
 
 /// `sent` is not raised before all four words of the header line are drafted.
 pub fn header_is_whole()
     ensures kind { Refuses (DraftHeader 3 0 ∷ DraftHeader 2 4 ∷ DraftHeader 1 0 ∷ drafts_words 7) (RaiseSent 1) }
+    ensures comm { Refuses (DraftHeader 3 0 ∷ DraftHeader 2 4 ∷ DraftHeader 0 0 ∷ drafts_words 7) (RaiseSent 1) }
+    ensures len { Refuses (DraftHeader 3 0 ∷ DraftHeader 1 0 ∷ DraftHeader 0 0 ∷ []) (RaiseSent 1) }
     ensures post { Refuses (DraftHeader 2 4 ∷ DraftHeader 1 0 ∷ DraftHeader 0 0 ∷ drafts_words 7) (RaiseSent 1) }
+    ensures chunk_alone { Refuses (drafts_words 7) (RaiseSent 1) }
+    ensures nothing { Refuses [] (RaiseSent 1) }
 {}
 
 /// `sent` is not raised over a head that no message has.
@@ -22,76 +27,167 @@ pub fn header_is_valid()
     ensures last { Refuses (drafts_line 0 0 4 2 ++ drafts_words 7) (RaiseSent 1) }
 {}
 
-/// `sent` is not raised before all words of the chunk's lines are drafted.
+/// Header words are drafted only before the first chunk is raised.
+pub fn header_comes_first()
+    ensures through { Refuses sends_first (DraftHeader 0 0) }
+    ensures drafted { Refuses drafts_second (DraftHeader 0 0) }
+{}
+
+/// `sent` is not raised before all words of the chunk's lines are drafted, for each chunk anew.
 pub fn chunk_is_whole()
     ensures first { Refuses (drafts_line 0 0 4 0 ++ DraftChunk 3 0 ∷ DraftChunk 2 0 ∷ DraftChunk 1 0 ∷ []) (RaiseSent 1) }
     ensures last { Refuses (drafts_line 0 0 4 0 ++ DraftChunk 2 0 ∷ DraftChunk 1 0 ∷ DraftChunk 0 7 ∷ []) (RaiseSent 1) }
+    ensures none { Refuses (drafts_line 0 0 4 0) (RaiseSent 1) }
+    ensures second { Refuses sends_first (RaiseSent 1) }
+    ensures second_part { Refuses (sends_first ++ DraftChunk 3 0 ∷ DraftChunk 2 0 ∷ DraftChunk 1 0 ∷ []) (RaiseSent 1) }
 {}
 
 /// The bytes of the chunk's last line past its end are zero.
 pub fn padding_is_zero()
     ensures word { Refuses (drafts_line 0 0 4 0 ++ drafts_words 4294967296) (RaiseSent 1) }
     ensures line { Refuses (drafts_line 0 0 4 0 ++ DraftChunk 3 1 ∷ DraftChunk 2 0 ∷ DraftChunk 1 0 ∷ DraftChunk 0 7 ∷ []) (RaiseSent 1) }
+    ensures second { Refuses (sends_first ++ drafts_words 256) (RaiseSent 1) }
 {}
 
 /// A later chunk goes to the same rank.
 pub fn target_stays()
-    ensures { Refuses drafts_second (RaiseSent 2) }
+    ensures second { Refuses drafts_second (RaiseSent 2) }
 {}
 
-/// After a raise nothing is drafted and `ready` is not lowered before it was seen.
+/// After a raise nothing is drafted, and `ready` is lowered only once it was seen, and of the same rank.
 pub fn ready_is_seen()
     ensures lower { Refuses raises_four (LowerReady 1) }
+    ensures clear { Refuses (raises_four ++ LookReady (look_at 1 0) ∷ []) (LowerReady 1) }
+    ensures of_other { Refuses (raises_four ++ LookReady (look_at 2 1) ∷ []) (LowerReady 1) }
+    ensures other { Refuses sees_ready (LowerReady 2) }
     ensures chunk { Refuses raises_four (DraftChunk 0 8) }
     ensures header { Refuses raises_four (DraftHeader 0 0) }
     ensures raise { Refuses raises_four (RaiseSent 1) }
-    ensures other { Refuses (raises_four ++ LookReady (look_at 1 1) ∷ []) (LowerReady 2) }
+    ensures seen_chunk { Refuses sees_ready (DraftChunk 0 8) }
+    ensures seen_header { Refuses sees_ready (DraftHeader 0 0) }
+    ensures seen_raise { Refuses sees_ready (RaiseSent 1) }
+    ensures drafted { Refuses drafts_second (LowerReady 1) }
+    ensures nothing { Refuses [] (LowerReady 1) }
 {}
 
-/// `sent` is lowered only where it was seen set.
+/// `sent` is lowered only where it was seen set, for each chunk anew.
 pub fn sent_is_seen()
     ensures never { Refuses [] (LowerSent 0) }
-    ensures clear { Refuses (LookSent (look_at 0 0) ∷ []) (LowerSent 0) }
+    ensures clear { Refuses (LookSent (look_at 0 0) ∷ ReadHeader 0 0 0 ∷ ReadHeader 0 1 0 ∷ ReadHeader 0 2 4 ∷ []) (LowerSent 0) }
     ensures other { Refuses reads_head (LowerSent 1) }
     ensures twice { Refuses begins_taking (LowerSent 0) }
+    ensures second { Refuses takes_first (LowerSent 0) }
 {}
 
-/// `sent` is lowered for a first chunk only once the head was read, and only where it is one.
+/// `sent` is lowered for a first chunk only once the head was read since, and only where it is one.
 pub fn head_is_read()
+    ensures kind { Refuses (LookSent (look_at 0 1) ∷ ReadHeader 0 1 0 ∷ ReadHeader 0 2 4 ∷ []) (LowerSent 0) }
+    ensures comm { Refuses (LookSent (look_at 0 1) ∷ ReadHeader 0 0 0 ∷ ReadHeader 0 2 4 ∷ []) (LowerSent 0) }
     ensures short { Refuses (LookSent (look_at 0 1) ∷ ReadHeader 0 0 0 ∷ ReadHeader 0 1 0 ∷ []) (LowerSent 0) }
     ensures invalid { Refuses (LookSent (look_at 0 1) ∷ ReadHeader 0 0 5 ∷ ReadHeader 0 1 0 ∷ ReadHeader 0 2 4 ∷ []) (LowerSent 0) }
+    ensures before { Refuses (ReadHeader 0 0 0 ∷ ReadHeader 0 1 0 ∷ ReadHeader 0 2 4 ∷ LookSent (look_at 0 1) ∷ []) (LowerSent 0) }
     ensures anew { Refuses (reads_head ++ LookSent (look_at 0 1) ∷ []) (LowerSent 0) }
+    ensures other { Refuses (LookSent (look_at 0 1) ∷ reads_plain 2 4) (LowerSent 0) }
 {}
 
-/// `ready` is raised only once all words of the chunk were loaded.
+/// A later chunk is taken from the same rank.
+pub fn source_stays()
+    ensures second { Refuses (takes_first ++ reads_plain 2 4) (LowerSent 2) }
+{}
+
+/// `ready` is raised only once all words of the chunk were loaded, since `sent` was lowered for it.
 pub fn chunk_is_loaded()
     ensures none { Refuses begins_taking (RaiseReady 0) }
-    ensures not_taken { Refuses reads_head (RaiseReady 0) }
+    ensures first { Refuses (begins_taking ++ ReadChunk 0 1 0 ∷ ReadChunk 0 2 0 ∷ ReadChunk 0 3 0 ∷ []) (RaiseReady 0) }
+    ensures last { Refuses (begins_taking ++ ReadChunk 0 0 7 ∷ ReadChunk 0 1 0 ∷ ReadChunk 0 2 0 ∷ []) (RaiseReady 0) }
+    ensures other { Refuses (begins_taking ++ reads_words 2) (RaiseReady 0) }
+    ensures before { Refuses (reads_head ++ (reads_words 0 ++ LowerSent 0 ∷ [])) (RaiseReady 0) }
+    ensures second { Refuses (takes_first ++ LookSent (look_at 0 1) ∷ LowerSent 0 ∷ []) (RaiseReady 0) }
+    ensures not_taken { Refuses (reads_head ++ reads_words 0) (RaiseReady 0) }
+    ensures between { Refuses takes_first (RaiseReady 0) }
 {}
 
-/// One thing at a time: no receive while a message is drafted or sent, and no draft while a chunk is taken.
+/// `ready` is raised at the rank that the chunk was taken from.
+pub fn answer_goes_back()
+    ensures other { Refuses (begins_taking ++ reads_words 0) (RaiseReady 2) }
+{}
+
+/// One thing at a time: no receive while a message is drafted, sent or taken, and no draft while one is received.
 pub fn one_message_is_open()
     ensures take_in_draft { Refuses (reads_head ++ drafts_words 7) (LowerSent 0) }
+    ensures take_in_header { Refuses (reads_head ++ DraftHeader 0 0 ∷ []) (LowerSent 0) }
     ensures take_in_send { Refuses (reads_head ++ raises_four) (LowerSent 0) }
+    ensures take_in_answer { Refuses (reads_head ++ sees_ready) (LowerSent 0) }
+    ensures take_in_sends { Refuses (reads_head ++ sends_first) (LowerSent 0) }
+    ensures take_in_take { Refuses (reads_plain 2 4 ++ begins_taking) (LowerSent 2) }
+    ensures take_again { Refuses (begins_taking ++ LookSent (look_at 0 1) ∷ []) (LowerSent 0) }
     ensures draft_in_take { Refuses begins_taking (DraftChunk 0 7) }
     ensures header_in_take { Refuses begins_taking (DraftHeader 0 0) }
+    ensures draft_between { Refuses takes_first (DraftChunk 0 7) }
+    ensures header_between { Refuses takes_first (DraftHeader 0 0) }
 {}
 
-/// A barrier is entered only where no message is open and no barrier either, with the other value.
+/// A barrier is entered only where nothing is drafted and no message is open, and until it ends no message is begun.
 pub fn barrier_stands_alone()
+    ensures in_header { Refuses (DraftHeader 3 0 ∷ []) (FlipGather 0 1 2) }
     ensures in_draft { Refuses (drafts_words 7) (FlipGather 0 1 2) }
     ensures in_send { Refuses raises_four (FlipGather 0 1 2) }
+    ensures in_answer { Refuses sees_ready (FlipGather 0 1 2) }
+    ensures in_sends { Refuses sends_first (FlipGather 0 1 2) }
     ensures in_take { Refuses begins_taking (FlipGather 0 1 2) }
-    ensures twice { Refuses (FlipGather 0 1 2 ∷ []) (FlipGather 0 0 2) }
-    ensures same { Refuses [] (FlipGather 0 0 2) }
+    ensures between { Refuses takes_first (FlipGather 0 1 2) }
     ensures draft { Refuses (FlipGather 0 1 2 ∷ []) (DraftChunk 0 7) }
+    ensures header { Refuses (FlipGather 0 1 2 ∷ []) (DraftHeader 0 0) }
     ensures take { Refuses (reads_head ++ FlipGather 0 1 2 ∷ []) (LowerSent 0) }
 {}
 
-/// A root releases nobody before it has seen all, and then one after the other.
+/// A gather flag is flipped to its other value, and only where no barrier is open.
+pub fn gather_is_flipped()
+    ensures same { Refuses [] (FlipGather 0 0 2) }
+    ensures same_again { Refuses (FlipGather 0 1 2 ∷ LookRelease 0 1 ∷ []) (FlipGather 0 1 2) }
+    ensures twice { Refuses (FlipGather 0 1 2 ∷ []) (FlipGather 0 0 2) }
+    ensures other { Refuses (FlipGather 0 1 2 ∷ []) (FlipGather 1 1 2) }
+{}
+
+/// No gather flag of an absent communicator is flipped.
+pub fn communicator_is_present()
+    ensures first_word { RefusesEvent two_ranks 0 [] (stores 0 0 98 0 1) }
+    ensures second_word { RefusesEvent two_ranks 0 [] (stores 0 0 97 1 1) }
+    ensures third_word { RefusesEvent two_ranks 0 [] (stores 0 0 97 2 1) }
+    ensures bits { RefusesEvent two_ranks_bits 0 [] (stores 0 0 3 0 1) }
+{}
+
+/// A root releases nobody before it has seen all, each in its turn with the barrier's value.
 pub fn release_comes_last()
     ensures early { Refuses sees_first (WriteRelease 0 1 1 1 2) }
-    ensures order { Refuses (FlipGather 0 1 1 ∷ []) (WriteRelease 0 1 1 1 1) }
+    ensures unordered { Refuses (FlipGather 0 1 2 ∷ LookGather 0 2 2 1 ∷ LookGather 0 1 1 1 ∷ []) (WriteRelease 0 1 1 1 2) }
+    ensures not_flipped { Refuses (sees_first ++ LookGather 0 2 2 0 ∷ []) (WriteRelease 0 1 1 1 2) }
+    ensures elsewhere { Refuses (sees_first ++ LookGather 1 2 2 0 ∷ []) (WriteRelease 0 1 1 1 2) }
+{}
+
+/// A root that has seen all releases its members one after the other, in the open barrier and with its value.
+pub fn release_is_in_order()
+    ensures order { Refuses sees_all (WriteRelease 0 2 2 1 2) }
+    ensures twice { Refuses (sees_all ++ WriteRelease 0 1 1 1 2 ∷ []) (WriteRelease 0 1 1 1 2) }
+    ensures comm { Refuses sees_all (WriteRelease 1 1 1 0 2) }
+    ensures value { Refuses sees_all (WriteRelease 0 1 1 0 2) }
+    ensures ended { Refuses (sees_all ++ WriteRelease 0 1 1 1 2 ∷ WriteRelease 0 2 2 1 2 ∷ []) (WriteRelease 0 1 1 1 2) }
+    ensures nothing { Refuses [] (WriteRelease 0 1 1 0 2) }
+{}
+
+/// A root looks at and releases only members of its own group.
+pub fn release_stays_in_group()
+    ensures write { RefusesEvent four_ranks 0 (stores 0 0 98 0 1 ∷ loads 0 2 98 0 1 ∷ []) (stores 0 3 106 0 1) }
+    ensures look { RefusesEvent four_ranks 0 (stores 0 0 98 0 1 ∷ loads 0 3 98 0 1 ∷ []) (stores 0 2 106 0 1) }
+{}
+
+/// A member goes on only once its own release flag has the barrier's value, a root once it has released all.
+pub fn barrier_ends_at_release()
+    ensures old { Refuses (FlipGather 0 1 2 ∷ LookRelease 0 0 ∷ []) (DraftChunk 0 7) }
+    ensures elsewhere { Refuses (FlipGather 0 1 2 ∷ LookRelease 1 0 ∷ []) (DraftChunk 0 7) }
+    ensures other { RefusesEvent three_ranks 1 (stores 1 5 97 0 1 ∷ loads 1 40 105 0 1 ∷ []) (stores 1 5 0 0 0) }
+    ensures root { RefusesEvent three_ranks 0 (stores 0 7 97 0 1 ∷ loads 0 7 105 0 1 ∷ []) (stores 0 7 0 0 0) }
+    ensures released { Refuses (sees_all ++ WriteRelease 0 1 1 1 2 ∷ []) (DraftChunk 0 7) }
 {}
 
 /// A posted message is plain and has at most 3,584 bytes.
@@ -100,17 +196,25 @@ pub fn post_is_short()
     ensures kind { Refuses (drafts_line 1 0 4 1 ++ drafts_words 7) (RaiseSent 1) }
 {}
 
-/// While a posted message is on its way nothing is drafted.
+/// While a posted message is on its way nothing is drafted, and its `ready` is lowered only once it was seen.
 pub fn post_is_kept()
     ensures chunk { Refuses posts (DraftChunk 0 8) }
     ensures header { Refuses posts (DraftHeader 0 0) }
+    ensures raise { Refuses posts (RaiseSent 1) }
     ensures lower { Refuses posts (LowerReady 1) }
+    ensures clear { Refuses (posts ++ LookReady (look_at 1 0) ∷ []) (LowerReady 1) }
+    ensures of_other { Refuses (posts ++ LookReady (look_at 2 1) ∷ []) (LowerReady 1) }
+    ensures other { Refuses (posts ++ LookReady (look_at 1 1) ∷ []) (LowerReady 2) }
+    ensures seen_chunk { Refuses (posts ++ LookReady (look_at 1 1) ∷ []) (DraftChunk 0 8) }
+    ensures twice { Refuses (posts ++ LookReady (look_at 1 1) ∷ LowerReady 1 ∷ []) (LowerReady 1) }
 {}
 
 /// A heap word is stored only where nothing is drafted, no chunk is being taken and no barrier is open.
 pub fn heap_waits()
+    ensures header { Refuses (DraftHeader 3 0 ∷ []) (StoreHeap (record { core = 0; line = 225; word = 0 }) 1) }
     ensures draft { Refuses (drafts_words 7) (StoreHeap (record { core = 0; line = 225; word = 0 }) 1) }
     ensures raised { Refuses raises_four (StoreHeap (record { core = 0; line = 225; word = 0 }) 1) }
+    ensures answered { Refuses sees_ready (StoreHeap (record { core = 0; line = 225; word = 0 }) 1) }
     ensures second { Refuses drafts_second (StoreHeap (record { core = 0; line = 225; word = 0 }) 1) }
     ensures taking { Refuses begins_taking (StoreHeap (record { core = 0; line = 225; word = 0 }) 1) }
     ensures barrier { Refuses (FlipGather 0 1 2 ∷ []) (StoreHeap (record { core = 0; line = 225; word = 0 }) 1) }
@@ -119,22 +223,88 @@ pub fn heap_waits()
 /// A register is taken only where this rank does not hold it, and freed only where it does.
 pub fn register_is_held()
     ensures twice { RefusesEvent two_ranks 0 (takes 0 1 ∷ []) (takes 0 1) }
+    ensures twice_in_vain { RefusesEvent two_ranks 0 (takes 0 1 ∷ []) (misses 0 1) }
     ensures free { RefusesEvent two_ranks 0 [] (frees 0 1) }
     ensures freed { RefusesEvent two_ranks 0 (takes 0 1 ∷ frees 0 1 ∷ []) (frees 0 1) }
+    ensures in_vain { RefusesEvent two_ranks 0 (misses 0 1 ∷ []) (frees 0 1) }
+    ensures other { RefusesEvent two_ranks 0 (takes 0 1 ∷ []) (frees 0 0) }
 {}
 
 /// A word of bit flags is stored only under the register of its core, and only once it was loaded there.
 pub fn bits_are_held()
-    ensures no_register { RefusesEvent two_ranks_bits 1 (stores 1 1 0 3 0 ∷ stores 1 1 0 2 0 ∷ stores 1 1 0 1 0 ∷ stores 1 1 0 0 0 ∷ loads 1 0 1 0 0 ∷ []) (stores 1 0 1 0 2) }
-    ensures not_loaded { RefusesEvent two_ranks_bits 1 (stores 1 1 0 3 0 ∷ stores 1 1 0 2 0 ∷ stores 1 1 0 1 0 ∷ stores 1 1 0 0 0 ∷ loads 1 0 1 0 0 ∷ takes 1 0 ∷ []) (stores 1 0 1 0 2) }
-    ensures freed { RefusesEvent two_ranks_bits 1 (stores 1 1 0 3 0 ∷ stores 1 1 0 2 0 ∷ stores 1 1 0 1 0 ∷ stores 1 1 0 0 0 ∷ takes 1 0 ∷ loads 1 0 1 0 0 ∷ frees 1 0 ∷ takes 1 0 ∷ []) (stores 1 0 1 0 2) }
+    ensures no_register { RefusesEvent two_ranks_bits 1 (drafts_empty 1 1 ++ loads 1 0 1 0 0 ∷ []) (stores 1 0 1 0 2) }
+    ensures in_vain { RefusesEvent two_ranks_bits 1 (drafts_empty 1 1 ++ misses 1 0 ∷ loads 1 0 1 0 0 ∷ []) (stores 1 0 1 0 2) }
+    ensures not_loaded { RefusesEvent two_ranks_bits 1 holds_draft (stores 1 0 1 0 2) }
+    ensures before { RefusesEvent two_ranks_bits 1 (drafts_empty 1 1 ++ loads 1 0 1 0 0 ∷ takes 1 0 ∷ []) (stores 1 0 1 0 2) }
+    ensures freed { RefusesEvent two_ranks_bits 1 (holds_draft ++ loads 1 0 1 0 0 ∷ frees 1 0 ∷ takes 1 0 ∷ []) (stores 1 0 1 0 2) }
+    ensures let_go { RefusesEvent two_ranks_bits 1 (holds_draft ++ loads 1 0 1 0 0 ∷ frees 1 0 ∷ []) (stores 1 0 1 0 2) }
+    ensures other_core { RefusesEvent two_ranks_bits 1 (holds_draft ++ takes 1 1 ∷ loads 1 1 1 0 0 ∷ []) (stores 1 0 1 0 2) }
+    ensures ready_for_sent { RefusesEvent two_ranks_bits 1 (holds_draft ++ loads 1 0 1 1 0 ∷ []) (stores 1 0 1 0 2) }
+    ensures sent_for_ready { RefusesEvent two_ranks_bits 0 (takes_bit ++ takes 0 1 ∷ loads 0 1 1 0 0 ∷ []) (stores 0 1 1 1 1) }
 {}
 
-/// A store of a word of bit flags changes one bit, which is the move's.
+/// Under one hold a word of bit flags is stored once for each load of it, and by what it was at the last.
+pub fn bits_are_loaded_anew()
+    ensures sent { RefusesEvent two_ranks_bits 1 (sets_bit ++ loads 1 1 1 1 1 ∷ takes 1 1 ∷ loads 1 1 1 1 1 ∷ stores 1 1 1 1 0 ∷ drafts_empty 1 1) (stores 1 0 1 0 2) }
+    ensures ready { RefusesEvent two_ranks_bits 0 (takes_bit ++ takes 0 1 ∷ loads 0 1 1 1 0 ∷ stores 0 1 1 1 1 ∷ takes_bit) (stores 0 1 1 1 1) }
+    ensures last_sent { RefusesEvent two_ranks_bits 1 (holds_draft ++ loads 1 0 1 0 0 ∷ loads 1 0 1 0 4 ∷ []) (stores 1 0 1 0 2) }
+    ensures last_ready { RefusesEvent two_ranks_bits 0 (takes_bit ++ takes 0 1 ∷ loads 0 1 1 1 0 ∷ loads 0 1 1 1 4 ∷ []) (stores 0 1 1 1 1) }
+{}
+
+/// A store of a word of bit flags changes one bit, which is the move's: the own one is set at another core.
 pub fn one_bit_changes()
-    ensures two { RefusesEvent two_ranks_bits 1 (stores 1 1 0 3 0 ∷ stores 1 1 0 2 0 ∷ stores 1 1 0 1 0 ∷ stores 1 1 0 0 0 ∷ takes 1 0 ∷ loads 1 0 1 0 0 ∷ []) (stores 1 0 1 0 6) }
-    ensures other { RefusesEvent two_ranks_bits 1 (stores 1 1 0 3 0 ∷ stores 1 1 0 2 0 ∷ stores 1 1 0 1 0 ∷ stores 1 1 0 0 0 ∷ takes 1 0 ∷ loads 1 0 1 0 0 ∷ []) (stores 1 0 1 0 1) }
-    ensures none { RefusesEvent two_ranks_bits 1 (stores 1 1 0 3 0 ∷ stores 1 1 0 2 0 ∷ stores 1 1 0 1 0 ∷ stores 1 1 0 0 0 ∷ takes 1 0 ∷ loads 1 0 1 0 0 ∷ []) (stores 1 0 1 0 0) }
+    ensures two { RefusesEvent two_ranks_bits 1 (holds_draft ++ loads 1 0 1 0 0 ∷ []) (stores 1 0 1 0 6) }
+    ensures other { RefusesEvent two_ranks_bits 1 (holds_draft ++ loads 1 0 1 0 0 ∷ []) (stores 1 0 1 0 1) }
+    ensures none { RefusesEvent two_ranks_bits 1 (holds_draft ++ loads 1 0 1 0 0 ∷ []) (stores 1 0 1 0 0) }
+    ensures is_set { RefusesEvent two_ranks_bits 1 (holds_draft ++ loads 1 0 1 0 2 ∷ []) (stores 1 0 1 0 4) }
+    ensures own_core { RefusesEvent two_ranks_bits 1 (drafts_empty 1 1 ++ takes 1 1 ∷ loads 1 1 1 0 0 ∷ []) (stores 1 1 1 0 2) }
+    ensures ready_two { RefusesEvent two_ranks_bits 0 (takes_bit ++ takes 0 1 ∷ loads 0 1 1 1 0 ∷ []) (stores 0 1 1 1 3) }
+    ensures ready_is_set { RefusesEvent two_ranks_bits 0 (takes_bit ++ takes 0 1 ∷ loads 0 1 1 1 1 ∷ []) (stores 0 1 1 1 2) }
+{}
+
+/// At the own core one bit is cleared, which is the other rank's whose flag was seen.
+pub fn one_bit_is_cleared()
+    ensures two { RefusesEvent two_ranks_bits 0 (sees_bit ++ takes 0 0 ∷ loads 0 0 1 0 6 ∷ []) (stores 0 0 1 0 0) }
+    ensures more { RefusesEvent two_ranks_bits 0 (sees_bit ++ takes 0 0 ∷ loads 0 0 1 0 2 ∷ []) (stores 0 0 1 0 1) }
+    ensures none { RefusesEvent two_ranks_bits 0 (sees_bit ++ takes 0 0 ∷ loads 0 0 1 0 2 ∷ []) (stores 0 0 1 0 2) }
+    ensures is_clear { RefusesEvent two_ranks_bits 0 (sees_bit ++ takes 0 0 ∷ loads 0 0 1 0 4 ∷ []) (stores 0 0 1 0 2) }
+    ensures unseen { RefusesEvent three_ranks_bits 0 (loads 0 0 1 0 2 ∷ reads_empty 0 2 ++ takes 0 0 ∷ loads 0 0 1 0 6 ∷ []) (stores 0 0 1 0 2) }
+    ensures other_core { RefusesEvent two_ranks_bits 0 (sees_bit ++ takes 0 1 ∷ loads 0 1 1 0 2 ∷ []) (stores 0 1 1 0 0) }
+    ensures ready_two { RefusesEvent two_ranks_bits 1 (sets_bit ++ loads 1 1 1 1 1 ∷ takes 1 1 ∷ loads 1 1 1 1 5 ∷ []) (stores 1 1 1 1 0) }
+    ensures ready_is_clear { RefusesEvent two_ranks_bits 1 (sets_bit ++ loads 1 1 1 1 1 ∷ takes 1 1 ∷ loads 1 1 1 1 2 ∷ []) (stores 1 1 1 1 1) }
+{}
+
+/// With bit flags a look is a load at the own core while its register is not held.
+pub fn bits_are_looked_at()
+    ensures sent_held { RefusesEvent two_ranks_bits 0 (takes 0 0 ∷ loads 0 0 1 0 2 ∷ reads_empty 0 1) (stores 0 0 1 0 0) }
+    ensures sent_elsewhere { RefusesEvent two_ranks_bits 0 (loads 0 1 1 0 2 ∷ reads_empty 0 1 ++ takes 0 0 ∷ loads 0 0 1 0 2 ∷ []) (stores 0 0 1 0 0) }
+    ensures ready_held { RefusesEvent two_ranks_bits 1 (sets_bit ++ takes 1 1 ∷ loads 1 1 1 1 1 ∷ []) (stores 1 1 1 1 0) }
+    ensures ready_elsewhere { RefusesEvent two_ranks_bits 1 (sets_bit ++ frees 1 0 ∷ loads 1 0 1 1 1 ∷ takes 1 1 ∷ loads 1 1 1 1 1 ∷ []) (stores 1 1 1 1 0) }
+{}
+
+/// With line flags a look is a load of the own flag that answers 1.
+pub fn lines_are_looked_at()
+    ensures sent_two { RefusesEvent three_ranks 2 (loads 2 40 1 0 2 ∷ reads_empty 2 7) (stores 2 40 1 0 0) }
+    ensures sent_elsewhere { RefusesEvent three_ranks 2 (loads 2 5 1 0 1 ∷ reads_empty 2 7) (stores 2 40 1 0 0) }
+    ensures ready_two { RefusesEvent three_ranks 0 (raises_empty ++ loads 0 7 51 0 2 ∷ []) (stores 0 7 51 0 0) }
+    ensures ready_elsewhere { RefusesEvent three_ranks 0 (raises_empty ++ loads 0 5 51 0 1 ∷ []) (stores 0 7 51 0 0) }
+{}
+
+/// A line flag is set to 1 by one of its two ranks, and to 0 by the other.
+pub fn flags_have_owners()
+    ensures raise_other { RefusesEvent three_ranks 2 (drafts_empty 2 40) (stores 2 5 1 0 1) }
+    ensures raise_value { RefusesEvent three_ranks 2 (drafts_empty 2 40) (stores 2 5 3 0 2) }
+    ensures raise_zero { RefusesEvent three_ranks 2 (drafts_empty 2 40) (stores 2 5 3 0 0) }
+    ensures raise_own { RefusesEvent three_ranks 2 (drafts_empty 2 40) (stores 2 40 3 0 1) }
+    ensures lower_other { RefusesEvent three_ranks 2 sees_sent (stores 2 5 1 0 0) }
+    ensures lower_value { RefusesEvent three_ranks 2 sees_sent (stores 2 40 1 0 2) }
+    ensures lower_one { RefusesEvent three_ranks 2 sees_sent (stores 2 40 1 0 1) }
+    ensures answer_other { RefusesEvent three_ranks 2 (sees_sent ++ stores 2 40 1 0 0 ∷ []) (stores 2 7 50 0 1) }
+    ensures answer_value { RefusesEvent three_ranks 2 (sees_sent ++ stores 2 40 1 0 0 ∷ []) (stores 2 7 51 0 2) }
+    ensures answer_zero { RefusesEvent three_ranks 2 (sees_sent ++ stores 2 40 1 0 0 ∷ []) (stores 2 7 51 0 0) }
+    ensures end_other { RefusesEvent three_ranks 0 (raises_empty ++ loads 0 7 51 0 1 ∷ []) (stores 0 5 51 0 0) }
+    ensures end_value { RefusesEvent three_ranks 0 (raises_empty ++ loads 0 7 51 0 1 ∷ []) (stores 0 7 51 0 2) }
+    ensures end_one { RefusesEvent three_ranks 0 (raises_empty ++ loads 0 7 51 0 1 ∷ []) (stores 0 7 51 0 1) }
 {}
 
 /// No rank stores into another one's header line, chunk buffer or gather flag, or into an idle word.
@@ -142,7 +312,8 @@ pub fn words_have_owners()
     ensures header { RefusesEvent two_ranks 0 [] (stores 0 1 0 0 0) }
     ensures chunk { RefusesEvent two_ranks 0 [] (stores 0 1 113 0 0) }
     ensures gather { RefusesEvent two_ranks 0 [] (stores 0 1 97 0 1) }
-    ensures own_flag { RefusesEvent two_ranks 0 [] (stores 0 0 1 0 1) }
-    ensures idle { RefusesEvent two_ranks 0 [] (stores 0 0 1 1 1) }
+    ensures own_flag { RefusesEvent two_ranks 0 (drafts_empty 0 0) (stores 0 0 1 0 1) }
+    ensures idle { RefusesEvent two_ranks 0 (drafts_empty 0 0) (stores 0 1 1 1 1) }
+    ensures idle_bits { RefusesEvent two_ranks_bits 1 (holds_draft ++ loads 1 0 1 2 0 ∷ []) (stores 1 0 1 2 2) }
     ensures far { RefusesEvent two_ranks 0 [] (stores 0 2 225 0 1) }
 {}

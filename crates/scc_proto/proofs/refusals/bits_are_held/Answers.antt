@@ -1,16 +1,9 @@
 use Rattle.std.proofs.Common.{refl}
-use Rattle.scc_proto.specs.Records.{act_of, record_of}
-use Rattle.scc_proto.specs.Messages.{has_all, is_zero_from}
+use Rattle.scc_base.specs.Communicators.{key_of}
+use Rattle.scc_proto.specs.Records.{act_of}
+use Rattle.scc_proto.specs.Messages.{has_all, bytes_from, is_zero_from}
 use Rattle.scc_proto.proofs.refusals.bits_are_held.Goals as goal
 
-pub returns-clause-no_register : goal.returns-clause-no_register
-unfolding act_of record_of has_all is_zero_from
-returns-clause-no_register c = refl
-
-pub returns-clause-not_loaded : goal.returns-clause-not_loaded
-unfolding act_of record_of has_all is_zero_from
-returns-clause-not_loaded c = refl
-
-pub returns-clause-freed : goal.returns-clause-freed
-unfolding act_of record_of has_all is_zero_from
-returns-clause-freed c = refl
+pub returns : goal.returns
+unfolding act_of has_all is_zero_from bytes_from key_of
+returns c = record { no_register = refl; in_vain = refl; not_loaded = refl; before = refl; freed = refl; let_go = refl; other_core = refl; ready_for_sent = refl; sent_for_ready = refl }

@@ -1,8 +1,9 @@
 use Rattle.std.proofs.Common.{refl}
-use Rattle.scc_proto.specs.Records.{act_of, record_of}
-use Rattle.scc_proto.specs.Messages.{has_all, is_zero_from}
+use Rattle.scc_base.specs.Communicators.{key_of}
+use Rattle.scc_proto.specs.Records.{act_of}
+use Rattle.scc_proto.specs.Messages.{has_all, bytes_from, is_zero_from}
 use Rattle.scc_proto.proofs.refusals.chunk_is_loaded.Goals as goal
 
-pub returns-clause-none : goal.returns-clause-none
-unfolding act_of record_of has_all is_zero_from
-returns-clause-none c = refl
+pub returns : goal.returns
+unfolding act_of has_all is_zero_from bytes_from key_of
+returns c = record { none = refl; first = refl; last = refl; other = refl; before = refl; second = refl; not_taken = refl; between = refl }

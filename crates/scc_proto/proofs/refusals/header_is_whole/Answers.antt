@@ -1,12 +1,9 @@
 use Rattle.std.proofs.Common.{refl}
-use Rattle.scc_proto.specs.Records.{act_of, record_of}
-use Rattle.scc_proto.specs.Messages.{has_all, is_zero_from}
+use Rattle.scc_base.specs.Communicators.{key_of}
+use Rattle.scc_proto.specs.Records.{act_of}
+use Rattle.scc_proto.specs.Messages.{has_all, bytes_from, is_zero_from}
 use Rattle.scc_proto.proofs.refusals.header_is_whole.Goals as goal
 
-pub returns-clause-kind : goal.returns-clause-kind
-unfolding act_of record_of has_all is_zero_from
-returns-clause-kind c = refl
-
-pub returns-clause-post : goal.returns-clause-post
-unfolding act_of record_of has_all is_zero_from
-returns-clause-post c = refl
+pub returns : goal.returns
+unfolding act_of has_all is_zero_from bytes_from key_of
+returns c = record { kind = refl; comm = refl; len = refl; post = refl; chunk_alone = refl; nothing = refl }

@@ -1,8 +1,9 @@
 use Rattle.std.proofs.Common.{refl}
-use Rattle.scc_proto.specs.Records.{act_of, record_of}
-use Rattle.scc_proto.specs.Messages.{has_all, is_zero_from}
+use Rattle.scc_base.specs.Communicators.{key_of}
+use Rattle.scc_proto.specs.Records.{act_of}
+use Rattle.scc_proto.specs.Messages.{has_all, bytes_from, is_zero_from}
 use Rattle.scc_proto.proofs.refusals.one_bit_changes.Goals as goal
 
-pub returns-clause-two : goal.returns-clause-two
-unfolding act_of record_of has_all is_zero_from
-returns-clause-two c = refl
+pub returns : goal.returns
+unfolding act_of has_all is_zero_from bytes_from key_of
+returns c = record { two = refl; other = refl; none = refl; is_set = refl; own_core = refl; ready_two = refl; ready_is_set = refl }

@@ -1,12 +1,9 @@
 use Rattle.std.proofs.Common.{refl}
-use Rattle.scc_proto.specs.Records.{act_of, record_of}
-use Rattle.scc_proto.specs.Messages.{has_all, is_zero_from}
+use Rattle.scc_base.specs.Communicators.{key_of}
+use Rattle.scc_proto.specs.Records.{act_of}
+use Rattle.scc_proto.specs.Messages.{has_all, bytes_from, is_zero_from}
 use Rattle.scc_proto.proofs.refusals.padding_is_zero.Goals as goal
 
-pub returns-clause-word : goal.returns-clause-word
-unfolding act_of record_of has_all is_zero_from
-returns-clause-word c = refl
-
-pub returns-clause-line : goal.returns-clause-line
-unfolding act_of record_of has_all is_zero_from
-returns-clause-line c = refl
+pub returns : goal.returns
+unfolding act_of has_all is_zero_from bytes_from key_of
+returns c = record { word = refl; line = refl; second = refl }
