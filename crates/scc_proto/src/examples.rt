@@ -7,7 +7,7 @@ ghost use Rattle.scc_base.specs.Calls.{Send, Recv, Post, Bar};
 ghost use Rattle.scc_proto.specs.Stages.{blank};
 ghost use Rattle.scc_proto.specs.Words.{IsRun, zeros};
 ghost use Rattle.scc_proto.specs.Histories.{IsPermittedRun, records_of};
-ghost use Rattle.scc_proto.specs.Passed.{passed_calls, slot_of};
+ghost use Rattle.scc_proto.specs.Passed.{open_call, passed_calls, slot_of};
 ghost use Rattle.scc_proto.specs.Ports.{MayMake, Did, record_in};
 ghost use Rattle.scc_proto.specs.Examples.{two_ranks, four_bytes, no_bytes, three_ranks, barrier_of_three, four_bytes_elsewhere, posts_four, takes_four, two_ranks_bits, one_byte_bits, two_chunks, bytes_of};
 
@@ -29,6 +29,8 @@ pub fn four_bytes_arrive()
     ensures is_run { IsRun zeros four_bytes }
     ensures permitted { IsPermittedRun two_ranks (λ r. blank) four_bytes }
     ensures received { (records_of two_ranks four_bytes 1).calls ≡ Recv 0 (plain_head 4) (1 ∷ 2 ∷ 3 ∷ 4 ∷ []) ∷ [] }
+    ensures not_finished { (records_of two_ranks four_bytes 0).calls ≡ [] }
+    ensures open { open_call two_ranks (records_of two_ranks four_bytes 0) ≡ Some (Send 1 (plain_head 4) (1 ∷ 2 ∷ 3 ∷ 4 ∷ [])) }
     ensures passed { passed_calls two_ranks (records_of two_ranks four_bytes) 0 ≡ Send 1 (plain_head 4) (1 ∷ 2 ∷ 3 ∷ 4 ∷ []) ∷ [] }
 {}
 

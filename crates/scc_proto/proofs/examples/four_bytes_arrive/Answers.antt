@@ -14,3 +14,11 @@ returns-clause-received c = refl
 pub returns-clause-passed : goal.returns-clause-passed
 unfolding act_of record_of has_all is_zero_from bytes_from
 returns-clause-passed c = refl
+
+pub returns-clause-not_finished : goal.returns-clause-not_finished
+unfolding act_of record_of has_all is_zero_from bytes_from
+returns-clause-not_finished c = refl
+
+pub returns-clause-open : goal.returns-clause-open
+unfolding act_of record_of has_all is_zero_from bytes_from
+returns-clause-open c = refl
