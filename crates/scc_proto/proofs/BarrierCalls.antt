@@ -7,7 +7,7 @@ use Rattle.scc_base.proofs.Confluence.{equal_or_not}
 use Rattle.scc_base.proofs.ChangeLaws.{true_or_false}
 use Rattle.scc_base.proofs.GroupFacts.{place_once, root_with, root_within, root_is, root_once}
 use Rattle.scc_proto.specs.Tables.{put}
-use Rattle.scc_proto.specs.Messages.{sent_to, received_from}
+use Rattle.scc_proto.specs.Messages.{sent_messages, received_messages}
 use Rattle.scc_proto.specs.Stages.{Stage, Idle, Barrier, Record}
 use Rattle.scc_proto.specs.Moves.{Move, FlipGather, LookGather, WriteRelease, LookRelease, finished_if, calls_released, calls_let_go, flip_gather, look_gather, write_release, look_release, after}
 use Rattle.scc_proto.specs.Permission.{is_idle}
@@ -52,7 +52,7 @@ module _ (s : SetupView) (me : ℕ) (view : View) (records : ℕ → Record) (lo
   write_release_grows : (c to place value last : ℕ) → IsViewStep s me view (records me) (WriteRelease c to place value last) → GrowsBy (WriteRelease c to place value last)
   write_release_grows c to place value last step = ByNothing calls (slots_stay s me records (after (chunk_of s) (WriteRelease c to place value last) (records me)) messages.0 messages.1 refl)
     where
-      messages : ((i : ℕ) → received_from i (calls_released last (records me).stage (records me).calls) ≡ received_from i (records me).calls) × ((i : ℕ) → sent_to i (calls_released last (records me).stage (records me).calls) ≡ sent_to i (records me).calls)
+      messages : ((i : ℕ) → received_messages i (calls_released last (records me).stage (records me).calls) ≡ received_messages i (records me).calls) × ((i : ℕ) → sent_messages i (calls_released last (records me).stage (records me).calls) ≡ sent_messages i (records me).calls)
       messages = released_no_message last (records me).stage (records me).calls
 
       first : place_of s c me ≡ 0
@@ -153,7 +153,7 @@ module _ (s : SetupView) (me : ℕ) (view : View) (records : ℕ → Record) (lo
   look_release_grows : (c value : ℕ) → IsViewStep s me view (records me) (LookRelease c value) → GrowsBy (LookRelease c value)
   look_release_grows c value step = by_bar (bar_at c (records me).stage) refl
     where
-      messages : ((i : ℕ) → received_from i (calls_let_go c value ((records me).flips c % 2) (records me).stage (records me).calls) ≡ received_from i (records me).calls) × ((i : ℕ) → sent_to i (calls_let_go c value ((records me).flips c % 2) (records me).stage (records me).calls) ≡ sent_to i (records me).calls)
+      messages : ((i : ℕ) → received_messages i (calls_let_go c value ((records me).flips c % 2) (records me).stage (records me).calls) ≡ received_messages i (records me).calls) × ((i : ℕ) → sent_messages i (calls_let_go c value ((records me).flips c % 2) (records me).stage (records me).calls) ≡ sent_messages i (records me).calls)
       messages = let_go_no_message c value ((records me).flips c % 2) (records me).stage (records me).calls
 
       unmoved_by : look_release c value ((records me).flips c % 2) (records me).stage ≡ (records me).stage → calls_let_go c value ((records me).flips c % 2) (records me).stage (records me).calls ≡ (records me).calls → GrowsBy (LookRelease c value)
@@ -254,7 +254,7 @@ module _ (s : SetupView) (me : ℕ) (view : View) (records : ℕ → Record) (lo
       last_is : last ≡ last_of s c me
       last_is = step.own.1
 
-      messages : ((i : ℕ) → received_from i (finished_if (last == 0) (Bar c) (records me).calls) ≡ received_from i (records me).calls) × ((i : ℕ) → sent_to i (finished_if (last == 0) (Bar c) (records me).calls) ≡ sent_to i (records me).calls)
+      messages : ((i : ℕ) → received_messages i (finished_if (last == 0) (Bar c) (records me).calls) ≡ received_messages i (records me).calls) × ((i : ℕ) → sent_messages i (finished_if (last == 0) (Bar c) (records me).calls) ≡ sent_messages i (records me).calls)
       messages = (λ i. no_message_received i c (last == 0) (records me).calls, λ i. no_message_sent i c (last == 0) (records me).calls)
 
       slots : (k : ℕ) → slot_of s (next_of (FlipGather c value last)) k ≡ slot_of s records k

@@ -6,19 +6,19 @@ use Rattle.scc_base.specs.Setups.{SetupView, setup_key, root_of}
 use Rattle.scc_base.proofs.Confluence.{equal_or_not}
 use Rattle.scc_base.proofs.ChangeLaws.{true_or_false}
 use Rattle.scc_proto.specs.Tables.{put}
-use Rattle.scc_proto.specs.Messages.{Message, begun, with_chunk, sent_to, received_from, send_to, message_of}
+use Rattle.scc_proto.specs.Messages.{Message, begun, with_chunk, sent_messages, received_messages, send_to, message_of}
 use Rattle.scc_proto.specs.Stages.{Stage, Idle, Drafting, Sending, Between, Taking, Barrier, OnItsWay, Record}
 use Rattle.scc_proto.specs.Moves.{finished_if, calls_released, calls_let_go, look_gather, look_release}
 use Rattle.scc_proto.specs.Records.{chunk_of, last_of}
 use Rattle.scc_proto.specs.Groups.{is_open}
 use Rattle.scc_proto.specs.Passed.{in_hand, gathered, is_gathered, passed_open, passed_calls, slot_by, slot_of}
 use Rattle.scc_proto.specs.Legality.{Grows, ByNothing}
-use Rattle.scc_proto.proofs.MessageLaw.{sent_to-append, received_from-append}
+use Rattle.scc_proto.proofs.MessageLaw.{sent_messages-append, received_messages-append}
 use Rattle.scc_proto.proofs.BarrierFacts.{Counts, bar_at, gathered_in, releases_in, released_bar, Level}
 use Rattle.scc_proto.proofs.GroupLaw.{put_here, put_there, put_same}
 
 -- an open call that is passed, where the lists of messages and what the roots have gathered are the same
-pub open_same : (s : SetupView) (k : ℕ) (st : Stage) (old new : ℕ → Record) → ((i j : ℕ) → received_from i (new j).calls ≡ received_from i (old j).calls) → ((i j : ℕ) → sent_to i (new j).calls ≡ sent_to i (old j).calls)
+pub open_same : (s : SetupView) (k : ℕ) (st : Stage) (old new : ℕ → Record) → ((i j : ℕ) → received_messages i (new j).calls ≡ received_messages i (old j).calls) → ((i j : ℕ) → sent_messages i (new j).calls ≡ sent_messages i (old j).calls)
     → ((comm : ℕ) → is_open comm st ≡ true → is_gathered s comm k new ≡ is_gathered s comm k old) → passed_open s k st new ≡ passed_open s k st old
 open_same s k Idle old new received sent gathers = refl
 open_same s k (Drafting header chunk) old new received sent gathers = refl
@@ -39,7 +39,7 @@ open_bar s comm k (Barrier c seen released) records is =
     let same : c ≡ comm = grind (arith, nat_tests) in ap (λ (x : ℕ). if is_gathered s x k records then Bar x ∷ [] else []) same
 
 -- a posted message is received or not, where the lists of messages are the same
-pub slot_same : (s : SetupView) (k : ℕ) (post : Option OnItsWay) (old new : ℕ → Record) → ((i j : ℕ) → received_from i (new j).calls ≡ received_from i (old j).calls) → ((i j : ℕ) → sent_to i (new j).calls ≡ sent_to i (old j).calls)
+pub slot_same : (s : SetupView) (k : ℕ) (post : Option OnItsWay) (old new : ℕ → Record) → ((i j : ℕ) → received_messages i (new j).calls ≡ received_messages i (old j).calls) → ((i j : ℕ) → sent_messages i (new j).calls ≡ sent_messages i (old j).calls)
     → slot_by (chunk_of s) k post new ≡ slot_by (chunk_of s) k post old
 slot_same s k None old new received sent = refl
 slot_same s k (Some post) old new received sent =
@@ -117,22 +117,22 @@ released_gathered place last root_flips (Some x) member all =
     most false = omega arith
 
 module _ (s : SetupView) (me : ℕ) (records : ℕ → Record) (new : Record) where
-  pub received_next : ((i : ℕ) → received_from i new.calls ≡ received_from i (records me).calls) → (i j : ℕ) → received_from i (put records me new j).calls ≡ received_from i (records j).calls
+  pub received_next : ((i : ℕ) → received_messages i new.calls ≡ received_messages i (records me).calls) → (i j : ℕ) → received_messages i (put records me new j).calls ≡ received_messages i (records j).calls
   received_next same i j =
       ⊎_elim
-      (λ (is : j ≡ me). ap (λ (rec : Record). received_from i rec.calls) (put_here records me j new is) ∙ same i ∙ ap (λ (k : ℕ). received_from i (records k).calls) (sym is))
-      (λ (other : j ≢ me). ap (λ (rec : Record). received_from i rec.calls) (put_there records me j new other))
+      (λ (is : j ≡ me). ap (λ (rec : Record). received_messages i rec.calls) (put_here records me j new is) ∙ same i ∙ ap (λ (k : ℕ). received_messages i (records k).calls) (sym is))
+      (λ (other : j ≢ me). ap (λ (rec : Record). received_messages i rec.calls) (put_there records me j new other))
       (equal_or_not j me)
 
-  pub sent_next : ((i : ℕ) → sent_to i new.calls ≡ sent_to i (records me).calls) → (i j : ℕ) → sent_to i (put records me new j).calls ≡ sent_to i (records j).calls
+  pub sent_next : ((i : ℕ) → sent_messages i new.calls ≡ sent_messages i (records me).calls) → (i j : ℕ) → sent_messages i (put records me new j).calls ≡ sent_messages i (records j).calls
   sent_next same i j =
       ⊎_elim
-      (λ (is : j ≡ me). ap (λ (rec : Record). sent_to i rec.calls) (put_here records me j new is) ∙ same i ∙ ap (λ (k : ℕ). sent_to i (records k).calls) (sym is))
-      (λ (other : j ≢ me). ap (λ (rec : Record). sent_to i rec.calls) (put_there records me j new other))
+      (λ (is : j ≡ me). ap (λ (rec : Record). sent_messages i rec.calls) (put_here records me j new is) ∙ same i ∙ ap (λ (k : ℕ). sent_messages i (records k).calls) (sym is))
+      (λ (other : j ≢ me). ap (λ (rec : Record). sent_messages i rec.calls) (put_there records me j new other))
       (equal_or_not j me)
 
   -- what another rank has passed stays, where what this one has gathered stays for its members
-  pub passed_else : ((i : ℕ) → received_from i new.calls ≡ received_from i (records me).calls) → ((i : ℕ) → sent_to i new.calls ≡ sent_to i (records me).calls)
+  pub passed_else : ((i : ℕ) → received_messages i new.calls ≡ received_messages i (records me).calls) → ((i : ℕ) → sent_messages i new.calls ≡ sent_messages i (records me).calls)
       → (k : ℕ) → k ≢ me → ((comm : ℕ) → root_of s comm k ≡ me → is_open comm (records k).stage ≡ true → gathered comm (last_of s comm k) new ≡ gathered comm (last_of s comm k) (records me))
       → passed_calls s (put records me new) k ≡ passed_calls s records k
   passed_else received sent k other gathers =
@@ -154,7 +154,7 @@ module _ (s : SetupView) (me : ℕ) (records : ℕ → Record) (new : Record) wh
   pub gathered_here : (comm : ℕ) → is_gathered s comm me (put records me new) ≡ nat_le (new.flips comm) (gathered comm (last_of s comm me) (put records me new (root_of s comm me)))
   gathered_here comm = ap (λ (rec : Record). nat_le (rec.flips comm) (gathered comm (last_of s comm me) (put records me new (root_of s comm me)))) (put_here records me me new refl)
 
-  pub slots_stay : ((i : ℕ) → received_from i new.calls ≡ received_from i (records me).calls) → ((i : ℕ) → sent_to i new.calls ≡ sent_to i (records me).calls) → new.post ≡ (records me).post
+  pub slots_stay : ((i : ℕ) → received_messages i new.calls ≡ received_messages i (records me).calls) → ((i : ℕ) → sent_messages i new.calls ≡ sent_messages i (records me).calls) → new.post ≡ (records me).post
       → (k : ℕ) → slot_of s (put records me new) k ≡ slot_of s records k
   slots_stay received sent post k =
       ap (λ (p : Option OnItsWay). slot_by (chunk_of s) k p (put records me new)) same
@@ -174,12 +174,12 @@ module _ (s : SetupView) (me : ℕ) (records : ℕ → Record) (new : Record) wh
       ByNothing (λ k. ap (λ (r : ℕ → Record). passed_calls s r k) all) (λ k. ap (λ (r : ℕ → Record). slot_of s r k) all)
 
 -- a barrier among finished calls is no message
-pub no_message_received : (i c : ℕ) (b : Bool) (calls : List DataCall) → received_from i (finished_if b (Bar c) calls) ≡ received_from i calls
-no_message_received i c true calls = received_from-append i calls (Bar c ∷ []) ∙ append-nil (received_from i calls)
+pub no_message_received : (i c : ℕ) (b : Bool) (calls : List DataCall) → received_messages i (finished_if b (Bar c) calls) ≡ received_messages i calls
+no_message_received i c true calls = received_messages-append i calls (Bar c ∷ []) ∙ append-nil (received_messages i calls)
 no_message_received i c false calls = refl
 
-pub no_message_sent : (i c : ℕ) (b : Bool) (calls : List DataCall) → sent_to i (finished_if b (Bar c) calls) ≡ sent_to i calls
-no_message_sent i c true calls = sent_to-append i calls (Bar c ∷ []) ∙ append-nil (sent_to i calls)
+pub no_message_sent : (i c : ℕ) (b : Bool) (calls : List DataCall) → sent_messages i (finished_if b (Bar c) calls) ≡ sent_messages i calls
+no_message_sent i c true calls = sent_messages-append i calls (Bar c ∷ []) ∙ append-nil (sent_messages i calls)
 no_message_sent i c false calls = refl
 
 -- the stage of an open barrier
@@ -229,7 +229,7 @@ look_release_none c value v (Sending to part message chunk) calls none = (refl, 
 look_release_none c value v (Between from message) calls none = (refl, refl)
 look_release_none c value v (Taking from message chunk) calls none = (refl, refl)
 
-pub released_no_message : (last : ℕ) (st : Stage) (calls : List DataCall) → ((i : ℕ) → received_from i (calls_released last st calls) ≡ received_from i calls) × ((i : ℕ) → sent_to i (calls_released last st calls) ≡ sent_to i calls)
+pub released_no_message : (last : ℕ) (st : Stage) (calls : List DataCall) → ((i : ℕ) → received_messages i (calls_released last st calls) ≡ received_messages i calls) × ((i : ℕ) → sent_messages i (calls_released last st calls) ≡ sent_messages i calls)
 released_no_message last (Barrier c seen released) calls = (λ i. no_message_received i c (suc released == last) calls, λ i. no_message_sent i c (suc released == last) calls)
 released_no_message last Idle calls = (λ i. refl, λ i. refl)
 released_no_message last (Drafting header chunk) calls = (λ i. refl, λ i. refl)
@@ -237,7 +237,7 @@ released_no_message last (Sending to part message chunk) calls = (λ i. refl, λ
 released_no_message last (Between from message) calls = (λ i. refl, λ i. refl)
 released_no_message last (Taking from message chunk) calls = (λ i. refl, λ i. refl)
 
-pub let_go_no_message : (c value v : ℕ) (st : Stage) (calls : List DataCall) → ((i : ℕ) → received_from i (calls_let_go c value v st calls) ≡ received_from i calls) × ((i : ℕ) → sent_to i (calls_let_go c value v st calls) ≡ sent_to i calls)
+pub let_go_no_message : (c value v : ℕ) (st : Stage) (calls : List DataCall) → ((i : ℕ) → received_messages i (calls_let_go c value v st calls) ≡ received_messages i calls) × ((i : ℕ) → sent_messages i (calls_let_go c value v st calls) ≡ sent_messages i calls)
 let_go_no_message c value v (Barrier d seen released) calls = (λ i. no_message_received i d ((d == c) && (value == v)) calls, λ i. no_message_sent i d ((d == c) && (value == v)) calls)
 let_go_no_message c value v Idle calls = (λ i. refl, λ i. refl)
 let_go_no_message c value v (Drafting header chunk) calls = (λ i. refl, λ i. refl)

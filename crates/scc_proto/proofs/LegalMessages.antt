@@ -4,7 +4,7 @@ use Rattle.std.proofs.lemmas.Bool.Decides.{nat_tests}
 use Rattle.scc_base.specs.Calls.{DataCall, Send, Recv, Bar}
 use Rattle.scc_base.specs.Changes.{both}
 use Rattle.scc_base.specs.Runs.{Runs}
-use Rattle.scc_proto.specs.Messages.{Message, sent_to, received_from, barriers_of}
+use Rattle.scc_proto.specs.Messages.{Message, sent_messages, received_messages, barriers_of}
 use Rattle.scc_proto.specs.Legality.{Outgoing, Standing, CallStep, Posting, Taking, Pairing, Meeting, in_group, Makes, OwnStep, IsUsedUp, IsLegal, no_slots, slot_message}
 use Rattle.scc_proto.proofs.LegalLaws.{legal_in_some_order}
 
@@ -26,9 +26,9 @@ delivered i r (Meeting comm root) = []
 
 -- what rank i has still to hand over to rank r
 abbrev owed : ℕ → ℕ → Standing → List Message
-owed i r s = slot_message r (s.slots i) ++ sent_to r (s.calls i)
+owed i r s = slot_message r (s.slots i) ++ sent_messages r (s.calls i)
 
-owed_same : (i r : ℕ) (s t : Standing) → s.slots i ≡ t.slots i → sent_to r (s.calls i) ≡ sent_to r (t.calls i) → owed i r s ≡ owed i r t
+owed_same : (i r : ℕ) (s t : Standing) → s.slots i ≡ t.slots i → sent_messages r (s.calls i) ≡ sent_messages r (t.calls i) → owed i r s ≡ owed i r t
 owed_same i r s t slots calls = ap₂ (λ (o : Option Outgoing) (l : List Message). slot_message r o ++ l) slots calls
 
 module _ (nue : ℕ) (keys : ℕ → ℕ → ℕ) where
@@ -37,23 +37,23 @@ module _ (nue : ℕ) (keys : ℕ → ℕ → ℕ) where
       (λ at.
       let calls = makes.calls.changed i at in
       let (before, after) = makes.slots.changed i at in
-      ap₂ (λ (o : Option Outgoing) (l : List DataCall). slot_message r o ++ sent_to r l) before calls
-      ∙ gain (m.to == r) (record { head = m.head; bytes = m.bytes }) (sent_to r (t.calls i))
-      ∙ ap (λ (o : Option Outgoing). slot_message r o ++ sent_to r (t.calls i)) (sym after))
-      (λ other. owed_same i r s t (makes.slots.others i other) (ap (sent_to r) (makes.calls.others i other)))
+      ap₂ (λ (o : Option Outgoing) (l : List DataCall). slot_message r o ++ sent_messages r l) before calls
+      ∙ gain (m.to == r) (record { head = m.head; bytes = m.bytes }) (sent_messages r (t.calls i))
+      ∙ ap (λ (o : Option Outgoing). slot_message r o ++ sent_messages r (t.calls i)) (sym after))
+      (λ other. owed_same i r s t (makes.slots.others i other) (ap (sent_messages r) (makes.calls.others i other)))
 
   owed_by_take : (i r from : ℕ) (m : Outgoing) (s t : Standing) → Makes nue keys (Taking from m) s t → owed i r s ≡ delivered i r (Taking from m) ++ owed i r t
   owed_by_take i r from m s t makes = by_test (i == from)
       (λ at.
       let (before, after) = makes.slots.changed i at in
       ap₂ (λ (o : Option Outgoing) (l : List Message). slot_message r o ++ l) before sends
-      ∙ ap₂ (λ (l : List Message) (o : Option Outgoing). l ++ (slot_message r o ++ sent_to r (t.calls i))) (sym (ap (λ (b : Bool). if b then slot_message r (Some m) else []) at)) (sym after))
+      ∙ ap₂ (λ (l : List Message) (o : Option Outgoing). l ++ (slot_message r o ++ sent_messages r (t.calls i))) (sym (ap (λ (b : Bool). if b then slot_message r (Some m) else []) at)) (sym after))
       (λ other.
       owed_same i r s t (makes.slots.others i other) sends
       ∙ ap (λ (b : Bool). (if b then slot_message r (Some m) else []) ++ owed i r t) (sym other))
     where
-      sends : sent_to r (s.calls i) ≡ sent_to r (t.calls i)
-      sends = by_test (i == m.to) (λ at. ap (sent_to r) (makes.calls.changed i at)) (λ other. ap (sent_to r) (makes.calls.others i other))
+      sends : sent_messages r (s.calls i) ≡ sent_messages r (t.calls i)
+      sends = by_test (i == m.to) (λ at. ap (sent_messages r) (makes.calls.changed i at)) (λ other. ap (sent_messages r) (makes.calls.others i other))
 
   owed_by_pair : (i r from : ℕ) (m : Outgoing) (s t : Standing) → Makes nue keys (Pairing from m) s t → owed i r s ≡ delivered i r (Pairing from m) ++ owed i r t
   owed_by_pair i r from m s t makes = by_test (i == from)
@@ -61,17 +61,17 @@ module _ (nue : ℕ) (keys : ℕ → ℕ → ℕ) where
       let (before, after) = makes.slots.changed i at in
       let within : both from m.to i ≡ true = grind (arith, nat_tests) in
       let calls : s.calls i ≡ Send m.to m.head m.bytes ∷ t.calls i = makes.calls.changed i within ∙ ap (λ (b : Bool). (if b then Send m.to m.head m.bytes else Recv from m.head m.bytes) ∷ t.calls i) at in
-      ap₂ (λ (o : Option Outgoing) (l : List DataCall). slot_message r o ++ sent_to r l) before calls
-      ∙ gain (m.to == r) (record { head = m.head; bytes = m.bytes }) (sent_to r (t.calls i))
-      ∙ ap₂ (λ (l : List Message) (o : Option Outgoing). l ++ (slot_message r o ++ sent_to r (t.calls i))) (sym (ap (λ (b : Bool). if b then slot_message r (Some m) else []) at)) (sym after))
+      ap₂ (λ (o : Option Outgoing) (l : List DataCall). slot_message r o ++ sent_messages r l) before calls
+      ∙ gain (m.to == r) (record { head = m.head; bytes = m.bytes }) (sent_messages r (t.calls i))
+      ∙ ap₂ (λ (l : List Message) (o : Option Outgoing). l ++ (slot_message r o ++ sent_messages r (t.calls i))) (sym (ap (λ (b : Bool). if b then slot_message r (Some m) else []) at)) (sym after))
       (λ other.
       owed_same i r s t (makes.slots.others i other) (sends other)
       ∙ ap (λ (b : Bool). (if b then slot_message r (Some m) else []) ++ owed i r t) (sym other))
     where
-      sends : (i == from) ≡ false → sent_to r (s.calls i) ≡ sent_to r (t.calls i)
+      sends : (i == from) ≡ false → sent_messages r (s.calls i) ≡ sent_messages r (t.calls i)
       sends other = by_test (both from m.to i)
-          (λ within. ap (sent_to r) (makes.calls.changed i within ∙ ap (λ (b : Bool). (if b then Send m.to m.head m.bytes else Recv from m.head m.bytes) ∷ t.calls i) other))
-          (λ without. ap (sent_to r) (makes.calls.others i without))
+          (λ within. ap (sent_messages r) (makes.calls.changed i within ∙ ap (λ (b : Bool). (if b then Send m.to m.head m.bytes else Recv from m.head m.bytes) ∷ t.calls i) other))
+          (λ without. ap (sent_messages r) (makes.calls.others i without))
 
   owed_by_step : (i r : ℕ) (step : CallStep) (s t : Standing) → Makes nue keys step s t → owed i r s ≡ delivered i r step ++ owed i r t
   owed_by_step i r (Posting from m) s t makes = owed_by_post i r from m s t makes
@@ -79,13 +79,13 @@ module _ (nue : ℕ) (keys : ℕ → ℕ → ℕ) where
   owed_by_step i r (Pairing from m) s t makes = owed_by_pair i r from m s t makes
   owed_by_step i r (Meeting comm root) s t makes =
       owed_same i r s t (makes.slots.others i refl)
-      (by_test (in_group nue keys comm root i) (λ at. ap (sent_to r) (makes.calls.changed i at)) (λ other. ap (sent_to r) (makes.calls.others i other)))
+      (by_test (in_group nue keys comm root i) (λ at. ap (sent_messages r) (makes.calls.changed i at)) (λ other. ap (sent_messages r) (makes.calls.others i other)))
 
   -- what a receiver gains
-  handed : (i r from : ℕ) (m : Outgoing) → (r == m.to) ≡ true → (l : List DataCall) → received_from i (Recv from m.head m.bytes ∷ l) ≡ (if i == from then slot_message r (Some m) else []) ++ received_from i l
+  handed : (i r from : ℕ) (m : Outgoing) → (r == m.to) ≡ true → (l : List DataCall) → received_messages i (Recv from m.head m.bytes ∷ l) ≡ (if i == from then slot_message r (Some m) else []) ++ received_messages i l
   handed i r from m at l =
-      gain (from == i) (record { head = m.head; bytes = m.bytes }) (received_from i l)
-      ∙ ap₂ (λ (b c : Bool). (if b then (if c then record { head = m.head; bytes = m.bytes } ∷ [] else []) else []) ++ received_from i l) turned here
+      gain (from == i) (record { head = m.head; bytes = m.bytes }) (received_messages i l)
+      ∙ ap₂ (λ (b c : Bool). (if b then (if c then record { head = m.head; bytes = m.bytes } ∷ [] else []) else []) ++ received_messages i l) turned here
     where
       turned : (from == i) ≡ (i == from)
       turned = grind (arith, nat_tests)
@@ -93,55 +93,55 @@ module _ (nue : ℕ) (keys : ℕ → ℕ → ℕ) where
       here : true ≡ (m.to == r)
       here = grind (arith, nat_tests)
 
-  kept : (i r from : ℕ) (m : Outgoing) → (r == m.to) ≡ false → (l : List DataCall) → received_from i l ≡ (if i == from then slot_message r (Some m) else []) ++ received_from i l
-  kept i r from m other l = nothing (i == from) ∙ ap (λ (c : Bool). (if i == from then (if c then record { head = m.head; bytes = m.bytes } ∷ [] else []) else []) ++ received_from i l) there
+  kept : (i r from : ℕ) (m : Outgoing) → (r == m.to) ≡ false → (l : List DataCall) → received_messages i l ≡ (if i == from then slot_message r (Some m) else []) ++ received_messages i l
+  kept i r from m other l = nothing (i == from) ∙ ap (λ (c : Bool). (if i == from then (if c then record { head = m.head; bytes = m.bytes } ∷ [] else []) else []) ++ received_messages i l) there
     where
       there : false ≡ (m.to == r)
       there = grind (arith, nat_tests)
 
-      nothing : (b : Bool) → received_from i l ≡ (if b then [] else []) ++ received_from i l
+      nothing : (b : Bool) → received_messages i l ≡ (if b then [] else []) ++ received_messages i l
       nothing true = refl
       nothing false = refl
 
-  got_by_step : (i r : ℕ) (step : CallStep) (s t : Standing) → Makes nue keys step s t → received_from i (s.calls r) ≡ delivered i r step ++ received_from i (t.calls r)
+  got_by_step : (i r : ℕ) (step : CallStep) (s t : Standing) → Makes nue keys step s t → received_messages i (s.calls r) ≡ delivered i r step ++ received_messages i (t.calls r)
   got_by_step i r (Posting from m) s t makes = by_test (r == from)
-      (λ at. ap (received_from i) (makes.calls.changed r at)) (λ other. ap (received_from i) (makes.calls.others r other))
+      (λ at. ap (received_messages i) (makes.calls.changed r at)) (λ other. ap (received_messages i) (makes.calls.others r other))
   got_by_step i r (Taking from m) s t makes = by_test (r == m.to)
-      (λ at. ap (received_from i) (makes.calls.changed r at) ∙ handed i r from m at (t.calls r))
-      (λ other. ap (received_from i) (makes.calls.others r other) ∙ kept i r from m other (t.calls r))
+      (λ at. ap (received_messages i) (makes.calls.changed r at) ∙ handed i r from m at (t.calls r))
+      (λ other. ap (received_messages i) (makes.calls.others r other) ∙ kept i r from m other (t.calls r))
   got_by_step i r (Pairing from m) s t makes = by_test (r == m.to)
       (λ at.
       let within : both from m.to r ≡ true = grind (arith, nat_tests) in
       let apart = makes.proper in
       let receives : (r == from) ≡ false = grind (arith, nat_tests) in
-      ap (received_from i) (makes.calls.changed r within ∙ ap (λ (b : Bool). (if b then Send m.to m.head m.bytes else Recv from m.head m.bytes) ∷ t.calls r) receives)
+      ap (received_messages i) (makes.calls.changed r within ∙ ap (λ (b : Bool). (if b then Send m.to m.head m.bytes else Recv from m.head m.bytes) ∷ t.calls r) receives)
       ∙ handed i r from m at (t.calls r))
       (λ other. same other ∙ kept i r from m other (t.calls r))
     where
-      same : (r == m.to) ≡ false → received_from i (s.calls r) ≡ received_from i (t.calls r)
+      same : (r == m.to) ≡ false → received_messages i (s.calls r) ≡ received_messages i (t.calls r)
       same other = by_test (r == from)
           (λ at.
           let within : both from m.to r ≡ true = grind (arith, nat_tests) in
-          ap (received_from i) (makes.calls.changed r within ∙ ap (λ (b : Bool). (if b then Send m.to m.head m.bytes else Recv from m.head m.bytes) ∷ t.calls r) at))
+          ap (received_messages i) (makes.calls.changed r within ∙ ap (λ (b : Bool). (if b then Send m.to m.head m.bytes else Recv from m.head m.bytes) ∷ t.calls r) at))
           (λ elsewhere.
           let without : both from m.to r ≡ false = grind (arith, nat_tests) in
-          ap (received_from i) (makes.calls.others r without))
+          ap (received_messages i) (makes.calls.others r without))
   got_by_step i r (Meeting comm root) s t makes = by_test (in_group nue keys comm root r)
-      (λ at. ap (received_from i) (makes.calls.changed r at)) (λ other. ap (received_from i) (makes.calls.others r other))
+      (λ at. ap (received_messages i) (makes.calls.changed r at)) (λ other. ap (received_messages i) (makes.calls.others r other))
 
-  run_messages : (left : ℕ → Option Outgoing) (i r n : ℕ) (s : Standing) → Runs (OwnStep nue keys) (IsUsedUp left) n s → owed i r s ≡ received_from i (s.calls r) ++ slot_message r (left i)
+  run_messages : (left : ℕ → Option Outgoing) (i r n : ℕ) (s : Standing) → Runs (OwnStep nue keys) (IsUsedUp left) n s → owed i r s ≡ received_messages i (s.calls r) ++ slot_message r (left i)
   run_messages left i r zero s end =
-      ap₂ (λ (o : Option Outgoing) (l : List DataCall). slot_message r o ++ sent_to r l) (end.slots i) (end.calls i)
+      ap₂ (λ (o : Option Outgoing) (l : List DataCall). slot_message r o ++ sent_messages r l) (end.slots i) (end.calls i)
       ∙ append-nil (slot_message r (left i))
-      ∙ ap (λ (l : List DataCall). received_from i l ++ slot_message r (left i)) (sym (end.calls r))
+      ∙ ap (λ (l : List DataCall). received_messages i l ++ slot_message r (left i)) (sym (end.calls r))
   run_messages left i r (suc n) s (a, t, (step, owner, makes), rest) =
       owed_by_step i r step s t makes
       ∙ ap (λ (l : List Message). delivered i r step ++ l) (run_messages left i r n t rest)
-      ∙ sym (append_assoc (delivered i r step) (received_from i (t.calls r)) (slot_message r (left i)))
+      ∙ sym (append_assoc (delivered i r step) (received_messages i (t.calls r)) (slot_message r (left i)))
       ∙ ap (λ (l : List Message). l ++ slot_message r (left i)) (sym (got_by_step i r step s t makes))
 
   -- what was received of a rank is what it sent and posted, but for the message in its slot
-  pub legal_messages : (calls : ℕ → List DataCall) (slots : ℕ → Option Outgoing) → IsLegal nue keys calls slots → (i r : ℕ) → sent_to r (calls i) ≡ received_from i (calls r) ++ slot_message r (slots i)
+  pub legal_messages : (calls : ℕ → List DataCall) (slots : ℕ → Option Outgoing) → IsLegal nue keys calls slots → (i r : ℕ) → sent_messages r (calls i) ≡ received_messages i (calls r) ++ slot_message r (slots i)
   legal_messages calls slots legal i r =
       let (n, run) = legal_in_some_order nue keys calls slots legal in run_messages slots i r n (record { calls = calls; slots = no_slots }) run
 

@@ -5,7 +5,7 @@ use Rattle.scc_base.specs.Setups.{SetupView, IsSetup, setup_key}
 use Rattle.scc_base.proofs.Confluence.{equal_or_not}
 use Rattle.scc_base.proofs.ChangeLaws.{true_or_false}
 use Rattle.scc_proto.specs.Tables.{put}
-use Rattle.scc_proto.specs.Messages.{Notes, Message, Progress, begun, with_chunk, message_of, sent_to, received_from, send_to, recv_from, post_to, head_of, is_last, is_whole, chunk_bytes, chunk_words, bytes_from}
+use Rattle.scc_proto.specs.Messages.{Notes, Message, Progress, begun, with_chunk, message_of, sent_messages, received_messages, send_to, recv_from, post_to, head_of, is_last, is_whole, chunk_bytes, chunk_words, bytes_from}
 use Rattle.scc_proto.specs.Stages.{Filling, Raised, Answered, Stage, Idle, Drafting, Sending, Between, Taking, Barrier, OnItsWay, Record}
 use Rattle.scc_proto.specs.Moves.{Move, DraftHeader, DraftChunk, RaiseSent, LookSent, ReadHeader, ReadChunk, LowerSent, RaiseReady, LookReady, LowerReady, FlipGather, LookGather, WriteRelease, LookRelease, StoreHeap, NoMove, Misplaced, is_posted, raise_sent, raise_ready, lower_ready, post_raised, finished_if, calls_raised, calls_received, calls_sent, after}
 use Rattle.scc_proto.specs.Permission.{is_drafted, may_raise, has_taken, may_go_on, is_answered_by}
@@ -19,7 +19,7 @@ use Rattle.scc_proto.specs.Agreement.{RecordsAgree, PairsAgree, SendersAgree, Gr
 use Rattle.scc_proto.specs.Legality.{Grows, ByNothing}
 use Rattle.scc_proto.proofs.Growth.{grows_by_post, grows_by_take, grows_by_pair}
 use Rattle.scc_proto.proofs.MoveFacts.{IsViewStep}
-use Rattle.scc_proto.proofs.MessageLists.{sent_to-post, sent_to-recv, received_from-recv, received_from-send, received_from-post, message_here, message_there}
+use Rattle.scc_proto.proofs.MessageLists.{sent_messages-post, sent_messages-recv, received_messages-recv, received_messages-send, received_messages-post, message_here, message_there}
 use Rattle.scc_proto.proofs.PhaseFacts.{at_rest, when_answered, when_taking, sending_here, post_here}
 use Rattle.scc_proto.proofs.OfferFacts.{Offers, offers}
 use Rattle.scc_proto.proofs.NoteFacts.{bytes_same, chunk_within}
@@ -61,7 +61,7 @@ module _ (s : SetupView) (me : ℕ) (view : View) (records : ℕ → Record) (lo
       may : may_raise (chunk_of s) to (records me).stage ≡ true
       may = both_second (is_none (records me).post) (may_raise (chunk_of s) to (records me).stage) permitted
 
-      level : (m : Option Progress) → sending_side to (records me).stage (records me).post ≡ Resting m → received_from me (records to).calls ≡ sent_to to (records me).calls
+      level : (m : Option Progress) → sending_side to (records me).stage (records me).post ≡ Resting m → received_messages me (records to).calls ≡ sent_messages to (records me).calls
       level m rests = (at_rest (chunk_of s) (pair_of me to view (records me) (records to)) m rests (pairs me to peers)).level
 
       bars : (comm : ℕ) → bar_at comm (raise_sent to (records me).stage) ≡ bar_at comm (records me).stage
@@ -83,11 +83,11 @@ module _ (s : SetupView) (me : ℕ) (view : View) (records : ℕ → Record) (lo
           (ap (λ (p : Option OnItsWay). slot_by (chunk_of s) me p records) (ap (λ (st : Stage). post_raised to st (records me).post) is ∙ ap (λ (b : Bool). if b then Some (record { to = to; head = head_of header; chunk = chunk; is_answered = false }) else (records me).post) sends))
           (ap (λ (st : Stage). passed_open s me (raise_sent to st) records) is
           ∙ ap (λ (b : Bool). passed_open s me (if b then Idle else Sending to Raised (begun (head_of header)) chunk) records) sends
-          ∙ ap (λ (b : Bool). if b then send_to to (message_of (in_hand (chunk_of s) Raised (begun (head_of header)) chunk)) ∷ [] else []) (not_received (received_from me (records to).calls) (sent_to to (records me).calls) at_level)
+          ∙ ap (λ (b : Bool). if b then send_to to (message_of (in_hand (chunk_of s) Raised (begun (head_of header)) chunk)) ∷ [] else []) (not_received (received_messages me (records to).calls) (sent_messages to (records me).calls) at_level)
           ∙ sym (ap (λ (st : Stage). passed_open s me st records) is)))
           (true_or_false (is_posted header))
         where
-          at_level : received_from me (records to).calls ≡ sent_to to (records me).calls
+          at_level : received_messages me (records to).calls ≡ sent_messages to (records me).calls
           at_level = level None (ap₂ (sending_side to) is no_post)
 
           a_post : is_posted header ≡ true → GrowsBy (RaiseSent to)
@@ -108,8 +108,8 @@ module _ (s : SetupView) (me : ℕ) (view : View) (records : ℕ → Record) (lo
               new_post : post_raised to (records me).stage (records me).post ≡ Some (record { to = to; head = head_of header; chunk = chunk; is_answered = false })
               new_post = ap (λ (st : Stage). post_raised to st (records me).post) is ∙ ap (λ (b : Bool). if b then Some (record { to = to; head = head_of header; chunk = chunk; is_answered = false }) else (records me).post) posts
 
-              received : (k : ℕ) → received_from k (calls_raised (chunk_of s) to (records me).stage (records me).calls) ≡ received_from k (records me).calls
-              received k = ap (received_from k) new_calls ∙ received_from-post k (records me).calls to (message_of (with_chunk (chunk_of s) (begun (head_of header)) chunk))
+              received : (k : ℕ) → received_messages k (calls_raised (chunk_of s) to (records me).stage (records me).calls) ≡ received_messages k (records me).calls
+              received k = ap (received_messages k) new_calls ∙ received_messages-post k (records me).calls to (message_of (with_chunk (chunk_of s) (begun (head_of header)) chunk))
 
               gain : passed_calls s (next_of (RaiseSent to)) me ≡ passed_calls s records me ++ post_to to (message_of (with_chunk (chunk_of s) (begun (head_of header)) chunk)) ∷ []
               gain =
@@ -118,14 +118,14 @@ module _ (s : SetupView) (me : ℕ) (view : View) (records : ℕ → Record) (lo
                   ∙ append-nil ((records me).calls ++ post_to to (message_of (with_chunk (chunk_of s) (begun (head_of header)) chunk)) ∷ [])
                   ∙ ap (λ (l : List DataCall). l ++ post_to to (message_of (with_chunk (chunk_of s) (begun (head_of header)) chunk)) ∷ []) (sym (ap (λ (st : Stage). (records me).calls ++ passed_open s me st records) is ∙ append-nil (records me).calls))
 
-              apart : (length (received_from me (next_of (RaiseSent to) to).calls) == length (sent_to to (next_of (RaiseSent to) me).calls)) ≡ false
+              apart : (length (received_messages me (next_of (RaiseSent to) to).calls) == length (sent_messages to (next_of (RaiseSent to) me).calls)) ≡ false
               apart =
                   ap₂ (λ (a b : List Message). length a == length b)
                   (received_at s me records (new_of (RaiseSent to)) refl bars me (received me) to)
-                  (sent_now s me records (new_of (RaiseSent to)) refl bars to ∙ ap (sent_to to) new_calls ∙ sent_to-post to (records me).calls to (message_of (with_chunk (chunk_of s) (begun (head_of header)) chunk))
-                  ∙ message_here (sent_to to (records me).calls) to to (message_of (with_chunk (chunk_of s) (begun (head_of header)) chunk)) (test_same to to refl))
-                  ∙ test_apart (length (received_from me (records to).calls)) (length (sent_to to (records me).calls ++ message_of (with_chunk (chunk_of s) (begun (head_of header)) chunk) ∷ []))
-                  (λ same. let longer = one_more (sent_to to (records me).calls) (message_of (with_chunk (chunk_of s) (begun (head_of header)) chunk)) in let even = ap length at_level in absurd (omega (arith, same, longer, even)))
+                  (sent_now s me records (new_of (RaiseSent to)) refl bars to ∙ ap (sent_messages to) new_calls ∙ sent_messages-post to (records me).calls to (message_of (with_chunk (chunk_of s) (begun (head_of header)) chunk))
+                  ∙ message_here (sent_messages to (records me).calls) to to (message_of (with_chunk (chunk_of s) (begun (head_of header)) chunk)) (test_same to to refl))
+                  ∙ test_apart (length (received_messages me (records to).calls)) (length (sent_messages to (records me).calls ++ message_of (with_chunk (chunk_of s) (begun (head_of header)) chunk) ∷ []))
+                  (λ same. let longer = one_more (sent_messages to (records me).calls) (message_of (with_chunk (chunk_of s) (begun (head_of header)) chunk)) in let even = ap length at_level in absurd (omega (arith, same, longer, even)))
 
               full : slot_of s (next_of (RaiseSent to)) me ≡ Some (record { to = to; head = head_of header; bytes = (with_chunk (chunk_of s) (begun (head_of header)) chunk).bytes })
               full =
@@ -137,7 +137,7 @@ module _ (s : SetupView) (me : ℕ) (view : View) (records : ℕ → Record) (lo
           (ap (λ (st : Stage). calls_raised (chunk_of s) to st (records me).calls) is)
           (ap (λ (p : Option OnItsWay). slot_by (chunk_of s) me p records) (ap (λ (st : Stage). post_raised to st (records me).post) is))
           (ap (λ (st : Stage). passed_open s me (raise_sent to st) records) is
-          ∙ ap (λ (b : Bool). if b then send_to to (message_of (in_hand (chunk_of s) Raised message chunk)) ∷ [] else []) (not_received (received_from me (records to).calls) (sent_to to (records me).calls) at_level)
+          ∙ ap (λ (b : Bool). if b then send_to to (message_of (in_hand (chunk_of s) Raised message chunk)) ∷ [] else []) (not_received (received_messages me (records to).calls) (sent_messages to (records me).calls) at_level)
           ∙ sym (ap (λ (b : Bool). if b then send_to j (message_of (in_hand (chunk_of s) Filling message chunk)) ∷ [] else []) not_yet)
           ∙ sym (ap (λ (st : Stage). passed_open s me st records) is))
         where
@@ -147,11 +147,11 @@ module _ (s : SetupView) (me : ℕ) (view : View) (records : ℕ → Record) (lo
           here : (j == to) ≡ true
           here = both_first (j == to) (is_drafted (chunk_of s) message chunk) may_here
 
-          at_level : received_from me (records to).calls ≡ sent_to to (records me).calls
+          at_level : received_messages me (records to).calls ≡ sent_messages to (records me).calls
           at_level = level (Some message) (ap (λ (st : Stage). sending_side to st (records me).post) is ∙ sending_here to j Filling message chunk (records me).post here)
 
           not_yet : is_received me j records ≡ false
-          not_yet = ap (λ (k : ℕ). is_received me k records) (same_by_eqb j to here) ∙ not_received (received_from me (records to).calls) (sent_to to (records me).calls) at_level
+          not_yet = ap (λ (k : ℕ). is_received me k records) (same_by_eqb j to here) ∙ not_received (received_messages me (records to).calls) (sent_messages to (records me).calls) at_level
       by_stage Idle is = not_allowed Idle is refl
       by_stage (Sending j Raised message chunk) is = not_allowed (Sending j Raised message chunk) is refl
       by_stage (Sending j Answered message chunk) is = not_allowed (Sending j Answered message chunk) is refl
@@ -236,19 +236,19 @@ module _ (s : SetupView) (me : ℕ) (view : View) (records : ℕ → Record) (lo
                   ∙ append-nil ((records me).calls ++ recv_from to (message_of (with_chunk (chunk_of s) message taken.1)) ∷ [])
                   ∙ ap (λ (l : List DataCall). l ++ recv_from to (message_of (with_chunk (chunk_of s) message taken.1)) ∷ []) (sym old_passed)
 
-              received_other : (k : ℕ) → k ≢ to → received_from k (calls_received (chunk_of s) (records me).stage (records me).calls) ≡ received_from k (records me).calls
+              received_other : (k : ℕ) → k ≢ to → received_messages k (calls_received (chunk_of s) (records me).stage (records me).calls) ≡ received_messages k (records me).calls
               received_other k other =
-                  ap (received_from k) new_calls ∙ received_from-recv k (records me).calls to (message_of (with_chunk (chunk_of s) message taken.1))
-                  ∙ message_there (received_from k (records me).calls) to k (message_of (with_chunk (chunk_of s) message taken.1)) (test_apart to k (λ same. other (sym same)))
+                  ap (received_messages k) new_calls ∙ received_messages-recv k (records me).calls to (message_of (with_chunk (chunk_of s) message taken.1))
+                  ∙ message_there (received_messages k (records me).calls) to k (message_of (with_chunk (chunk_of s) message taken.1)) (test_apart to k (λ same. other (sym same)))
 
-              received_here : received_from to (next_of (RaiseReady to) me).calls ≡ received_from to (records me).calls ++ message_of (with_chunk (chunk_of s) message taken.1) ∷ []
+              received_here : received_messages to (next_of (RaiseReady to) me).calls ≡ received_messages to (records me).calls ++ message_of (with_chunk (chunk_of s) message taken.1) ∷ []
               received_here =
-                  ap (λ (rec : Record). received_from to rec.calls) (put_here records me me (new_of (RaiseReady to)) refl)
-                  ∙ ap (received_from to) new_calls ∙ received_from-recv to (records me).calls to (message_of (with_chunk (chunk_of s) message taken.1))
-                  ∙ message_here (received_from to (records me).calls) to to (message_of (with_chunk (chunk_of s) message taken.1)) (test_same to to refl)
+                  ap (λ (rec : Record). received_messages to rec.calls) (put_here records me me (new_of (RaiseReady to)) refl)
+                  ∙ ap (received_messages to) new_calls ∙ received_messages-recv to (records me).calls to (message_of (with_chunk (chunk_of s) message taken.1))
+                  ∙ message_here (received_messages to (records me).calls) to to (message_of (with_chunk (chunk_of s) message taken.1)) (test_same to to refl)
 
-              sent_me : (j : ℕ) → sent_to j (next_of (RaiseReady to) me).calls ≡ sent_to j (records me).calls
-              sent_me j = sent_now s me records (new_of (RaiseReady to)) refl bars j ∙ ap (sent_to j) new_calls ∙ sent_to-recv j (records me).calls to (message_of (with_chunk (chunk_of s) message taken.1))
+              sent_me : (j : ℕ) → sent_messages j (next_of (RaiseReady to) me).calls ≡ sent_messages j (records me).calls
+              sent_me j = sent_now s me records (new_of (RaiseReady to)) refl bars j ∙ ap (sent_messages j) new_calls ∙ sent_messages-recv j (records me).calls to (message_of (with_chunk (chunk_of s) message taken.1))
 
               slot_me : slot_of s (next_of (RaiseReady to)) me ≡ slot_of s records me
               slot_me = slot_now s me records (new_of (RaiseReady to)) refl bars
@@ -282,20 +282,20 @@ module _ (s : SetupView) (me : ℕ) (view : View) (records : ℕ → Record) (lo
                   empty : slot_of s records to ≡ None
                   empty = ap (λ (p : Option OnItsWay). slot_by (chunk_of s) to p records) post_to_none
 
-                  level : sent_to me (records to).calls ≡ received_from to (records me).calls
-                  level = taken.2.level ∙ ap (λ (b : Bool). received_from to (records me).calls ++ pending (chunk_of s) b message taken.1) sends ∙ append-nil (received_from to (records me).calls)
+                  level : sent_messages me (records to).calls ≡ received_messages to (records me).calls
+                  level = taken.2.level ∙ ap (λ (b : Bool). received_messages to (records me).calls ++ pending (chunk_of s) b message taken.1) sends ∙ append-nil (received_messages to (records me).calls)
 
                   before_it : passed_calls s records to ≡ (records to).calls
                   before_it =
                       ap (λ (st : Stage). (records to).calls ++ passed_open s to st records) stage_to
-                      ∙ ap (λ (b : Bool). (records to).calls ++ (if b then send_to me (message_of (with_chunk (chunk_of s) message taken.1)) ∷ [] else [])) (not_received (received_from to (records me).calls) (sent_to me (records to).calls) (sym level))
+                      ∙ ap (λ (b : Bool). (records to).calls ++ (if b then send_to me (message_of (with_chunk (chunk_of s) message taken.1)) ∷ [] else [])) (not_received (received_messages to (records me).calls) (sent_messages me (records to).calls) (sym level))
                       ∙ append-nil (records to).calls
 
                   through : is_received to me (next_of (RaiseReady to)) ≡ true
                   through =
                       ap₂ (λ (a b : List Message). length a == suc (length b)) received_here (sent_at_rank s me records (new_of (RaiseReady to)) refl bars to apart me)
-                      ∙ test_same (length (received_from to (records me).calls ++ message_of (with_chunk (chunk_of s) message taken.1) ∷ [])) (suc (length (sent_to me (records to).calls)))
-                      (one_more (received_from to (records me).calls) (message_of (with_chunk (chunk_of s) message taken.1)) ∙ ap (λ (l : List Message). suc (length l)) (sym level))
+                      ∙ test_same (length (received_messages to (records me).calls ++ message_of (with_chunk (chunk_of s) message taken.1) ∷ [])) (suc (length (sent_messages me (records to).calls)))
+                      (one_more (received_messages to (records me).calls) (message_of (with_chunk (chunk_of s) message taken.1)) ∙ ap (λ (l : List Message). suc (length l)) (sym level))
 
                   sent_call : passed_calls s (next_of (RaiseReady to)) to ≡ passed_calls s records to ++ send_to me (message_of (with_chunk (chunk_of s) message taken.1)) ∷ []
                   sent_call =
@@ -332,25 +332,25 @@ module _ (s : SetupView) (me : ℕ) (view : View) (records : ℕ → Record) (lo
                   whole_message : with_chunk (chunk_of s) message taken.1 ≡ with_chunk (chunk_of s) (begun on_way.head) on_way.chunk
                   whole_message = sym (ap₂ (λ (m : Progress) (c : Notes). with_chunk (chunk_of s) m c) posted.begun_is posted.chunk_is)
 
-                  level : sent_to me (records to).calls ≡ received_from to (records me).calls ++ message_of (with_chunk (chunk_of s) message taken.1) ∷ []
-                  level = taken.2.level ∙ ap (λ (b : Bool). received_from to (records me).calls ++ pending (chunk_of s) b message taken.1) posts
+                  level : sent_messages me (records to).calls ≡ received_messages to (records me).calls ++ message_of (with_chunk (chunk_of s) message taken.1) ∷ []
+                  level = taken.2.level ∙ ap (λ (b : Bool). received_messages to (records me).calls ++ pending (chunk_of s) b message taken.1) posts
 
                   full : slot_of s records to ≡ Some (record { to = on_way.to; head = on_way.head; bytes = (with_chunk (chunk_of s) (begun on_way.head) on_way.chunk).bytes })
                   full =
                       ap (λ (p : Option OnItsWay). slot_by (chunk_of s) to p records) posted.is
                       ∙ ap (λ (b : Bool). if b then None else Some (record { to = on_way.to; head = on_way.head; bytes = (with_chunk (chunk_of s) (begun on_way.head) on_way.chunk).bytes }))
-                      (ap (λ (j : ℕ). length (received_from to (records j).calls) == length (sent_to j (records to).calls)) posted.to
-                      ∙ test_apart (length (received_from to (records me).calls)) (length (sent_to me (records to).calls))
-                      (λ same. let longer = one_more (received_from to (records me).calls) (message_of (with_chunk (chunk_of s) message taken.1)) in let even = ap length level in absurd (omega (arith, same, longer, even))))
+                      (ap (λ (j : ℕ). length (received_messages to (records j).calls) == length (sent_messages j (records to).calls)) posted.to
+                      ∙ test_apart (length (received_messages to (records me).calls)) (length (sent_messages me (records to).calls))
+                      (λ same. let longer = one_more (received_messages to (records me).calls) (message_of (with_chunk (chunk_of s) message taken.1)) in let even = ap length level in absurd (omega (arith, same, longer, even))))
 
                   empty : slot_of s (next_of (RaiseReady to)) to ≡ None
                   empty =
                       ap (λ (rec : Record). slot_by (chunk_of s) to rec.post (next_of (RaiseReady to))) (put_there records me to (new_of (RaiseReady to)) apart)
                       ∙ ap (λ (p : Option OnItsWay). slot_by (chunk_of s) to p (next_of (RaiseReady to))) posted.is
                       ∙ ap (λ (b : Bool). if b then None else Some (record { to = on_way.to; head = on_way.head; bytes = (with_chunk (chunk_of s) (begun on_way.head) on_way.chunk).bytes }))
-                      (ap (λ (j : ℕ). length (received_from to (next_of (RaiseReady to) j).calls) == length (sent_to j (next_of (RaiseReady to) to).calls)) posted.to
+                      (ap (λ (j : ℕ). length (received_messages to (next_of (RaiseReady to) j).calls) == length (sent_messages j (next_of (RaiseReady to) to).calls)) posted.to
                       ∙ ap₂ (λ (a b : List Message). length a == length b) received_here (sent_at_rank s me records (new_of (RaiseReady to)) refl bars to apart me ∙ level)
-                      ∙ test_same (length (received_from to (records me).calls ++ message_of (with_chunk (chunk_of s) message taken.1) ∷ [])) (length (received_from to (records me).calls ++ message_of (with_chunk (chunk_of s) message taken.1) ∷ [])) refl)
+                      ∙ test_same (length (received_messages to (records me).calls ++ message_of (with_chunk (chunk_of s) message taken.1) ∷ [])) (length (received_messages to (records me).calls ++ message_of (with_chunk (chunk_of s) message taken.1) ∷ [])) refl)
 
                   gain : passed_calls s (next_of (RaiseReady to)) on_way.to ≡ passed_calls s records on_way.to ++ Recv to on_way.head (with_chunk (chunk_of s) (begun on_way.head) on_way.chunk).bytes ∷ []
                   gain =
@@ -408,8 +408,8 @@ module _ (s : SetupView) (me : ℕ) (view : View) (records : ℕ → Record) (lo
       settled (Some p) is answered side =
           ap (λ (o : Option OnItsWay). slot_by (chunk_of s) me o records) is
           ∙ ap (λ (b : Bool). if b then None else Some (record { to = p.to; head = p.head; bytes = (with_chunk (chunk_of s) (begun p.head) p.chunk).bytes }))
-          (ap (λ (j : ℕ). length (received_from me (records j).calls) == length (sent_to j (records me).calls)) target
-          ∙ test_same (length (received_from me (records by).calls)) (length (sent_to by (records me).calls)) (ap length level))
+          (ap (λ (j : ℕ). length (received_messages me (records j).calls) == length (sent_messages j (records me).calls)) target
+          ∙ test_same (length (received_messages me (records by).calls)) (length (sent_messages by (records me).calls)) (ap length level))
         where
           here : (p.to == by) ≡ true
           here = both_first (p.to == by) p.is_answered answered
@@ -426,11 +426,11 @@ module _ (s : SetupView) (me : ℕ) (view : View) (records : ℕ → Record) (lo
           ready : (through : Option Progress) × IsReady (chunk_of s) (pair_of me by view (records me) (records by)) through true true (begun p.head) p.chunk
           ready = when_answered (chunk_of s) (pair_of me by view (records me) (records by)) true (begun p.head) p.chunk sending (pairs me by peers)
 
-          arrived : (b : Bool) → HasArrived b (chunk_of s) true (begun p.head) p.chunk ready.0 (sent_to by (records me).calls) (received_from me (records by).calls) → received_from me (records by).calls ≡ sent_to by (records me).calls
-          arrived true has = has.1 ∙ append-nil (sent_to by (records me).calls)
+          arrived : (b : Bool) → HasArrived b (chunk_of s) true (begun p.head) p.chunk ready.0 (sent_messages by (records me).calls) (received_messages me (records by).calls) → received_messages me (records by).calls ≡ sent_messages by (records me).calls
+          arrived true has = has.1 ∙ append-nil (sent_messages by (records me).calls)
           arrived false has = has.1
 
-          level : received_from me (records by).calls ≡ sent_to by (records me).calls
+          level : received_messages me (records by).calls ≡ sent_messages by (records me).calls
           level = arrived (is_last (chunk_of s) (begun p.head)) ready.1.arrived
 
       a_post : (st : Stage) → (records me).stage ≡ st → lower_ready (chunk_of s) st ≡ st → calls_sent (chunk_of s) st (records me).calls ≡ (records me).calls → sending_side by st (records me).post ≡ side_of_post by (records me).post → may_go_on by st (records me).post ≡ is_answered_by by (records me).post → GrowsBy (LowerReady by)
@@ -472,20 +472,20 @@ module _ (s : SetupView) (me : ℕ) (view : View) (records : ℕ → Record) (lo
               ∙ sym (ap (λ (b : Bool). if b then send_to j (message_of (with_chunk (chunk_of s) message chunk)) ∷ [] else []) not_yet)
               ∙ sym (ap (λ (x : Stage). passed_open s me x records) is))
             where
-              arrived : HasArrived false (chunk_of s) false message chunk ready.0 (sent_to by (records me).calls) (received_from me (records by).calls)
-              arrived = subst (λ (b : Bool). HasArrived b (chunk_of s) false message chunk ready.0 (sent_to by (records me).calls) (received_from me (records by).calls)) more ready.1.arrived
+              arrived : HasArrived false (chunk_of s) false message chunk ready.0 (sent_messages by (records me).calls) (received_messages me (records by).calls)
+              arrived = subst (λ (b : Bool). HasArrived b (chunk_of s) false message chunk ready.0 (sent_messages by (records me).calls) (received_messages me (records by).calls)) more ready.1.arrived
 
               not_yet : is_received me j records ≡ false
-              not_yet = ap (λ (k : ℕ). is_received me k records) target ∙ not_received (received_from me (records by).calls) (sent_to by (records me).calls) arrived.1
+              not_yet = ap (λ (k : ℕ). is_received me k records) target ∙ not_received (received_messages me (records by).calls) (sent_messages by (records me).calls) arrived.1
           by_last true last = ByNothing calls slots
             where
-              arrived : HasArrived true (chunk_of s) false message chunk ready.0 (sent_to by (records me).calls) (received_from me (records by).calls)
-              arrived = subst (λ (b : Bool). HasArrived b (chunk_of s) false message chunk ready.0 (sent_to by (records me).calls) (received_from me (records by).calls)) last ready.1.arrived
+              arrived : HasArrived true (chunk_of s) false message chunk ready.0 (sent_messages by (records me).calls) (received_messages me (records by).calls)
+              arrived = subst (λ (b : Bool). HasArrived b (chunk_of s) false message chunk ready.0 (sent_messages by (records me).calls) (received_messages me (records by).calls)) last ready.1.arrived
 
               through : is_received me j records ≡ true
               through = ap (λ (k : ℕ). is_received me k records) target
-                  ∙ test_same (length (received_from me (records by).calls)) (suc (length (sent_to by (records me).calls)))
-                  (ap length arrived.1 ∙ one_more (sent_to by (records me).calls) (message_of (with_chunk (chunk_of s) message chunk)))
+                  ∙ test_same (length (received_messages me (records by).calls)) (suc (length (sent_messages by (records me).calls)))
+                  (ap length arrived.1 ∙ one_more (sent_messages by (records me).calls) (message_of (with_chunk (chunk_of s) message chunk)))
 
               new_calls : calls_sent (chunk_of s) (records me).stage (records me).calls ≡ (records me).calls ++ send_to j (message_of (with_chunk (chunk_of s) message chunk)) ∷ []
               new_calls = ap (λ (x : Stage). calls_sent (chunk_of s) x (records me).calls) is ∙ ap (λ (b : Bool). finished_if b (send_to j (message_of (with_chunk (chunk_of s) message chunk))) (records me).calls) last
@@ -493,8 +493,8 @@ module _ (s : SetupView) (me : ℕ) (view : View) (records : ℕ → Record) (lo
               new_stage : lower_ready (chunk_of s) (records me).stage ≡ Idle
               new_stage = ap (lower_ready (chunk_of s)) is ∙ ap (λ (b : Bool). if b then Idle else Sending j Filling (with_chunk (chunk_of s) message chunk) []) last
 
-              received : (k : ℕ) → received_from k (calls_sent (chunk_of s) (records me).stage (records me).calls) ≡ received_from k (records me).calls
-              received k = ap (received_from k) new_calls ∙ received_from-send k (records me).calls j (message_of (with_chunk (chunk_of s) message chunk))
+              received : (k : ℕ) → received_messages k (calls_sent (chunk_of s) (records me).stage (records me).calls) ≡ received_messages k (records me).calls
+              received k = ap (received_messages k) new_calls ∙ received_messages-send k (records me).calls j (message_of (with_chunk (chunk_of s) message chunk))
 
               old_passed : passed_calls s records me ≡ (records me).calls ++ send_to j (message_of (with_chunk (chunk_of s) message chunk)) ∷ []
               old_passed = ap (λ (x : Stage). (records me).calls ++ passed_open s me x records) is ∙ ap (λ (b : Bool). (records me).calls ++ (if b then send_to j (message_of (with_chunk (chunk_of s) message chunk)) ∷ [] else [])) through

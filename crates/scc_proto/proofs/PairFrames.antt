@@ -2,11 +2,11 @@
 -- receiver, and the receiver's side under the moves of a sender.
 use Rattle.std.proofs.Common.{◌≡◌, ℕ, suc, Bool, true, false, ◌&&◌, ◌==◌, if◌then◌else◌, List, [], ◌∷◌, ◌++◌, Option, None, refl, sym, subst}
 use Rattle.scc_base.specs.Calls.{DataCall, Bar}
-use Rattle.scc_proto.specs.Messages.{Notes, sent_to, received_from, is_last, with_chunk, message_of}
+use Rattle.scc_proto.specs.Messages.{Notes, sent_messages, received_messages, is_last, with_chunk, message_of}
 use Rattle.scc_proto.specs.Stages.{Filling, Raised, Answered, Stage, Idle, Drafting, Sending, Between, Taking, Barrier, OnItsWay}
 use Rattle.scc_proto.specs.Moves.{draft_header, draft_chunk, raise_sent, read_chunk, lower_sent, raise_ready, look_ready, lower_ready, flip_gather, look_gather, write_release, look_release, finished_if, calls_released, calls_let_go, calls_raised, calls_received, calls_sent, is_posted}
 use Rattle.scc_proto.specs.Pairs.{Awaiting, sending_side, taking_side, side_of_post, Pair, Phase}
-use Rattle.scc_proto.proofs.MessageLists.{sent_to-recv, sent_to-bar, received_from-send, received_from-post, received_from-bar}
+use Rattle.scc_proto.proofs.MessageLists.{sent_messages-recv, sent_messages-bar, received_messages-send, received_messages-post, received_messages-bar}
 
 -- two pairs that show the same are in the same phase
 pub same_pair : (size : ℕ) (x y : Pair) → y.sent_flag ≡ x.sent_flag → y.ready_flag ≡ x.ready_flag → y.sending ≡ x.sending → y.taking ≡ x.taking → y.notes ≡ x.notes
@@ -167,37 +167,37 @@ module _ (from : ℕ) where
 -- ---- the messages of the calls
 
 module _ (r : ℕ) (calls : List DataCall) where
-  pub sent-calls_received : (size : ℕ) (st : Stage) → sent_to r (calls_received size st calls) ≡ sent_to r calls
+  pub sent-calls_received : (size : ℕ) (st : Stage) → sent_messages r (calls_received size st calls) ≡ sent_messages r calls
   sent-calls_received size Idle = refl
   sent-calls_received size (Drafting h chunk) = refl
   sent-calls_received size (Sending j part message chunk) = refl
   sent-calls_received size (Between i message) = refl
-  sent-calls_received size (Taking i message chunk) = either_calls (λ l. sent_to r l ≡ sent_to r calls) (is_last size message) _ calls refl (sent_to-recv r calls i (message_of (with_chunk size message chunk)))
+  sent-calls_received size (Taking i message chunk) = either_calls (λ l. sent_messages r l ≡ sent_messages r calls) (is_last size message) _ calls refl (sent_messages-recv r calls i (message_of (with_chunk size message chunk)))
   sent-calls_received size (Barrier c seen released) = refl
 
-  pub received-calls_raised : (size to : ℕ) (st : Stage) → received_from r (calls_raised size to st calls) ≡ received_from r calls
+  pub received-calls_raised : (size to : ℕ) (st : Stage) → received_messages r (calls_raised size to st calls) ≡ received_messages r calls
   received-calls_raised size to Idle = refl
-  received-calls_raised size to (Drafting h chunk) = either_calls (λ l. received_from r l ≡ received_from r calls) (is_posted h) _ calls refl (received_from-post r calls to _)
+  received-calls_raised size to (Drafting h chunk) = either_calls (λ l. received_messages r l ≡ received_messages r calls) (is_posted h) _ calls refl (received_messages-post r calls to _)
   received-calls_raised size to (Sending j part message chunk) = refl
   received-calls_raised size to (Between i message) = refl
   received-calls_raised size to (Taking i message chunk) = refl
   received-calls_raised size to (Barrier c seen released) = refl
 
-  pub received-calls_sent : (size : ℕ) (st : Stage) → received_from r (calls_sent size st calls) ≡ received_from r calls
+  pub received-calls_sent : (size : ℕ) (st : Stage) → received_messages r (calls_sent size st calls) ≡ received_messages r calls
   received-calls_sent size Idle = refl
   received-calls_sent size (Drafting h chunk) = refl
-  received-calls_sent size (Sending j part message chunk) = either_calls (λ l. received_from r l ≡ received_from r calls) (is_last size message) _ calls refl (received_from-send r calls j _)
+  received-calls_sent size (Sending j part message chunk) = either_calls (λ l. received_messages r l ≡ received_messages r calls) (is_last size message) _ calls refl (received_messages-send r calls j _)
   received-calls_sent size (Between i message) = refl
   received-calls_sent size (Taking i message chunk) = refl
   received-calls_sent size (Barrier c seen released) = refl
 
-  pub sent-finished_bar : (b : Bool) (comm : ℕ) → sent_to r (finished_if b (Bar comm) calls) ≡ sent_to r calls
-  sent-finished_bar b comm = either_calls (λ l. sent_to r l ≡ sent_to r calls) b (Bar comm) calls refl (sent_to-bar r calls comm)
+  pub sent-finished_bar : (b : Bool) (comm : ℕ) → sent_messages r (finished_if b (Bar comm) calls) ≡ sent_messages r calls
+  sent-finished_bar b comm = either_calls (λ l. sent_messages r l ≡ sent_messages r calls) b (Bar comm) calls refl (sent_messages-bar r calls comm)
 
-  pub received-finished_bar : (b : Bool) (comm : ℕ) → received_from r (finished_if b (Bar comm) calls) ≡ received_from r calls
-  received-finished_bar b comm = either_calls (λ l. received_from r l ≡ received_from r calls) b (Bar comm) calls refl (received_from-bar r calls comm)
+  pub received-finished_bar : (b : Bool) (comm : ℕ) → received_messages r (finished_if b (Bar comm) calls) ≡ received_messages r calls
+  received-finished_bar b comm = either_calls (λ l. received_messages r l ≡ received_messages r calls) b (Bar comm) calls refl (received_messages-bar r calls comm)
 
-  pub sent-calls_released : (last : ℕ) (st : Stage) → sent_to r (calls_released last st calls) ≡ sent_to r calls
+  pub sent-calls_released : (last : ℕ) (st : Stage) → sent_messages r (calls_released last st calls) ≡ sent_messages r calls
   sent-calls_released last Idle = refl
   sent-calls_released last (Drafting h chunk) = refl
   sent-calls_released last (Sending j part message chunk) = refl
@@ -205,7 +205,7 @@ module _ (r : ℕ) (calls : List DataCall) where
   sent-calls_released last (Taking i message chunk) = refl
   sent-calls_released last (Barrier c seen released) = sent-finished_bar (suc released == last) c
 
-  pub received-calls_released : (last : ℕ) (st : Stage) → received_from r (calls_released last st calls) ≡ received_from r calls
+  pub received-calls_released : (last : ℕ) (st : Stage) → received_messages r (calls_released last st calls) ≡ received_messages r calls
   received-calls_released last Idle = refl
   received-calls_released last (Drafting h chunk) = refl
   received-calls_released last (Sending j part message chunk) = refl
@@ -213,7 +213,7 @@ module _ (r : ℕ) (calls : List DataCall) where
   received-calls_released last (Taking i message chunk) = refl
   received-calls_released last (Barrier c seen released) = received-finished_bar (suc released == last) c
 
-  pub sent-calls_let_go : (comm value v : ℕ) (st : Stage) → sent_to r (calls_let_go comm value v st calls) ≡ sent_to r calls
+  pub sent-calls_let_go : (comm value v : ℕ) (st : Stage) → sent_messages r (calls_let_go comm value v st calls) ≡ sent_messages r calls
   sent-calls_let_go comm value v Idle = refl
   sent-calls_let_go comm value v (Drafting h chunk) = refl
   sent-calls_let_go comm value v (Sending j part message chunk) = refl
@@ -221,7 +221,7 @@ module _ (r : ℕ) (calls : List DataCall) where
   sent-calls_let_go comm value v (Taking i message chunk) = refl
   sent-calls_let_go comm value v (Barrier c seen released) = sent-finished_bar ((c == comm) && (value == v)) c
 
-  pub received-calls_let_go : (comm value v : ℕ) (st : Stage) → received_from r (calls_let_go comm value v st calls) ≡ received_from r calls
+  pub received-calls_let_go : (comm value v : ℕ) (st : Stage) → received_messages r (calls_let_go comm value v st calls) ≡ received_messages r calls
   received-calls_let_go comm value v Idle = refl
   received-calls_let_go comm value v (Drafting h chunk) = refl
   received-calls_let_go comm value v (Sending j part message chunk) = refl

@@ -2,7 +2,7 @@
 use Rattle.std.proofs.Common.{◌≡◌, ◌≢◌, ℕ, true, ◌==◌, [], None, option_map, unwrap_or, refl, sym, ◌∙◌, ap, subst}
 use Rattle.scc_base.specs.Setups.{SetupView}
 use Rattle.scc_proto.specs.Tables.{put, put_two}
-use Rattle.scc_proto.specs.Messages.{note_word, sent_to, received_from}
+use Rattle.scc_proto.specs.Messages.{note_word, sent_messages, received_messages}
 use Rattle.scc_proto.specs.Stages.{Record}
 use Rattle.scc_proto.specs.Moves.{Move, DraftHeader, DraftChunk, RaiseSent, LookSent, ReadHeader, ReadChunk, LowerSent, RaiseReady, LookReady, LowerReady, FlipGather, LookGather, WriteRelease, LookRelease, StoreHeap, NoMove, Misplaced, after, lower_sent}
 use Rattle.scc_proto.specs.Permission.{permits, may_take}
@@ -187,4 +187,4 @@ pairs_kept s me view records move step singles senders pairs from to peers =
     same_pair (chunk_of s) (pair_of from to view (records from) (records to)) _ (sent_left me from to view move ne nf) (ready_left me from to view move ne nf)
     (ap (λ (x : Record). sending_side to x.stage x.post) a) (ap (λ (x : Record). taking_side from x.stage) b) (ap (λ (x : Record). x.notes from) b)
     (header_left me from view move ne) (chunk_left me from view move ne)
-    (ap (λ (x : Record). sent_to to x.calls) a) (ap (λ (x : Record). received_from from x.calls) b) (pairs from to peers)))
+    (ap (λ (x : Record). sent_messages to x.calls) a) (ap (λ (x : Record). received_messages from x.calls) b) (pairs from to peers)))

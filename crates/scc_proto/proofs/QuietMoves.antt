@@ -5,7 +5,7 @@ use Rattle.scc_base.specs.Calls.{DataCall, Bar}
 use Rattle.scc_base.specs.Setups.{SetupView, setup_key, root_of}
 use Rattle.scc_base.proofs.Confluence.{equal_or_not}
 use Rattle.scc_proto.specs.Tables.{put}
-use Rattle.scc_proto.specs.Messages.{Notes, Message, Progress, begun, with_chunk, message_of, sent_to, received_from, send_to, note_word}
+use Rattle.scc_proto.specs.Messages.{Notes, Message, Progress, begun, with_chunk, message_of, sent_messages, received_messages, send_to, note_word}
 use Rattle.scc_proto.specs.Stages.{Part, Filling, Raised, Answered, Stage, Idle, Drafting, Sending, Between, Taking, Barrier, OnItsWay, Record}
 use Rattle.scc_proto.specs.Moves.{draft_header, draft_chunk, read_chunk, lower_sent, look_ready, post_answered}
 use Rattle.scc_proto.specs.Records.{chunk_of, last_of}
@@ -17,7 +17,7 @@ use Rattle.scc_proto.proofs.BarrierFacts.{Counts, gathered-bar, bar_at, gathered
 use Rattle.scc_proto.proofs.GroupLaw.{put_here, put_there}
 
 -- an open call that is passed, where what matters of the lists and of the roots is the same
-pub open_at : (s : SetupView) (k : ℕ) (st : Stage) (old new : ℕ → Record) → ((to : ℕ) → received_from k (new to).calls ≡ received_from k (old to).calls) → ((to : ℕ) → sent_to to (new k).calls ≡ sent_to to (old k).calls)
+pub open_at : (s : SetupView) (k : ℕ) (st : Stage) (old new : ℕ → Record) → ((to : ℕ) → received_messages k (new to).calls ≡ received_messages k (old to).calls) → ((to : ℕ) → sent_messages to (new k).calls ≡ sent_messages to (old k).calls)
     → ((comm : ℕ) → is_gathered s comm k new ≡ is_gathered s comm k old) → passed_open s k st new ≡ passed_open s k st old
 open_at s k Idle old new received sent gathers = refl
 open_at s k (Drafting header chunk) old new received sent gathers = refl
@@ -36,7 +36,7 @@ open_free s k (Between from message) old new free gathers = refl
 open_free s k (Taking from message chunk) old new free gathers = refl
 open_free s k (Barrier c seen released) old new free gathers = ap (λ (b : Bool). if b then Bar c ∷ [] else []) (gathers c)
 
-pub slot_at_rank : (s : SetupView) (k : ℕ) (post : Option OnItsWay) (old new : ℕ → Record) → ((to : ℕ) → received_from k (new to).calls ≡ received_from k (old to).calls) → ((to : ℕ) → sent_to to (new k).calls ≡ sent_to to (old k).calls)
+pub slot_at_rank : (s : SetupView) (k : ℕ) (post : Option OnItsWay) (old new : ℕ → Record) → ((to : ℕ) → received_messages k (new to).calls ≡ received_messages k (old to).calls) → ((to : ℕ) → sent_messages to (new k).calls ≡ sent_messages to (old k).calls)
     → slot_by (chunk_of s) k post new ≡ slot_by (chunk_of s) k post old
 slot_at_rank s k None old new received sent = refl
 slot_at_rank s k (Some post) old new received sent =
@@ -63,23 +63,23 @@ module _ (s : SetupView) (me : ℕ) (records : ℕ → Record) (new : Record) (f
   pub gathers_alike : (k comm : ℕ) → is_gathered s comm k (put records me new) ≡ is_gathered s comm k records
   gathers_alike k comm = ap₂ nat_le (flips_at_rank comm k) (gathered_at comm (last_of s comm k) (root_of s comm k))
 
-  pub received_at : (k : ℕ) → received_from k new.calls ≡ received_from k (records me).calls → (to : ℕ) → received_from k (put records me new to).calls ≡ received_from k (records to).calls
+  pub received_at : (k : ℕ) → received_messages k new.calls ≡ received_messages k (records me).calls → (to : ℕ) → received_messages k (put records me new to).calls ≡ received_messages k (records to).calls
   received_at k same to =
       ⊎_elim
-      (λ (is : to ≡ me). ap (λ (rec : Record). received_from k rec.calls) (put_here records me to new is) ∙ same ∙ ap (λ (j : ℕ). received_from k (records j).calls) (sym is))
-      (λ (other : to ≢ me). ap (λ (rec : Record). received_from k rec.calls) (put_there records me to new other))
+      (λ (is : to ≡ me). ap (λ (rec : Record). received_messages k rec.calls) (put_here records me to new is) ∙ same ∙ ap (λ (j : ℕ). received_messages k (records j).calls) (sym is))
+      (λ (other : to ≢ me). ap (λ (rec : Record). received_messages k rec.calls) (put_there records me to new other))
       (equal_or_not to me)
 
-  pub sent_at_rank : (k : ℕ) → k ≢ me → (to : ℕ) → sent_to to (put records me new k).calls ≡ sent_to to (records k).calls
-  sent_at_rank k other to = ap (λ (rec : Record). sent_to to rec.calls) (put_there records me k new other)
+  pub sent_at_rank : (k : ℕ) → k ≢ me → (to : ℕ) → sent_messages to (put records me new k).calls ≡ sent_messages to (records k).calls
+  sent_at_rank k other to = ap (λ (rec : Record). sent_messages to rec.calls) (put_there records me k new other)
 
   -- another rank passes and posts nothing
-  pub passed_stays : (k : ℕ) → k ≢ me → received_from k new.calls ≡ received_from k (records me).calls → passed_calls s (put records me new) k ≡ passed_calls s records k
+  pub passed_stays : (k : ℕ) → k ≢ me → received_messages k new.calls ≡ received_messages k (records me).calls → passed_calls s (put records me new) k ≡ passed_calls s records k
   passed_stays k other received =
       ap (λ (rec : Record). rec.calls ++ passed_open s k rec.stage (put records me new)) (put_there records me k new other)
       ∙ ap (λ (l : List DataCall). (records k).calls ++ l) (open_at s k (records k).stage records (put records me new) (received_at k received) (sent_at_rank k other) (gathers_alike k))
 
-  pub slot_stays : (k : ℕ) → k ≢ me → received_from k new.calls ≡ received_from k (records me).calls → slot_of s (put records me new) k ≡ slot_of s records k
+  pub slot_stays : (k : ℕ) → k ≢ me → received_messages k new.calls ≡ received_messages k (records me).calls → slot_of s (put records me new) k ≡ slot_of s records k
   slot_stays k other received =
       ap (λ (rec : Record). slot_by (chunk_of s) k rec.post (put records me new)) (put_there records me k new other)
       ∙ slot_at_rank s k (records k).post records (put records me new) (received_at k received) (sent_at_rank k other)
@@ -90,19 +90,19 @@ module _ (s : SetupView) (me : ℕ) (records : ℕ → Record) (new : Record) (f
   pub slot_now : slot_of s (put records me new) me ≡ slot_by (chunk_of s) me new.post (put records me new)
   slot_now = ap (λ (rec : Record). slot_by (chunk_of s) me rec.post (put records me new)) (put_here records me me new refl)
 
-  pub sent_now : (to : ℕ) → sent_to to (put records me new me).calls ≡ sent_to to new.calls
-  sent_now to = ap (λ (rec : Record). sent_to to rec.calls) (put_here records me me new refl)
+  pub sent_now : (to : ℕ) → sent_messages to (put records me new me).calls ≡ sent_messages to new.calls
+  sent_now to = ap (λ (rec : Record). sent_messages to rec.calls) (put_here records me me new refl)
 
   -- a move that finishes no call, and passes and posts nothing
   pub quiet : new.calls ≡ (records me).calls → slot_by (chunk_of s) me new.post records ≡ slot_by (chunk_of s) me (records me).post records → passed_open s me new.stage records ≡ passed_open s me (records me).stage records
       → Grows s.nue (setup_key s) (passed_calls s records) (slot_of s records) (passed_calls s (put records me new)) (slot_of s (put records me new))
   quiet calls post open_call = ByNothing passed slots
     where
-      received : (k : ℕ) → received_from k new.calls ≡ received_from k (records me).calls
-      received k = ap (received_from k) calls
+      received : (k : ℕ) → received_messages k new.calls ≡ received_messages k (records me).calls
+      received k = ap (received_messages k) calls
 
-      sent : (to : ℕ) → sent_to to (put records me new me).calls ≡ sent_to to (records me).calls
-      sent to = sent_now to ∙ ap (sent_to to) calls
+      sent : (to : ℕ) → sent_messages to (put records me new me).calls ≡ sent_messages to (records me).calls
+      sent to = sent_now to ∙ ap (sent_messages to) calls
 
       passed : (k : ℕ) → passed_calls s (put records me new) k ≡ passed_calls s records k
       passed k =

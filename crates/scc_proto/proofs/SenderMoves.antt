@@ -1,13 +1,13 @@
 -- The phases of a pair under the moves of its sender.
 use Rattle.std.proofs.Common.{◌≡◌, ℕ, Bool, true, false, ◌&&◌, ◌==◌, if◌then◌else◌, List, [], ◌∷◌, ◌++◌, Option, Some, None, is_none, option_map, refl, sym, ◌∙◌, ap, subst, append-nil}
 use Rattle.scc_base.specs.Calls.{DataCall}
-use Rattle.scc_proto.specs.Messages.{Notes, note_word, Message, Progress, begun, is_last, with_chunk, message_of, head_of, sent_to, send_to, post_to}
+use Rattle.scc_proto.specs.Messages.{Notes, note_word, Message, Progress, begun, is_last, with_chunk, message_of, head_of, sent_messages, send_to, post_to}
 use Rattle.scc_proto.specs.Stages.{Filling, Raised, Answered, Stage, Idle, Drafting, Sending, Between, Taking, Barrier, OnItsWay}
 use Rattle.scc_proto.specs.Moves.{draft_header, draft_chunk, raise_sent, look_ready, lower_ready, post_raised, post_answered, calls_raised, calls_sent, finished_if, is_posted}
 use Rattle.scc_proto.specs.Permission.{drafts_header, drafts_chunk, may_raise, may_go_on, is_drafted}
 use Rattle.scc_proto.specs.Pairs.{Resting, Offering, TakingSide, Awaiting, side_of_post, sending_side, NotesStand, Pair, pending, HasArrived, Phase, InRest, InRaised, InReady}
 use Rattle.scc_proto.proofs.Tests.{same_or_other, same_by_eqb, both_first, both_second}
-use Rattle.scc_proto.proofs.MessageLists.{sent_to-send, sent_to-post, message_here, message_there}
+use Rattle.scc_proto.proofs.MessageLists.{sent_messages-send, sent_messages-post, message_here, message_there}
 use Rattle.scc_proto.proofs.PairFrames.{same_pair}
 use Rattle.scc_proto.proofs.PhaseFacts.{at_rest, when_answered, when_ready, sending_here, sending_there, post_here, post_there}
 
@@ -21,7 +21,7 @@ from_sender to f g st post h c calls t n b = record {
   notes = n;
   header = h;
   chunk = c;
-  sent = sent_to to calls;
+  sent = sent_messages to calls;
   received = b;
 }
 
@@ -93,13 +93,13 @@ abbrev first_post : Bool → ℕ → Notes → Notes → Option OnItsWay
 first_post posted j header chunk = if posted then Some (record { to = j; head = head_of header; chunk = chunk; is_answered = false }) else None
 
 module _ (size : ℕ) (to g j : ℕ) (header chunk : Notes) (h c : ℕ → ℕ) (calls : List DataCall) (t : TakingSide) (n : Option Notes) (b : List Message) where
-  level_here : (posted : Bool) → (j == to) ≡ true → b ≡ sent_to to calls
-      → sent_to to (finished_if posted (post_to j (message_of (with_chunk size (begun (head_of header)) chunk))) calls) ≡ b ++ pending size posted (begun (head_of header)) chunk
-  level_here true here level = sent_to-post to calls j _ ∙ message_here (sent_to to calls) j to _ here ∙ ap (λ (l : List Message). l ++ message_of (with_chunk size (begun (head_of header)) chunk) ∷ []) (sym level)
+  level_here : (posted : Bool) → (j == to) ≡ true → b ≡ sent_messages to calls
+      → sent_messages to (finished_if posted (post_to j (message_of (with_chunk size (begun (head_of header)) chunk))) calls) ≡ b ++ pending size posted (begun (head_of header)) chunk
+  level_here true here level = sent_messages-post to calls j _ ∙ message_here (sent_messages to calls) j to _ here ∙ ap (λ (l : List Message). l ++ message_of (with_chunk size (begun (head_of header)) chunk) ∷ []) (sym level)
   level_here false here level = sym level ∙ sym (append-nil b)
 
-  level_there : (posted : Bool) → (j == to) ≡ false → sent_to to (finished_if posted (post_to j (message_of (with_chunk size (begun (head_of header)) chunk))) calls) ≡ sent_to to calls
-  level_there true there = sent_to-post to calls j _ ∙ message_there (sent_to to calls) j to _ there
+  level_there : (posted : Bool) → (j == to) ≡ false → sent_messages to (finished_if posted (post_to j (message_of (with_chunk size (begun (head_of header)) chunk))) calls) ≡ sent_messages to calls
+  level_there true there = sent_messages-post to calls j _ ∙ message_there (sent_messages to calls) j to _ there
   level_there false there = refl
 
   side_here : (posted : Bool) → (j == to) ≡ true → sending_side to (first_stage posted j header chunk) (first_post posted j header chunk) ≡ Offering false posted (begun (head_of header)) chunk
@@ -219,7 +219,7 @@ module _ (size : ℕ) (to f g : ℕ) (is_set : ℕ → Bool) (h c : ℕ → ℕ)
   look_raised true i message chunk post late s phase = same_or_other (Phase size (from_sender to f g (Sending i Answered message chunk) late h c calls t n b)) i to
       (λ here is. seen_ready (from_sender to f g (Sending i Raised message chunk) post h c calls t n b) (from_sender to f g (Sending i Answered message chunk) late h c calls t n b)
       false false message chunk (told (ap is_set (sym is) ∙ s)) (sending_here to i Raised message chunk post here)
-      (λ k. record { sent_flag = f; ready_flag = g; sending = sending_here to i Answered message chunk late here k; taking = t; notes = n; header = h; chunk = c; sent = sent_to to calls; received = b }) phase)
+      (λ k. record { sent_flag = f; ready_flag = g; sending = sending_here to i Answered message chunk late here k; taking = t; notes = n; header = h; chunk = c; sent = sent_messages to calls; received = b }) phase)
       (λ there ne. same_pair size (from_sender to f g (Sending i Raised message chunk) post h c calls t n b) (from_sender to f g (Sending i Answered message chunk) late h c calls t n b)
       refl refl (sending_there to i Answered message chunk late there ∙ sym (sending_there to i Raised message chunk post there)) refl refl refl refl refl refl phase)
 
@@ -258,18 +258,18 @@ module _ (size : ℕ) (to f g j : ℕ) (h c : ℕ → ℕ) (calls : List DataCal
       (finished_if last (send_to i (message_of (with_chunk size message chunk))) calls) t n b)
   through_here true flag i message chunk post is here clear phase =
       let r = when_answered size (from_sender to f g (Sending i Answered message chunk) post h c calls t n b) false message chunk (sending_here to i Answered message chunk post here) phase in
-      let a : HasArrived true size false message chunk r.0 (sent_to to calls) b = subst (λ x. HasArrived x size false message chunk r.0 (sent_to to calls) b) is r.1.arrived in
+      let a : HasArrived true size false message chunk r.0 (sent_messages to calls) b = subst (λ x. HasArrived x size false message chunk r.0 (sent_messages to calls) b) is r.1.arrived in
       InRest None (record {
         sent_flag = r.1.sent_flag;
         ready_flag = clear;
         sending = refl;
         taking = r.1.taking ∙ ap (λ (o : Option Progress). Awaiting o) a.0;
         notes = r.1.notes;
-        level = a.1 ∙ sym (sent_to-send to calls i _ ∙ message_here (sent_to to calls) i to _ here);
+        level = a.1 ∙ sym (sent_messages-send to calls i _ ∙ message_here (sent_messages to calls) i to _ here);
       })
   through_here false flag i message chunk post is here clear phase =
       let r = when_answered size (from_sender to f g (Sending i Answered message chunk) post h c calls t n b) false message chunk (sending_here to i Answered message chunk post here) phase in
-      let a : HasArrived false size false message chunk r.0 (sent_to to calls) b = subst (λ x. HasArrived x size false message chunk r.0 (sent_to to calls) b) is r.1.arrived in
+      let a : HasArrived false size false message chunk r.0 (sent_messages to calls) b = subst (λ x. HasArrived x size false message chunk r.0 (sent_messages to calls) b) is r.1.arrived in
       InRest (Some (with_chunk size message chunk)) (record {
         sent_flag = r.1.sent_flag;
         ready_flag = clear;
@@ -284,7 +284,7 @@ module _ (size : ℕ) (to f g j : ℕ) (h c : ℕ → ℕ) (calls : List DataCal
       → Phase size (from_sender to f g (if last then Idle else Sending i Filling (with_chunk size message chunk) []) None h c
       (finished_if last (send_to i (message_of (with_chunk size message chunk))) calls) t n b)
   through_there true i message chunk post there phase = same_pair size (from_sender to f g (Sending i Answered message chunk) post h c calls t n b) _ refl refl
-      (sym (sending_there to i Answered message chunk post there)) refl refl refl refl (sent_to-send to calls i _ ∙ message_there (sent_to to calls) i to _ there) refl phase
+      (sym (sending_there to i Answered message chunk post there)) refl refl refl refl (sent_messages-send to calls i _ ∙ message_there (sent_messages to calls) i to _ there) refl phase
   through_there false i message chunk post there phase = same_pair size (from_sender to f g (Sending i Answered message chunk) post h c calls t n b) _ refl refl
       (sending_there to i Filling (with_chunk size message chunk) [] None there ∙ sym (sending_there to i Answered message chunk post there)) refl refl refl refl refl refl phase
 
@@ -298,14 +298,14 @@ module _ (size : ℕ) (to f g j : ℕ) (h c : ℕ → ℕ) (calls : List DataCal
       let answered : post.is_answered ≡ true = both_second (post.to == j) post.is_answered may in
       let r = when_answered size (from_sender to f g st (Some post) h c calls t n b) true (begun post.head) post.chunk
       (some ∙ post_here to post its ∙ ap (λ x. Offering x true (begun post.head) post.chunk) answered) phase in
-      let a : HasArrived true size true (begun post.head) post.chunk r.0 (sent_to to calls) b = subst (λ x. HasArrived x size true (begun post.head) post.chunk r.0 (sent_to to calls) b) last r.1.arrived in
+      let a : HasArrived true size true (begun post.head) post.chunk r.0 (sent_messages to calls) b = subst (λ x. HasArrived x size true (begun post.head) post.chunk r.0 (sent_messages to calls) b) last r.1.arrived in
       InRest None (record {
         sent_flag = r.1.sent_flag;
         ready_flag = clear here;
         sending = none;
         taking = r.1.taking ∙ ap (λ (o : Option Progress). Awaiting o) a.0;
         notes = r.1.notes;
-        level = a.1 ∙ append-nil (sent_to to calls);
+        level = a.1 ∙ append-nil (sent_messages to calls);
       }))
       (λ there ne.
       let its : (post.to == to) ≡ false = ap (λ x. x == to) (same_by_eqb post.to j (both_first (post.to == j) post.is_answered may)) ∙ there in

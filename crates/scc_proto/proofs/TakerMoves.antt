@@ -2,14 +2,14 @@
 use Rattle.std.proofs.Common.{◌≡◌, ℕ, suc, Bool, true, false, ◌==◌, if◌then◌else◌, List, [], ◌∷◌, ◌++◌, Option, Some, None, option_map, unwrap_or, refl, sym, ◌∙◌, ap, subst, append-nil}
 use Rattle.scc_base.specs.Calls.{DataCall}
 use Rattle.scc_base.specs.Setups.{SetupView}
-use Rattle.scc_proto.specs.Messages.{Notes, note_word, StandsIn, has_all, Message, Progress, begun, is_last, is_whole, is_head, with_chunk, chunk_bytes, chunk_words, message_of, head_of, received_from, recv_from}
+use Rattle.scc_proto.specs.Messages.{Notes, note_word, StandsIn, has_all, Message, Progress, begun, is_last, is_whole, is_head, with_chunk, chunk_bytes, chunk_words, message_of, head_of, received_messages, recv_from}
 use Rattle.scc_proto.specs.Stages.{Stage, Idle, Drafting, Sending, Between, Taking, Barrier}
 use Rattle.scc_proto.specs.Moves.{read_chunk, lower_sent, raise_ready, calls_received, finished_if}
 use Rattle.scc_proto.specs.Permission.{may_take, has_taken, says_head}
 use Rattle.scc_proto.specs.Records.{chunk_of}
 use Rattle.scc_proto.specs.Pairs.{SendingSide, Offering, TakingSide, Awaiting, Receiving, taking_side, Pair, resumed, pending, settling, NotesStand, HasArrived, Phase, InRaised, InTaken, InReady, HeaderStands}
 use Rattle.scc_proto.proofs.Tests.{same_or_other, same_by_eqb, both_first, both_second}
-use Rattle.scc_proto.proofs.MessageLists.{received_from-recv, message_here, message_there}
+use Rattle.scc_proto.proofs.MessageLists.{received_messages-recv, message_here, message_there}
 use Rattle.scc_proto.proofs.PairFrames.{same_pair}
 use Rattle.scc_proto.proofs.PhaseFacts.{when_sent, when_seen, when_taking, Raise}
 use Rattle.scc_proto.proofs.NoteFacts.{none_stands, note_stands, head_is, bytes_same, chunk_within}
@@ -26,7 +26,7 @@ from_taker from f g side st n h c sent calls = record {
   header = h;
   chunk = c;
   sent = sent;
-  received = received_from from calls;
+  received = received_messages from calls;
 }
 
 taking_here : (from i : ℕ) (message : Progress) (chunk : Notes) → (i == from) ≡ true → taking_side from (Taking i message chunk) ≡ Receiving message chunk
@@ -93,7 +93,7 @@ module _ (size from f g : ℕ) (side : SendingSide) (n : Option Notes) (h c : �
   read_if true i k v message words told phase = same_or_other (Phase size (from_taker from f g side (Taking i message (note_word k v words)) n h c sent calls)) i from
       (λ here e. chunk_word_read size (from_taker from f g side (Taking i message words) n h c sent calls) (from_taker from f g side (Taking i message (note_word k v words)) n h c sent calls)
       message words k v (taking_here from i message words here)
-      (λ j. record { sent_flag = f; ready_flag = g; sending = side; taking = taking_here from i message (note_word k v words) here j; notes = n; header = h; chunk = c; sent = sent; received = received_from from calls })
+      (λ j. record { sent_flag = f; ready_flag = g; sending = side; taking = taking_here from i message (note_word k v words) here j; notes = n; header = h; chunk = c; sent = sent; received = received_messages from calls })
       (told here refl) phase)
       (λ there ne. same_pair size (from_taker from f g side (Taking i message words) n h c sent calls) (from_taker from f g side (Taking i message (note_word k v words)) n h c sent calls)
       refl refl refl (taking_there from i message (note_word k v words) there ∙ sym (taking_there from i message words there)) refl refl refl refl refl phase)
@@ -143,7 +143,7 @@ module _ (s : SetupView) (from f g j : ℕ) (side : SendingSide) (h c : ℕ → 
       let o : Offers s r.is_post (resumed r.through r.head) r.chunk h c = stands false r.is_post (resumed r.through r.head) r.chunk r.is.sending in
       let line : HeaderStands r.head r.is_post h = subst (λ (q : Option Progress). HeaderStands (resumed q r.head).head r.is_post h) none o.line in
       ap (λ (q : Option Progress). resumed q r.head) none ∙ ap begun (sym (head_is header r.head r.is_post h all r.is.notes line)) in
-      subst (λ (t : TakingSide). Phase (chunk_of s) (record { sent_flag = flag; ready_flag = g; sending = side; taking = t; notes = None; header = h; chunk = c; sent = sent; received = received_from from calls }))
+      subst (λ (t : TakingSide). Phase (chunk_of s) (record { sent_flag = flag; ready_flag = g; sending = side; taking = t; notes = None; header = h; chunk = c; sent = sent; received = received_messages from calls }))
       (sym (taking_here from j (begun (head_of header)) [] here)) (taken_on (chunk_of s) x flag (begun (head_of header)) header refl clear same phase)
 
   later_taken : (flag : ℕ) (header : Notes) (message : Progress) → flag ≡ 0 → (j == from) ≡ true
@@ -153,7 +153,7 @@ module _ (s : SetupView) (from f g j : ℕ) (side : SendingSide) (h c : ℕ → 
       let x = from_taker from f g side (Between j message) (Some header) h c sent calls in
       let same : (r : Raise (chunk_of s) x) → resumed r.through r.head ≡ message = λ r.
       let some : r.through ≡ Some message = cc (r.is.taking, between_here from j message here) in ap (λ (q : Option Progress). resumed q r.head) some in
-      subst (λ (t : TakingSide). Phase (chunk_of s) (record { sent_flag = flag; ready_flag = g; sending = side; taking = t; notes = None; header = h; chunk = c; sent = sent; received = received_from from calls }))
+      subst (λ (t : TakingSide). Phase (chunk_of s) (record { sent_flag = flag; ready_flag = g; sending = side; taking = t; notes = None; header = h; chunk = c; sent = sent; received = received_messages from calls }))
       (sym (taking_here from j message [] here)) (taken_on (chunk_of s) x flag message header refl clear same phase)
 
   pub sent_lowered_here : (flag : ℕ) (st : Stage) (n : Option Notes) → may_take j n st ≡ true → Stands s (from_taker from f g side st n h c sent calls) → flag ≡ 0 → (j == from) ≡ true
@@ -210,10 +210,10 @@ module _ (s : SetupView) (from f g j : ℕ) (side : SendingSide) (n : Option Not
       let r = when_taking (chunk_of s) x message words (taking_here from i message words here) phase in
       let o : Offers s r.0 message r.1 h c = stands false r.0 message r.1 r.2.sending in
       let same = same_chunk (chunk_of s) message words r.1 c whole o.whole r.2.loaded o.words in
-      let arrived : HasArrived true (chunk_of s) r.0 message r.1 None sent (received_from from (calls ++ recv_from i (message_of (with_chunk (chunk_of s) message words)) ∷ [])) = (
+      let arrived : HasArrived true (chunk_of s) r.0 message r.1 None sent (received_messages from (calls ++ recv_from i (message_of (with_chunk (chunk_of s) message words)) ∷ [])) = (
         refl,
-        received_from-recv from calls i _ ∙ message_here (received_from from calls) i from _ here
-            ∙ ap (λ (m : Progress). received_from from calls ++ message_of m ∷ []) same ∙ settled (chunk_of s) r.0 message r.1 sent (received_from from calls) r.2.level,
+        received_messages-recv from calls i _ ∙ message_here (received_messages from calls) i from _ here
+            ∙ ap (λ (m : Progress). received_messages from calls ++ message_of m ∷ []) same ∙ settled (chunk_of s) r.0 message r.1 sent (received_messages from calls) r.2.level,
       ) in
       InReady None false r.0 message r.1 (record {
         sent_flag = r.2.sent_flag;
@@ -221,14 +221,14 @@ module _ (s : SetupView) (from f g j : ℕ) (side : SendingSide) (n : Option Not
         sending = r.2.sending;
         taking = refl;
         notes = r.2.notes;
-        arrived = subst (λ b. HasArrived b (chunk_of s) r.0 message r.1 None sent (received_from from (calls ++ recv_from i (message_of (with_chunk (chunk_of s) message words)) ∷ []))) (sym is) arrived;
+        arrived = subst (λ b. HasArrived b (chunk_of s) r.0 message r.1 None sent (received_messages from (calls ++ recv_from i (message_of (with_chunk (chunk_of s) message words)) ∷ []))) (sym is) arrived;
       })
   taken_whole false flag i message words is stands whole here set phase =
       let x = from_taker from f g side (Taking i message words) n h c sent calls in
       let r = when_taking (chunk_of s) x message words (taking_here from i message words here) phase in
       let o : Offers s r.0 message r.1 h c = stands false r.0 message r.1 r.2.sending in
       let same = same_chunk (chunk_of s) message words r.1 c whole o.whole r.2.loaded o.words in
-      let arrived : HasArrived false (chunk_of s) r.0 message r.1 (Some (with_chunk (chunk_of s) message words)) sent (received_from from calls) =
+      let arrived : HasArrived false (chunk_of s) r.0 message r.1 (Some (with_chunk (chunk_of s) message words)) sent (received_messages from calls) =
       (ap (λ (m : Progress). Some m) same, level r.0 r.1 o.last r.2.level) in
       InReady (Some (with_chunk (chunk_of s) message words)) false r.0 message r.1 (record {
         sent_flag = r.2.sent_flag;
@@ -236,12 +236,12 @@ module _ (s : SetupView) (from f g j : ℕ) (side : SendingSide) (n : Option Not
         sending = r.2.sending;
         taking = between_here from i (with_chunk (chunk_of s) message words) here;
         notes = r.2.notes;
-        arrived = subst (λ b. HasArrived b (chunk_of s) r.0 message r.1 (Some (with_chunk (chunk_of s) message words)) sent (received_from from calls)) (sym is) arrived;
+        arrived = subst (λ b. HasArrived b (chunk_of s) r.0 message r.1 (Some (with_chunk (chunk_of s) message words)) sent (received_messages from calls)) (sym is) arrived;
       })
     where
-      level : (p : Bool) (w : Notes) → (p ≡ true → is_last (chunk_of s) message ≡ true) → sent ≡ received_from from calls ++ pending (chunk_of s) p message w → received_from from calls ≡ sent
+      level : (p : Bool) (w : Notes) → (p ≡ true → is_last (chunk_of s) message ≡ true) → sent ≡ received_messages from calls ++ pending (chunk_of s) p message w → received_messages from calls ≡ sent
       level true w last l = absurd (cc (last refl, is))
-      level false w last l = sym (l ∙ append-nil (received_from from calls))
+      level false w last l = sym (l ∙ append-nil (received_messages from calls))
 
   pub ready_raised_here : (flag : ℕ) (st : Stage) → has_taken (chunk_of s) j st ≡ true → Stands s (from_taker from f g side st n h c sent calls) → (j == from) ≡ true → flag ≡ 1
       → Phase (chunk_of s) (from_taker from f g side st n h c sent calls)
@@ -261,7 +261,7 @@ module _ (s : SetupView) (from f g j : ℕ) (side : SendingSide) (n : Option Not
       → Phase (chunk_of s) (from_taker from f g side (if last then Idle else Between i (with_chunk (chunk_of s) message words)) n h c sent
       (finished_if last (recv_from i (message_of (with_chunk (chunk_of s) message words))) calls))
   left_whole true i message words there phase = same_pair (chunk_of s) (from_taker from f g side (Taking i message words) n h c sent calls) _ refl refl refl
-      (sym (taking_there from i message words there)) refl refl refl refl (received_from-recv from calls i _ ∙ message_there (received_from from calls) i from _ there) phase
+      (sym (taking_there from i message words there)) refl refl refl refl (received_messages-recv from calls i _ ∙ message_there (received_messages from calls) i from _ there) phase
   left_whole false i message words there phase = same_pair (chunk_of s) (from_taker from f g side (Taking i message words) n h c sent calls) _ refl refl refl
       (between_there from i (with_chunk (chunk_of s) message words) there ∙ sym (taking_there from i message words there)) refl refl refl refl refl phase
 

@@ -116,20 +116,20 @@ abbrev pub post_to : ℕ → Message → DataCall
 post_to to message = Post to message.head message.bytes
 
 -- the messages of the finished sends and posts to one rank, in order
-abbrev pub sent_to : ℕ → List DataCall → List Message
-sent_to r [] = []
-sent_to r (Send to head bytes ∷ calls) = if to == r then record { head = head; bytes = bytes } ∷ sent_to r calls else sent_to r calls
-sent_to r (Post to head bytes ∷ calls) = if to == r then record { head = head; bytes = bytes } ∷ sent_to r calls else sent_to r calls
-sent_to r (Recv from head bytes ∷ calls) = sent_to r calls
-sent_to r (Bar comm ∷ calls) = sent_to r calls
+abbrev pub sent_messages : ℕ → List DataCall → List Message
+sent_messages r [] = []
+sent_messages r (Send to head bytes ∷ calls) = if to == r then record { head = head; bytes = bytes } ∷ sent_messages r calls else sent_messages r calls
+sent_messages r (Post to head bytes ∷ calls) = if to == r then record { head = head; bytes = bytes } ∷ sent_messages r calls else sent_messages r calls
+sent_messages r (Recv from head bytes ∷ calls) = sent_messages r calls
+sent_messages r (Bar comm ∷ calls) = sent_messages r calls
 
 -- the messages of the finished receives from one rank, in order
-abbrev pub received_from : ℕ → List DataCall → List Message
-received_from s [] = []
-received_from s (Send to head bytes ∷ calls) = received_from s calls
-received_from s (Post to head bytes ∷ calls) = received_from s calls
-received_from s (Recv from head bytes ∷ calls) = if from == s then record { head = head; bytes = bytes } ∷ received_from s calls else received_from s calls
-received_from s (Bar comm ∷ calls) = received_from s calls
+abbrev pub received_messages : ℕ → List DataCall → List Message
+received_messages s [] = []
+received_messages s (Send to head bytes ∷ calls) = received_messages s calls
+received_messages s (Post to head bytes ∷ calls) = received_messages s calls
+received_messages s (Recv from head bytes ∷ calls) = if from == s then record { head = head; bytes = bytes } ∷ received_messages s calls else received_messages s calls
+received_messages s (Bar comm ∷ calls) = received_messages s calls
 
 -- how many barriers of a communicator are finished
 abbrev pub barriers_of : ℕ → List DataCall → ℕ

@@ -1,7 +1,7 @@
 -- The messages from one rank to another, as the records of the two have them.
 use Rattle.std.specs.Prelude.{◌≡◌, ℕ, ◌==◌, if◌then◌else◌, [], ◌∷◌, ◌++◌, Option, Some, None}
 use Rattle.scc_base.specs.Setups.{SetupView}
-use Rattle.scc_proto.specs.Messages.{Message, begun, with_chunk, message_of, sent_to, received_from}
+use Rattle.scc_proto.specs.Messages.{Message, begun, with_chunk, message_of, sent_messages, received_messages}
 use Rattle.scc_proto.specs.Stages.{Stage, Sending, OnItsWay, Record}
 use Rattle.scc_proto.specs.Records.{chunk_of}
 use Rattle.scc_proto.specs.Passed.{in_hand}
@@ -19,8 +19,8 @@ posted_message size to (Some post) = if post.to == to then Some (message_of (wit
 -- what a rank has received of another one, against what that one has sent and posted to it: the same; or the open
 -- message besides; or all but the last, which was posted and is on its way
 pub data PairMessages (s : SetupView) (from to : ℕ) (records : ℕ → Record) : Type 0 where
-  AllReceived : received_from from (records to).calls ≡ sent_to to (records from).calls → PairMessages s from to records
+  AllReceived : received_messages from (records to).calls ≡ sent_messages to (records from).calls → PairMessages s from to records
   OpenReceived : (message : Message) → open_message (chunk_of s) to (records from).stage ≡ Some message
-      → received_from from (records to).calls ≡ sent_to to (records from).calls ++ message ∷ [] → PairMessages s from to records
+      → received_messages from (records to).calls ≡ sent_messages to (records from).calls ++ message ∷ [] → PairMessages s from to records
   OnItsWayYet : (message : Message) → posted_message (chunk_of s) to (records from).post ≡ Some message
-      → sent_to to (records from).calls ≡ received_from from (records to).calls ++ message ∷ [] → PairMessages s from to records
+      → sent_messages to (records from).calls ≡ received_messages from (records to).calls ++ message ∷ [] → PairMessages s from to records

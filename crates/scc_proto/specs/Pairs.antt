@@ -2,7 +2,7 @@
 -- records fit together (this project's profile of RCCE's handshake).
 use Rattle.std.specs.Prelude.{◌≡◌, ℕ, ◌<◌, Bool, true, false, ◌==◌, if◌then◌else◌, List, [], ◌∷◌, ◌++◌, Option, Some, None}
 use Rattle.scc_base.specs.Heads.{MessageHead}
-use Rattle.scc_proto.specs.Messages.{Notes, StandsIn, header_word, Message, Progress, begun, is_last, with_chunk, message_of, sent_to, received_from}
+use Rattle.scc_proto.specs.Messages.{Notes, StandsIn, header_word, Message, Progress, begun, is_last, with_chunk, message_of, sent_messages, received_messages}
 use Rattle.scc_proto.specs.Stages.{Part, Filling, Raised, Answered, Stage, Drafting, Sending, Between, Taking, OnItsWay, Record}
 use Rattle.scc_proto.specs.Views.{View}
 
@@ -60,8 +60,8 @@ pair_of s r view sender receiver = record {
   notes = receiver.notes s;
   header = view.header s;
   chunk = view.chunk s;
-  sent = sent_to r sender.calls;
-  received = received_from s receiver.calls;
+  sent = sent_messages r sender.calls;
+  received = received_messages s receiver.calls;
 }
 
 -- the message as it goes on, with nothing or something through

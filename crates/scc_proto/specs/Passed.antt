@@ -3,7 +3,7 @@
 use Rattle.std.specs.Prelude.{ℕ, suc, ◌-◌, Bool, false, ◌&&◌, ◌==◌, nat_lt, nat_le, if◌then◌else◌, List, [], ◌∷◌, ◌++◌, Option, Some, None, length}
 use Rattle.scc_base.specs.Calls.{DataCall, Bar}
 use Rattle.scc_base.specs.Setups.{SetupView, root_of}
-use Rattle.scc_proto.specs.Messages.{Notes, Progress, begun, with_chunk, message_of, send_to, recv_from, sent_to, received_from}
+use Rattle.scc_proto.specs.Messages.{Notes, Progress, begun, with_chunk, message_of, send_to, recv_from, sent_messages, received_messages}
 use Rattle.scc_proto.specs.Stages.{Part, Filling, Raised, Answered, Stage, Sending, Between, Taking, Barrier, OnItsWay, Record}
 use Rattle.scc_proto.specs.Records.{chunk_of, last_of}
 use Rattle.scc_proto.specs.Legality.{Outgoing}
@@ -27,7 +27,7 @@ open_call s rec = open_of (chunk_of s) rec.stage
 
 -- the receiver has finished one more receive from s than s has finished sends and posts to it
 abbrev pub is_received : ℕ → ℕ → (ℕ → Record) → Bool
-is_received s r records = length (received_from s (records r).calls) == suc (length (sent_to r (records s).calls))
+is_received s r records = length (received_messages s (records r).calls) == suc (length (sent_messages r (records s).calls))
 
 -- the root of a group waits for a member in the barrier that is open at it
 abbrev pub is_gathering : ℕ → ℕ → Stage → Bool
@@ -54,7 +54,7 @@ passed_calls s records me = (records me).calls ++ passed_open s me (records me).
 -- the message that a rank has posted and that is not received
 abbrev pub slot_by : ℕ → ℕ → Option OnItsWay → (ℕ → Record) → Option Outgoing
 slot_by size me None records = None
-slot_by size me (Some post) records = if length (received_from me (records post.to).calls) == length (sent_to post.to (records me).calls)
+slot_by size me (Some post) records = if length (received_messages me (records post.to).calls) == length (sent_messages post.to (records me).calls)
     then None
     else Some (record { to = post.to; head = post.head; bytes = (with_chunk size (begun post.head) post.chunk).bytes })
 

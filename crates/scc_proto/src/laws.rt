@@ -18,7 +18,7 @@ ghost use Rattle.scc_proto.specs.Agreement.{Agrees};
 ghost use Rattle.scc_base.specs.Calls.{DataCall};
 ghost use Rattle.scc_base.specs.Runs.{Runs, EndsAt};
 ghost use Rattle.scc_proto.specs.Legality.{Outgoing, Standing, OwnStep, IsUsedUp, IsLegal, UsesUp, Grows, no_slots, slot_message};
-ghost use Rattle.scc_proto.specs.Messages.{sent_to, received_from, barriers_of};
+ghost use Rattle.scc_proto.specs.Messages.{sent_messages, received_messages, barriers_of};
 
 /// Whether lists of calls are legal does not depend on the order in which their steps are taken.
 pub fn order_law()
@@ -59,7 +59,7 @@ pub fn verdict_law()
 pub fn messages_law()
     ensures law { (nue : ℕ) (keys : ℕ → ℕ → ℕ) (calls : ℕ → List DataCall) (slots : ℕ → Option Outgoing)
         → IsLegal nue keys calls slots → (from to : ℕ)
-        → sent_to to (calls from) ≡ received_from from (calls to) ++ slot_message to (slots from) }
+        → sent_messages to (calls from) ≡ received_messages from (calls to) ++ slot_message to (slots from) }
 {}
 
 /// In legal lists the members of a group have as many barriers of its communicator.
