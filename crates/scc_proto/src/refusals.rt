@@ -84,7 +84,10 @@ pub fn head_is_read()
     ensures kind { Refuses (LookSent (look_at 0 1) ∷ ReadHeader 0 1 0 ∷ ReadHeader 0 2 4 ∷ []) (LowerSent 0) }
     ensures comm { Refuses (LookSent (look_at 0 1) ∷ ReadHeader 0 0 0 ∷ ReadHeader 0 2 4 ∷ []) (LowerSent 0) }
     ensures short { Refuses (LookSent (look_at 0 1) ∷ ReadHeader 0 0 0 ∷ ReadHeader 0 1 0 ∷ []) (LowerSent 0) }
-    ensures invalid { Refuses (LookSent (look_at 0 1) ∷ ReadHeader 0 0 5 ∷ ReadHeader 0 1 0 ∷ ReadHeader 0 2 4 ∷ []) (LowerSent 0) }
+    ensures invalid_kind { Refuses (LookSent (look_at 0 1) ∷ ReadHeader 0 0 5 ∷ ReadHeader 0 1 0 ∷ ReadHeader 0 2 4 ∷ []) (LowerSent 0) }
+    ensures invalid_comm { Refuses (LookSent (look_at 0 1) ∷ ReadHeader 0 0 1 ∷ ReadHeader 0 1 16 ∷ ReadHeader 0 2 4 ∷ []) (LowerSent 0) }
+    ensures invalid_plain { Refuses (LookSent (look_at 0 1) ∷ ReadHeader 0 0 0 ∷ ReadHeader 0 1 1 ∷ ReadHeader 0 2 4 ∷ []) (LowerSent 0) }
+    ensures invalid_len { Refuses (reads_plain 0 65537) (LowerSent 0) }
     ensures before { Refuses (ReadHeader 0 0 0 ∷ ReadHeader 0 1 0 ∷ ReadHeader 0 2 4 ∷ LookSent (look_at 0 1) ∷ []) (LowerSent 0) }
     ensures anew { Refuses (reads_head ++ LookSent (look_at 0 1) ∷ []) (LowerSent 0) }
     ensures other { Refuses (LookSent (look_at 0 1) ∷ reads_plain 2 4) (LowerSent 0) }
@@ -240,6 +243,7 @@ pub fn bits_are_held()
     ensures let_go { RefusesEvent two_ranks_bits 1 (holds_draft ++ loads 1 0 1 0 0 ∷ frees 1 0 ∷ []) (stores 1 0 1 0 2) }
     ensures other_core { RefusesEvent two_ranks_bits 1 (holds_draft ++ takes 1 1 ∷ loads 1 1 1 0 0 ∷ []) (stores 1 0 1 0 2) }
     ensures ready_for_sent { RefusesEvent two_ranks_bits 1 (holds_draft ++ loads 1 0 1 1 0 ∷ []) (stores 1 0 1 0 2) }
+    ensures ready_no_register { RefusesEvent two_ranks_bits 0 (takes_bit ++ loads 0 1 1 1 0 ∷ []) (stores 0 1 1 1 1) }
     ensures sent_for_ready { RefusesEvent two_ranks_bits 0 (takes_bit ++ takes 0 1 ∷ loads 0 1 1 0 0 ∷ []) (stores 0 1 1 1 1) }
 {}
 
@@ -279,6 +283,7 @@ pub fn bits_are_looked_at()
     ensures sent_held { RefusesEvent two_ranks_bits 0 (takes 0 0 ∷ loads 0 0 1 0 2 ∷ reads_empty 0 1) (stores 0 0 1 0 0) }
     ensures sent_elsewhere { RefusesEvent two_ranks_bits 0 (loads 0 1 1 0 2 ∷ reads_empty 0 1 ++ takes 0 0 ∷ loads 0 0 1 0 2 ∷ []) (stores 0 0 1 0 0) }
     ensures ready_held { RefusesEvent two_ranks_bits 1 (sets_bit ++ takes 1 1 ∷ loads 1 1 1 1 1 ∷ []) (stores 1 1 1 1 0) }
+    ensures ready_other { RefusesEvent two_ranks_bits 1 (sets_bit ++ loads 1 1 1 1 4 ∷ takes 1 1 ∷ loads 1 1 1 1 1 ∷ []) (stores 1 1 1 1 0) }
     ensures ready_elsewhere { RefusesEvent two_ranks_bits 1 (sets_bit ++ frees 1 0 ∷ loads 1 0 1 1 1 ∷ takes 1 1 ∷ loads 1 1 1 1 1 ∷ []) (stores 1 1 1 1 0) }
 {}
 

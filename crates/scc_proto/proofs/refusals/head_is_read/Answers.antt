@@ -6,4 +6,4 @@ use Rattle.scc_proto.proofs.refusals.head_is_read.Goals as goal
 
 pub returns : goal.returns
 unfolding act_of has_all is_zero_from bytes_from key_of
-returns c = record { kind = refl; comm = refl; short = refl; invalid = refl; before = refl; anew = refl; other = refl }
+returns c = record { kind = refl; comm = refl; short = refl; invalid_kind = refl; invalid_comm = refl; invalid_plain = refl; invalid_len = refl; before = refl; anew = refl; other = refl }
