@@ -14,10 +14,11 @@ use Rattle.script_reader.specs.declared.repeats.Open.{Open}
 use Rattle.script_reader.specs.declared.script.Item.{Item}
 use Rattle.script_reader.specs.declared.script.Stmt.{Stmt}
 use Rattle.script_reader.specs.declared.script.Stmt.TheVariants as stmt
-use Rattle.script_reader.specs.Checks.{cost_of, has_no_root, has_split, is_misshapen, is_not_split, is_overworked, is_split_of, is_to_self, is_unset, length_at, open_of, opened, operations, posts_too_much, printed, prints, prints_too_much, refuses, run_of, set_by, sets_to, turns_in}
+use Rattle.script_reader.specs.Checks.{comm_needed, cost_of, has_no_root, has_split, is_misshapen, is_not_split, is_overworked, is_split_of, is_to_self, is_too_deep, is_unset, length_at, open_of, opened, operations, posts_too_much, printed, prints, prints_too_much, refuses, run_of, set_by, sets_to, turns_in}
 use Rattle.script_reader.specs.Ends.{with_ends}
-use Rattle.script_reader.specs.Script.{first_split, has_rank, or_rule, rules_of, split_rule}
-use Rattle.script_reader.specs.Settled.{ArePassed}
+use Rattle.scc_base.specs.Communicators.{AreRules, rule_of}
+use Rattle.script_reader.specs.Script.{IsSized, first_split, has_rank, or_rule, rules_of, split_rule}
+use Rattle.script_reader.specs.Settled.{AreInLine, ArePassed, IsInLine}
 use Rattle.script_reader.proofs.EndLemmas.{with_ends-keeps}
 
 -- a statement without the place of its end
@@ -177,3 +178,56 @@ passed-with_ends nue n items passed =
     (subst (λ (past : List Item). ArePassed nue past)
     (bared-reverse items ∙ ap reverse (sym (bared-with_ends n items)) ∙ sym (bared-reverse (with_ends n items)))
     (passed-bare nue (reverse items) passed))
+
+-- what the checks of a line leave does not look there either
+rules-back : (past : List Item) → rules_of (reverse (all_bared past)) ≡ rules_of (reverse past)
+rules-back past = ap rules_of (sym (bared-reverse past)) ∙ rules-bared (reverse past)
+
+needed-bare : (s : Stmt) → comm_needed (bare s) ≡ comm_needed s
+needed-bare s = bare-same comm_needed (λ times end. refl) s
+
+deep-bare : (past : List Item) (s : Stmt) → is_too_deep (open_of (all_bared past)) (bare s) ≡ is_too_deep (open_of past) s
+deep-bare past s = bare-same (λ s. is_too_deep (open_of (all_bared past)) s) (λ times end. refl) s ∙ ap (λ (repeats : List Open). is_too_deep repeats s) (open-bared past)
+
+sized-bare : (s : Stmt) → IsSized s → IsSized (bare s)
+sized-bare (stmt.Repeat times end) sized = tt
+sized-bare s sized = sized
+
+sized-whole : (s : Stmt) → IsSized (bare s) → IsSized s
+sized-whole (stmt.Repeat times end) sized = tt
+sized-whole s sized = sized
+
+line-bare : (nue : ℕ) (past : List Item) (item : Item) → IsInLine nue past item → IsInLine nue (all_bared past) (bared item)
+line-bare nue past item l = record {
+  rules = subst (λ (r : List CommRule). AreRules r) (sym (rules-back past)) l.rules;
+  present = λ rank below has.
+      subst (λ (r : List CommRule). rule_of r (comm_needed (bare item.stmt)) ≡ rule.Absent → ⊥) (sym (rules-back past))
+      (subst (λ (c : ℕ). rule_of (rules_of (reverse past)) c ≡ rule.Absent → ⊥) (sym (needed-bare item.stmt)) (l.present rank below has));
+  sized = sized-bare item.stmt l.sized;
+  flat = deep-bare past item.stmt ∙ l.flat;
+}
+
+line-whole : (nue : ℕ) (past : List Item) (item : Item) → IsInLine nue (all_bared past) (bared item) → IsInLine nue past item
+line-whole nue past item l = record {
+  rules = subst (λ (r : List CommRule). AreRules r) (rules-back past) l.rules;
+  present = λ rank below has.
+      subst (λ (r : List CommRule). rule_of r (comm_needed item.stmt) ≡ rule.Absent → ⊥) (rules-back past)
+      (subst (λ (c : ℕ). rule_of (rules_of (reverse (all_bared past))) c ≡ rule.Absent → ⊥) (needed-bare item.stmt) (l.present rank below has));
+  sized = sized-whole item.stmt l.sized;
+  flat = sym (deep-bare past item.stmt) ∙ l.flat;
+}
+
+lines-bare : (nue : ℕ) (past : List Item) → AreInLine nue past → AreInLine nue (all_bared past)
+lines-bare nue [] all = tt
+lines-bare nue (item ∷ past) all = (lines-bare nue past all.0, line-bare nue past item all.1)
+
+lines-whole : (nue : ℕ) (past : List Item) → AreInLine nue (all_bared past) → AreInLine nue past
+lines-whole nue [] all = tt
+lines-whole nue (item ∷ past) all = (lines-whole nue past all.0, line-whole nue past item all.1)
+
+pub lines-with_ends : (nue n : ℕ) (items : List Item) → AreInLine nue (reverse items) → AreInLine nue (reverse (with_ends n items))
+lines-with_ends nue n items lines =
+    lines-whole nue (reverse (with_ends n items))
+    (subst (λ (past : List Item). AreInLine nue past)
+    (bared-reverse items ∙ ap reverse (sym (bared-with_ends n items)) ∙ sym (bared-reverse (with_ends n items)))
+    (lines-bare nue (reverse items) lines))

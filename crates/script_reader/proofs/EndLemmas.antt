@@ -12,6 +12,7 @@ use Rattle.script_reader.specs.declared.script.Stmt.{Stmt}
 use Rattle.script_reader.specs.declared.script.Stmt.TheVariants as stmt
 use Rattle.script_reader.specs.Ends.{told, with_end, with_ends}
 use Rattle.script_reader.specs.Script.{IsSized, first_split, or_rule, rules_of, split_rule}
+use Rattle.script_reader.specs.Settled.{IsNamed}
 
 -- what a list has, whatever its repeats say of their ends
 pub record IsKeptBy (P : List Item → Type 0) : Type 0 where
@@ -90,3 +91,8 @@ pub sized-with_ends : (n : ℕ) (items : List Item) → All (λ (i : Item). IsSi
 sized-with_ends n items all =
     with_ends-keeps (λ list. All (λ (i : Item). IsSized i.stmt) list)
     (record { keeps = λ list start place item times end found is p. All-set (λ (i : Item). IsSized i.stmt) list start (record item { stmt = stmt.Repeat times place }) tt p }) n items all
+
+pub named-with_ends : (count n : ℕ) (items : List Item) → All (λ (i : Item). IsNamed count i.stmt) items → All (λ (i : Item). IsNamed count i.stmt) (with_ends n items)
+named-with_ends count n items all =
+    with_ends-keeps (λ list. All (λ (i : Item). IsNamed count i.stmt) list)
+    (record { keeps = λ list start place item times end found is p. All-set (λ (i : Item). IsNamed count i.stmt) list start (record item { stmt = stmt.Repeat times place }) tt p }) n items all

@@ -1,3 +1,4 @@
+pub mod AcceptanceLemmas
 pub mod BareLemmas
 pub mod CheckLemmas
 pub mod EndLemmas

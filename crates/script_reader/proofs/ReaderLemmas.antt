@@ -1,18 +1,19 @@
 -- What the reader keeps after one more statement.
-use Rattle.std.proofs.Common.{◌≡◌, ℕ, ◌<◌, false, List, [], ◌∷◌, ◌++◌, Some, length, get_or, reverse, sym, ap, ◌∙◌, subst}
+use Rattle.std.proofs.Common.{◌≡◌, ℕ, ◌<◌, ◌≤◌, false, List, [], ◌∷◌, ◌++◌, All, Some, length, get_or, reverse, sym, ap, ◌∙◌, arith, subst}
 use Rattle.std.proofs.lemmas.Bool.{ltb-false}
-use Rattle.std.proofs.lemmas.List.{length-reverse}
+use Rattle.std.proofs.lemmas.List.{length-reverse, reverse-reverse}
 use Rattle.std.proofs.lemmas.List.Elements.{All-push}
-use Rattle.scc_base.specs.Communicators.{AreRules}
+use Rattle.scc_base.specs.Communicators.{AreRules, rule_of}
 use Rattle.scc_base.specs.Setups.{SetupView}
 use Rattle.scc_base.specs.declared.communicators.CommRule.{CommRule}
+use Rattle.scc_base.specs.declared.communicators.CommRule.TheVariants as rule
 use Rattle.scc_base.specs.declared.layouts.Layout.TheVariants as layout
 use Rattle.script_reader.specs.declared.repeats.Open.{Open}
 use Rattle.script_reader.specs.declared.script.Item.{Item}
 use Rattle.script_reader.specs.declared.script.Stmt.{Stmt}
 use Rattle.script_reader.specs.declared.script.Stmt.TheVariants as stmt
 use Rattle.script_reader.specs.declared.tally.Tally.{Tally}
-use Rattle.script_reader.specs.Checks.{is_too_long, is_unknown, open_of, opened, refuses, run_of, some_rank, turns_in}
+use Rattle.script_reader.specs.Checks.{comm_needed, is_too_deep, is_too_long, is_unknown, open_of, opened, refuses, run_of, some_rank, turns_in}
 use Rattle.script_reader.specs.declared.checks.RankCheck.{RankCheck}
 use Rattle.script_reader.specs.Script.{IsSized, or_rule, rules_of, split_rule}
 use Rattle.script_reader.specs.declared.version.Version.{Version}
@@ -20,7 +21,7 @@ use Rattle.script_reader.specs.Tally.{AreTallies, IsKept, IsMade, noted_at}
 use Rattle.script_reader.proofs.RuleLemmas.{first_split-more, past-more, run-straight, split-low}
 use Rattle.script_reader.proofs.SettledLemmas.{made-rule, none-of, settled-push}
 use Rattle.script_reader.proofs.TallyLemmas.{AreTallies-more}
-use Rattle.script_reader.specs.Settled.{ArePassed, HaveRules, IsSettled}
+use Rattle.script_reader.specs.Settled.{AreInLine, ArePassed, HaveRules, IsInLine, IsNamed, IsSettled}
 
 short-sized : (s : Stmt) → is_too_long s ≡ false → IsSized s
 short-sized (stmt.Bytes reg bytes) short = ltb-false 65536 (length bytes) short
@@ -47,13 +48,58 @@ run-after nue items rules same = ap {A = List CommRule} {B = SetupView} (λ r. r
 pub run-stays : (nue : ℕ) (items : List Item) (item : Item) (run : SetupView) → run ≡ run_of nue (reverse items) → rules_of (items ++ item ∷ []) ≡ rules_of items → run ≡ run_of nue (reverse (items ++ item ∷ []))
 run-stays nue items item run is same = is ∙ run-straight nue items ∙ run-after nue (items ++ item ∷ []) (rules_of items) (sym same)
 
-pub kept-more : (version : Version) (nue : ℕ) (items : List Item) (item : Item) (run after : SetupView) (repeats later : List Open) (tallies noted : List Tally)
-    → IsKept version nue items run repeats tallies → is_unknown version (run_of nue (reverse items)) item.stmt ≡ false → IsMade item.stmt → is_too_long item.stmt ≡ false → after ≡ run_of nue (reverse (items ++ item ∷ []))
+-- what the checks of its line leave of a statement
+in_line-new : (nue : ℕ) (items : List Item) (item : Item) → AreRules (rules_of items) → IsSettled nue (rules_of items) item → is_too_long item.stmt ≡ false → is_too_deep (open_of (reverse items)) item.stmt ≡ false → IsInLine nue (reverse items) item
+in_line-new nue items item rules settled short flat = record {
+  rules = subst (λ (list : List Item). AreRules (rules_of list)) (sym (reverse-reverse items)) rules;
+  present = λ rank below has. subst (λ (list : List Item). rule_of (rules_of list) (comm_needed item.stmt) ≡ rule.Absent → ⊥) (sym (reverse-reverse items)) (settled.present rank below has);
+  sized = short-sized item.stmt short;
+  flat = flat;
+}
+
+-- a statement's registers stay named where names are added
+named-more : (fewer more : ℕ) (s : Stmt) → fewer ≤ more → IsNamed fewer s → IsNamed more s
+named-more fewer more (stmt.Bytes reg bytes) up named = omega arith
+named-more fewer more (stmt.Fill reg len start) up named = omega arith
+named-more fewer more (stmt.RankOf reg ty) up named = omega arith
+named-more fewer more (stmt.Apply op ty dst src) up named = (omega arith, omega arith)
+named-more fewer more (stmt.Send peer reg) up named = omega arith
+named-more fewer more (stmt.Post peer reg) up named = omega arith
+named-more fewer more (stmt.Recv peer reg len) up named = omega arith
+named-more fewer more (stmt.Print reg form) up named = omega arith
+named-more fewer more (stmt.Bcast comm root reg len) up named = omega arith
+named-more fewer more (stmt.Reduce comm root op ty dst src) up named = (omega arith, omega arith)
+named-more fewer more (stmt.Allreduce comm op ty dst src) up named = (omega arith, omega arith)
+named-more fewer more _ up named = tt
+
+-- what is kept stays so where names are added
+pub kept-named : (version : Version) (nue : ℕ) (items : List Item) (names more : List (List ℕ)) (run : SetupView) (repeats : List Open) (tallies : List Tally)
+    → length names ≤ length more → IsKept version nue items names run repeats tallies → IsKept version nue items more run repeats tallies
+kept-named version nue items names more run repeats tallies up k = record {
+  some = k.some;
+  most = k.most;
+  sized = k.sized;
+  run_is = k.run_is;
+  repeats_are = k.repeats_are;
+  rules = k.rules;
+  settled = k.settled;
+  have = k.have;
+  low = k.low;
+  passed = k.passed;
+  in_line = k.in_line;
+  named = λ i d below. named-more (length names) (length more) (get_or items i d).stmt up (k.named i d below);
+  ranked = k.ranked;
+  tallied = k.tallied;
+}
+
+pub kept-more : (version : Version) (nue : ℕ) (items : List Item) (names : List (List ℕ)) (item : Item) (run after : SetupView) (repeats later : List Open) (tallies noted : List Tally)
+    → IsKept version nue items names run repeats tallies → is_unknown version (run_of nue (reverse items)) item.stmt ≡ false → IsMade item.stmt → IsNamed (length names) item.stmt → is_too_long item.stmt ≡ false
+    → is_too_deep (open_of (reverse items)) item.stmt ≡ false → after ≡ run_of nue (reverse (items ++ item ∷ []))
     → later ≡ opened item.stmt (length items) repeats → AreRules (rules_of (items ++ item ∷ [])) → length noted ≡ nue → IsSettled nue (rules_of items) item
     → ((check : RankCheck) → some_rank nue (Some item.who) (refuses check nue (reverse items) item.stmt) ≡ false)
     → ((rank : ℕ) (d : Tally) → rank < nue → get_or noted rank d ≡ noted_at run (turns_in repeats) item rank (get_or tallies rank d))
-    → IsKept version nue (items ++ item ∷ []) after later noted
-kept-more version nue items item run after repeats later tallies noted k known made short is opens rules long new none counts =
+    → IsKept version nue (items ++ item ∷ []) names after later noted
+kept-more version nue items names item run after repeats later tallies noted k known made named short flat is opens rules long new none counts =
     let counted = λ (rank : ℕ) (d : Tally) (below : rank < nue).
     counts rank d below
     ∙ ap (λ (r : SetupView). noted_at r (turns_in repeats) item rank (get_or tallies rank d)) k.run_is
@@ -73,6 +119,8 @@ kept-more version nue items item run after repeats later tallies noted k known m
       have = subst HaveRules (sym (past-more items item)) (k.have, made-rule item.stmt made);
       low = λ comm above. first_split-more items item comm ∙ ap (λ (r : CommRule). or_rule r (split_rule item.stmt comm)) (k.low comm above) ∙ split-low item.stmt version (run_of nue (reverse items)) comm known above;
       passed = subst (λ (past : List Item). ArePassed nue past) (sym (past-more items item)) (k.passed, λ check. none-of nue item.who (refuses check nue (reverse items) item.stmt) (none check));
+      in_line = subst (λ (past : List Item). AreInLine nue past) (sym (past-more items item)) (k.in_line, in_line-new nue items item k.rules new short flat);
+      named = All-push (λ (i : Item). IsNamed (length names) i.stmt) items item k.named named;
       ranked = long;
       tallied = subst (λ (past : List Item). AreTallies noted nue past) (sym (past-more items item)) (AreTallies-more tallies noted nue (reverse items) item made k.tallied counted);
     }

@@ -21,10 +21,12 @@ use Rattle.script_reader.specs.declared.checks.RankCheck.TheVariants as check
 use Rattle.script_reader.specs.declared.version.Version.{Version}
 use Rattle.script_reader.specs.Checks.{comm_needed, has_no_root, has_split, is_absent, is_not_split, is_past_group, is_split_of, is_unknown, last_comm, refuses, run_of, some_below, some_rank}
 use Rattle.script_reader.specs.Ends.{with_ends}
-use Rattle.script_reader.specs.Tally.{IsMade, IsParted}
+use Rattle.script_reader.specs.Tally.{IsAimed, IsMade, IsParted, IsWithin}
+use Rattle.script_reader.specs.declared.script.Peer.{Peer}
+use Rattle.script_reader.specs.declared.script.Peer.TheVariants as peer
 use Rattle.script_reader.proofs.EndLemmas.{with_ends-keeps}
-use Rattle.script_reader.specs.Script.{first_split, has_rank, or_rule, rules_of, split_rule}
-use Rattle.script_reader.specs.Settled.{HasRule, HaveRules, IsSettled, run_with}
+use Rattle.script_reader.specs.Script.{first_split, has_rank, or_rule, peer_of, rules_of, split_rule}
+use Rattle.script_reader.specs.Settled.{HasPeer, HasRule, HaveRules, IsSettled, run_with}
 use Rattle.script_reader.proofs.RuleLemmas.{first_split-more, last-within, or_rule-kept, rule-more, run-straight, split-at, splittable}
 
 -- the rules behind one more statement have the same rule where there was one
@@ -36,14 +38,14 @@ pub record Extends (comms after : List CommRule) : Type 0 where
 rules-room : (items : List Item) → length (rules_of items) ≡ 16
 rules-room items = ap suc (length-map-range_with_len (first_split items) 1 15)
 
-present-low : (items : List Item) (c : ℕ) → (rule_of (rules_of items) c ≡ rule.Absent → ⊥) → c < 16
+pub present-low : (items : List Item) (c : ℕ) → (rule_of (rules_of items) c ≡ rule.Absent → ⊥) → c < 16
 present-low items c there =
     elim (cases_lt c 16) [
       | inl below ↦ below
       | inr past ↦ absurd (there (get_or_past (rules_of items) c rule.Absent (omega (arith, past, rules-room items))))
     ]
 
-same-more : (items : List Item) (item : Item) (c : ℕ) → (rule_of (rules_of items) c ≡ rule.Absent → ⊥) → rule_of (rules_of (items ++ item ∷ [])) c ≡ rule_of (rules_of items) c
+pub same-more : (items : List Item) (item : Item) (c : ℕ) → (rule_of (rules_of items) c ≡ rule.Absent → ⊥) → rule_of (rules_of (items ++ item ∷ [])) c ≡ rule_of (rules_of items) c
 same-more items item zero there = refl
 same-more items item (suc c) there =
     rule-more items item (suc c) (omega arith) (present-low items (suc c) there) ∙ or_rule-kept (rule_of (rules_of items) (suc c)) (split_rule item.stmt (suc c)) there
@@ -66,7 +68,7 @@ keys-same (suc n) comms after e c there =
     ap (λ (rl : CommRule). key_under rl (key_within n after) r) (e.same c there)
     ∙ under-same comms after n c r (rule_of comms c) (e.rules c (e.low c there)) (λ p h. keys-same n comms after e p h))
 
-key-same : (comms after : List CommRule) → Extends comms after → (c : ℕ) → (rule_of comms c ≡ rule.Absent → ⊥) → key_of after c ≡ key_of comms c
+pub key-same : (comms after : List CommRule) → Extends comms after → (c : ℕ) → (rule_of comms c ≡ rule.Absent → ⊥) → key_of after c ≡ key_of comms c
 unfolding key_of
 key-same comms after e c there = keys-same 16 comms after e c there
 
@@ -97,6 +99,7 @@ root-same (stmt.End start) nue comms after rank e there = refl
 -- what is settled stays so
 IsSettled-more : (nue : ℕ) (comms after : List CommRule) (item : Item) → Extends comms after → IsSettled nue comms item → IsSettled nue after item
 IsSettled-more nue comms after item e s = record {
+  below = s.below;
   other = s.other;
   present = λ rank below has gone. s.present rank below has (sym (e.same (comm_needed item.stmt) (s.present rank below has)) ∙ gone);
   rooted = λ rank below has. root-same item.stmt nue comms after rank e (s.present rank below has) ∙ s.rooted rank below has;
@@ -111,11 +114,11 @@ settled-push nue items item rules all new =
     (IsSettled-more nue (rules_of items) (rules_of (items ++ item ∷ [])) item e new)
 
 -- where no rank of a section is refused, none is
-false-left : (a b : Bool) → (a || b) ≡ false → a ≡ false
+pub false-left : (a b : Bool) → (a || b) ≡ false → a ≡ false
 false-left false b h = refl
 false-left true b h = cc
 
-false-right : (a b : Bool) → (a || b) ≡ false → b ≡ false
+pub false-right : (a b : Bool) → (a || b) ≡ false → b ≡ false
 false-right false b h = h
 false-right true b h = cc
 
@@ -127,7 +130,7 @@ none-below (suc n) test none k below =
       | inr past ↦ let same : k ≡ n = omega arith in subst (λ (m : ℕ). test m ≡ false) (sym same) (false-right (some_below n test) (test n) none)
     ]
 
-and-false : (a b : Bool) → a ≡ true → (a && b) ≡ false → b ≡ false
+pub and-false : (a b : Bool) → a ≡ true → (a && b) ≡ false → b ≡ false
 and-false true b h none = none
 and-false false b h none = absurd (false≢true h)
 
@@ -212,13 +215,26 @@ needed-low (stmt.Print reg form) version run known = lit< tt
 needed-low (stmt.Repeat times end) version run known = lit< tt
 needed-low (stmt.End start) version run known = lit< tt
 
+peer-within : (nue : ℕ) (p : Peer) → 1 ≤ nue → IsWithin nue p → (caller : ℕ) → peer_of nue p caller < nue
+peer-within nue (peer.Abs rank) some within caller = within
+peer-within nue (peer.Plus up) some within caller = omega arith
+peer-within nue (peer.Minus down) some within caller = omega arith
+
+-- the other rank of a message is one of the run, where a rank that is named is one
+peer-below : (nue : ℕ) (s : Stmt) → 1 ≤ nue → IsAimed nue s → (rank : ℕ) → HasPeer nue s rank
+peer-below nue (stmt.Send other reg) some aimed rank = peer-within nue other some aimed rank
+peer-below nue (stmt.Post other reg) some aimed rank = peer-within nue other some aimed rank
+peer-below nue (stmt.Recv other reg len) some aimed rank = peer-within nue other some aimed rank
+peer-below nue _ some aimed rank = tt
+
 -- a statement that the checks of a line have not refused is settled
-pub settled-new : (version : Version) (nue : ℕ) (items : List Item) (item : Item) → HaveRules (reverse items) → is_unknown version (run_of nue (reverse items)) item.stmt ≡ false
+pub settled-new : (version : Version) (nue : ℕ) (items : List Item) (item : Item) → 1 ≤ nue → IsAimed nue item.stmt → HaveRules (reverse items) → is_unknown version (run_of nue (reverse items)) item.stmt ≡ false
     → some_rank nue (Some item.who) (refuses check.SelfMessage nue (reverse items) item.stmt) ≡ false
     → some_rank nue (Some item.who) (refuses check.RootRange nue (reverse items) item.stmt) ≡ false
     → some_rank nue (Some item.who) (refuses check.NotSplit nue (reverse items) item.stmt) ≡ false
     → IsSettled nue (rules_of items) item
-settled-new version nue items item have known other rooted split = record {
+settled-new version nue items item some aimed have known other rooted split = record {
+  below = λ rank below has. peer-below nue item.stmt some aimed rank;
   other = λ rank below has. none-of nue item.who (refuses check.SelfMessage nue (reverse items) item.stmt) other rank below has;
   present = λ rank below has.
       needed-there items item.stmt rank (comm_needed item.stmt) have
@@ -258,7 +274,7 @@ settled-with_ends nue n comms items world all =
     (record {
       keeps = λ list start place item times end found is p.
           All-set (IsSettled nue comms) list start (record item { stmt = stmt.Repeat times place })
-          (record { other = λ rank below has. refl; present = λ rank below has. world; rooted = λ rank below has. refl }) p;
+          (record { below = λ rank below has. tt; other = λ rank below has. refl; present = λ rank below has. world; rooted = λ rank below has. refl }) p;
     }) n items all
 
 pub world-present : (items : List Item) → rule_of (rules_of items) 0 ≡ rule.Absent → ⊥

@@ -1,3 +1,4 @@
+pub mod Acceptance
 pub mod Checks
 pub mod Ends
 pub mod Faults

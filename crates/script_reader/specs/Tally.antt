@@ -15,7 +15,9 @@ use Rattle.script_reader.specs.declared.tally.Tally.{Tally}
 use Rattle.script_reader.specs.Checks.{last_comm, cost_of, has_no_parent, has_no_root, has_split, is_known, is_misshapen, is_not_split, is_overworked, is_to_self, is_too_deep, is_too_long, is_unknown, is_unset, length_at, open_of, operations, posts_too_much, printed, prints, prints_too_much, run_of, set_by, turns_in, turns_too_often}
 use Rattle.script_reader.specs.Progress.{Progress, is_refused, named, past, register_of}
 use Rattle.script_reader.specs.declared.reader.Pair.{Pair}
-use Rattle.script_reader.specs.Settled.{ArePassed, HaveRules, IsSettled}
+use Rattle.script_reader.specs.declared.script.Peer.{Peer}
+use Rattle.script_reader.specs.declared.script.Peer.TheVariants as peer
+use Rattle.script_reader.specs.Settled.{AreInLine, ArePassed, HaveRules, IsNamed, IsSettled}
 use Rattle.script_reader.specs.Script.{IsSized, first_split, has_rank, rules_of}
 use Rattle.script_reader.specs.declared.version.Version.{Version}
 
@@ -41,8 +43,8 @@ abbrev pub AreTallies : List Tally → ℕ → List Item → Type 0
 AreTallies tallies nue past = (rank : ℕ) (d : Tally) → rank < nue → IsTally (slice_index_or tallies rank d) nue past rank
 
 -- what is kept of the statements so far: their groups, the open repeats and the tallies are those of the statements, and
--- their lengths fit
-pub record IsKept (version : Version) (nue : ℕ) (items : List Item) (run : SetupView) (repeats : List Open) (tallies : List Tally) : Type 0 where
+-- their lengths and registers fit
+pub record IsKept (version : Version) (nue : ℕ) (items : List Item) (names : List (List ℕ)) (run : SetupView) (repeats : List Open) (tallies : List Tally) : Type 0 where
   pub some : 1 ≤ nue
   pub most : nue ≤ 48
   pub sized : All (λ item. IsSized item.stmt) items
@@ -53,6 +55,8 @@ pub record IsKept (version : Version) (nue : ℕ) (items : List Item) (run : Set
   pub have : HaveRules (reverse items)
   pub low : (comm : ℕ) → last_comm version < comm → first_split items comm ≡ rule.Absent
   pub passed : ArePassed nue (reverse items)
+  pub in_line : AreInLine nue (reverse items)
+  pub named : All (λ item. IsNamed (length names) item.stmt) items
   pub ranked : length tallies ≡ nue
   pub tallied : AreTallies tallies nue (reverse items)
 
@@ -101,6 +105,17 @@ IsMade (stmt.Reduce comm root op ty dst src) = dst < 256
 IsMade (stmt.Allreduce comm op ty dst src) = dst < 256
 IsMade (stmt.Split comm rule) = (comm < 256) × IsParted rule
 IsMade _ = Unit {0}
+
+-- a rank that a statement names is a rank of the run
+abbrev pub IsWithin : ℕ → Peer → Type 0
+IsWithin nue (peer.Abs rank) = rank < nue
+IsWithin nue _ = Unit {0}
+
+abbrev pub IsAimed : ℕ → Stmt → Type 0
+IsAimed nue (stmt.Send other reg) = IsWithin nue other
+IsAimed nue (stmt.Post other reg) = IsWithin nue other
+IsAimed nue (stmt.Recv other reg len) = IsWithin nue other
+IsAimed nue _ = Unit {0}
 
 -- the checks over what is kept, one beside another
 abbrev pub refuses_by : RankCheck → SetupView → Tally → ℕ → Stmt → ℕ → Bool

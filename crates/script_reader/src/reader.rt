@@ -54,7 +54,7 @@ impl Model for Reader {
       section = r.section;
     } };
 
-    ghost invariant = { λ r. IsKept r.version r.nue r.items.items r.run r.repeats.items r.tallies.items };
+    ghost invariant = { λ r. IsKept r.version r.nue r.items.items r.names.items r.run r.repeats.items r.tallies.items };
 }
 
 impl Reader {
@@ -62,10 +62,10 @@ impl Reader {
     ghost use Rattle.script_reader.specs.Checks.{has_no_parent, innermost, is_unknown, last_comm, open_of, refuses, run_of, some_below};
     ghost use Rattle.script_reader.specs.Faults.{LineGives};
     ghost use Rattle.script_reader.specs.Progress.{checked, checked_in, fault_before, group_fault, is_refused, named, open_section, past, place, register_fault, register_of, start};
-    ghost use Rattle.script_reader.specs.Settled.{HasCommsTo};
+    ghost use Rattle.script_reader.specs.Settled.{HasCommsTo, IsNamed};
     ghost use Rattle.script_reader.specs.Reading.{script_of};
     ghost use Rattle.script_reader.specs.Script.{IsSized, has_rank};
-    ghost use Rattle.script_reader.specs.Tally.{IsAddable, IsAddressed, IsKnown, IsMade, IsShaped, IsUpTo, pair_of};
+    ghost use Rattle.script_reader.specs.Tally.{IsAddable, IsAddressed, IsAimed, IsKnown, IsMade, IsShaped, IsUpTo, pair_of};
 
     /// Before the first line.
     pub(crate) fn new(alloc: Global, version: Version, nue: u8) -> Result<Reader, AllocError>
@@ -295,6 +295,8 @@ impl Reader {
         requires { length self.old.names ≤ 65 }
         ensures gives { IfOk result (λ reg. reg ≡ register_of self.old.names name) }
         ensures named { OnOk result (self.new ≡ named self.old name) }
+        ensures within { IfOk result (λ reg. reg < length self.new.names) }
+        ensures kept { OnOk result (length self.old.names ≤ length self.new.names) }
         ensures more { OnOk result (length self.new.names ≤ length self.old.names + 1) }
     {
         let place = place_of(&self.names, &name);
@@ -308,6 +310,8 @@ impl Reader {
     pub(crate) fn registers(&mut self, dst: Name, src: Name) -> Result<Pair, AllocError>
         requires { length self.old.names ≤ 64 }
         ensures gives { IfOk result (λ pair. pair ≡ pair_of self.old dst src) }
+        ensures dst { IfOk result (λ pair. pair.dst < length self.new.names) }
+        ensures src { IfOk result (λ pair. pair.src < length self.new.names) }
         ensures named { OnOk result (self.new ≡ named (named self.old dst) src) }
     {
         let dst = self.register(dst)?;
@@ -318,6 +322,8 @@ impl Reader {
     /// Puts an item behind the others.
     fn add_item(&mut self, item: Item) -> Result<(), AllocError>
         requires made { IsMade item.stmt }
+        requires named { IsNamed (length self.old.names) item.stmt }
+        requires aimed { IsAimed self.old.nue item.stmt }
         requires addable { IsAddable self.old item.stmt }
         requires known { IsKnown self.old item.stmt }
         requires shaped { IsShaped self.old item.stmt }
@@ -342,6 +348,8 @@ impl Reader {
     /// Puts a statement behind the others, unless a check refuses it.
     pub(crate) fn place(&mut self, line: u32, stmt: Stmt) -> Result<(), LineStop>
         requires made { IsMade stmt }
+        requires named { IsNamed (length self.old.names) stmt }
+        requires aimed { IsAimed self.old.nue stmt }
         requires counted { length self.old.items < line }
         ensures gives { LineGives (λ _. self.new) result (place line self.old stmt) }
         ensures kept { OnOk result (IsUpTo self.old.version line self.new) }

@@ -194,19 +194,19 @@ pub struct Scripts {
 
 impl Model for Scripts {
     ghost use Rattle.script_reader.specs.Script.{Script};
-    ghost use Rattle.script_reader.specs.Settled.{IsWhole};
+    ghost use Rattle.script_reader.specs.Settled.{IsAccepted};
 
     ghost Value = { Script };
 
     ghost view = { λ s. record { nue = s.ranks; items = s.statements.items; names = s.registers.items } };
 
-    ghost invariant = { λ s. IsWhole s.ranks s.statements.items };
+    ghost invariant = { λ s. IsAccepted s.ranks s.statements.items s.registers.items };
 }
 
 impl Scripts {
     /// A script of statements whose lengths fit.
     pub(crate) fn new(ranks: u8, statements: Vec<Item>, registers: Vec<Name>) -> Scripts
-        requires { IsWhole ranks statements.items }
+        requires { IsAccepted ranks statements.items registers.items }
         ensures { result ≡ record { nue = ranks; items = statements.items; names = registers.items } }
     {
         Scripts {
@@ -218,9 +218,11 @@ impl Scripts {
 
     ghost use Rattle.scc_base.specs.Communicators.{AreRules};
     ghost use Rattle.scc_base.specs.Setups.{AreApart};
+    ghost use Rattle.script_reader.specs.Acceptance.{ForEachRun, IsFitting, IsPostable, IsReadable, groups_of, length_before, length_of};
+    ghost use Rattle.script_reader.specs.Checks.{open_of, operations, printed};
     ghost use Rattle.script_reader.specs.Script.{rules_of};
-    ghost use Rattle.script_reader.specs.Settled.{ArePassed, IsSettled, IsWhole};
-    ghost use Rattle.std.specs.Prelude.{◌≡◌, ◌<◌, ◌≤◌, [], length, reverse, slice_get, slice_index_or};
+    ghost use Rattle.script_reader.specs.Settled.{ArePassed, IsAccepted, IsNamed, IsSettled};
+    ghost use Rattle.std.specs.Prelude.{◌≡◌, ◌<◌, ◌≤◌, ℕ, All, [], length, reverse, slice_get, slice_index_or, take};
 
     /// How many statements the script has.
     pub fn len(&self) -> usize
@@ -273,9 +275,31 @@ impl Scripts {
     }
 
     /// The law of acceptance: no check of the table of faults refuses a statement of the script for a rank of its section,
-    /// over the statements before it.
+    /// over the statements before it. The other clauses say what this means, each for every statement and each rank that
+    /// runs it.
     pub fn acceptance_law(&self)
         ensures accepted { ArePassed self.now.nue (reverse self.now.items) }
+        // A message has another rank of the run, a communicator that is used has a rule, a root is a place of the group.
+        ensures settled { All (IsSettled self.now.nue (rules_of self.now.items)) self.now.items }
+        // A register that is read has been set by the rank in an earlier line.
+        ensures set { ForEachRun self.now (λ place stmt rank. IsReadable (groups_of self.now) (length_before self.now place rank) stmt rank) }
+        // A register of a rank has one length in the whole script.
+        ensures stays { (place rank reg len : ℕ) → length_before self.now place rank reg ≡ Some len → length_of self.now rank reg ≡ Some len }
+        // It is the one that each statement gives it or needs; those of a fold are equal, and whole values.
+        ensures fitting { ForEachRun self.now (λ place stmt rank. IsFitting (groups_of self.now) (length_of self.now rank) stmt rank) }
+        ensures postable { ForEachRun self.now (λ place stmt rank. IsPostable (length_of self.now rank) stmt) }
+    {
+        let _ranks = self.ranks;
+    }
+
+    /// The limits of a script that was read.
+    pub fn limits_law(&self)
+        ensures short { (rank reg len : ℕ) → length_of self.now rank reg ≡ Some len → len ≤ 65536 }
+        ensures worked { (rank : ℕ) → rank < self.now.nue → operations self.now.nue (reverse self.now.items) rank ≤ 100000 }
+        ensures printed { (rank : ℕ) → rank < self.now.nue → printed self.now.nue (reverse self.now.items) rank ≤ 1048576 }
+        ensures named { All (λ item. IsNamed (length self.now.names) item.stmt) self.now.items }
+        // Before each statement, and at the end.
+        ensures shallow { (place : ℕ) → length (open_of (reverse (take place self.now.items))) ≤ 8 }
     {
         let _ranks = self.ranks;
     }

@@ -3,8 +3,8 @@
 ghost use Rattle.std.specs.Prelude.{◌≡◌, ◌<◌, ◌≤◌, IfOk, length, OnOk};
 ghost use Rattle.script_reader.specs.Faults.{LineGives};
 ghost use Rattle.script_reader.specs.Progress.{after, after_group, after_local, after_message, after_section, peer_in, rank_said, rule_said, small};
-ghost use Rattle.script_reader.specs.Tally.{IsParted, IsUpTo};
-ghost use Rattle.script_reader.specs.declared.said.Collective.TheVariants.{Reduce};
+ghost use Rattle.script_reader.specs.Tally.{IsParted, IsUpTo, IsWithin};
+ghost use Rattle.script_reader.specs.declared.said.Collective.TheVariants.{Allreduce, Bcast, Reduce, Split};
 ghost use Rattle.script_reader.specs.declared.said.Section.TheVariants.{Span};
 
 use crate::fault::{FaultKind, LineStop};
@@ -19,7 +19,8 @@ use scc_base::{CommRule, Rank};
 /// A number as a rank.
 fn rank_said(nue: u8, number: u32) -> Result<Rank, FaultKind>
     requires { nue ≤ 48 }
-    ensures { result ≡ rank_said nue number }
+    ensures same { result ≡ rank_said nue number }
+    ensures within { IfOk result (λ rank. rank < nue) }
 {
     if number >= nue as u32 {
         return Err(FaultKind::RankRange);
@@ -30,7 +31,8 @@ fn rank_said(nue: u8, number: u32) -> Result<Rank, FaultKind>
 /// The other rank of a message, as a statement has it.
 fn peer_in(nue: u8, peer: PeerSaid) -> Result<Peer, FaultKind>
     requires { nue ≤ 48 }
-    ensures { result ≡ peer_in nue peer }
+    ensures same { result ≡ peer_in nue peer }
+    ensures within { IfOk result (IsWithin nue) }
 {
     match peer {
         PeerSaid::Abs(rank) => Ok(Peer::Abs(rank_said(nue, rank)?)),
@@ -172,6 +174,79 @@ fn take_reduce(
     )
 }
 
+fn take_allreduce(
+    reader: &mut Reader,
+    line: u32,
+    comm: u32,
+    op: Op,
+    ty: Ty,
+    dst: Name,
+    src: Name,
+) -> Result<(), LineStop>
+    requires few { length reader.old.names ≤ 64 }
+    requires counted { length reader.old.items < line }
+    ensures gives { LineGives (λ _. reader.new) result (after_group line reader.old (Allreduce comm op ty dst src)) }
+    ensures kept { OnOk result (IsUpTo reader.old.version line reader.new) }
+{
+    let comm = small(comm);
+    let Pair { dst, src } = reader.registers(dst, src)?;
+    reader.place(
+        line,
+        Stmt::Allreduce {
+            comm,
+            op,
+            ty,
+            dst,
+            src,
+        },
+    )
+}
+
+fn take_bcast(
+    reader: &mut Reader,
+    line: u32,
+    comm: u32,
+    root: u32,
+    name: Name,
+    len: u32,
+) -> Result<(), LineStop>
+    requires few { length reader.old.names ≤ 64 }
+    requires counted { length reader.old.items < line }
+    ensures gives { LineGives (λ _. reader.new) result (after_group line reader.old (Bcast comm root name len)) }
+    ensures kept { OnOk result (IsUpTo reader.old.version line reader.new) }
+{
+    let comm = small(comm);
+    let root = small(root);
+    let reg = reader.register(name)?;
+    reader.place(
+        line,
+        Stmt::Bcast {
+            comm,
+            root,
+            reg,
+            len,
+        },
+    )
+}
+
+fn take_split(
+    reader: &mut Reader,
+    line: u32,
+    comm: u32,
+    parent: u32,
+    colour: Colour,
+    parts: Parts,
+) -> Result<(), LineStop>
+    requires few { length reader.old.names ≤ 64 }
+    requires counted { length reader.old.items < line }
+    ensures gives { LineGives (λ _. reader.new) result (after_group line reader.old (Split comm parent colour parts)) }
+    ensures kept { OnOk result (IsUpTo reader.old.version line reader.new) }
+{
+    let comm = small(comm);
+    let rule = rule_said(colour, small(parent), parts);
+    reader.place(line, Stmt::Split { comm, rule })
+}
+
 fn take_group(reader: &mut Reader, line: u32, group: Collective) -> Result<(), LineStop>
     requires few { length reader.old.names ≤ 64 }
     requires counted { length reader.old.items < line }
@@ -188,30 +263,13 @@ fn take_group(reader: &mut Reader, line: u32, group: Collective) -> Result<(), L
             parent,
             colour,
             parts,
-        } => {
-            let comm = small(comm);
-            let rule = rule_said(colour, small(parent), parts);
-            reader.place(line, Stmt::Split { comm, rule })
-        }
+        } => take_split(reader, line, comm, parent, colour, parts),
         Collective::Bcast {
             comm,
             root,
             name,
             len,
-        } => {
-            let comm = small(comm);
-            let root = small(root);
-            let reg = reader.register(name)?;
-            reader.place(
-                line,
-                Stmt::Bcast {
-                    comm,
-                    root,
-                    reg,
-                    len,
-                },
-            )
-        }
+        } => take_bcast(reader, line, comm, root, name, len),
         Collective::Reduce {
             comm,
             root,
@@ -226,20 +284,7 @@ fn take_group(reader: &mut Reader, line: u32, group: Collective) -> Result<(), L
             ty,
             dst,
             src,
-        } => {
-            let comm = small(comm);
-            let Pair { dst, src } = reader.registers(dst, src)?;
-            reader.place(
-                line,
-                Stmt::Allreduce {
-                    comm,
-                    op,
-                    ty,
-                    dst,
-                    src,
-                },
-            )
-        }
+        } => take_allreduce(reader, line, comm, op, ty, dst, src),
     }
 }
 

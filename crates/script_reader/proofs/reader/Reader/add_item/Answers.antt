@@ -8,7 +8,8 @@ use Rattle.script_reader.specs.declared.tally.Tally.{Tally}
 use Rattle.script_reader.specs.Checks.{opened, refuses, some_rank, turns_in}
 use Rattle.script_reader.specs.Progress.{Progress}
 use Rattle.script_reader.specs.Script.{rules_of}
-use Rattle.script_reader.specs.Tally.{IsAddable, IsAddressed, IsKept, IsKnown, IsShaped, is_new_split, noted_at}
+use Rattle.script_reader.specs.Settled.{IsNamed}
+use Rattle.script_reader.specs.Tally.{IsAddable, IsAddressed, IsAimed, IsKept, IsKnown, IsShaped, is_new_split, noted_at}
 use Rattle.script_reader.proofs.ReaderLemmas.{kept-more, run-after, run-stays}
 use Rattle.script_reader.proofs.RuleLemmas.{rules-kept, rules-made}
 use Rattle.script_reader.proofs.SettledLemmas.{passed-all, settled-new}
@@ -53,16 +54,18 @@ invariant_of-self-then-is_split c =
     let run = c.new-self-inside.ensures ∙ run-after inside.nue after c.rules_of.result rules in
     let new = sym (ap (λ (run : SetupView). is_new_split run item.stmt) c.self.invariant.run_is) ∙ sym c.is_new_split-is_split.ensures ∙ c.if-is_split.true in
     let valid = rules-made item.stmt had item inside.version inside.nue refl c.requires.made known.known known.parented new c.self.invariant.rules in
+    let named = subst (λ (p : Progress). IsNamed (length p.names) item.stmt) (sym c.self.view_is) c.requires.named in
+    let aimed = subst (λ (p : Progress). IsAimed p.nue item.stmt) (sym c.self.view_is) c.requires.aimed in
     let section = subst (λ (p : Progress). p.section ≡ Some item.who) (sym c.self.view_is) c.requires.opened in
     let addressed = subst (λ (p : Progress). IsAddressed p item.stmt) (sym c.self.view_is) c.requires.addressed in
     let at = λ (check : RankCheck) (none : some_rank inside.nue inside.section (refuses check inside.nue (reverse had) item.stmt) ≡ false). subst (λ (who : Option Who). some_rank inside.nue who (refuses check inside.nue (reverse had) item.stmt) ≡ false) section none in
-    let settled = settled-new inside.version inside.nue had item c.self.invariant.have known.known (at check.SelfMessage addressed.other) (at check.RootRange addressed.rooted) (at check.NotSplit known.split) in
+    let settled = settled-new inside.version inside.nue had item c.self.invariant.some aimed c.self.invariant.have known.known (at check.SelfMessage addressed.other) (at check.RootRange addressed.rooted) (at check.NotSplit known.split) in
     let shaped = subst (λ (p : Progress). IsShaped p item.stmt) (sym c.self.view_is) c.requires.shaped in
     let none = λ (check : RankCheck). at check (passed-all inside.nue (reverse had) inside.section item.stmt addressed.rooted addressed.other known.split shaped.set shaped.shaped addable.worked addable.printed check) in
-    let kept = kept-more inside.version inside.nue had item inside.run c.new-self-inside.result inside.repeats.items c.note_repeat.new.repeats.items inside.tallies.items noted
-    c.self.invariant known.known c.requires.made addable.short run opens valid (omega (arith, long, inside.tallies.ok.0, c.self.invariant.ranked)) settled none counts in
-    subst (λ (ts : List Tally). IsKept inside.version inside.nue c.push.new.self.items c.new-self-inside.result c.note_repeat.new.repeats.items ts) (sym back)
-    (subst (λ (items : List Item). IsKept inside.version inside.nue items c.new-self-inside.result c.note_repeat.new.repeats.items noted) (sym pushed) kept)
+    let kept = kept-more inside.version inside.nue had inside.names.items item inside.run c.new-self-inside.result inside.repeats.items c.note_repeat.new.repeats.items inside.tallies.items noted
+    c.self.invariant known.known c.requires.made named addable.short addable.flat run opens valid (omega (arith, long, inside.tallies.ok.0, c.self.invariant.ranked)) settled none counts in
+    subst (λ (ts : List Tally). IsKept inside.version inside.nue c.push.new.self.items inside.names.items c.new-self-inside.result c.note_repeat.new.repeats.items ts) (sym back)
+    (subst (λ (items : List Item). IsKept inside.version inside.nue items inside.names.items c.new-self-inside.result c.note_repeat.new.repeats.items noted) (sym pushed) kept)
 
 pub invariant_of-self-else-is_split : goal.invariant_of-self-else-is_split
 invariant_of-self-else-is_split c =
@@ -89,13 +92,15 @@ invariant_of-self-else-is_split c =
     let same = rules-kept item.stmt had item inside.version inside.nue refl known.known old in
     let run = run-stays inside.nue had item inside.run c.self.invariant.run_is same in
     let valid = subst (λ (r : List CommRule). AreRules r) (sym same) c.self.invariant.rules in
+    let named = subst (λ (p : Progress). IsNamed (length p.names) item.stmt) (sym c.self.view_is) c.requires.named in
+    let aimed = subst (λ (p : Progress). IsAimed p.nue item.stmt) (sym c.self.view_is) c.requires.aimed in
     let section = subst (λ (p : Progress). p.section ≡ Some item.who) (sym c.self.view_is) c.requires.opened in
     let addressed = subst (λ (p : Progress). IsAddressed p item.stmt) (sym c.self.view_is) c.requires.addressed in
     let at = λ (check : RankCheck) (none : some_rank inside.nue inside.section (refuses check inside.nue (reverse had) item.stmt) ≡ false). subst (λ (who : Option Who). some_rank inside.nue who (refuses check inside.nue (reverse had) item.stmt) ≡ false) section none in
-    let settled = settled-new inside.version inside.nue had item c.self.invariant.have known.known (at check.SelfMessage addressed.other) (at check.RootRange addressed.rooted) (at check.NotSplit known.split) in
+    let settled = settled-new inside.version inside.nue had item c.self.invariant.some aimed c.self.invariant.have known.known (at check.SelfMessage addressed.other) (at check.RootRange addressed.rooted) (at check.NotSplit known.split) in
     let shaped = subst (λ (p : Progress). IsShaped p item.stmt) (sym c.self.view_is) c.requires.shaped in
     let none = λ (check : RankCheck). at check (passed-all inside.nue (reverse had) inside.section item.stmt addressed.rooted addressed.other known.split shaped.set shaped.shaped addable.worked addable.printed check) in
-    let kept = kept-more inside.version inside.nue had item inside.run inside.run inside.repeats.items c.note_repeat.new.repeats.items inside.tallies.items noted
-    c.self.invariant known.known c.requires.made addable.short run opens valid (omega (arith, long, inside.tallies.ok.0, c.self.invariant.ranked)) settled none counts in
-    subst (λ (ts : List Tally). IsKept inside.version inside.nue c.push.new.self.items inside.run c.note_repeat.new.repeats.items ts) (sym back)
-    (subst (λ (items : List Item). IsKept inside.version inside.nue items inside.run c.note_repeat.new.repeats.items noted) (sym pushed) kept)
+    let kept = kept-more inside.version inside.nue had inside.names.items item inside.run inside.run inside.repeats.items c.note_repeat.new.repeats.items inside.tallies.items noted
+    c.self.invariant known.known c.requires.made named addable.short addable.flat run opens valid (omega (arith, long, inside.tallies.ok.0, c.self.invariant.ranked)) settled none counts in
+    subst (λ (ts : List Tally). IsKept inside.version inside.nue c.push.new.self.items inside.names.items inside.run c.note_repeat.new.repeats.items ts) (sym back)
+    (subst (λ (items : List Item). IsKept inside.version inside.nue items inside.names.items inside.run c.note_repeat.new.repeats.items noted) (sym pushed) kept)

@@ -7,10 +7,10 @@ use Rattle.script_reader.specs.Checks.{last_comm}
 use Rattle.script_reader.specs.Progress.{Progress}
 use Rattle.script_reader.specs.Script.{Script, rules_of}
 use Rattle.scc_base.specs.declared.communicators.CommRule.TheVariants as rule
-use Rattle.script_reader.specs.Settled.{IsSettled, IsWhole}
+use Rattle.script_reader.specs.Settled.{IsAccepted, IsSettled}
 use Rattle.script_reader.proofs.SettledLemmas.{rules-low, settled-with_ends, world-present}
-use Rattle.script_reader.proofs.BareLemmas.{passed-with_ends}
-use Rattle.script_reader.proofs.EndLemmas.{rules-with_ends, sized-with_ends}
+use Rattle.script_reader.proofs.BareLemmas.{lines-with_ends, passed-with_ends}
+use Rattle.script_reader.proofs.EndLemmas.{named-with_ends, rules-with_ends, sized-with_ends}
 use Rattle.script_reader.proofs.TallyLemmas.{written-back}
 use Rattle.script_reader.proofs.reader.Reader.finish.Goals as goal
 
@@ -22,13 +22,17 @@ new-requires c =
     let long : length told ≡ c.self.inside.items.len = omega (arith, c.tell_ends.auto.items, c.deref_mut.ensures.len) in
     let back = written-back c.self.inside.items.len told (drop (length told) had) long in
     let is = c.tell_ends.ensures.gives ∙ ap (λ (items : List Item). with_ends (length items) items) c.deref_mut.ensures.value in
-    subst (λ (items : List Item). IsWhole c.self.inside.nue items) (sym (back ∙ is)) (record {
-      some = c.self.invariant.some;
-      most = c.self.invariant.most;
-      sized = sized-with_ends (length had) had c.self.invariant.sized;
-      settled = subst (λ (r : List CommRule). All (IsSettled c.self.inside.nue r) (with_ends (length had) had)) (sym (rules-with_ends (length had) had)) (settled-with_ends c.self.inside.nue (length had) (rules_of had) had (world-present had) c.self.invariant.settled);
-      passed = passed-with_ends c.self.inside.nue (length had) had c.self.invariant.passed;
-      rules = subst (λ (r : List CommRule). AreRules r) (sym (rules-with_ends (length had) had)) c.self.invariant.rules;
+    subst (λ (items : List Item). IsAccepted c.self.inside.nue items c.self.inside.names.items) (sym (back ∙ is)) (record {
+      whole = record {
+        some = c.self.invariant.some;
+        most = c.self.invariant.most;
+        sized = sized-with_ends (length had) had c.self.invariant.sized;
+        settled = subst (λ (r : List CommRule). All (IsSettled c.self.inside.nue r) (with_ends (length had) had)) (sym (rules-with_ends (length had) had)) (settled-with_ends c.self.inside.nue (length had) (rules_of had) had (world-present had) c.self.invariant.settled);
+        passed = passed-with_ends c.self.inside.nue (length had) had c.self.invariant.passed;
+        rules = subst (λ (r : List CommRule). AreRules r) (sym (rules-with_ends (length had) had)) c.self.invariant.rules;
+        in_line = lines-with_ends c.self.inside.nue (length had) had c.self.invariant.in_line;
+      };
+      named = named-with_ends (length c.self.inside.names.items) (length had) had c.self.invariant.named;
     })
 
 pub returns-clause-low : goal.returns-clause-low
