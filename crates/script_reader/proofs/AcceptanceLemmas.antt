@@ -1,6 +1,6 @@
 -- What the checks of a script's statements leave, as facts of each statement.
-use Rattle.std.proofs.Common.{◌≡◌, ℕ, zero, suc, ◌+◌, ◌-◌, ◌*◌, ◌%◌, ◌<◌, ◌≤◌, Bool, true, false, not, ◌||◌, ◌&&◌, cond, eqb, ltb, List, [], ◌∷◌, ◌++◌, All, length, reverse, take, drop, slice_get, is_none, unwrap_or, Option, Some, None, refl, sym, ap, ◌∙◌, arith, subst, append_assoc, inl, inr, lit<}
-use Rattle.std.proofs.lemmas.Bool.Decides.{eqb_tells, nat_tests}
+use Rattle.std.proofs.Common.{◌≡◌, ℕ, zero, suc, ◌+◌, ◌-◌, ◌*◌, ◌%◌, ◌<◌, ◌≤◌, Bool, true, false, not, ◌||◌, ◌&&◌, cond, eqb, ltb, List, [], ◌∷◌, ◌++◌, length, reverse, take, drop, slice_get, is_none, unwrap_or, Option, Some, None, refl, sym, ap, ◌∙◌, arith, subst, append_assoc, inl, inr, lit<}
+use Rattle.std.proofs.lemmas.Bool.Decides.{eqb_tells}
 use Rattle.std.proofs.lemmas.Bool.{eqb-true, ltb-false, not-false}
 use Rattle.std.proofs.lemmas.List.{length-append, length-take, reverse-append, reverse-reverse, take-append-drop}
 use Rattle.std.specs.Option.{option_or}
@@ -23,8 +23,7 @@ use Rattle.script_reader.specs.declared.tally.Setting.{Setting}
 use Rattle.script_reader.specs.Acceptance.{ForEachRun, IsFitting, IsPostable, IsReadable, IsWholeOf, groups_of, length_before, length_of}
 use Rattle.script_reader.specs.Checks.{comm_needed, cost_of, differs, is_absent, is_at, is_misshapen, is_ragged, is_too_deep, is_unset, length_at, open_of, opened, operations, posts_too_much, printed, prints, prints_too_much, resizes, run_of, set_by, setting, sets_to, turns_in}
 use Rattle.script_reader.specs.Script.{IsSized, Script, has_rank, rules_of}
-use Rattle.script_reader.specs.Settled.{AreInLine, ArePassed, IsAccepted, IsInLine, IsNamed, IsSettled, IsWhole, run_with}
-use Rattle.script_reader.proofs.RuleLemmas.{past-more}
+use Rattle.script_reader.specs.Settled.{AreInLine, ArePassed, IsInLine, IsWhole, run_with}
 use Rattle.script_reader.proofs.SettledLemmas.{Extends, and-false, false-left, false-right, key-same, present-low, same-more}
 
 -- the statements that stand behind a place, and those before it, the latest first
@@ -34,12 +33,13 @@ around (first ∷ items) zero item found =
     let same : first ≡ item = cc in
     (reverse items, reverse-append (first ∷ []) items ∙ ap (λ (i : Item). reverse items ++ i ∷ []) same)
 around (first ∷ items) (suc place) item found =
-    let rest = around items place item found in
-    (rest.0,
-    reverse-append (first ∷ []) items
-    ∙ ap (λ (list : List Item). list ++ first ∷ []) rest.1
-    ∙ append_assoc rest.0 (item ∷ reverse (take place items)) (first ∷ [])
-    ∙ ap (λ (list : List Item). rest.0 ++ item ∷ list) (sym (reverse-append (first ∷ []) (take place items))))
+    let rest = around items place item found in (
+      rest.0,
+      reverse-append (first ∷ []) items
+          ∙ ap (λ (list : List Item). list ++ first ∷ []) rest.1
+          ∙ append_assoc rest.0 (item ∷ reverse (take place items)) (first ∷ [])
+          ∙ ap (λ (list : List Item). rest.0 ++ item ∷ list) (sym (reverse-append (first ∷ []) (take place items))),
+    )
 
 front-of : (items : List Item) (place : ℕ) → reverse items ≡ reverse (drop place items) ++ reverse (take place items)
 front-of items place = ap reverse (sym (take-append-drop place items)) ∙ reverse-append (take place items) (drop place items)
@@ -180,16 +180,18 @@ fitting (stmt.Reduce comm root op ty dst src) nue past comms rank after e there 
     let size = unwrap_or (had src) 0 in
     let at = is_at (run_of nue past) comm rank root in
     let from = some-value (had src) set in
-    let from-after = stays src size (or_some (had src) (sets_to (cond at (setting dst size) None) src) size from) in
-    (λ is. stays dst size (root-once at had dst size (is_ragged ty (had src)) (at-root nue past comms comm rank root e there is) shaped) ∙ sym from-after,
-    whole-of ty (had src) (after src) size from from-after (false-right (resizes had (cond at (setting dst size) None)) (is_ragged ty (had src)) shaped))
+    let from-after = stays src size (or_some (had src) (sets_to (cond at (setting dst size) None) src) size from) in (
+      λ is. stays dst size (root-once at had dst size (is_ragged ty (had src)) (at-root nue past comms comm rank root e there is) shaped) ∙ sym from-after,
+      whole-of ty (had src) (after src) size from from-after (false-right (resizes had (cond at (setting dst size) None)) (is_ragged ty (had src)) shaped),
+    )
 fitting (stmt.Allreduce comm op ty dst src) nue past comms rank after e there set shaped stays =
     let had = length_at nue past rank in
     let size = unwrap_or (had src) 0 in
     let from = some-value (had src) set in
-    let from-after = stays src size (or_some (had src) (sets_to (setting dst size) src) size from) in
-    (stays dst size (set-once (had dst) dst size (false-left (differs (had dst) size) (is_ragged ty (had src)) shaped)) ∙ sym from-after,
-    whole-of ty (had src) (after src) size from from-after (false-right (differs (had dst) size) (is_ragged ty (had src)) shaped))
+    let from-after = stays src size (or_some (had src) (sets_to (setting dst size) src) size from) in (
+      stays dst size (set-once (had dst) dst size (false-left (differs (had dst) size) (is_ragged ty (had src)) shaped)) ∙ sym from-after,
+      whole-of ty (had src) (after src) size from from-after (false-right (differs (had dst) size) (is_ragged ty (had src)) shaped),
+    )
 fitting _ nue past comms rank after e there set shaped stays = tt
 
 post-value : (o after : Option ℕ) (len : ℕ) → o ≡ Some len → after ≡ Some len → nat_lt 3584 (unwrap_or o 0) ≡ false → IfSome after (λ size. size ≤ 3584)
