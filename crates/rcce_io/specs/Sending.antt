@@ -31,3 +31,16 @@ pub record CutShort (taken more : Option (List ℕ)) (before now : ℕ) (text : 
 abbrev pub Sends : Option (List ℕ) → Option (List ℕ) → ℕ → ℕ → List ℕ → Result (Unit {0}) WriteFault → Type 0
 Sends taken more before now text (Ok _) = Whole taken more before now text
 Sends taken more before now text (Err _) = CutShort taken more before now text
+
+-- so much of the text was taken, with no fault, and the rest of it waits
+pub record Waits (taken more : Option (List ℕ)) (before now : ℕ) (text waiting : List ℕ) : Type 0 where
+  pub steady : now ≡ before
+  pub gone : List ℕ
+  pub whole : text ≡ gone ++ waiting
+  pub gains : Gains taken more gone
+
+-- A text was put behind what waited: of both so much was taken and the rest of them waits, or they were cut short by a
+-- fault.
+abbrev pub Gathers : Option (List ℕ) → Option (List ℕ) → ℕ → ℕ → List ℕ → List ℕ → List ℕ → Result (Unit {0}) WriteFault → Type 0
+Gathers taken more before now waited waiting text (Ok _) = Waits taken more before now (waited ++ text) waiting
+Gathers taken more before now waited waiting text (Err _) = CutShort taken more before now (waited ++ text)

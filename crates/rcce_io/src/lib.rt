@@ -2,6 +2,7 @@
 //! in memory. Each counts its faults.
 #![tactic(auto)]
 
+mod buffer;
 mod bytes;
 mod calls;
 mod files;
@@ -10,8 +11,10 @@ mod memory_files;
 mod memory_sink;
 mod reading;
 mod sink;
+mod text_source;
 mod writing;
 
+pub use buffer::Buffer;
 pub use bytes::Bytes;
 pub use files::{Files, Got, Opened};
 pub use host::{HostFiles, StdSink};
@@ -19,6 +22,7 @@ pub use memory_files::MemFiles;
 pub use memory_sink::MemSink;
 pub use reading::{ReadEnd, read_all};
 pub use sink::{Put, Sink};
+pub use text_source::TextSource;
 pub use writing::{WriteFault, write_all};
 
 #[cfg(test)]

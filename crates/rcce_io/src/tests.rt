@@ -1,7 +1,8 @@
 use crate::{
-    Files, Got, HostFiles, MemFiles, MemSink, Opened, Put, ReadEnd, Sink, StdSink, WriteFault,
-    read_all, write_all,
+    Buffer, Files, Got, HostFiles, MemFiles, MemSink, Opened, Put, ReadEnd, Sink, StdSink,
+    TextSource, WriteFault, read_all, write_all,
 };
+use std::alloc::Global;
 use std::test::Fail;
 
 #[test]
@@ -40,6 +41,79 @@ fn the_last_number_set_counts(rt: HostRuntime) -> Result<(), Fail> {
     assert_eq!(rt; sink.write(b"b"), Put::Failed);
     assert_eq!(rt; sink.write(b"c"), Put::Took(1));
     Ok(())
+}
+
+/// A text that is written in two halves.
+#[derive(Clone, Copy)]
+struct Halves<'a> {
+    first: &'a [u8],
+    second: &'a [u8],
+}
+
+impl TextSource for Halves<'_> {
+    ghost use Rattle.std.specs.Prelude.{◌++◌};
+
+    ghost text = { λ h. h.first.now ++ h.second.now };
+
+    fn write_to<S: Sink>(&self, sink: &mut S) -> Result<(), WriteFault> {
+        write_all(sink, self.first)?;
+        write_all(sink, self.second)
+    }
+}
+
+/// Gathers three texts of 800, 800 and 3 bytes, and then writes what waits.
+fn gather_three(sink: &mut MemSink) -> Result<(), WriteFault> {
+    let mut buffer = Buffer::new();
+    let texts = [
+        Halves {
+            first: &[b'a'; 400],
+            second: &[b'b'; 400],
+        },
+        Halves {
+            first: &[b'c'; 200],
+            second: &[b'd'; 600],
+        },
+        Halves {
+            first: b"e",
+            second: b"fg",
+        },
+    ];
+    for text in texts {
+        buffer.gather(sink, &text)?;
+    }
+    buffer.flush(sink)
+}
+
+/// How many bytes stand on a sink when its writes fail from the given one on, each of which takes all that it is given.
+fn taken_before(alloc: Global, write: u64) -> Result<(usize, Result<(), WriteFault>), Fail> {
+    let mut sink = MemSink::new(alloc, 2_000, 2_000)?;
+    sink.fail_at(write);
+    let sent = gather_three(&mut sink);
+    Ok((sink.bytes().len(), sent))
+}
+
+#[test]
+fn short_texts_wait_and_go_by_one_write(rt: HostRuntime) -> Result<(), Fail> {
+    let failed = Err(WriteFault);
+    let table = [
+        (1, 0, failed),
+        (2, 800, failed),
+        (3, 1_000, failed),
+        (4, 1_600, failed),
+        (5, 1_603, Ok(())),
+    ];
+    for (write, len, sent) in table {
+        assert_eq!(rt; taken_before(rt.alloc(), write)?, (len, sent));
+    }
+    Ok(())
+}
+
+#[test]
+fn a_buffer_takes_a_text_whole_or_not(rt: HostRuntime) {
+    let mut buffer = Buffer::new();
+    assert_eq!(rt; buffer.write(&[7; 1_025]), Put::Failed);
+    assert_eq!(rt; buffer.write(&[7; 1_024]), Put::Took(1_024));
+    assert_eq!(rt; buffer.write(&[7]), Put::Failed);
 }
 
 #[test]

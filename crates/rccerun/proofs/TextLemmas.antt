@@ -1,14 +1,14 @@
 -- Texts that are sent piece by piece.
 use Rattle.std.proofs.Common.{◌≡◌, ℕ, ◌+◌, ◌-◌, ◌/◌, ◌%◌, ◌≤◌, ◌<◌, slice_index, get_or, List, [], ◌∷◌, ◌++◌, map, length, take, drop, refl, sym, ap, ◌∙◌, append_assoc, arith, Option, Result, Ok, Err}
 use Rattle.std.proofs.Math.Seq.{take-add}
-use Rattle.std.proofs.lemmas.List.{take-append-drop, take_more, map-append, append-nil}
+use Rattle.std.proofs.lemmas.List.{take-append-drop, take_all, take_more, map-append, append-nil}
 use Rattle.std.proofs.lemmas.Bool.{false≢true}
 use Rattle.hex.specs.Hex.{encode_with, encode_lower, lower_digits}
 use Rattle.std.specs.Result.{IsErr}
 use Rattle.rcce_io.specs.declared.writing.WriteFault.{WriteFault}
 use Rattle.rccerun.specs.Texts.{joined}
-use Rattle.rcce_io.specs.Sending.{Whole, CutShort, Sends}
-use Rattle.rcce_io.proofs.SendingLemmas.{gains_none, whole_after, cut_after, cut_then}
+use Rattle.rcce_io.specs.Sending.{Whole, CutShort, Sends, Waits}
+use Rattle.rcce_io.proofs.SendingLemmas.{gains_none, whole_after, cut_after, cut_then, waits_after, cut_waiting}
 
 -- nothing was sent yet
 pub whole_none : (taken : Option (List ℕ)) (count : ℕ) → Whole taken taken count count []
@@ -26,6 +26,19 @@ pub whole_within : (taken middle more : Option (List ℕ)) (before between now :
     text ≡ a ++ b → Whole taken middle before between a → Whole middle more between now b → Whole taken more before now text
 whole_within taken middle more before between now a b text parts first second =
     rw parts (whole_after taken middle more before between now a b first second)
+
+-- a text of which the rest waits, and then its next piece
+pub waits_within : (taken middle more : Option (List ℕ)) (before between now : ℕ) (a b waited waiting text : List ℕ) →
+    text ≡ a ++ b → Waits taken middle before between a waited → Waits middle more between now (waited ++ b) waiting → Waits taken more before now text waiting
+waits_within taken middle more before between now a b waited waiting text parts first second =
+    rw parts (waits_after taken middle more before between now a b waited waiting first second)
+
+-- a text of which the rest waited, when that and the next piece were cut short
+pub cut_gathered : (taken middle more : Option (List ℕ)) (before between now : ℕ) (a b waited rest text : List ℕ) →
+    text ≡ a ++ (b ++ rest) → Waits taken middle before between a waited → CutShort middle more between now (waited ++ b) →
+    CutShort taken more before now text
+cut_gathered taken middle more before between now a b waited rest text parts first second =
+    rw (parts ∙ sym (append_assoc a b rest)) (cut_then taken more before now (a ++ b) rest (cut_waiting taken middle more before between now a b waited first second))
 
 -- one text, and then another is sent
 pub sends_after : (taken middle more : Option (List ℕ)) (before between now : ℕ) (a b : List ℕ) (r : Result (Unit {0}) WriteFault) →
@@ -82,3 +95,7 @@ joined-parts f ps i d within =
     ∙ joined-append (map f (take (i + 1) ps)) (map f (drop (i + 1) ps))
     ∙ ap (λ t. t ++ joined (map f (drop (i + 1) ps))) (joined-more f ps i d within)
     ∙ append_assoc (joined (map f (take i ps))) (f (get_or ps i d)) _
+
+-- all pieces
+pub joined-all : {P : Type 0} (f : P → List ℕ) (ps : List P) (i : ℕ) → length ps ≤ i → joined (map f (take i ps)) ≡ joined (map f ps)
+joined-all f ps i past = ap (λ l. joined (map f l)) (take_all i ps past)

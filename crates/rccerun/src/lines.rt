@@ -9,7 +9,7 @@ ghost use Rattle.rccerun.specs.Texts.{call_pieces, item_line, kind_text, message
 use crate::pieces::Piece::{Hex, Number, Text, Values};
 use crate::pieces::write_line;
 use groups::Ty;
-use rcce_io::{Sink, WriteFault};
+use rcce_io::{Sink, TextSource, WriteFault};
 use scc_base::{Call, Head, Kind, Rank};
 use script_plain::{Printed, UeEnd};
 use script_reader::Form;
@@ -37,45 +37,47 @@ fn type_text(ty: Ty) -> &'static str
     }
 }
 
-/// Writes the line of a printed register.
-pub fn write_item<'a, S: Sink>(
-    sink: &mut S,
-    rank: Rank,
-    name: &'a str,
-    item: &'a Printed,
-) -> Result<(), WriteFault>
-    ensures later { S.faults sink.old ≤ S.faults sink.new }
-    ensures sends { Sends (S.taken sink.old) (S.taken sink.new) (S.faults sink.old) (S.faults sink.new)
-        (item_line rank name.now item.now.form item.now.bytes) result }
-{
-    let ue = rank.number() as u32;
-    let bytes = item.bytes.as_slice();
-    match item.form {
-        Form::Hex => write_line(
-            sink,
-            &[
-                Text("ue "),
-                Number(ue),
-                Text(" "),
-                Text(name),
-                Text(" "),
-                Hex(bytes),
-                Text("\n"),
-            ],
-        ),
-        Form::Decimal(ty) => write_line(
-            sink,
-            &[
-                Text("ue "),
-                Number(ue),
-                Text(" "),
-                Text(name),
-                Text(" "),
-                Text(type_text(ty)),
-                Values(ty, bytes),
-                Text("\n"),
-            ],
-        ),
+/// The line of a printed register.
+#[derive(Clone, Copy)]
+pub struct ItemLine<'a> {
+    pub rank: Rank,
+    pub name: &'a str,
+    pub item: &'a Printed,
+}
+
+impl TextSource for ItemLine<'_> {
+    ghost text = { λ l. item_line l.rank l.name.now l.item.now.form l.item.now.bytes };
+
+    fn write_to<S: Sink>(&self, sink: &mut S) -> Result<(), WriteFault> {
+        let ue = self.rank.number() as u32;
+        let bytes = self.item.bytes.as_slice();
+        match self.item.form {
+            Form::Hex => write_line(
+                sink,
+                &[
+                    Text("ue "),
+                    Number(ue),
+                    Text(" "),
+                    Text(self.name),
+                    Text(" "),
+                    Hex(bytes),
+                    Text("\n"),
+                ],
+            ),
+            Form::Decimal(ty) => write_line(
+                sink,
+                &[
+                    Text("ue "),
+                    Number(ue),
+                    Text(" "),
+                    Text(self.name),
+                    Text(" "),
+                    Text(type_text(ty)),
+                    Values(ty, bytes),
+                    Text("\n"),
+                ],
+            ),
+        }
     }
 }
 

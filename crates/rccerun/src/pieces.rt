@@ -9,7 +9,7 @@ ghost use Rattle.rccerun.specs.Texts.{hex_text, joined, value_text, values_text}
 ghost use Rattle.rccerun.specs.Pieces.{piece_text};
 
 use groups::Ty;
-use rcce_io::{Sink, WriteFault, write_all};
+use rcce_io::{Buffer, Sink, TextSource, WriteFault, write_all};
 
 /// How many bytes go to the sink as hex digits at a time.
 const HEX_BLOCK: usize = 512;
@@ -105,24 +105,32 @@ fn write_values<S: Sink>(sink: &mut S, ty: Ty, bytes: &[u8]) -> Result<(), Write
     ensures sends { Sends (S.taken sink.old) (S.taken sink.new) (S.faults sink.old) (S.faults sink.new)
         (values_text ty bytes.now) result }
 {
+    let mut buffer = Buffer::new();
     let width = ty.width();
     for i in 0..bytes.len() / width {
-        write_value_at(sink, ty, bytes, i)?;
+        buffer.gather(sink, &Value { ty, bytes, i })?;
     }
-    Ok(())
+    buffer.flush(sink)
 }
 
-/// Writes a value of a type among bytes.
-fn write_value_at<S: Sink>(sink: &mut S, ty: Ty, bytes: &[u8], i: usize) -> Result<(), WriteFault>
-    requires { i < length bytes.now / bytes_in ty }
-    ensures later { S.faults sink.old ≤ S.faults sink.new }
-    ensures sends { Sends (S.taken sink.old) (S.taken sink.new) (S.faults sink.old) (S.faults sink.new)
-        (value_text ty bytes.now i) result }
-{
-    let width = ty.width();
-    let at = i * width;
-    write_all(sink, b" ")?;
-    write_value(sink, ty, &bytes[at..at + width])
+/// A value of a type among bytes, behind a blank.
+#[derive(Clone, Copy)]
+struct Value<'a> {
+    ty: Ty,
+    bytes: &'a [u8],
+    i: usize,
+    ghost within: { i < length bytes.now / bytes_in ty },
+}
+
+impl TextSource for Value<'_> {
+    ghost text = { λ v. value_text v.ty v.bytes.now v.i };
+
+    fn write_to<S: Sink>(&self, sink: &mut S) -> Result<(), WriteFault> {
+        let width = self.ty.width();
+        let at = self.i * width;
+        write_all(sink, b" ")?;
+        write_value(sink, self.ty, &self.bytes[at..at + width])
+    }
 }
 
 /// Writes a value of a type.

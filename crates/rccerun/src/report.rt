@@ -2,8 +2,8 @@
 
 ghost use Rattle.std.specs.Prelude.{◌≡◌, length};
 
-use crate::lines::{is_finished, write_end, write_item};
-use rcce_io::{Sink, WriteFault};
+use crate::lines::{ItemLine, is_finished, write_end};
+use rcce_io::{Buffer, Sink, WriteFault};
 use scc_base::Rank;
 use script_plain::End;
 use script_reader::Scripts;
@@ -41,11 +41,17 @@ impl Report {
         ensures sends { Sends (S.taken sink.old) (S.taken sink.new) (S.faults sink.old) (S.faults sink.new)
             (printed_text self.now.script.names rank (ended_at self.now.end rank)) result }
     {
+        let mut buffer = Buffer::new();
         for i in 0..self.end.items(rank) {
             let item = self.end.item(rank, i);
-            write_item(sink, rank, self.script.name(item.reg), item)?;
+            let line = ItemLine {
+                rank,
+                name: self.script.name(item.reg),
+                item,
+            };
+            buffer.gather(sink, &line)?;
         }
-        Ok(())
+        buffer.flush(sink)
     }
 
     /// Writes where the units of execution stand that have not finished, by rank.
