@@ -43,52 +43,50 @@ fn the_last_number_set_counts(rt: HostRuntime) -> Result<(), Fail> {
     Ok(())
 }
 
-/// A text that is written in two halves.
+/// A text that is written at once.
 #[derive(Clone, Copy)]
-struct Halves<'a> {
-    first: &'a [u8],
-    second: &'a [u8],
+struct Line<'a> {
+    bytes: &'a [u8],
 }
 
-impl TextSource for Halves<'_> {
-    ghost use Rattle.std.specs.Prelude.{◌++◌};
-
-    ghost text = { λ h. h.first.now ++ h.second.now };
+impl TextSource for Line<'_> {
+    ghost text = { λ l. l.bytes.now };
 
     fn write_to<S: Sink>(&self, sink: &mut S) -> Result<(), WriteFault> {
-        write_all(sink, self.first)?;
-        write_all(sink, self.second)
+        write_all(sink, self.bytes)
     }
 }
 
-/// Gathers three texts of 800, 800 and 3 bytes, and then writes what waits.
-fn gather_three(sink: &mut MemSink) -> Result<(), WriteFault> {
+/// Gathers texts of 800, 200, 700 and 3 bytes, and then writes what waits.
+fn gather_four(sink: &mut MemSink) -> Result<(), WriteFault> {
     let mut buffer = Buffer::new();
-    let texts = [
-        Halves {
-            first: &[b'a'; 400],
-            second: &[b'b'; 400],
+    buffer.gather(
+        sink,
+        &Line {
+            bytes: &[b'a'; 800],
         },
-        Halves {
-            first: &[b'c'; 200],
-            second: &[b'd'; 600],
+    )?;
+    buffer.gather(
+        sink,
+        &Line {
+            bytes: &[b'b'; 200],
         },
-        Halves {
-            first: b"e",
-            second: b"fg",
+    )?;
+    buffer.gather(
+        sink,
+        &Line {
+            bytes: &[b'c'; 700],
         },
-    ];
-    for text in texts {
-        buffer.gather(sink, &text)?;
-    }
+    )?;
+    buffer.gather(sink, &Line { bytes: b"def" })?;
     buffer.flush(sink)
 }
 
-/// How many bytes stand on a sink when its writes fail from the given one on, each of which takes all that it is given.
+/// How many bytes stand on a sink of which the given write fails and each other takes all that it is given.
 fn taken_before(alloc: Global, write: u64) -> Result<(usize, Result<(), WriteFault>), Fail> {
     let mut sink = MemSink::new(alloc, 2_000, 2_000)?;
     sink.fail_at(write);
-    let sent = gather_three(&mut sink);
+    let sent = gather_four(&mut sink);
     Ok((sink.bytes().len(), sent))
 }
 
@@ -97,10 +95,9 @@ fn short_texts_wait_and_go_by_one_write(rt: HostRuntime) -> Result<(), Fail> {
     let failed = Err(WriteFault);
     let table = [
         (1, 0, failed),
-        (2, 800, failed),
-        (3, 1_000, failed),
-        (4, 1_600, failed),
-        (5, 1_603, Ok(())),
+        (2, 1_000, failed),
+        (3, 1_700, failed),
+        (4, 1_703, Ok(())),
     ];
     for (write, len, sent) in table {
         assert_eq!(rt; taken_before(rt.alloc(), write)?, (len, sent));
