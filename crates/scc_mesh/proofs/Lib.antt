@@ -6,3 +6,4 @@ pub mod HomeLaws
 pub mod SeatLaws
 pub mod AwaySteps
 pub mod PortEnds
+pub mod HandOuts

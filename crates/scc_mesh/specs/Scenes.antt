@@ -1,5 +1,5 @@
 -- What a chip, a token and a port are to a contract.
-use Rattle.std.specs.Prelude.{◌≡◌, ℕ, ◌<◌, List, [], Option, Some, None, Bool, true, false, ◌&&◌, nat_lt, length}
+use Rattle.std.specs.Prelude.{◌≡◌, ℕ, ◌<◌, ◌≤◌, List, [], Option, Some, None, Bool, true, false, ◌&&◌, nat_lt, length}
 use Rattle.std.specs.Coded.{coded_option}
 use base.Stored.{Gv, gnil, Coded, coded_list}
 use Rattle.atomic_table.specs.Seated.{TableId, table_id_coded}
@@ -73,6 +73,18 @@ IsHome chip r = IsKnown (home_in chip) r
 pub record IsWhole (chip : ChipView) : Type 0 where
   pub opened : IsOpen chip
   pub home : (r : ℕ) → r < (about_in chip).nue → IsHome chip r
+
+-- an open chip with a place for each rank: the ranks from one on are at home
+pub record IsHomeFrom (chip : ChipView) (n : ℕ) : Type 0 where
+  pub opened : IsOpen chip
+  pub room : (about_in chip).nue ≤ length (home_in chip)
+  pub home : (r : ℕ) → n ≤ r → r < (about_in chip).nue → IsHome chip r
+
+-- or the ranks below one are
+pub record IsHomeBelow (chip : ChipView) (n : ℕ) : Type 0 where
+  pub opened : IsOpen chip
+  pub room : (about_in chip).nue ≤ length (home_in chip)
+  pub home : (r : ℕ) → r < n → IsHome chip r
 
 -- whether the rank is at home
 abbrev pub is_known : Option (List Event) → Bool
