@@ -1,12 +1,14 @@
 -- Ports that step.
 use Rattle.std.proofs.Common.{◌≡◌, ℕ, suc, ◌+◌, Bool, List, [], ◌∷◌, ◌++◌, refl, sym, ◌∙◌, ap, append_assoc, append-nil, arith}
+use Rattle.scc_base.specs.Setups.{host_of}
 use Rattle.scc_base.specs.declared.events.Event.{Event}
 use Rattle.scc_proto.specs.Ports.{Sight, Did}
 use Rattle.scc_proto.specs.IdlePorts.{IsIdle}
 use Rattle.scc_proto.proofs.PortLaws.{seat_kept, events_did}
 use Rattle.scc_proto.proofs.IdleLaws.{idle_at_start}
-use Rattle.scc_mesh.specs.Scenes.{ChipView, events_in, sight_in}
-use Rattle.chip_steps.specs.Steps.{step_of, steps_of, step_at, in_turn, home_core, Stepped}
+use Rattle.scc_mesh.specs.AwayRanks.{Away}
+use Rattle.scc_mesh.specs.Scenes.{ChipView, about_in, events_in, sight_in, sight_away}
+use Rattle.chip_steps.specs.Steps.{step_of, steps_of, step_at, in_turn, home_core, Stepped, HasMade}
 
 pub idle_home : (chip new : ChipView) (r hold : ℕ) → new ≡ chip → ((q : ℕ) → events_in chip q ≡ []) → IsIdle (sight_in new r hold)
 idle_home chip new r hold same empty = idle_at_start (sight_in new r hold) (ap (λ (c : ChipView). events_in c r) same ∙ empty r)
@@ -32,3 +34,10 @@ step_more start old stores count e new before is did =
       steps = ap steps_of (events_did old (e ∷ []) new did) ∙ steps-append old.events (e ∷ []) ∙ (λ i. before.steps i ++ is i ∷ [])
           ∙ append_assoc (steps_of start.events) (in_turn stores core count) (step_at stores core count ∷ []) ∙ ap (λ n. steps_of start.events ++ in_turn stores core n) next;
     }
+
+-- a rank that came home after so many accesses
+pub away_made : (chip : ChipView) (old new : Away) (stores : Bool) (count : ℕ) → Stepped (sight_away old.about old.ticket) stores count (sight_away new.about new.ticket)
+    → old.ticket.events ≡ [] → old.ticket.rank ≡ 0 → old.about ≡ about_in chip → events_in chip 0 ≡ new.ticket.events → HasMade chip stores count
+away_made chip old new stores count stepped none rank about has = record {
+  steps = ap steps_of has ∙ stepped.steps ∙ (λ i. steps_of (none i) ++ in_turn stores (host_of (about i).hosts (rank i)) count);
+}

@@ -5,7 +5,6 @@ use Rattle.scc_base.specs.Setups.{SetupView, host_of}
 use Rattle.scc_base.specs.declared.events.Access.{Access}
 use Rattle.scc_base.specs.declared.events.Access.TheVariants.{Load, Store}
 use Rattle.scc_base.specs.declared.events.Event.{Event}
-use Rattle.scc_mesh.specs.AwayRanks.{Ticket}
 use Rattle.scc_mesh.specs.Scenes.{ChipView, about_in, events_in}
 use Rattle.scc_proto.specs.Ports.{Sight}
 
@@ -38,11 +37,6 @@ pub record Stepped (old : Sight) (stores : Bool) (count : ℕ) (new : Sight) : T
   pub seat : new.seat ≡ old.seat
   pub steps : steps_of new.events ≡ steps_of old.events ++ in_turn stores (home_core old) count
 
--- rank 0 has made so many accesses, and is at home
+-- rank 0 has made so many accesses
 pub record HasMade (chip : ChipView) (stores : Bool) (count : ℕ) : Type 0 where
   pub steps : steps_of (events_in chip 0) ≡ in_turn stores (host_of (about_in chip).hosts 0) count
-
--- or is away
-pub record HasMadeAway (s : SetupView) (ticket : Ticket) (stores : Bool) (count : ℕ) : Type 0 where
-  pub rank : ticket.rank ≡ 0
-  pub steps : steps_of ticket.events ≡ in_turn stores (host_of s.hosts 0) count

@@ -2,10 +2,14 @@
 //! table-load, table-store, port-load, port-store, seat-load or seat-store.
 #![tactic(auto)]
 
+ghost use Rattle.std.specs.Prelude.{IfOk};
+ghost use Rattle.chip_steps.specs.Jobs.{HasMadeBy};
+
 mod accesses;
 mod bare;
 mod ports;
 
+use scc_mesh::Chip;
 use std::alloc::{AllocError, Global};
 use std::{env, io};
 
@@ -42,11 +46,23 @@ fn job_of(words: &[String]) -> Option<Job> {
     Some(Job { way, stores, count })
 }
 
-fn make(alloc: Global, job: &Job) -> Result<(), AllocError> {
+// The chip on which the accesses were made; a bare table is none.
+fn make(alloc: Global, job: &Job) -> Result<Option<Chip>, AllocError>
+    ensures made { IfOk result (λ chip. HasMadeBy job.now chip) }
+{
     match job.way {
-        Way::Table => bare::bare(alloc, job.stores, job.count),
-        Way::Port => ports::by_port(alloc, false, job.stores, job.count),
-        Way::Seat => ports::by_port(alloc, true, job.stores, job.count),
+        Way::Table => {
+            bare::bare(alloc, job.stores, job.count)?;
+            Ok(None)
+        }
+        Way::Port => {
+            let chip = ports::by_port(alloc, false, job.stores, job.count)?;
+            Ok(Some(chip))
+        }
+        Way::Seat => {
+            let chip = ports::by_port(alloc, true, job.stores, job.count)?;
+            Ok(Some(chip))
+        }
     }
 }
 
@@ -61,7 +77,7 @@ fn main(rt: HostRuntime) -> io::Result<()> {
     match job_of(words.as_slice()) {
         None => println!(rt; "chip_steps KIND COUNT")?,
         Some(job) => match make(rt.alloc(), &job) {
-            Ok(()) => println!(rt; "{}", job.count)?,
+            Ok(_) => println!(rt; "{}", job.count)?,
             Err(_) => println!(rt; "no memory")?,
         },
     }

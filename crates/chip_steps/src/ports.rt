@@ -1,22 +1,42 @@
 //! Many accesses through a port of a chip.
 
-ghost use Rattle.std.specs.Prelude.{◌≡◌, ℕ, []};
-ghost use Rattle.scc_mesh.specs.Scenes.{IsWhole, about_in, events_in};
-ghost use Rattle.chip_steps.specs.Steps.{HasMade, HasMadeAway};
+ghost use Rattle.std.specs.Prelude.{◌≡◌, ◌<◌, ℕ, [], IfOk};
+ghost use Rattle.scc_base.specs.Setups.{host_of};
+ghost use Rattle.scc_base.specs.Communicators.{AreRules};
+ghost use Rattle.scc_mesh.specs.Scenes.{IsWhole, IsNew, about_in, events_in};
+ghost use Rattle.chip_steps.specs.Steps.{HasMade};
 
 use crate::accesses::make_many;
 use scc_base::{CommRule, CoreId, Layout, Rank, Setup};
-use scc_mesh::{Chip, Token};
+use scc_mesh::Chip;
 use std::alloc::{AllocError, Global};
 
-fn setup() -> Option<Setup> {
-    let mut cores = [CoreId::of(0); 48];
-    for number in 0..48 {
-        cores[number] = CoreId::of(number as u8);
+// Each rank on the core of its number.
+fn hosts() -> [CoreId; 48]
+    ensures { (r : ℕ) → r < 48 → host_of result r ≡ r }
+{
+    let mut hosts = [CoreId::of(0); 48];
+    for core in 0..48 {
+        hosts[core] = CoreId::of(core as u8);
     }
+    hosts
+}
+
+// The world alone.
+fn rules() -> [CommRule; 16]
+    ensures { AreRules result }
+{
     let mut rules = [CommRule::Absent; 16];
     rules[0] = CommRule::World;
-    Setup::new(48, Layout::lines(), cores, rules)
+    rules
+}
+
+// 48 ranks with line flags.
+fn setup() -> Setup {
+    match Setup::new(48, Layout::lines(), hosts(), rules()) {
+        Some(setup) => setup,
+        None => unreachable!(),
+    }
 }
 
 fn at_home(chip: &mut Chip, stores: bool, count: u32)
@@ -29,29 +49,37 @@ fn at_home(chip: &mut Chip, stores: bool, count: u32)
     make_many(&mut port, stores, count);
 }
 
-fn away(chip: &mut Chip, stores: bool, count: u32) -> Token
+fn away(chip: &mut Chip, stores: bool, count: u32)
     requires whole { IsWhole chip.old }
     requires empty { (r : ℕ) → events_in chip.old r ≡ [] }
-    ensures made { HasMadeAway (about_in chip.old) result stores count }
+    ensures made { HasMade chip.new stores count }
 {
     let _nue = chip.setup().nue();
     let token = chip.spread(Rank::of(0));
     let mut port = chip.words().port(token);
     make_many(&mut port, stores, count);
-    port.into_token()
+    let token = port.into_token();
+    chip.gather(token);
 }
 
-/// Makes that many loads, or stores, through a port of a rank at home or away.
-pub fn by_port(alloc: Global, is_away: bool, stores: bool, count: u32) -> Result<(), AllocError> {
-    let Some(setup) = setup() else {
-        return Ok(());
-    };
-    let mut chip = Chip::blank();
-    chip.open(alloc, setup)?;
+fn make_on(chip: &mut Chip, is_away: bool, stores: bool, count: u32)
+    requires whole { IsWhole chip.old }
+    requires empty { (r : ℕ) → events_in chip.old r ≡ [] }
+    ensures made { HasMade chip.new stores count }
+{
     if is_away {
-        away(&mut chip, stores, count);
+        away(chip, stores, count);
     } else {
-        at_home(&mut chip, stores, count);
+        at_home(chip, stores, count);
     }
-    Ok(())
+}
+
+/// Makes that many loads, or stores, through a port of a rank at home or away, and gives the chip, which has them.
+pub fn by_port(alloc: Global, is_away: bool, stores: bool, count: u32) -> Result<Chip, AllocError>
+    ensures made { IfOk result (λ chip. HasMade chip stores count) }
+{
+    let mut chip = Chip::blank();
+    chip.open(alloc, setup())?;
+    make_on(&mut chip, is_away, stores, count);
+    Ok(chip)
 }

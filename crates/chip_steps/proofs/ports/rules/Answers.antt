@@ -1,0 +1,6 @@
+use Rattle.std.proofs.Common.{refl}
+use Rattle.chip_steps.proofs.WorldLemmas.{world_alone}
+use Rattle.chip_steps.proofs.ports.rules.Goals as goal
+
+pub returns : goal.returns
+returns c = world_alone _ refl
