@@ -26,7 +26,7 @@ pub record IsLineKnown (known : List Event) (line : LineAt) (words : List ℕ) :
 abbrev pub AllKnown : List Event → Private → Type 0
 AllKnown known c = EachEntry (IsLineKnown known) c.lines
 
-known_more : (es fs : List Event) (p : WordAt) (v : ℕ) → IsKnown es p v → IsKnown (es ++ fs) p v
+pub known_more : (es fs : List Event) (p : WordAt) (v : ℕ) → IsKnown es p v → IsKnown (es ++ fs) p v
 known_more es fs p v h =
     list_any-append (tells p v) es fs ∙ or_left (list_any (tells p v) es) (list_any (tells p v) fs) h
 

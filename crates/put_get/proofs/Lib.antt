@@ -6,3 +6,4 @@ pub mod EntryLemmas
 pub mod TransferLemmas
 pub mod WorkLemmas
 pub mod FillLemmas
+pub mod SinceLemmas

@@ -1,9 +1,10 @@
 -- Events of a port that were steps of the chip's memory, one run of events after another.
-use Rattle.std.proofs.Common.{◌≡◌, List, [], ◌∷◌, ◌++◌, sym, ◌∙◌, subst, append_assoc, append-nil}
+use Rattle.std.proofs.Common.{◌≡◌, List, [], ◌∷◌, ◌++◌, refl, sym, ◌∙◌, subst, append_assoc, append-nil}
 use Rattle.std.proofs.lemmas.List.{append_cancel_left}
 use Rattle.scc_base.specs.declared.events.Event.{Event}
-use Rattle.scc_proto.specs.Ports.{Sight, Did}
-use Rattle.scc_proto.proofs.PortLaws.{did_nothing, did_both, events_did}
+use Rattle.scc_proto.specs.Stages.{Record}
+use Rattle.scc_proto.specs.Ports.{Sight, Did, WereMade, and_then, record_in}
+use Rattle.scc_proto.proofs.PortLaws.{did_nothing, did_both, events_did, made_front, made_left, record_did}
 use Rattle.put_get.specs.Accesses.{WereSteps}
 use Rattle.put_get.specs.Cores.{MadeSteps, KeepsSteps}
 
@@ -38,3 +39,13 @@ steps_both old new s m t a b x y first keeps then =
     made_steps new s t (a ++ b) (did_both s a m b t x y)
     (were-append new s.events a b (were_kept old new s.events a keeps (first a x))
     (subst (λ es. WereSteps new es b) (events_did s a m x) (then b y)))
+
+-- the first part of what a port did, and the rest of it
+pub did_front : (s : Sight) (a b : List Event) (t : Sight) → Did s (a ++ b) t → Did s a (and_then s a)
+did_front s a b t did = record { continues = refl; made = made_front s.seat (record_in s) a b did.made }
+
+pub did_left : (s : Sight) (a b : List Event) (t : Sight) → Did s (a ++ b) t → Did (and_then s a) b t
+did_left s a b t did = record {
+  continues = did.continues ∙ (λ i. record s { events = sym (append_assoc s.events a b) i });
+  made = subst (λ (x : Record). WereMade s.seat x b) (sym (record_did s a (and_then s a) (did_front s a b t did))) (made_left s.seat (record_in s) a b did.made);
+}

@@ -33,7 +33,7 @@ impl<V: Evict> Model for Core<V> {
 }
 
 impl<V: Evict> Core<V> {
-    ghost use Rattle.std.specs.Prelude.{◌≡◌, ℕ, List, [], Some, None};
+    ghost use Rattle.std.specs.Prelude.{◌≡◌, ◌↔◌, ℕ, List, [], Some, None, IsTrue};
     ghost use Rattle.scc_base.specs.Places.{line_of_word};
     ghost use Rattle.scc_base.specs.declared.events.Event.{Event};
     ghost use Rattle.scc_proto.specs.Ports.{MayMakeAll, record_in};
@@ -56,6 +56,13 @@ impl<V: Evict> Core<V> {
             combiner: Combiner::new(),
             evict,
         }
+    }
+
+    /// Whether the write-combining buffer holds nothing, as reads, put and get ask for.
+    pub fn is_flushed(&self) -> bool
+        ensures { IsTrue result ↔ (self.now.out ≡ None) }
+    {
+        self.combiner.is_empty()
     }
 
     /// Drops all cached lines, as the instruction CL1INVMB does.

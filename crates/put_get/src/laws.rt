@@ -1,10 +1,15 @@
 //! Laws about the calls of a core, for the layers above. Each is a function that does nothing and ensures it.
 
-ghost use Rattle.put_get.specs.Answers.{AnswersLaw, LineCostLaw};
+ghost use Rattle.put_get.specs.Answers.{AnswersLaw, LinesLaw, LineCostLaw};
 
 /// Each answer of a core is the value of a load since the last `cl1invmb`, or a word that it wrote since.
 pub fn answers_law()
     ensures { AnswersLaw }
+{}
+
+/// So it is of the calls that read and write whole lines, and of put and get.
+pub fn lines_law()
+    ensures { LinesLaw }
 {}
 
 /// A line that is read costs at most four loads, and four more for each eviction, whatever the evictor does.
