@@ -4,7 +4,8 @@ use Rattle.std.proofs.Common.{◌≡◌, ℕ, suc, ◌≤◌, ◌↔◌, Bool, t
 use Rattle.scc_base.specs.declared.events.Access.{Access}
 use Rattle.scc_base.specs.declared.events.Access.TheVariants.{Load, Store, Take, Free}
 use Rattle.scc_base.specs.declared.events.Event.{Event}
-use Rattle.sync_flags.specs.Tries.{Aim, AtFlag, AtWord, AtRegister, is_load, is_take, is_write, is_at, is_changing, is_try, is_vain, tries_from, vain_after, vain_from, vain_tries, TriedInVain, changing_after, all_vain, has_write, EndsInVain}
+use Rattle.put_get.specs.Transfers.{is_load}
+use Rattle.sync_flags.specs.Tries.{Aim, AtFlag, AtWord, AtRegister, is_take, is_write, is_at, is_changing, is_try, is_vain, tries_from, vain_after, vain_from, vain_tries, TriedInVain, changing_after, all_vain, has_write, EndsInVain}
 
 both : (a b : Bool) → (a && b) ≡ true → (a ≡ true) × (b ≡ true)
 both true b t = (refl, t)

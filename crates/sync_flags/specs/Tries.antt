@@ -3,10 +3,11 @@
 use Rattle.std.specs.Prelude.{◌≡◌, ℕ, suc, ◌≤◌, Bool, true, false, not, ◌&&◌, ◌||◌, ◌==◌, if◌then◌else◌, List, [], ◌∷◌, ◌++◌, Option, Some, None}
 use Rattle.scc_base.specs.Places.{WordAt}
 use Rattle.scc_base.specs.declared.events.Access.{Access}
-use Rattle.scc_base.specs.declared.events.Access.TheVariants.{Load, Store, Take, Free}
+use Rattle.scc_base.specs.declared.events.Access.TheVariants.{Store, Take, Free}
 use Rattle.scc_base.specs.declared.events.Event.{Event}
 use Rattle.scc_base.specs.declared.events.Spot.{Spot}
 use Rattle.scc_base.specs.declared.events.Spot.TheVariants.{Flag, Register}
+use Rattle.put_get.specs.Transfers.{is_load}
 use Rattle.sync_flags.specs.Flags.{is_set_in, flag_spot}
 
 -- what a call tries for: that a flag is found as wanted, that a word has this value (a flag of a barrier, which is
@@ -21,10 +22,6 @@ abbrev pub spot_of : Aim → Spot
 spot_of (AtFlag place bit want) = flag_spot place bit
 spot_of (AtWord place value) = Flag place 0
 spot_of (AtRegister core) = Register core
-
-abbrev pub is_load : Access → Bool
-is_load Load = true
-is_load access = false
 
 abbrev pub is_take : Access → Bool
 is_take Take = true
