@@ -1,14 +1,14 @@
 -- Writes of flags: one store, and a bit's change under its register.
-use Rattle.std.proofs.Common.{◌≡◌, ℕ, zero, suc, ◌+◌, ◌<◌, ◌≤◌, ◌↔◌, Bool, true, false, if◌then◌else◌, List, [], ◌∷◌, ◌++◌, Option, None, Some, Result, Ok, Err, IsErr, slice_index, refl, sym, ◌∙◌, ap, subst, append_assoc, append-nil, arith}
+use Rattle.std.proofs.Common.{◌≡◌, ℕ, zero, suc, ◌+◌, ◌<◌, ◌≤◌, ◌↔◌, Bool, true, false, if◌then◌else◌, List, [], ◌∷◌, ◌++◌, Option, None, Some, Result, Ok, Err, IsErr, is_some, slice_index, refl, sym, ◌∙◌, ap, subst, append_assoc, append-nil, arith}
 use Rattle.scc_base.specs.Places.{WordAt, line_of_word}
 use Rattle.scc_base.specs.Events.{store_of, take_of, free_of}
 use Rattle.scc_base.specs.declared.events.Event.{Event}
 use Rattle.scc_base.specs.declared.events.Stalled.{Stalled}
-use Rattle.scc_proto.specs.Stages.{Record}
+use Rattle.scc_proto.specs.Stages.{FlagWords, Record}
 use Rattle.scc_proto.specs.Soundness.{IsSound}
 use Rattle.scc_proto.specs.Ports.{Seat, Sight, Did, MayMake, MayMakeAll, WasMade, IsSoundPort, record_in, record_on, record_next}
-use Rattle.scc_proto.proofs.PortLaws.{did_both, record_did, seat_kept}
-use Rattle.scc_proto.proofs.Tests.{eqb_same}
+use Rattle.scc_proto.proofs.PortLaws.{did_both, record_did, record_did_one, seat_kept}
+use Rattle.scc_proto.proofs.Tests.{eqb_same, put_here}
 use Rattle.write_combine.specs.Combining.{one_word, handed_out, held_after}
 use Rattle.write_combine.specs.declared.combiner.Out.{Out}
 use Rattle.put_get.specs.Accesses.{loads_of, stores_of}
@@ -19,7 +19,7 @@ use Rattle.tas_lock.proofs.HoldLemmas.{next_tried}
 use Rattle.sync_flags.specs.Flags.{with_bit}
 use Rattle.sync_flags.specs.Tries.{AtRegister, vain_from, vain_tries, TriedInVain}
 use Rattle.sync_flags.specs.Looks.{LooksAt}
-use Rattle.sync_flags.specs.Writes.{vain_takes, change_events, MayChange, MayWrite, StoresWord, TakesWithin, ChangesBit, WritesBit, GivesUp, WritesFlag}
+use Rattle.sync_flags.specs.Writes.{vain_takes, change_events, WasLoaded, MayChange, MayWrite, StoresWord, TakesWithin, ChangesBit, TriesChange, RegisterTaken, BitChanged, WritesBit, GivesUp, WritesFlag}
 use Rattle.sync_flags.proofs.HeldLemmas.{holds_load, holds_store}
 use Rattle.sync_flags.proofs.WaitLemmas.{no_stall, stall}
 
@@ -48,31 +48,38 @@ flush_may {s} {m} {c} {d} {p} {v} w empty lt may =
 
 -- ---- a bit under its register
 
+-- the loads of a look were made, and the record is sound after them
+was_loaded : {s m : Sight} {c d : Private} {p : WordAt} {v : ℕ} → (r : LooksAt s c p v m d) → IsSoundPort m
+    → WasLoaded s.seat (record_in s) (loads_of (line_of_word p) r.words)
+was_loaded {s} {m} {c} {d} {p} r sound =
+    let loads = loads_of (line_of_word p) r.words in
+    record {
+      made = r.looks.did.made;
+      sound = subst (λ (rec : Record). IsSound s.seat.setup s.seat.rank rec) (record_did s loads m r.looks.did)
+          (subst (λ (y : Seat). IsSound y.setup y.rank (record_in m)) (seat_kept s loads m r.looks.did) sound);
+    }
+
 pub may_change : {s m : Sight} {c d : Private} {p : WordAt} {v : ℕ} → LooksAt s c p v m d → (b : ℕ) (set : Bool) (x : ℕ)
     → MayChange s.seat (record_in s) [] p b set → IsSoundPort m → x ≡ with_bit b set v → MayMake m.seat (record_in m) (store_of p x)
 may_change {s} {m} {c} {d} {p} {v} r b set x may sound is =
-    let did = r.looks.did in
     let loads = loads_of (line_of_word p) r.words in
-    let seat : m.seat ≡ s.seat = seat_kept s loads m did in
-    let late : record_in m ≡ record_on s.seat (record_in s) loads = record_did s loads m did in
-    let sounds : IsSound s.seat.setup s.seat.rank (record_on s.seat (record_in s) loads)
-    = subst (λ (rec : Record). IsSound s.seat.setup s.seat.rank rec) late (subst (λ (y : Seat). IsSound y.setup y.rank (record_in m)) seat sound) in
     let value : with_bit b set (slice_index r.words p.word) ≡ x = ap (λ (w : ℕ). with_bit b set w) (sym r.is) ∙ sym is in
     let here : MayMake s.seat (record_on s.seat (record_in s) loads) (store_of p (with_bit b set (slice_index r.words p.word)))
-    = may r.words (record { made = did.made; sound = sounds }) in
-    subst (λ (y : Seat). MayMake y (record_in m) (store_of p x)) (sym seat)
-    (subst (λ (rec : Record). MayMake s.seat rec (store_of p x)) (sym late)
+    = may r.words (was_loaded r sound) in
+    subst (λ (y : Seat). MayMake y (record_in m) (store_of p x)) (sym (seat_kept s loads m r.looks.did))
+    (subst (λ (rec : Record). MayMake s.seat rec (store_of p x)) (sym (record_did s loads m r.looks.did))
     (subst (λ (w : ℕ). MayMake s.seat (record_on s.seat (record_in s) loads) (store_of p w)) value here))
 
 pub bit_changed : {s m t : Sight} {c d1 d : Private} {p : WordAt} {v x : ℕ} → LooksAt s c p v m d1 → StoresWord m d1 p x t d → (b : ℕ) (set : Bool)
-    → x ≡ with_bit b set v → ChangesBit s c p b set t d
-bit_changed {s} {m} {t} {c} {d1} {d} {p} {v} {x} r stores b set is =
+    → x ≡ with_bit b set v → IsSoundPort m → ChangesBit s c p b set t d
+bit_changed {s} {m} {t} {c} {d1} {d} {p} {v} {x} r stores b set is sound =
     let looks = r.looks in
     let value : x ≡ with_bit b set (slice_index r.words p.word) = is ∙ ap (λ (w : ℕ). with_bit b set w) r.is in
     let stored = subst (λ (w : ℕ). StoresWord m d1 p w t d) value stores in
     record {
       words = r.words;
       did = did_both s (loads_of (line_of_word p) r.words) m (store_of p (with_bit b set (slice_index r.words p.word)) ∷ []) t looks.did stored.did;
+      was_loaded = was_loaded r sound;
       loaded = d1;
       fills = looks.fills;
       is = stored.is;
@@ -103,6 +110,11 @@ may_under s t p b set seat holds may =
     = λ words loaded. may.1 words (record { made = (take_made s.seat (record_in s) p.core may.0, loaded.made); sound = loaded.sound }) in
     subst (λ (y : Seat). MayChange y (record_in t) [] p b set) (sym seat)
     (subst (λ (rec : Record). MayChange s.seat rec [] p b set) (sym late) here)
+
+-- the register that was taken is held
+pub held_here : (rec : Record) (core held : ℕ) → held ≡ core → IsHolding (after_try core true rec) held
+held_here rec core held same = subst (λ (k : ℕ). IsHolding (after_try core true rec) k) (sym same)
+    (ap (λ (o : Option FlagWords). is_some o) (put_here rec.held core (Some (record { sent = None; ready = None }))))
 
 -- one vain take more
 takes_more : (core k : ℕ) → vain_takes core (suc k) ≡ vain_takes core k ++ take_of core false ∷ []
@@ -136,6 +148,26 @@ bit_written {s} {m} {n} {t} {c} {d} {p} {b} {set} ch polls core held at takes fr
       fills = ch.fills;
       is = ch.is;
     }
+
+-- one try
+pub bit_missed : {s t : Sight} {c : Private} {p : WordAt} {b : ℕ} {set : Bool} → (core : ℕ) → core ≡ p.core → Did s (take_of core false ∷ []) t
+    → TriesChange s c p b set false t c
+bit_missed {s} {t} core at takes = RegisterTaken refl (subst (λ (k : ℕ). Did s (take_of k false ∷ []) t) at takes) refl
+
+pub bit_tried : {s m n t : Sight} {c d : Private} {p : WordAt} {b : ℕ} {set : Bool} → ChangesBit m c p b set n d → (core held : ℕ)
+    → core ≡ p.core → Did s (take_of core true ∷ []) m → held ≡ core → Did n (free_of held ∷ []) t → TriesChange s c p b set true t d
+bit_tried {s} {m} {n} {t} {c} {d} {p} {b} {set} ch core held at takes names frees =
+    let take = take_of p.core true in
+    let loads = loads_of (line_of_word p) ch.words in
+    let change = loads ++ store_of p (with_bit b set (slice_index ch.words p.word)) ∷ [] in
+    let took = subst (λ (k : ℕ). Did s (take_of k true ∷ []) m) at takes in
+    let freed = subst (λ (k : ℕ). Did n (free_of k ∷ []) t) (names ∙ at) frees in
+    let loaded : WasLoaded s.seat (record_next s.seat (record_in s) take) loads
+    = subst (λ (rec : Record). WasLoaded s.seat rec loads) (record_did_one s take m took)
+        (subst (λ (y : Seat). WasLoaded y (record_in m) loads) (seat_kept s (take ∷ []) m took) ch.was_loaded) in
+    BitChanged refl ch.words (record { made = (took.made.0, loaded.made); sound = loaded.sound })
+    (did_both s (take ∷ []) m (change ++ free_of p.core ∷ []) t took (did_both m change n (free_of p.core ∷ []) t ch.did freed))
+    ch.loaded ch.fills ch.is
 
 -- ---- where a write has tried in vain
 

@@ -8,7 +8,7 @@ use Rattle.scc_base.specs.declared.events.Stalled.{Stalled}
 use Rattle.scc_base.specs.declared.events.Spot.TheVariants.{Register}
 use Rattle.scc_proto.specs.Stages.{Record}
 use Rattle.scc_proto.specs.Soundness.{IsSound}
-use Rattle.scc_proto.specs.Ports.{Seat, Sight, Did, MayMake, WereMade, record_on}
+use Rattle.scc_proto.specs.Ports.{Seat, Sight, Did, MayMake, WereMade, record_in, record_on}
 use Rattle.line_cache.specs.Lines.{noted}
 use Rattle.put_get.specs.Accesses.{loads_of}
 use Rattle.put_get.specs.Cores.{Private, Fills}
@@ -55,13 +55,23 @@ abbrev pub TakesWithin : Sight → ℕ → ℕ → Sight → Option ℕ → Type
 TakesWithin s core polls t None = Did s (vain_takes core polls) t
 TakesWithin s core polls t (Some held) = (held ≡ core) × ((n : ℕ) × (n < polls) × Did s (vain_takes core n ++ take_of core true ∷ []) t)
 
--- a bit was changed under a register that is held: the line came in and has the new word
+-- a bit was changed under a register that is held: the line came in and has the new word, and the record was sound
+-- after its loads
 pub record ChangesBit (s : Sight) (c : Private) (place : WordAt) (b : ℕ) (set : Bool) (t : Sight) (d : Private) : Type 0 where
   pub words : List ℕ
   pub did : Did s (loads_of (line_of_word place) words ++ store_of place (with_bit b set (slice_index words place.word)) ∷ []) t
+  pub was_loaded : WasLoaded s.seat (record_in s) (loads_of (line_of_word place) words)
   pub loaded : Private
   pub fills : Fills (record c { lines = [] }) (line_of_word place) words loaded
   pub is : d ≡ record loaded { lines = noted loaded.lines place (with_bit b set (slice_index words place.word)) }
+
+-- one try at a bit's change: the register was found taken, or the events of the change were made, and the line came
+-- in and has the new word
+pub data TriesChange (s : Sight) (c : Private) (place : WordAt) (b : ℕ) (set : Bool) (done : Bool) (t : Sight) (d : Private) : Type 0 where
+  RegisterTaken : done ≡ false → Did s (take_of place.core false ∷ []) t → d ≡ c → TriesChange s c place b set done t d
+  BitChanged : done ≡ true → (words : List ℕ) → WasLoaded s.seat (record_in s) (take_of place.core true ∷ loads_of (line_of_word place) words)
+      → Did s (change_events place b set words) t → (loaded : Private) → Fills (record c { lines = [] }) (line_of_word place) words loaded
+      → d ≡ record loaded { lines = noted loaded.lines place (with_bit b set (slice_index words place.word)) } → TriesChange s c place b set done t d
 
 -- a flag that is a bit was written: after fewer vain takes than were allowed, the events of its change; the
 -- line came in and has the new word

@@ -1,7 +1,8 @@
 //! Flags and their lines of the heap.
 
-ghost use Rattle.std.specs.Prelude.{◌≡◌, ◌++◌, ◌↔◌, [], ◌∷◌, IsErr, IfOk, OnOk, OnErr, Contains};
+ghost use Rattle.std.specs.Prelude.{◌≡◌, ◌<◌, ◌++◌, ◌↔◌, [], ◌∷◌, IsErr, IfOk, IfSome, OnOk, OnErr, Contains};
 ghost use Rattle.mpb_alloc.specs.Heaps.{run_of, answer_for, line_count, taken_from, given_back, returned, IsHeap};
+ghost use Rattle.sync_flags.specs.Flags.{is_set_in};
 
 use mpb_alloc::{Heap, MallocFault};
 use scc_base::{Buf, CoreId, Place, Spot};
@@ -80,10 +81,7 @@ impl Flag {
     pub(crate) fn is_set(self, word: u64) -> bool
         ensures tells { result ≡ is_set_in self.bit word }
     {
-        match self.bit {
-            None => word == 1,
-            Some(bit) => (word >> bit) % 2 == 1,
-        }
+        is_set_in(self.bit, word)
     }
 
     /// What a call waits at that waits for this flag.
@@ -94,6 +92,17 @@ impl Flag {
             place,
             bit: self.bit.unwrap_or(0),
         }
+    }
+}
+
+/// Whether a flag is set in this word: a flag that is the whole word where there is no bit.
+pub fn is_set_in(bit: Option<u8>, word: u64) -> bool
+    requires below { IfSome bit (λ b. b < 64) }
+    ensures tells { result ≡ is_set_in bit word }
+{
+    match bit {
+        None => word == 1,
+        Some(bit) => (word >> bit) % 2 == 1,
     }
 }
 

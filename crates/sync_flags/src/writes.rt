@@ -1,14 +1,14 @@
 //! Writes of flags.
 
-ghost use Rattle.std.specs.Prelude.{◌≡◌, ◌<◌, ◌≤◌, ◌↔◌, ℕ, List, [], ◌∷◌, None, Some, IsErr, is_some};
+ghost use Rattle.std.specs.Prelude.{◌≡◌, ◌<◌, ◌≤◌, ◌↔◌, ℕ, List, [], ◌∷◌, None, Some, IsErr, is_some, false};
 ghost use Rattle.scc_base.specs.Events.{store_of, take_of};
 ghost use Rattle.scc_base.specs.declared.events.Event.{Event};
 ghost use Rattle.scc_proto.specs.Ports.{Did, MayMake, record_in};
-ghost use Rattle.put_get.specs.Cores.{KeepsSteps};
+ghost use Rattle.put_get.specs.Cores.{MadeSteps, KeepsSteps};
 ghost use Rattle.tas_lock.specs.Holds.{IsHolding, IsNotHolding, after_try};
 ghost use Rattle.sync_flags.specs.Flags.{flag_of, with_bit};
 ghost use Rattle.sync_flags.specs.Tries.{AtRegister, TriedInVain};
-ghost use Rattle.sync_flags.specs.Writes.{MayChange, MayWrite, StoresWord, TakesWithin, ChangesBit, WritesBit, GivesUp, WritesFlag};
+ghost use Rattle.sync_flags.specs.Writes.{MayChange, MayWrite, StoresWord, TakesWithin, ChangesBit, TriesChange, WritesBit, GivesUp, WritesFlag};
 
 use crate::flags::Flag;
 use crate::looks::look_word;
@@ -72,6 +72,33 @@ fn change_bit<V: Evict, P: Port>(core: &mut Core<V>, port: &mut P, place: Place,
     // The port's contract says here that the record with these loads is sound.
     let _ = port.rank();
     store_word(core, port, place, changed(word, bit, set));
+}
+
+/// Tries once to change a bit under the register of the core that holds it: false where the register was taken.
+pub fn try_change_bit<V: Evict, P: Port>(
+    core: &mut Core<V>,
+    port: &mut P,
+    place: Place,
+    bit: u8,
+    set: bool,
+) -> bool
+    requires below { bit < 64 }
+    requires empty { core.old.out ≡ None }
+    requires permitted { MayWrite (P.sight port.old).seat (record_in (P.sight port.old)) place (Some bit) set }
+    ensures tries { TriesChange (P.sight port.old) core.old place bit set result (P.sight port.new) core.new }
+    ensures empty { core.new.out ≡ None }
+    ensures steps { result ≡ false → MadeSteps (P.stepped port.new) (P.sight port.old) (P.sight port.new) }
+    ensures keeps { KeepsSteps (P.stepped port.old) (P.stepped port.new) }
+{
+    let at = place.core();
+    match try_acquire(port, at) {
+        None => false,
+        Some(held) => {
+            change_bit(core, port, place, bit, set);
+            release(port, held);
+            true
+        }
+    }
 }
 
 /// Changes a bit under the register of the core that holds it.

@@ -7,8 +7,8 @@ store_word-requires-clause-permitted g c =
 
 pub returns-clause-changes : goal.returns-clause-changes
 returns-clause-changes g c =
-    bit_changed c.look_word-word.ensures.looks c.store_word.ensures.stores c.args.bit c.args.set c.changed.ensures
+    bit_changed c.look_word-word.ensures.looks c.store_word.ensures.stores c.args.bit c.args.set c.changed.ensures c.rank.ensures.sound
 
 pub returns-clause-holds : goal.returns-clause-holds
 returns-clause-holds g c =
-    change_holds (bit_changed c.look_word-word.ensures.looks c.store_word.ensures.stores c.args.bit c.args.set c.changed.ensures)
+    change_holds (bit_changed c.look_word-word.ensures.looks c.store_word.ensures.stores c.args.bit c.args.set c.changed.ensures c.rank.ensures.sound)

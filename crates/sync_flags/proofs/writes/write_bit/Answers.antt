@@ -1,7 +1,8 @@
-use Rattle.std.proofs.Common.{ℕ, true, ◌∙◌, ap}
+use Rattle.std.proofs.Common.{ℕ, true, sym, ◌∙◌, ap, subst}
+use Rattle.scc_proto.specs.Stages.{Record}
 use Rattle.scc_proto.specs.Ports.{record_in}
-use Rattle.tas_lock.specs.Holds.{after_try}
-use Rattle.sync_flags.proofs.WriteLemmas.{may_under, takes_seat, bit_written}
+use Rattle.tas_lock.specs.Holds.{IsHolding, after_try}
+use Rattle.sync_flags.proofs.WriteLemmas.{may_under, held_here, takes_seat, bit_written}
 use Rattle.sync_flags.proofs.writes.write_bit.Goals as goal
 
 pub change_bit-requires-clause-permitted : goal.change_bit-requires-clause-permitted
@@ -14,3 +15,9 @@ change_bit-requires-clause-permitted g c =
 pub returns-in-Some-clause-writes : goal.returns-in-Some-clause-writes
 returns-in-Some-clause-writes g c =
     bit_written c.change_bit.ensures.changes c.args.polls c.core-register.result c.in-Some.held c.core-register.ensures.gives c.in-Some.ensures.takes c.release.ensures.frees
+
+pub release-requires : goal.release-requires
+release-requires g c = record {
+  held = c.change_bit.ensures.holds c.in-Some.held (subst (λ (rec : Record). IsHolding rec c.in-Some.held) (sym c.in-Some.ensures.holds)
+      (held_here (record_in (g.P.Port.sight c.args.port.now)) c.core-register.result c.in-Some.held c.in-Some.ensures.takes.0));
+}
