@@ -15,7 +15,9 @@ use Rattle.write_combine.specs.declared.combiner.Out.{Out}
 use Rattle.put_get.specs.Accesses.{stores_of}
 use Rattle.put_get.specs.Cores.{Private, Fills, Kept, Dropped}
 use Rattle.put_get.specs.Transfers.{load_count}
-use Rattle.send_recv.specs.Flags.{with_bit, bit_events, ChangesBy, WritesFlag, TriesBit, Missed, Changed}
+use Rattle.sync_flags.specs.Flags.{with_bit}
+use Rattle.sync_flags.specs.Writes.{change_events}
+use Rattle.send_recv.specs.Flags.{ChangesBy, WritesFlag, TriesBit, Missed, Changed}
 use Rattle.send_recv.specs.Receiving.{flag_lines}
 use Rattle.sync_flags.specs.Tries.{Aim, AtFlag, AtWord, AtRegister, tries_at, vain_from, all_vain, changing_after}
 use Rattle.send_recv.specs.Tries.{aim_of}
@@ -71,11 +73,11 @@ missed_elsewhere : (core : ℕ) (at : Spot) → at ≢ Register core → tries_a
 missed_elsewhere core (Flag place bit) ne = refl
 missed_elsewhere core (Register other) ne = λ i. if other_register core other ne i then 1 else 0
 
-changed_elsewhere : (core : ℕ) (flag : FlagPlace) (set : Bool) (words : List ℕ) (at : Spot) → at ≢ Register core → tries_at (aim_of BitFlags at) (bit_events core flag set words) ≡ 0
+changed_elsewhere : (core : ℕ) (flag : FlagPlace) (set : Bool) (words : List ℕ) (at : Spot) → at ≢ Register core → tries_at (aim_of BitFlags at) (change_events (flag_word core flag) flag.bit set words) ≡ 0
 changed_elsewhere core flag set words (Flag place bit) ne = refl
 changed_elsewhere core flag set words (Register other) ne = λ i. if other_register core other ne i then 1 else 0
 
-changed_ends : (core : ℕ) (flag : FlagPlace) (set : Bool) (words : List ℕ) (aim : Aim) (n : ℕ) → vain_from aim false n (bit_events core flag set words) ≡ 0
+changed_ends : (core : ℕ) (flag : FlagPlace) (set : Bool) (words : List ℕ) (aim : Aim) (n : ℕ) → vain_from aim false n (change_events (flag_word core flag) flag.bit set words) ≡ 0
 changed_ends core flag set words (AtFlag place bit want) n = refl
 changed_ends core flag set words (AtWord place value) n = refl
 changed_ends core flag set words (AtRegister other) n = refl
@@ -104,10 +106,10 @@ missed_tries core = λ i. if eqb_same core i then 1 else 0
 missed_vain : (core : ℕ) → all_vain (AtRegister core) false (take_of core false ∷ []) ≡ true
 missed_vain core = λ i. (not (eqb_same core i) || true) && true
 
-changed_vain : (core : ℕ) (flag : FlagPlace) (set : Bool) (words : List ℕ) → all_vain (AtRegister core) false (bit_events core flag set words) ≡ false
+changed_vain : (core : ℕ) (flag : FlagPlace) (set : Bool) (words : List ℕ) → all_vain (AtRegister core) false (change_events (flag_word core flag) flag.bit set words) ≡ false
 changed_vain core flag set words = λ i. (not (eqb_same core i) || false) && true
 
-changed_tries : (core : ℕ) (flag : FlagPlace) (set : Bool) (words : List ℕ) → tries_at (AtRegister core) (bit_events core flag set words) ≡ 1
+changed_tries : (core : ℕ) (flag : FlagPlace) (set : Bool) (words : List ℕ) → tries_at (AtRegister core) (change_events (flag_word core flag) flag.bit set words) ≡ 1
 changed_tries core flag set words = λ i. if eqb_same core i then 1 else 0
 
 changed_held : (c m d : Private) (core : ℕ) (flag : FlagPlace) (set : Bool) (words : List ℕ) (v : ℕ) → Fills (record c { lines = [] }) (line_of_word (flag_word core flag)) words m
@@ -144,11 +146,11 @@ bit_facts s t c d core flag set done empty (Missed missed did e) =
     }
 bit_facts s t c d core flag set done empty (Changed made words turns did m fills e) =
     let line = line_of_word (flag_word core flag) in
-    let new = with_bit set flag.bit (slice_index words flag.word) in
+    let new = with_bit flag.bit set (slice_index words flag.word) in
     let grown = fills_evictions fills in
     let same : d.evictions ≡ m.evictions = ap (λ (x : Private). x.evictions) e in
     record {
-      events = bit_events core flag set words;
+      events = change_events (flag_word core flag) flag.bit set words;
       did = did;
       held = Last (take_of core true ∷ []) line words (store_of (flag_word core flag) new ∷ free_of core ∷ []) refl refl
           (λ kept. changed_held c m d core flag set words new fills e kept ∙ ap Some (sym (since_stored line words (flag_word core flag) new core (line_itself line))));

@@ -17,7 +17,7 @@ use Rattle.scc_proto.proofs.Tests.{put_here}
 use Rattle.scc_proto.proofs.Roles.{own_word, role_spare_bits, if_yes, if_no}
 use Rattle.scc_proto.proofs.PlaceMoves.{idle_loaded, register_taken, register_freed, sent_bits_noted, ready_bits_noted}
 use Rattle.put_get.specs.Accesses.{loads_of}
-use Rattle.send_recv.specs.Flags.{with_bit}
+use Rattle.sync_flags.specs.Flags.{with_bit}
 use Rattle.send_recv.specs.Steps.{core_of, line_at}
 use Rattle.send_recv.proofs.Sources.{put_again}
 use Rattle.send_recv.proofs.HeadTurn.{put_self}
@@ -82,12 +82,12 @@ move_made seat rec core flags f move store valid free apart stored =
 clear_above : (word bit : ℕ) → bit_at word bit ≡ 1 → 2 ^ bit ≤ word
 clear_above word bit set = ⊎_elim (λ (low : word < 2 ^ bit). absurd (let e = bit_at_above word bit bit low (omega arith) in omega (arith, e, set))) (λ (high : 2 ^ bit ≤ word). high) (cases_lt word (2 ^ bit))
 
-pub bit_taken : (word bit : ℕ) → bit_at word bit ≡ 1 → word ≡ with_bit false bit word + 2 ^ bit
+pub bit_taken : (word bit : ℕ) → bit_at word bit ≡ 1 → word ≡ with_bit bit false word + 2 ^ bit
 bit_taken word bit set =
     let le = clear_above word bit set in
-    let e : with_bit false bit word ≡ word - 2 ^ bit = if_yes (bit_at word bit == 1) (word - 2 ^ bit) word (ap (λ b. b == 1) set) in
+    let e : with_bit bit false word ≡ word - 2 ^ bit = if_no (bit_at word bit == 0) word (word - 2 ^ bit) (ap (λ b. b == 0) set) in
     let m : word ≡ (word - 2 ^ bit) + 2 ^ bit = omega (arith, le) in
     m ∙ ap (λ x. x + 2 ^ bit) (sym e)
 
-pub bit_given : (word bit : ℕ) → bit_at word bit ≡ 0 → with_bit true bit word ≡ word + 2 ^ bit
+pub bit_given : (word bit : ℕ) → bit_at word bit ≡ 0 → with_bit bit true word ≡ word + 2 ^ bit
 bit_given word bit clear = if_no (bit_at word bit == 1) word (word + 2 ^ bit) (ap (λ b. b == 1) clear)

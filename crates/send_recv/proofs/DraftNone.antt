@@ -14,7 +14,8 @@ use Rattle.write_combine.specs.declared.combiner.Out.{Out}
 use Rattle.put_get.specs.Accesses.{loads_of, stores_of}
 use Rattle.put_get.specs.Cores.{Private}
 use Rattle.put_get.proofs.StepLemmas.{events_once}
-use Rattle.send_recv.specs.Flags.{bit_events, ChangesBy, Missed, Changed}
+use Rattle.sync_flags.specs.Writes.{change_events}
+use Rattle.send_recv.specs.Flags.{ChangesBy, Missed, Changed}
 use Rattle.send_recv.specs.Steps.{core_of, sent_flag, ready_flag}
 use Rattle.scc_proto.specs.Drafts.{is_message_word}
 use Rattle.send_recv.specs.Turns.{is_no_draft}
@@ -43,7 +44,7 @@ look_drafts_none setup line words = refl
 pub store_drafts_none : (setup : SetupView) (core : ℕ) (flag : FlagPlace) (value : ℕ) → IsFlagWord setup core flag → list_all (is_no_draft setup) (store_of (flag_word core flag) value ∷ []) ≡ true
 store_drafts_none setup core flag value is = ap (λ b. not b && true) is
 
-bit_drafts_none : (setup : SetupView) (core : ℕ) (flag : FlagPlace) (set : Bool) (words : List ℕ) → IsFlagWord setup core flag → list_all (is_no_draft setup) (bit_events core flag set words) ≡ true
+bit_drafts_none : (setup : SetupView) (core : ℕ) (flag : FlagPlace) (set : Bool) (words : List ℕ) → IsFlagWord setup core flag → list_all (is_no_draft setup) (change_events (flag_word core flag) flag.bit set words) ≡ true
 bit_drafts_none setup core flag set words is = ap (λ b. not b && true) is
 
 -- of a change that began with nothing in the buffer
@@ -56,7 +57,7 @@ drafts_none_by LineFlags s t c d core flag set done empty is (e, writes) events 
 drafts_none_by BitFlags s t c d core flag set done empty is (Missed missed one e) events did =
     subst (λ es. list_all (is_no_draft s.seat.setup) es ≡ true) (events_once s t (take_of core false ∷ []) events one did) refl
 drafts_none_by BitFlags s t c d core flag set done empty is (Changed made words turns one m fills e) events did =
-    subst (λ es. list_all (is_no_draft s.seat.setup) es ≡ true) (events_once s t (bit_events core flag set words) events one did) (bit_drafts_none s.seat.setup core flag set words is)
+    subst (λ es. list_all (is_no_draft s.seat.setup) es ≡ true) (events_once s t (change_events (flag_word core flag) flag.bit set words) events one did) (bit_drafts_none s.seat.setup core flag set words is)
 
 pub change_drafts_none : (s t : Sight) (c d : Private) (core : ℕ) (flag : FlagPlace) (set done : Bool) → c.out ≡ None → IsFlagWord s.seat.setup core flag → ChangesBy s.seat.setup.layout s c core flag set done t d
     → (events : List Event) → Did s events t → list_all (is_no_draft s.seat.setup) events ≡ true

@@ -22,10 +22,11 @@ use Rattle.write_combine.specs.declared.combiner.Out.{Out}
 use Rattle.write_combine.specs.Combining.{handed_out}
 use Rattle.put_get.specs.Accesses.{loads_of, stores_of}
 use Rattle.put_get.specs.Cores.{Private}
-use Rattle.send_recv.specs.Flags.{with_bit, Changes, ChangesBy, Missed, Changed, MayChange, MayChangeBy}
+use Rattle.sync_flags.specs.Flags.{with_bit}
+use Rattle.send_recv.specs.Flags.{Changes, ChangesBy, Missed, Changed, MayChange, MayChangeBy}
 use Rattle.send_recv.specs.Steps.{own_core, core_of, sent_flag, ready_flag, line_at}
 use Rattle.send_recv.specs.Turns.{HoldsNoneBy, HoldsNone}
-use Rattle.send_recv.proofs.ChangeLemmas.{with_hold, both_noted, line_noted, sent_is_noted, ready_is_noted, move_made, bit_taken, bit_given, is_held}
+use Rattle.send_recv.proofs.ChangeLemmas.{with_hold, both_noted, line_noted, sent_is_noted, ready_is_noted, move_made, bit_taken, bit_given}
 
 -- with an empty buffer a line flag's store is the one event
 pub empty_other : (out : Option Out) (core : ℕ) (flag : FlagPlace) → out ≡ None → handed_out out (line_of_word (flag_word core flag)) ≡ out
@@ -39,9 +40,6 @@ sound_at s t es rec did sound is = subst (λ (x : Record). IsSound s.seat.setup 
 pub may_at : (s t : Sight) (es : List Event) (rec : Record) (e : Event) → Did s es t → record_in t ≡ rec → MayMake s.seat rec e → MayMake t.seat (record_in t) e
 may_at s t es rec e did is may = subst (λ (x : Seat). MayMake x (record_in t) e) (sym (seat_kept s es t did)) (subst (λ (x : Record). MayMake s.seat x e) (sym is) may)
 
-pub held_at : (t : Sight) (rec : Record) (core : ℕ) → record_in t ≡ rec → is_some (rec.held core) ≡ true → is_some ((record_in t).held core) ≡ true
-held_at t rec core is held = ap (λ (r : Record). is_some (r.held core)) is ∙ held
-
 -- ---- lowering `sent`
 
 may_lower_by : (layout : Layout) (s : Sight) (c : Private) (from : ℕ) (header : Notes) → s.seat.setup.layout ≡ layout → IsSetup s.seat.setup → are_peers s.seat.setup s.seat.rank from ≡ true
@@ -54,7 +52,6 @@ may_lower_by LineFlags s c from header lines valid peers hands empty seen may = 
       ((sent_lowered s.seat (record_in s) valid lines from peers may).may, tt);
 }
 may_lower_by BitFlags s c from header bits valid peers hands empty seen may = record {
-  word_below = omega arith;
   empty = empty;
   hands = hands (own_core s.seat);
   permitted = λ words t did sound.
@@ -63,9 +60,8 @@ may_lower_by BitFlags s c from header bits valid peers hands empty seen may = re
       let is : record_in t ≡ rec = record_did s _ t did ∙ line_noted s.seat (record_in s) s.seat.rank words valid bits p.one (hands (own_core s.seat)) in
       let noted = sent_is_noted (record_in s) (own_core s.seat) (slice_index words 0) (slice_index words 1) in
       let set = (sound_at s t _ rec did sound is).sent_set from (slice_index words 0) header noted seen in (
-        may_at s t _ rec (store_of (flag_word (own_core s.seat) (sent_at BitFlags from)) (with_bit false from (slice_index words 0))) did is
-            (sent_bit_lowered s.seat rec valid bits from (slice_index words 0) (with_bit false from (slice_index words 0)) peers noted set (bit_taken (slice_index words 0) from set) may).may,
-        held_at t rec (own_core s.seat) is (is_held (record_in s) (own_core s.seat) (both_noted (slice_index words 0) (slice_index words 1))),
+        may_at s t _ rec (store_of (flag_word (own_core s.seat) (sent_at BitFlags from)) (with_bit from false (slice_index words 0))) did is
+            (sent_bit_lowered s.seat rec valid bits from (slice_index words 0) (with_bit from false (slice_index words 0)) peers noted set (bit_taken (slice_index words 0) from set) may).may,
         set,
       );
 }
@@ -87,7 +83,7 @@ lowered_by BitFlags s t c d from bits valid peers hands empty may (Changed made 
     let core = own_core s.seat in
     let flags = both_noted (slice_index words 0) (slice_index words 1) in
     let noted = sent_is_noted (record_in s) core (slice_index words 0) (slice_index words 1) in
-    let new = with_bit false from (slice_index words 0) in
+    let new = with_bit from false (slice_index words 0) in
     let place = flag_word core (sent_at BitFlags from) in
     record_did s _ t did
     ∙ record_on-append s.seat (record_in s) (take_of core true ∷ loads_of (line_at s.seat s.seat.rank 1) words) (store_of place new ∷ free_of core ∷ [])
@@ -112,7 +108,6 @@ may_ready_by LineFlags s c to lines valid peers hands empty taking may = record 
       ((ready_raised s.seat (record_in s) valid lines to peers may).may, tt);
 }
 may_ready_by BitFlags s c to bits valid peers hands empty taking may = record {
-  word_below = omega arith;
   empty = empty;
   hands = hands (core_of s.seat to);
   permitted = λ words t did sound.
@@ -124,10 +119,9 @@ may_ready_by BitFlags s c to bits valid peers hands empty taking may = record {
       let noted = ready_is_noted (record_in s) core (slice_index words 0) (slice_index words 1) in
       let clear = (sound_at s t _ rec did sound is).ready_clear to (slice_index words 1) noted taking in
       let value = bit_given (slice_index words 1) me clear in (
-        may_at s t _ rec (store_of (flag_word core (ready_at BitFlags me)) (with_bit true me (slice_index words 1))) did is
+        may_at s t _ rec (store_of (flag_word core (ready_at BitFlags me)) (with_bit me true (slice_index words 1))) did is
             (subst (λ v. MayMake s.seat rec (store_of (flag_word core (ready_at BitFlags me)) v)) (sym value)
             (ready_bit_raised s.seat rec valid bits to (slice_index words 1) peers noted clear may).may),
-        held_at t rec core is (is_held (record_in s) core (both_noted (slice_index words 0) (slice_index words 1))),
         clear,
       );
 }
@@ -151,7 +145,7 @@ ready_by BitFlags s t c d to bits valid peers hands empty may (Changed made word
     let me = s.seat.rank in
     let flags = both_noted (slice_index words 0) (slice_index words 1) in
     let noted = ready_is_noted (record_in s) core (slice_index words 0) (slice_index words 1) in
-    let new = with_bit true me (slice_index words 1) in
+    let new = with_bit me true (slice_index words 1) in
     let place = flag_word core (ready_at BitFlags me) in
     let value = bit_given (slice_index words 1) me clear in
     record_did s _ t did

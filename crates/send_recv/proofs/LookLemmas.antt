@@ -165,9 +165,9 @@ ready_by BitFlags s t j words bits valid peers hands did =
 pub looks_at_sent : (s t : Sight) (c d : Private) (j : ℕ) (found : Bool) → IsSetup s.seat.setup → are_peers s.seat.setup s.seat.rank j ≡ true → HoldsNone s.seat.setup.layout (record_in s)
     → Looks s c (own_core s.seat) (sent_at s.seat.setup.layout j) found t d → LooksAtSent s t j found
 looks_at_sent s t c d j found valid peers hands looks =
-    subst (λ b. LooksAtSent s t j b) (sym looks.tells) (sent_by s.seat.setup.layout s t j looks.words refl valid peers hands looks.did)
+    subst (λ b. LooksAtSent s t j b) (sym looks.is) (sent_by s.seat.setup.layout s t j looks.words refl valid peers hands looks.looks.did)
 
 pub looks_at_ready : (s t : Sight) (c d : Private) (j : ℕ) (found : Bool) → IsSetup s.seat.setup → are_peers s.seat.setup s.seat.rank j ≡ true → HoldsNone s.seat.setup.layout (record_in s)
     → Looks s c (own_core s.seat) (ready_at s.seat.setup.layout j) found t d → LooksAtReady s t j found
 looks_at_ready s t c d j found valid peers hands looks =
-    subst (λ b. LooksAtReady s t j b) (sym looks.tells) (ready_by s.seat.setup.layout s t j looks.words refl valid peers hands looks.did)
+    subst (λ b. LooksAtReady s t j b) (sym looks.is) (ready_by s.seat.setup.layout s t j looks.words refl valid peers hands looks.looks.did)

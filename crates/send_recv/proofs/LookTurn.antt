@@ -119,13 +119,13 @@ look_waits s t c d op bytes valid r look looks =
     let post = looked_post size (record_in s) (record_in t) l.looked in
     let calls = looked_calls size (record_in s) (record_in t) l.looked in
     record {
-      stands = subst (λ (x : Seat). IsReceiving x (record_in t) d op bytes) (sym (seat_kept s _ t looks.did))
-          (stands_after s.seat (record_in s) (record_in t) c d op op bytes r refl refl refl (fills_out looks.fills ∙ r.empty) rest.hold
+      stands = subst (λ (x : Seat). IsReceiving x (record_in t) d op bytes) (sym (seat_kept s _ t looks.looks.did))
+          (stands_after s.seat (record_in s) (record_in t) c d op op bytes r refl refl refl (fills_out looks.looks.fills ∙ r.empty) rest.hold
           (subst (λ (st : RecvStage). IsAtStage s.seat (record_in t) d op bytes st) (sym look) stage));
       turned = record {
         events = loads_of (line_of_word (flag_word (own_core s.seat) (sent_flag s.seat op.from))) looks.words;
-        did = looks.did;
-        tried = look_tried s.seat.setup.layout (own_core s.seat) (sent_flag s.seat op.from) looks.words false (recv_spot s.seat op) (sent_word s.seat.setup.layout op.from) looks.tells
+        did = looks.looks.did;
+        tried = look_tried s.seat.setup.layout (own_core s.seat) (sent_flag s.seat op.from) looks.words false (recv_spot s.seat op) (sent_word s.seat.setup.layout op.from) looks.is
             (at_look s.seat op look) (sent_spot s.seat.setup.layout (own_core s.seat) op.from);
         freed = refl;
         elsewhere = λ at other ne. look_elsewhere s.seat op (own_core s.seat) looks.words at (at_look s.seat op look) other ne;
@@ -138,9 +138,9 @@ look_waits s t c d op bytes valid r look looks =
         post = post;
         before = λ k low. refl;
         behind = λ k high. refl;
-        held = look_held c d _ looks.words looks.fills;
+        held = look_held c d _ looks.words looks.looks.fills;
         work = look_work (load_count (loads_of (line_of_word (flag_word (own_core s.seat) (sent_flag s.seat op.from))) looks.words)) c.evictions d.evictions _ (is_look op.stage)
-            refl (ap is_look look) (fills_evictions looks.fills);
+            refl (ap is_look look) (fills_evictions looks.looks.fills);
       };
     }
 
@@ -199,13 +199,13 @@ look_finds s t c d op bytes b first valid r look looks =
     let calls = looked_calls size (record_in s) (record_in t) l.looked in
     let notes = looked_notes size (record_in s) (record_in t) op.from l.looked l.tells in
     record {
-      stands = subst (λ (x : Seat). IsReceiving x (record_in t) d now bytes) (sym (seat_kept s _ t looks.did))
-          (stands_after s.seat (record_in s) (record_in t) c d op now bytes r refl refl refl (fills_out looks.fills ∙ r.empty) rest.hold
+      stands = subst (λ (x : Seat). IsReceiving x (record_in t) d now bytes) (sym (seat_kept s _ t looks.looks.did))
+          (stands_after s.seat (record_in s) (record_in t) c d op now bytes r refl refl refl (fills_out looks.looks.fills ∙ r.empty) rest.hold
           (seen_at s.seat (record_in t) d op bytes b first stage notes));
       turned = record {
         events = loads_of (line_of_word (flag_word (own_core s.seat) (sent_flag s.seat op.from))) looks.words;
-        did = looks.did;
-        tried = look_tried s.seat.setup.layout (own_core s.seat) (sent_flag s.seat op.from) looks.words true (recv_spot s.seat op) (sent_word s.seat.setup.layout op.from) looks.tells
+        did = looks.looks.did;
+        tried = look_tried s.seat.setup.layout (own_core s.seat) (sent_flag s.seat op.from) looks.words true (recv_spot s.seat op) (sent_word s.seat.setup.layout op.from) looks.is
             (at_look s.seat op look) (sent_spot s.seat.setup.layout (own_core s.seat) op.from);
         freed = refl;
         elsewhere = λ at other ne. look_elsewhere s.seat op (own_core s.seat) looks.words at (at_look s.seat op look) other ne;
@@ -218,9 +218,9 @@ look_finds s t c d op bytes b first valid r look looks =
         post = post;
         before = λ k low. refl;
         behind = λ k high. refl;
-        held = look_held c d _ looks.words looks.fills;
+        held = look_held c d _ looks.words looks.looks.fills;
         work = look_work (load_count (loads_of (line_of_word (flag_word (own_core s.seat) (sent_flag s.seat op.from))) looks.words)) c.evictions d.evictions _ (is_look op.stage)
-            refl (ap is_look look) (fills_evictions looks.fills);
+            refl (ap is_look look) (fills_evictions looks.looks.fills);
       };
     }
 

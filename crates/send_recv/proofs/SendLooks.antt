@@ -118,14 +118,14 @@ look_turn found s t c d op slot bytes valid r look looks =
     let calls = looked_calls size (record_in s) (record_in t) l.looked in
     let post = looked_post size (record_in s) (record_in t) l.looked in
     record {
-      stands = subst (λ (x : Seat). IsSending x (record_in t) d (after_seen found op) slot bytes) (sym (seat_kept s _ t looks.did))
+      stands = subst (λ (x : Seat). IsSending x (record_in t) d (after_seen found op) slot bytes) (sym (seat_kept s _ t looks.looks.did))
           (look_stands found s.seat (record_in s) (record_in t) c d op slot bytes r rest.hold (slot_kept s.seat (record_in s) (record_in t) slot same r.slot_stands)
-          (look_at found s.seat (record_in t) d op bytes at.3 up.chunk look at.0 (same ∙ at.1) (fills_out looks.fills ∙ at.2) at.4 stage up.lines));
+          (look_at found s.seat (record_in t) d op bytes at.3 up.chunk look at.0 (same ∙ at.1) (fills_out looks.looks.fills ∙ at.2) at.4 stage up.lines));
       turned = record {
         events = loads_of (line_of_word (flag_word own flag)) looks.words;
-        did = looks.did;
+        did = looks.looks.did;
         tried = tried_by found (flag_spot own flag) (aim_at layout (send_spot s.seat op slot)) _
-            (look_tried layout own flag looks.words found (send_spot s.seat op slot) (ready_word layout op.to) looks.tells
+            (look_tried layout own flag looks.words found (send_spot s.seat op slot) (ready_word layout op.to) looks.is
             (spot_at s.seat op slot Look look ∙ spot_look layout own (core_of s.seat op.to) op.to (slot_spot s.seat slot)) (ready_spot layout own op.to));
         freed = refl;
         ends = λ e. never_done found (flag_spot own flag) e;
@@ -135,6 +135,6 @@ look_turn found s t c d op slot bytes valid r look looks =
             (λ missed. record { stage = stage ∙ ap (λ b. Sending op.to (part_seen b at.3) message up.chunk) missed ∙ sym up.stage_is; post = post; rest = rest; calls = calls });
         rest = rest;
         drafts = no_stores s.seat.setup c (loads_of (line_of_word (flag_word own flag)) looks.words) (look_drafts_none s.seat.setup (line_of_word (flag_word own flag)) looks.words);
-        held = look_held c d _ looks.words looks.fills;
+        held = look_held c d _ looks.words looks.looks.fills;
       };
     }

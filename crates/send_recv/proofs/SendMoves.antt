@@ -26,13 +26,14 @@ use Rattle.put_get.specs.Cores.{Private}
 use Rattle.send_recv.specs.declared.stages.SendStage.TheVariants.{Raise}
 use Rattle.send_recv.specs.Bytes.{words_at}
 use Rattle.send_recv.specs.Chunks.{chunk_start}
-use Rattle.send_recv.specs.Flags.{with_bit, Changes, ChangesBy, Missed, Changed, MayChange, MayChangeBy}
+use Rattle.sync_flags.specs.Flags.{with_bit}
+use Rattle.send_recv.specs.Flags.{Changes, ChangesBy, Missed, Changed, MayChange, MayChangeBy}
 use Rattle.send_recv.specs.Ops.{SendAt, SlotAt}
 use Rattle.send_recv.specs.Sending.{HasDrafted, First, Later, IsBeforeRaise, IsSending, SendStands, lines_in_hand, own_line, header_words, waiting}
 use Rattle.send_recv.specs.Steps.{own_core, core_of, sent_flag, line_at}
 use Rattle.send_recv.specs.Turns.{HoldsNoneBy}
-use Rattle.send_recv.proofs.ChangeLemmas.{with_hold, both_noted, line_noted, sent_is_noted, move_made, bit_given, is_held}
-use Rattle.send_recv.proofs.FlagMoves.{sound_at, may_at, held_at}
+use Rattle.send_recv.proofs.ChangeLemmas.{with_hold, both_noted, line_noted, sent_is_noted, move_made, bit_given}
+use Rattle.send_recv.proofs.FlagMoves.{sound_at, may_at}
 use Rattle.send_recv.proofs.DraftWhole.{AreBytes, drafted_is, head_drafted, header_whole, begun_is}
 use Rattle.send_recv.proofs.WaitingOut.{waiting_out}
 use Rattle.send_recv.proofs.SendFacts.{at_stage}
@@ -106,7 +107,6 @@ may_by LineFlags s c op slot bytes layout valid small r hands none before =
           (subst (λ (x : Record). MayMakeAll s.seat x (store ∷ [])) (sym l.becomes) (raised.may, tt)));
     }
 may_by BitFlags s c op slot bytes bits valid small r hands none before = record {
-  word_below = omega arith;
   empty = before.0;
   hands = hands (core_of s.seat op.to);
   permitted = λ words t did sound.
@@ -121,10 +121,9 @@ may_by BitFlags s c op slot bytes bits valid small r hands none before = record 
       let clear = (sound_at s t _ rec did sound is).sent_clear op.to (slice_index words 0) r.peers noted drafting in
       let value = bit_given (slice_index words 0) me clear in
       let may = permitted_by s.seat (record_in s) c (record_in s).stage op slot bytes small r none before.1 in (
-        may_at s t _ rec (store_of (flag_word core (sent_at BitFlags me)) (with_bit true me (slice_index words 0))) did is
+        may_at s t _ rec (store_of (flag_word core (sent_at BitFlags me)) (with_bit me true (slice_index words 0))) did is
             (subst (λ v. MayMake s.seat rec (store_of (flag_word core (sent_at BitFlags me)) v)) (sym value)
             (sent_bit_raised s.seat rec valid bits op.to (slice_index words 0) r.peers noted clear may).may),
-        held_at t rec core is (is_held (record_in s) core (both_noted (slice_index words 0) (slice_index words 1))),
         clear,
       );
 }
@@ -168,7 +167,7 @@ raised_by BitFlags s t c d op slot bytes bits valid small r hands none before (C
     let me = s.seat.rank in
     let flags = both_noted (slice_index words 0) (slice_index words 1) in
     let noted = sent_is_noted (record_in s) core (slice_index words 0) (slice_index words 1) in
-    let new = with_bit true me (slice_index words 0) in
+    let new = with_bit me true (slice_index words 0) in
     let place = flag_word core (sent_at BitFlags me) in
     let value = bit_given (slice_index words 0) me clear in
     let may = permitted_by s.seat (record_in s) c (record_in s).stage op slot bytes small r none before.1 in

@@ -19,11 +19,12 @@ use Rattle.scc_proto.proofs.PlaceMoves.{ready_lowered, ready_bit_lowered}
 use Rattle.write_combine.specs.declared.combiner.Out.{Out}
 use Rattle.put_get.specs.Accesses.{loads_of, stores_of}
 use Rattle.put_get.specs.Cores.{Private}
-use Rattle.send_recv.specs.Flags.{with_bit, Changes, ChangesBy, Missed, Changed, MayChange, MayChangeBy}
+use Rattle.sync_flags.specs.Flags.{with_bit}
+use Rattle.send_recv.specs.Flags.{Changes, ChangesBy, Missed, Changed, MayChange, MayChangeBy}
 use Rattle.send_recv.specs.Steps.{own_core, ready_flag, line_at}
 use Rattle.send_recv.specs.Turns.{HoldsNoneBy, HoldsNone}
-use Rattle.send_recv.proofs.ChangeLemmas.{with_hold, both_noted, line_noted, ready_is_noted, move_made, bit_taken, is_held}
-use Rattle.send_recv.proofs.FlagMoves.{empty_other, sound_at, may_at, held_at}
+use Rattle.send_recv.proofs.ChangeLemmas.{with_hold, both_noted, line_noted, ready_is_noted, move_made, bit_taken}
+use Rattle.send_recv.proofs.FlagMoves.{empty_other, sound_at, may_at}
 
 may_lower_by : (layout : Layout) (s : Sight) (c : Private) (by : ℕ) → s.seat.setup.layout ≡ layout → IsSetup s.seat.setup → are_peers s.seat.setup s.seat.rank by ≡ true
     → HoldsNoneBy layout (record_in s).held → c.out ≡ None → is_answered by (record_in s).stage (record_in s).post ≡ true → permits (chunk_of s.seat.setup) (LowerReady by) (record_in s) ≡ true
@@ -35,7 +36,6 @@ may_lower_by LineFlags s c by lines valid peers hands empty seen may = record {
       ((ready_lowered s.seat (record_in s) valid lines by peers may).may, tt);
 }
 may_lower_by BitFlags s c by bits valid peers hands empty seen may = record {
-  word_below = omega arith;
   empty = empty;
   hands = hands (own_core s.seat);
   permitted = λ words t did sound.
@@ -44,9 +44,8 @@ may_lower_by BitFlags s c by bits valid peers hands empty seen may = record {
       let is : record_in t ≡ rec = record_did s _ t did ∙ line_noted s.seat (record_in s) s.seat.rank words valid bits p.one (hands (own_core s.seat)) in
       let noted = ready_is_noted (record_in s) (own_core s.seat) (slice_index words 0) (slice_index words 1) in
       let set = (sound_at s t _ rec did sound is).ready_set by (slice_index words 1) noted seen in (
-        may_at s t _ rec (store_of (flag_word (own_core s.seat) (ready_at BitFlags by)) (with_bit false by (slice_index words 1))) did is
-            (ready_bit_lowered s.seat rec valid bits by (slice_index words 1) (with_bit false by (slice_index words 1)) peers noted set (bit_taken (slice_index words 1) by set) may).may,
-        held_at t rec (own_core s.seat) is (is_held (record_in s) (own_core s.seat) (both_noted (slice_index words 0) (slice_index words 1))),
+        may_at s t _ rec (store_of (flag_word (own_core s.seat) (ready_at BitFlags by)) (with_bit by false (slice_index words 1))) did is
+            (ready_bit_lowered s.seat rec valid bits by (slice_index words 1) (with_bit by false (slice_index words 1)) peers noted set (bit_taken (slice_index words 1) by set) may).may,
         set,
       );
 }
@@ -69,7 +68,7 @@ lowered_by BitFlags s t c d by bits valid peers hands empty may (Changed made wo
     let core = own_core s.seat in
     let flags = both_noted (slice_index words 0) (slice_index words 1) in
     let noted = ready_is_noted (record_in s) core (slice_index words 0) (slice_index words 1) in
-    let new = with_bit false by (slice_index words 1) in
+    let new = with_bit by false (slice_index words 1) in
     let place = flag_word core (ready_at BitFlags by) in
     record_did s _ t did
     ∙ record_on-append s.seat (record_in s) (take_of core true ∷ loads_of (line_at s.seat s.seat.rank 1) words) (store_of place new ∷ free_of core ∷ [])

@@ -150,16 +150,16 @@ slot_look_turn found s t c d slot to valid h empty hands full unseen looks =
     let post : (record_in t).post ≡ option_map (post_answered l.looked.ready) (record_in s).post = ap (λ (r : Record). r.post) l.looked.is in
     let now = slot_seen found slot in
     record {
-      stands = subst (λ (x : Seat). SlotStands x (record_in t) now) (sym (seat_kept s _ t looks.did)) (record {
+      stands = subst (λ (x : Seat). SlotStands x (record_in t) now) (sym (seat_kept s _ t looks.looks.did)) (record {
         to = looked_to found slot ∙ h.to ∙ sym (same_to l.looked.ready (record_in s).post) ∙ ap (λ (o : Option OnItsWay). option_map (λ (p : OnItsWay). p.to) o) (sym post);
         seen = looked_seen found slot l.looked.ready (record_in s).post (record_in t).post f.post to unseen post f.is f.to_is l.tells;
         peers = subst (λ (o : Option ℕ). IfSome o (λ j. are_peers s.seat.setup s.seat.rank j ≡ true)) (sym (looked_to found slot)) h.peers;
       });
       turned = record {
         events = loads_of (line_of_word (flag_word own flag)) looks.words;
-        did = looks.did;
+        did = looks.looks.did;
         tried = tried_by found (flag_spot own flag) (aim_at layout (slot_spot s.seat slot)) _
-            (look_tried layout own flag looks.words found (slot_spot s.seat slot) (ready_word layout to) looks.tells
+            (look_tried layout own flag looks.words found (slot_spot s.seat slot) (ready_word layout to) looks.is
             (ap (λ (o : Option ℕ). slot_spot_by layout own o slot.seen) full ∙ ap (λ b. slot_spot_by layout own (Some to) b) unseen ∙ spot_unseen layout own to) (ready_spot layout own to));
         freed = refl;
         rests = λ spot e. refl;
@@ -169,8 +169,8 @@ slot_look_turn found s t c d slot to valid h empty hands full unseen looks =
         post = λ same. looked_post (chunk_of s.seat.setup) (record_in s) (record_in t) l.looked;
         rest = looked_rest (chunk_of s.seat.setup) (record_in s) (record_in t) l.looked;
         no_drafts = look_drafts_none s.seat.setup (line_of_word (flag_word own flag)) looks.words;
-        held = look_held c d _ looks.words looks.fills;
-        buffer = fills_out looks.fills ∙ empty;
+        held = look_held c d _ looks.words looks.looks.fills;
+        buffer = fills_out looks.looks.fills ∙ empty;
       };
     }
 

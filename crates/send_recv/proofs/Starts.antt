@@ -3,19 +3,21 @@ use Rattle.std.proofs.Common.{◌≡◌, ◌<◌, ◌≤◌, ℕ, ◌+◌, ◌-�
 use Rattle.std.proofs.Math.Nat.{mul-le-mul_right}
 use Rattle.scc_base.specs.Heads.{MessageHead, IsHead, IsPostHead}
 use Rattle.scc_base.specs.Layouts.{chunk_size}
+use Rattle.scc_base.specs.declared.events.Event.{Event}
 use Rattle.scc_base.specs.declared.layouts.Layout.{Layout}
 use Rattle.scc_base.specs.declared.layouts.Layout.TheVariants.{LineFlags, BitFlags}
 use Rattle.scc_proto.specs.Stages.{OnItsWay, Record}
 use Rattle.scc_proto.specs.Words.{are_peers}
-use Rattle.scc_proto.specs.Ports.{Seat, Sight, record_in}
+use Rattle.scc_proto.specs.Ports.{Seat, Sight, Did, record_in}
 use Rattle.scc_proto.proofs.PortLaws.{seat_kept}
 use Rattle.put_get.specs.Cores.{Private}
+use Rattle.sync_flags.specs.Tries.{Aim}
 use Rattle.send_recv.specs.Chunks.{chunk_count, lines_of, lines_from}
 use Rattle.send_recv.specs.Ops.{RecvAt, SendAt, SlotAt, new_receive, new_send, slot_left, slot_left_by}
 use Rattle.send_recv.specs.Receiving.{RecvStands, recv_left}
 use Rattle.send_recv.specs.Sending.{SlotStands, SendStands, was_answered, send_left, of_chunk}
-use Rattle.send_recv.specs.Calling.{IsInNoCall, Received, RecvDiffers, Sent}
-use Rattle.send_recv.specs.Turns.{HoldsNone, IsSamePost}
+use Rattle.send_recv.specs.Calling.{IsInNoCall, Received, RecvDiffers, FoundUnset, Sent}
+use Rattle.send_recv.specs.Turns.{HoldsNone, IsSamePost, KeepsRest}
 use Rattle.send_recv.proofs.LookTurn.{holds_kept}
 
 some_chunk : (layout : Layout) (len : ℕ) → 0 < chunk_count (chunk_size layout) len
@@ -57,28 +59,38 @@ slot_stays seat rec new slot same st = record {
   peers = st.peers;
 }
 
-pub free_after_receive : {s t : Sight} {c d : Private} {slot : SlotAt} {op : RecvAt} {polls : ℕ} {after : List ℕ} → IsInNoCall s c slot → Received s c op polls t d after → IsInNoCall t d slot
-free_after_receive {s} {t} {c} {d} {slot} free r = record {
-  stage = r.stage;
-  empty = r.empty;
-  hands = subst (λ (x : Seat). HoldsNone x.setup.layout (record_in t)) (sym (seat_kept s r.events t r.did)) (holds_kept s.seat.setup.layout (record_in s) (record_in t) r.rest.hold free.hands);
-  slot_stands = subst (λ (x : Seat). SlotStands x (record_in t) slot) (sym (seat_kept s r.events t r.did)) (slot_stays s.seat (record_in s) (record_in t) slot r.post free.slot_stands);
-}
+-- the slot stands after events that changed its message at most by seeing it answered
+pub slot_after : {s t : Sight} {slot : SlotAt} (events : List Event) → Did s events t → IsSamePost (record_in s).post (record_in t).post → SlotStands s.seat (record_in s) slot → SlotStands t.seat (record_in t) slot
+slot_after {s} {t} {slot} events did post st =
+    subst (λ (x : Seat). SlotStands x (record_in t) slot) (sym (seat_kept s events t did)) (slot_stays s.seat (record_in s) (record_in t) slot post st)
 
-pub free_after_other_head : {s t : Sight} {c d : Private} {slot : SlotAt} {op : RecvAt} {polls : ℕ} {bytes after : List ℕ} {sent asked : MessageHead} → IsInNoCall s c slot
-    → RecvDiffers s op bytes polls t d after sent asked → IsInNoCall t d slot
-free_after_other_head {s} {t} {c} {d} {slot} free r = record {
-  stage = r.untaken;
+hands_after : {s t : Sight} (events : List Event) → Did s events t → KeepsRest (record_in s) (record_in t) → HoldsNone s.seat.setup.layout (record_in s) → HoldsNone t.seat.setup.layout (record_in t)
+hands_after {s} {t} events did rest hands =
+    subst (λ (x : Seat). HoldsNone x.setup.layout (record_in t)) (sym (seat_kept s events t did)) (holds_kept s.seat.setup.layout (record_in s) (record_in t) rest.hold hands)
+
+pub free_after_receive : {s t : Sight} {c d : Private} {slot : SlotAt} {op : RecvAt} {polls : ℕ} {after : List ℕ} → HoldsNone s.seat.setup.layout (record_in s) → SlotStands s.seat (record_in s) slot
+    → Received s c op polls t d after → IsInNoCall t d slot
+free_after_receive hands st r =
+    record { stage = r.stage; empty = r.empty; hands = hands_after r.events r.did r.rest hands; slot_stands = slot_after r.events r.did r.post st }
+
+pub free_after_other_head : {s t : Sight} {d : Private} {slot : SlotAt} {op : RecvAt} {polls : ℕ} {bytes after : List ℕ} {sent asked : MessageHead} → HoldsNone s.seat.setup.layout (record_in s)
+    → SlotStands s.seat (record_in s) slot → RecvDiffers s op bytes polls t d after sent asked → IsInNoCall t d slot
+free_after_other_head hands st r =
+    record { stage = r.untaken; empty = r.empty; hands = hands_after r.events r.did r.rest hands; slot_stands = slot_after r.events r.did r.post st }
+
+pub free_after_test : {s t : Sight} {c d : Private} {slot : SlotAt} {aim : Aim} {bytes after : List ℕ} → IsInNoCall s c slot → FoundUnset aim s bytes t d after → IsInNoCall t d slot
+free_after_test free r = record {
+  stage = r.at_rest.stage ∙ free.stage;
   empty = r.empty;
-  hands = subst (λ (x : Seat). HoldsNone x.setup.layout (record_in t)) (sym (seat_kept s r.events t r.did)) (holds_kept s.seat.setup.layout (record_in s) (record_in t) r.rest.hold free.hands);
-  slot_stands = subst (λ (x : Seat). SlotStands x (record_in t) slot) (sym (seat_kept s r.events t r.did)) (slot_stays s.seat (record_in s) (record_in t) slot r.post free.slot_stands);
+  hands = hands_after r.events r.did r.at_rest.rest free.hands;
+  slot_stands = slot_after r.events r.did r.at_rest.post free.slot_stands;
 }
 
 pub free_after_send : {s t : Sight} {c d : Private} {op : SendAt} {slot after : SlotAt} {bytes : List ℕ} → SendStands s c op slot bytes → Sent s op bytes t d after → IsInNoCall t d after
 free_after_send {s} {t} st r = record {
   stage = r.stage;
   empty = r.empty;
-  hands = subst (λ (x : Seat). HoldsNone x.setup.layout (record_in t)) (sym (seat_kept s r.events t r.did)) (holds_kept s.seat.setup.layout (record_in s) (record_in t) r.rest.hold st.hands);
+  hands = hands_after r.events r.did r.rest st.hands;
   slot_stands = r.slot_stands;
 }
 

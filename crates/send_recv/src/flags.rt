@@ -1,31 +1,23 @@
 //! Looks at flags and changes of them, in both layouts.
 
-ghost use Rattle.std.specs.Prelude.{◌≡◌, ◌<◌, ◌==◌, true, false, if◌then◌else◌, None};
-ghost use Rattle.std.specs.Int.{bit_at};
+ghost use Rattle.std.specs.Prelude.{◌≡◌, ◌<◌, true, false, if◌then◌else◌, None, IfSome};
 ghost use Rattle.put_get.specs.Cores.{MadeSteps, KeepsSteps};
-ghost use Rattle.send_recv.specs.Flags.{is_set, with_bit, Looks, WritesFlag, TriesBit, Changes, MayWriteFlag, MayChangeBit, MayChange};
+ghost use Rattle.send_recv.specs.Flags.{bit_of, Looks, WritesFlag, TriesBit, Changes, MayWriteFlag, MayChangeBit, MayChange};
 
 use line_cache::Evict;
 use put_get::Core;
 use scc_base::{CoreId, FlagAt, Layout};
 use scc_proto::Port;
-use tas_lock::{release, try_acquire};
+use sync_flags::{is_set_in, look_word, try_change_bit};
 
-// Whether a bit of a word is set.
-fn is_bit_set(word: u64, bit: u8) -> bool
-    requires below { bit < 48 }
-    ensures tells { result ≡ (bit_at word bit == 1) }
-{
-    (word >> bit) & 1 == 1
-}
-
-// Whether a flag is set in its word.
-fn is_set_in(layout: Layout, flag: FlagAt, word: u64) -> bool
-    ensures tells { result ≡ is_set layout flag word }
+// The bit of its word that a flag is: with line flags it is the whole word.
+fn bit_of(layout: Layout, flag: FlagAt) -> Option<u8>
+    ensures gives { result ≡ bit_of layout flag.bit }
+    ensures below { IfSome result (λ b. b < 64) }
 {
     match layout {
-        Layout::LineFlags => word == 1,
-        Layout::BitFlags => is_bit_set(word, flag.bit()),
+        Layout::LineFlags => None,
+        Layout::BitFlags => Some(flag.bit()),
     }
 }
 
@@ -41,45 +33,8 @@ pub(crate) fn look<V: Evict, P: Port>(
     ensures steps { MadeSteps (P.stepped port.new) (P.sight port.old) (P.sight port.new) }
     ensures keeps { KeepsSteps (P.stepped port.old) (P.stepped port.new) }
 {
-    core.cl1invmb();
-    let word = core.word_read(port, flag.place(at));
-    is_set_in(port.setup().layout(), flag, word)
-}
-
-// A word with one bit set.
-fn set_bit(word: u64, bit: u8) -> u64
-    requires below { bit < 48 }
-    ensures gives { result ≡ with_bit true bit word }
-{
-    if is_bit_set(word, bit) {
-        word
-    } else {
-        word | 1 << bit
-    }
-}
-
-// A word with one bit cleared.
-fn clear_bit(word: u64, bit: u8) -> u64
-    requires below { bit < 48 }
-    ensures gives { result ≡ with_bit false bit word }
-{
-    if is_bit_set(word, bit) {
-        word & !(1 << bit)
-    } else {
-        word
-    }
-}
-
-// A word with one bit set or cleared.
-fn with_bit_as(word: u64, bit: u8, set: bool) -> u64
-    requires below { bit < 48 }
-    ensures gives { result ≡ with_bit set bit word }
-{
-    if set {
-        set_bit(word, bit)
-    } else {
-        clear_bit(word, bit)
-    }
+    let word = look_word(core, port, flag.place(at));
+    is_set_in(bit_of(port.setup().layout(), flag), word)
 }
 
 // The word of a line flag.
@@ -121,21 +76,8 @@ fn change_bit<V: Evict, P: Port>(
     ensures keeps { KeepsSteps (P.stepped port.old) (P.stepped port.new) }
 {
     let place = flag.place(at);
-    match try_acquire(port, at) {
-        None => false,
-        Some(held) => {
-            core.cl1invmb();
-            let word = core.word_read(port, place);
-
-            // That the record is sound shows how the bit stands in the word.
-            let _ = port.rank();
-            let changed = with_bit_as(word, flag.bit(), set);
-            core.word_write(port, place, changed);
-            core.flush(port);
-            release(port, held);
-            true
-        }
-    }
+    let bit = flag.bit();
+    try_change_bit(core, port, place, bit, set)
 }
 
 /// Changes a flag at a core in one turn. False where its bit lies under a register that another rank has.

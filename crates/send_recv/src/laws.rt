@@ -2,15 +2,18 @@
 
 ghost use Rattle.std.specs.Prelude.{◌≡◌, ℕ, ◌+◌, ◌*◌, ◌≤◌, Bool, true, List, length};
 ghost use Rattle.scc_base.specs.Heads.{MessageHead, IsHead, IsPostHead};
+ghost use Rattle.scc_base.specs.declared.events.Spot.{Spot};
 ghost use Rattle.scc_base.specs.declared.layouts.Layout.{Layout};
 ghost use Rattle.scc_proto.specs.Words.{are_peers};
-ghost use Rattle.scc_proto.specs.Ports.{Sight};
+ghost use Rattle.scc_proto.specs.Ports.{Sight, record_in};
 ghost use Rattle.put_get.specs.Cores.{Private};
+ghost use Rattle.sync_flags.specs.Tries.{Aim};
 ghost use Rattle.send_recv.specs.Chunks.{chunk_count, lines_of};
 ghost use Rattle.send_recv.specs.Ops.{SlotAt, RecvAt, SendAt, new_receive, new_send, slot_left};
 ghost use Rattle.send_recv.specs.Receiving.{RecvStands, recv_left};
-ghost use Rattle.send_recv.specs.Sending.{SendStands, send_left};
-ghost use Rattle.send_recv.specs.Calling.{IsInNoCall, Received, Sent};
+ghost use Rattle.send_recv.specs.Turns.{HoldsNone};
+ghost use Rattle.send_recv.specs.Sending.{SlotStands, SendStands, send_left};
+ghost use Rattle.send_recv.specs.Calling.{IsInNoCall, Received, RecvStalled, RecvDiffers, FoundUnset, Sent};
 
 /// A new receive, a new send and a new post have at most 4 + 5c + l turns left that do not wait, for c chunks
 /// and l lines of chunks; a slot has at most two.
@@ -30,8 +33,20 @@ pub fn begins_law()
         → SendStands s c (new_send to head posted) slot bytes }
 {}
 
-/// After a call that answered Ok the rank is in no call again.
+/// After a call that answered Ok the rank is in no call again; also after one that met another head, and after a
+/// test that found nothing. A receive may have been at its start before, or handed back by a call that gave up.
 pub fn ends_law()
-    ensures receive { (s t : Sight) (c d : Private) (slot : SlotAt) (op : RecvAt) (polls : ℕ) (bytes : List ℕ) → IsInNoCall s c slot → Received s c op polls t d bytes → IsInNoCall t d slot }
+    ensures receive { (s t : Sight) (c d : Private) (slot : SlotAt) (op : RecvAt) (polls : ℕ) (bytes : List ℕ) → HoldsNone s.seat.setup.layout (record_in s)
+        → SlotStands s.seat (record_in s) slot → Received s c op polls t d bytes → IsInNoCall t d slot }
+    ensures other_head { (s t : Sight) (d : Private) (slot : SlotAt) (op : RecvAt) (polls : ℕ) (old bytes : List ℕ) (sent asked : MessageHead) → HoldsNone s.seat.setup.layout (record_in s)
+        → SlotStands s.seat (record_in s) slot → RecvDiffers s op old polls t d bytes sent asked → IsInNoCall t d slot }
+    ensures test { (s t : Sight) (c d : Private) (slot : SlotAt) (aim : Aim) (old bytes : List ℕ) → IsInNoCall s c slot
+        → FoundUnset aim s old t d bytes → IsInNoCall t d slot }
     ensures send { (s t : Sight) (c d : Private) (op : SendAt) (slot after : SlotAt) (bytes : List ℕ) → SendStands s c op slot bytes → Sent s op bytes t d after → IsInNoCall t d after }
+{}
+
+/// A slot stands after a receive that gave up as it stood before.
+pub fn stalls_law()
+    ensures slot { (s t : Sight) (d : Private) (slot : SlotAt) (op now : RecvAt) (polls : ℕ) (old bytes : List ℕ) (spot : Spot) → SlotStands s.seat (record_in s) slot
+        → RecvStalled s op old polls t d bytes now spot → SlotStands t.seat (record_in t) slot }
 {}
