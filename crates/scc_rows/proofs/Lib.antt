@@ -5,3 +5,4 @@ pub mod EntrantLemmas
 pub mod TeamLemmas
 pub mod MessageLemmas
 pub mod TalkLemmas
+pub mod CallLemmas

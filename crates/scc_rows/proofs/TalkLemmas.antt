@@ -194,7 +194,7 @@ begins_post {s} {c} {slot} {peer} {old} {bytes} {op} st le is = record {
 
 -- ---- a turn
 
-peers_kept : {s t : Sight} (peer : ℕ) (es : List Event) → Did s es t → are_peers s.seat.setup s.seat.rank peer ≡ true → are_peers t.seat.setup t.seat.rank peer ≡ true
+pub peers_kept : {s t : Sight} (peer : ℕ) (es : List Event) → Did s es t → are_peers s.seat.setup s.seat.rank peer ≡ true → are_peers t.seat.setup t.seat.rank peer ≡ true
 peers_kept {s} {t} peer es did peers = subst (λ (x : Seat). are_peers x.setup x.rank peer ≡ true) (sym (seat_kept s es t did)) peers
 
 slot_there_after : {s t : Sight} {slot : SlotAt} (es : List Event) → Did s es t → IsSamePost (record_in s).post (record_in t).post → SlotStands s.seat (record_in s) slot

@@ -4,6 +4,8 @@
 #[cfg(test)]
 mod barriers;
 #[cfg(test)]
+mod callers;
+#[cfg(test)]
 mod chip;
 #[cfg(test)]
 mod fixtures;

@@ -30,8 +30,8 @@ struct Task {
     wanted: Vec<u8>,
 }
 
-// The head of a message of these bytes.
-fn head_of(bytes: &[u8]) -> Option<Head>
+/// The head of a message of these bytes.
+pub(crate) fn head_of(bytes: &[u8]) -> Option<Head>
     ensures gives { SomeIff result (length bytes.now ≤ 65536) (plain_head (length bytes.now)) }
 {
     if bytes.len() > Head::MOST as usize {
@@ -40,8 +40,8 @@ fn head_of(bytes: &[u8]) -> Option<Head>
     Head::plain(bytes.len() as u32)
 }
 
-// The head of a posted message of these bytes.
-fn post_head_of(bytes: &[u8]) -> Option<PostHead>
+/// The head of a posted message of these bytes.
+pub(crate) fn post_head_of(bytes: &[u8]) -> Option<PostHead>
     ensures gives { SomeIff result (length bytes.now ≤ 3584) (plain_head (length bytes.now)) }
 {
     if bytes.len() > PostHead::MOST as usize {
@@ -207,8 +207,8 @@ impl<V: Evict + Drop> Player for Talker<V> {
     }
 }
 
-// So many bytes, the first of them this one.
-fn bytes_from(alloc: Global, first: u8, len: usize) -> Result<Vec<u8>, Fail> {
+/// So many bytes, the first of them this one.
+pub(crate) fn bytes_from(alloc: Global, first: u8, len: usize) -> Result<Vec<u8>, Fail> {
     let mut bytes = Vec::new(alloc);
     for k in 0..len {
         bytes.push(first.wrapping_add((k % 251) as u8))?;

@@ -4,7 +4,9 @@ ghost use Rattle.std.specs.Prelude.{◌≡◌, ◌≤◌, length, true, IfOk};
 ghost use Rattle.scc_proto.specs.Words.{are_peers};
 ghost use Rattle.send_recv.specs.Calling.{IsInNoCall};
 
+use crate::callers::{Caller, Deed, End, POLLS, calling};
 use crate::fixtures::{counted, pair_in};
+use crate::teams::Team;
 use line_cache::{Evict, Never};
 use put_get::Core;
 use scc_base::{CoreId, Head, Layout, Place, PostHead, Rank, Spot};
@@ -149,6 +151,117 @@ fn a_second_post_waits_for_the_first(rt: HostRuntime) -> Result<(), Fail> {
             }
         );
         assert_eq!(rt; polls, 2);
+    }
+    Ok(())
+}
+
+// Whether the last call of a rank came to this.
+fn ended(team: &Team<Caller>, at: usize, end: End) -> bool {
+    let wanted = Some(end);
+    match team.player(at) {
+        Some(caller) => caller.end == wanted,
+        None => false,
+    }
+}
+
+// Whether the receiver's bytes are those that were posted last.
+fn is_arrived(team: &Team<Caller>) -> bool {
+    let (Some(sender), Some(receiver)) = (team.player(0), team.player(1)) else {
+        return false;
+    };
+    sender.bytes == receiver.bytes
+}
+
+// Whether the receiver met this head where it asked for that one.
+fn met_heads(team: &Team<Caller>, met: Option<Head>, asked: Option<Head>) -> bool {
+    team.player(1).is_some_and(|caller| caller.met == met && caller.asked == asked)
+}
+
+#[test]
+fn a_receive_that_stalled_goes_on(rt: HostRuntime) -> Result<(), Fail> {
+    for layout in [Layout::lines(), Layout::bits()] {
+        let mut team = calling(rt.alloc(), layout, &[(Deed::Post, 100)], &[(Deed::Receive, 100)])?;
+        let _ = team.turn(1);
+        let place = Place::new(CoreId::of(1), 1, 0);
+        let spot = Spot::Flag { place, bit: 0 };
+        assert!(rt; ended(&team, 1, End::Stalled { spot, polls: POLLS }));
+        let _ = team.turn(0);
+        assert!(rt; ended(&team, 0, End::Done));
+        let _ = team.turn(1);
+        assert!(rt; ended(&team, 1, End::Done));
+        assert!(rt; is_arrived(&team));
+    }
+    Ok(())
+}
+
+#[test]
+fn a_posted_message_is_received_and_tested(rt: HostRuntime) -> Result<(), Fail> {
+    for layout in [Layout::lines(), Layout::bits()] {
+        for deed in [Deed::Receive, Deed::Test] {
+            for len in [0, 1, 3_584] {
+                let mut team = calling(rt.alloc(), layout, &[(Deed::Post, len)], &[(deed, len)])?;
+                let _ = team.turn(0);
+                let _ = team.turn(1);
+                assert!(rt; ended(&team, 1, End::Done));
+                assert!(rt; is_arrived(&team));
+            }
+        }
+    }
+    Ok(())
+}
+
+#[test]
+fn another_length_is_told_and_leaves_the_message(rt: HostRuntime) -> Result<(), Fail> {
+    for layout in [Layout::lines(), Layout::bits()] {
+        for deed in [Deed::Receive, Deed::Test] {
+            let mut team = calling(rt.alloc(), layout, &[(Deed::Post, 8)], &[(deed, 4), (deed, 8)])?;
+            let _ = team.turn(0);
+            let _ = team.turn(1);
+            assert!(rt; ended(&team, 1, End::OtherHead));
+            assert!(rt; met_heads(&team, Head::plain(8), Head::plain(4)));
+            let _ = team.turn(1);
+            assert!(rt; ended(&team, 1, End::Done));
+            assert!(rt; is_arrived(&team));
+        }
+    }
+    Ok(())
+}
+
+#[test]
+fn a_test_of_nothing_leaves_a_later_receive(rt: HostRuntime) -> Result<(), Fail> {
+    for layout in [Layout::lines(), Layout::bits()] {
+        let calls = [(Deed::Test, 33), (Deed::Receive, 33)];
+        let mut team = calling(rt.alloc(), layout, &[(Deed::Post, 33)], &calls)?;
+        let _ = team.turn(1);
+        assert!(rt; ended(&team, 1, End::NothingSent));
+        let _ = team.turn(0);
+        let _ = team.turn(1);
+        assert!(rt; ended(&team, 1, End::Done));
+        assert!(rt; is_arrived(&team));
+    }
+    Ok(())
+}
+
+#[test]
+fn a_post_that_stalled_goes_on(rt: HostRuntime) -> Result<(), Fail> {
+    for layout in [Layout::lines(), Layout::bits()] {
+        let posts = [(Deed::Post, 40), (Deed::Post, 40)];
+        let receives = [(Deed::Receive, 40), (Deed::Receive, 40)];
+        let mut team = calling(rt.alloc(), layout, &posts, &receives)?;
+        let _ = team.turn(0);
+        assert!(rt; ended(&team, 0, End::Done));
+        let _ = team.turn(0);
+        let ready = layout.ready(Rank::of(1));
+        let spot = Spot::Flag {
+            place: ready.place(CoreId::of(0)),
+            bit: ready.bit()
+        };
+        assert!(rt; ended(&team, 0, End::Stalled { spot, polls: POLLS }));
+        for at in [1, 0, 1] {
+            let _ = team.turn(at);
+            assert!(rt; ended(&team, at, End::Done));
+            assert!(rt; is_arrived(&team));
+        }
     }
     Ok(())
 }

@@ -1,0 +1,288 @@
+//! Ranks that make whole calls on a chip with one seat, one call a turn.
+
+use crate::fixtures::pair_in;
+use crate::messages::{bytes_from, head_of, post_head_of};
+use crate::teams::{Player, Team};
+use line_cache::Never;
+use put_get::Core;
+use scc_base::{Head, Layout, Rank, Spot, Turn};
+use scc_proto::Port;
+use send_recv::{RecvOp, RecvStop, SendOp, SendStop, Slot, recv, recv_test, send};
+use std::alloc::Global;
+use std::test::Fail;
+
+/// How many vain tries in a row end a call.
+pub(crate) const POLLS: u32 = 3;
+
+/// A call of a rank.
+#[derive(Clone, Copy, Debug, PartialEq, Eq)]
+pub(crate) enum Deed {
+    Post,
+    Receive,
+    Test,
+}
+
+/// What a call came to.
+#[derive(Debug, Drop, PartialEq, Eq)]
+pub(crate) enum End {
+    Done,
+    NothingSent,
+    Stalled { spot: Spot, polls: u32 },
+    OtherHead,
+}
+
+// The head of the message that was sent, where a receive met another one than its own.
+fn sent_of(stop: &RecvStop) -> Option<Head> {
+    match stop {
+        RecvStop::Stalled {
+            op: _,
+            spot: _,
+            polls: _,
+        } => None,
+        RecvStop::Mismatch { sent, asked: _ } => Some(*sent),
+    }
+}
+
+// The head that was asked for there.
+fn asked_of(stop: &RecvStop) -> Option<Head> {
+    match stop {
+        RecvStop::Stalled {
+            op: _,
+            spot: _,
+            polls: _,
+        } => None,
+        RecvStop::Mismatch { sent: _, asked } => Some(*asked),
+    }
+}
+
+/// A call that is to come, with the bytes that it is handed.
+#[derive(Drop)]
+struct Call {
+    deed: Deed,
+    bytes: Vec<u8>,
+}
+
+/// A rank that has messages with one other. A call that gave up goes on in the next turn.
+#[derive(Drop)]
+pub(crate) struct Caller {
+    core: Core<Never>,
+    slot: Slot,
+    peer: Rank,
+    // The bytes of the last call.
+    pub bytes: Vec<u8>,
+    // The call that gave up, if one did.
+    sending: Option<SendOp>,
+    receiving: Option<RecvOp>,
+    // The calls to come, the next one last.
+    calls: Vec<Call>,
+    // What the last call came to, and where it met another head than its own, both.
+    pub end: Option<End>,
+    pub met: Option<Head>,
+    pub asked: Option<Head>,
+}
+
+impl Caller {
+    ghost use Rattle.std.specs.Prelude.{◌≡◌, ℕ, List, [], true, None};
+    ghost use Rattle.scc_base.specs.Setups.{SetupView};
+    ghost use Rattle.scc_base.specs.declared.events.Event.{Event};
+    ghost use Rattle.scc_proto.specs.Words.{are_peers};
+    ghost use Rattle.scc_proto.specs.Ports.{Did, record_in};
+    ghost use Rattle.send_recv.specs.Receiving.{RecvStands};
+    ghost use Rattle.send_recv.specs.Sending.{SendStands, SlotStands};
+    ghost use Rattle.scc_rows.specs.Teams.{sight_alone};
+    ghost use Rattle.scc_rows.specs.Talkers.{IsTalking};
+
+    fn new(alloc: Global, peer: Rank, calls: Vec<Call>) -> Caller
+        ensures ready { (s : SetupView) (r : ℕ) → are_peers s r peer ≡ true
+            → IsTalking (sight_alone s r []) result.core result.slot result.peer result.bytes.items result.sending result.receiving }
+    {
+        Caller {
+            core: Core::new(Never),
+            slot: Slot::new(),
+            peer,
+            bytes: Vec::new(alloc),
+            sending: None,
+            receiving: None,
+            calls,
+            end: None,
+            met: None,
+            asked: None,
+        }
+    }
+
+    // A post from where it stands.
+    fn send_on<P: Port>(&mut self, port: &mut P, op: SendOp)
+        requires peers { are_peers (P.sight port.old).seat.setup (P.sight port.old).seat.rank self.old.peer ≡ true }
+        requires stands { SendStands (P.sight port.old) self.old.core op self.old.slot self.old.bytes.items }
+        requires not_sending { self.old.sending ≡ None }
+        requires not_receiving { self.old.receiving ≡ None }
+        ensures talks { IsTalking (P.sight port.new) self.new.core self.new.slot self.new.peer self.new.bytes.items self.new.sending self.new.receiving }
+        ensures did { (events : List Event) × Did (P.sight port.old) events (P.sight port.new) }
+    {
+        match send(&mut self.core, port, &mut self.slot, op, &self.bytes, POLLS) {
+            Ok(()) => {
+                self.end = Some(End::Done);
+            }
+            Err(SendStop::Stalled { op, spot, polls }) => {
+                self.sending = Some(op);
+                self.end = Some(End::Stalled { spot, polls });
+            }
+        }
+    }
+
+    // A receive from where it stands.
+    fn receive_on<P: Port>(&mut self, port: &mut P, op: RecvOp)
+        requires peers { are_peers (P.sight port.old).seat.setup (P.sight port.old).seat.rank self.old.peer ≡ true }
+        requires stands { RecvStands (P.sight port.old) self.old.core op self.old.bytes.items }
+        requires slot_stands { SlotStands (P.sight port.old).seat (record_in (P.sight port.old)) self.old.slot }
+        requires not_sending { self.old.sending ≡ None }
+        requires not_receiving { self.old.receiving ≡ None }
+        ensures talks { IsTalking (P.sight port.new) self.new.core self.new.slot self.new.peer self.new.bytes.items self.new.sending self.new.receiving }
+        ensures did { (events : List Event) × Did (P.sight port.old) events (P.sight port.new) }
+    {
+        match recv(&mut self.core, port, op, &mut self.bytes, POLLS) {
+            Ok(()) => {
+                self.end = Some(End::Done);
+            }
+            Err(stop) => {
+                self.met = sent_of(&stop);
+                self.asked = asked_of(&stop);
+                match stop {
+                    RecvStop::Stalled { op, spot, polls } => {
+                        self.receiving = Some(op);
+                        self.end = Some(End::Stalled { spot, polls });
+                    }
+                    RecvStop::Mismatch { sent: _, asked: _ } => {
+                        self.end = Some(End::OtherHead);
+                    }
+                }
+            }
+        }
+    }
+
+    // A post from its start.
+    fn post<P: Port>(&mut self, port: &mut P)
+        requires talks { IsTalking (P.sight port.old) self.old.core self.old.slot self.old.peer self.old.bytes.items None None }
+        requires not_sending { self.old.sending ≡ None }
+        requires not_receiving { self.old.receiving ≡ None }
+        ensures talks { IsTalking (P.sight port.new) self.new.core self.new.slot self.new.peer self.new.bytes.items self.new.sending self.new.receiving }
+        ensures did { (events : List Event) × Did (P.sight port.old) events (P.sight port.new) }
+    {
+        if let Some(head) = post_head_of(&self.bytes) {
+            self.send_on(port, SendOp::post(self.peer, head));
+        }
+    }
+
+    // A receive from its start.
+    fn receive<P: Port>(&mut self, port: &mut P)
+        requires talks { IsTalking (P.sight port.old) self.old.core self.old.slot self.old.peer self.old.bytes.items None None }
+        requires not_sending { self.old.sending ≡ None }
+        requires not_receiving { self.old.receiving ≡ None }
+        ensures talks { IsTalking (P.sight port.new) self.new.core self.new.slot self.new.peer self.new.bytes.items self.new.sending self.new.receiving }
+        ensures did { (events : List Event) × Did (P.sight port.old) events (P.sight port.new) }
+    {
+        if let Some(head) = head_of(&self.bytes) {
+            self.receive_on(port, RecvOp::new(self.peer, head));
+        }
+    }
+
+    // A test.
+    fn test<P: Port>(&mut self, port: &mut P)
+        requires talks { IsTalking (P.sight port.old) self.old.core self.old.slot self.old.peer self.old.bytes.items None None }
+        requires not_sending { self.old.sending ≡ None }
+        requires not_receiving { self.old.receiving ≡ None }
+        ensures talks { IsTalking (P.sight port.new) self.new.core self.new.slot self.new.peer self.new.bytes.items self.new.sending self.new.receiving }
+        ensures did { (events : List Event) × Did (P.sight port.old) events (P.sight port.new) }
+    {
+        let Some(head) = head_of(&self.bytes) else {
+            return;
+        };
+        let op = RecvOp::new(self.peer, head);
+        match recv_test(&mut self.core, port, op, &mut self.bytes, POLLS) {
+            Ok(true) => {
+                self.end = Some(End::Done);
+            }
+            Ok(false) => {
+                self.end = Some(End::NothingSent);
+            }
+            Err(stop) => {
+                self.met = sent_of(&stop);
+                self.asked = asked_of(&stop);
+                match stop {
+                    RecvStop::Stalled { op, spot, polls } => {
+                        self.receiving = Some(op);
+                        self.end = Some(End::Stalled { spot, polls });
+                    }
+                    RecvStop::Mismatch { sent: _, asked: _ } => {
+                        self.end = Some(End::OtherHead);
+                    }
+                }
+            }
+        }
+    }
+}
+
+impl Player for Caller {
+    ghost use Rattle.scc_rows.specs.Teams.{sight_alone};
+    ghost use Rattle.scc_rows.specs.Talkers.{IsTalking};
+
+    ghost stands = { λ m s r events. IsTalking (sight_alone s r events) m.core m.slot m.peer m.bytes.items m.sending m.receiving };
+
+    fn turn<P: Port>(&mut self, port: &mut P) -> Turn {
+        let sending = self.sending.take();
+        let receiving = self.receiving.take();
+        if let Some(op) = sending {
+            self.send_on(port, op);
+            return Turn::Moved;
+        }
+        if let Some(op) = receiving {
+            self.receive_on(port, op);
+            return Turn::Moved;
+        }
+        let Some(call) = self.calls.pop() else {
+            return Turn::Done;
+        };
+        self.bytes = call.bytes;
+        match call.deed {
+            Deed::Post => {
+                self.post(port);
+                Turn::Moved
+            }
+            Deed::Receive => {
+                self.receive(port);
+                Turn::Moved
+            }
+            Deed::Test => {
+                self.test(port);
+                Turn::Moved
+            }
+        }
+    }
+}
+
+// These calls, in this order, each with the length of its bytes.
+fn calls_of(alloc: Global, deeds: &[(Deed, usize)]) -> Result<Vec<Call>, Fail> {
+    let mut calls = Vec::new(alloc);
+    for (deed, len) in deeds.iter().rev() {
+        let bytes = match deed {
+            Deed::Post => bytes_from(alloc, 1, *len)?,
+            Deed::Receive | Deed::Test => vec![in alloc; 0; *len]?,
+        };
+        calls.push(Call { deed: *deed, bytes })?;
+    }
+    Ok(calls)
+}
+
+/// A pair of ranks, on cores 0 and 1, of which rank 0 makes the first calls and rank 1 the others.
+pub(crate) fn calling(
+    alloc: Global,
+    layout: Layout,
+    first: &[(Deed, usize)],
+    second: &[(Deed, usize)],
+) -> Result<Team<Caller>, Fail> {
+    let chip = pair_in(alloc, layout)?;
+    let mut team = Team::new(alloc, chip);
+    team.join(Caller::new(alloc, Rank::of(1), calls_of(alloc, first)?))?;
+    team.join(Caller::new(alloc, Rank::of(0), calls_of(alloc, second)?))?;
+    Ok(team)
+}
