@@ -24,8 +24,9 @@ use Rattle.barrier.specs.declared.stages.BarStage.{BarStage}
 use Rattle.barrier.specs.declared.stages.BarStage.TheVariants.{Flip, Gather, Release, Await, Finished}
 use Rattle.barrier.specs.Flags.{value_at, member_at, gather_word, release_word}
 use Rattle.barrier.specs.Stages.{BarAt, BarStands, IsAtStage, own_place, is_finished, is_gather, bar_left, bar_call, aim_at}
-use Rattle.barrier.specs.Turns.{Does, BarTurned}
+use Rattle.barrier.specs.Turns.{KeepsRest, Does, BarTurned, flips_by}
 use Rattle.barrier.specs.Calls.{MayEndAt, Finishes, Stalls}
+use Rattle.barrier.proofs.RestLemmas.{none_changed, kept_both, flips_moved, flips_looking}
 
 same_aim : (a b : Aim) → Some a ≡ Some b → b ≡ a
 same_aim a b e = cc
@@ -84,6 +85,9 @@ pub record Underway (s : Sight) (op : BarAt) (vain : ℕ) (t : Sight) (d : Priva
   pub same : now.comm ≡ op.comm
   pub calls : (record_in t).calls ≡ (record_in s).calls
   pub call_left : bar_call now ≡ bar_call op
+  -- the flips that were made, with the one that may still come, are those of the whole barrier
+  pub flips : flips_by now.comm now.stage (record_in t).flips ≡ flips_by op.comm op.stage (record_in s).flips
+  pub rest : KeepsRest (record_in s) (record_in t)
   pub quiet : is_finished now.stage ≡ true → events ≡ []
   pub settled : changing_after false events ≡ false
   pub looks : (aim : Aim) → aim_at s.seat now.comm now.stage (flag_value (value_at values now.comm)) ≡ Some aim → vain ≤ vain_tries aim events
@@ -96,6 +100,8 @@ underway_none {s} st = record {
   same = refl;
   calls = refl;
   call_left = refl;
+  flips = refl;
+  rest = none_changed (record_in s);
   quiet = λ e. refl;
   settled = refl;
   looks = λ aim at. omega arith;
@@ -113,6 +119,8 @@ underway_moved {s} {m} {t} {b} {d} {op} {cur} {now} {vain} {values} {later} u st
   same = turned.same ∙ u.same;
   calls = turned.means.1 ∙ u.calls;
   call_left = calls_open now turned.means.3 ∙ ap (λ (k : ℕ). Bar k ∷ []) turned.same ∙ sym (calls_open cur turned.means.2) ∙ u.call_left;
+  flips = flips_moved m.seat (record_in m) cur now (record_in t).flips turned.same u.stands.at turned.means.0 ∙ turned.flips ∙ u.flips;
+  rest = kept_both u.rest turned.rest;
   quiet = λ e. let f : true ≡ false = sym e ∙ turned.means.3 in absurd (cc);
   settled = settled_both u.events turned.events u.settled
       (turn_settled m.seat cur.comm cur.stage (flag_value (value_at later cur.comm)) m t b d turned.events turned.does turned.did);
@@ -141,6 +149,8 @@ underway_waited {s} {m} {t} {b} {d} {op} {cur} {now} {vain} {values} {later} {sp
       same = turned.same ∙ u.same;
       calls = ap (λ (r : Record). r.calls) turned.means.1 ∙ u.calls;
       call_left = ap bar_call e ∙ u.call_left;
+      flips = (λ i. flips_by (e i).comm (e i).stage (turned.means.1 i).flips) ∙ u.flips;
+      rest = kept_both u.rest turned.rest;
       quiet = λ f. absurd (not_over m.seat cur.comm cur.stage value w.at w.is (sym (ap (λ (x : BarAt). is_finished x.stage) e) ∙ f));
       settled = settled_both u.events turned.events u.settled (turn_settled m.seat cur.comm cur.stage value m t b d turned.events turned.does turned.did);
       looks = λ aim at.
@@ -172,6 +182,8 @@ underway_ends {s} {m} {t} {b} {d} {op} {cur} {now} {vain} {values} {later} u st 
       stage = subst (λ (x : BarStage). IsAtStage t.seat (record_in t) now.comm x) turned.means.0 st.at;
       empty = st.empty;
       parity = st.parity;
+      flips = turned.flips ∙ u.flips;
+      rest = kept_both u.rest turned.rest;
       no_vain = λ place may.
           let may_here : MayEndAt m.seat cur.comm place = subst (λ (k : ℕ). MayEndAt m.seat k place) (sym u.same) (subst (λ (x : Seat). MayEndAt x op.comm place) (sym seat) may) in
           let value = flag_value (value_at later cur.comm) in
@@ -205,6 +217,8 @@ underway_stalls {s} {m} {t} {b} {d} {op} {cur} {now} {vain} {values} {later} {sp
       looks = at;
       calls = w.calls;
       call_left = w.call_left;
+      flips = sym (flips_looking s.seat now (flag_value (value_at later now.comm)) v.at (record_in t).flips at) ∙ w.flips;
+      rest = w.rest;
       vain = omega (arith, enough, many);
     }
 

@@ -5,4 +5,5 @@ pub mod GatherTurn
 pub mod AwaitTurn
 pub mod ReleaseTurn
 pub mod FlipTurn
+pub mod RestLemmas
 pub mod CallLemmas

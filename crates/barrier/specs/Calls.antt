@@ -12,6 +12,7 @@ use Rattle.barrier.specs.declared.barriers.BarStop.{BarStop}
 use Rattle.barrier.specs.declared.barriers.BarStop.TheVariants.{Stalled}
 use Rattle.barrier.specs.Flags.{IsParityOf, value_at, release_word}
 use Rattle.barrier.specs.Stages.{BarAt, BarStands, bar_call, own_place, aim_at}
+use Rattle.barrier.specs.Turns.{KeepsRest, flips_by}
 
 -- the flags at which the last turn of a rank's barrier may have looked: a member's own release flag; a root ends
 -- with a write, whatever it looked at before
@@ -26,6 +27,9 @@ pub record Finishes (s : Sight) (op : BarAt) (t : Sight) (d : Private) (values :
   pub stage : (record_in t).stage ≡ Idle
   pub empty : d.out ≡ None
   pub parity : IsParityOf (record_in t) values
+  -- the own gather flag of this communicator was flipped once, unless the barrier was entered before
+  pub flips : (record_in t).flips ≡ flips_by op.comm op.stage (record_in s).flips
+  pub rest : KeepsRest (record_in s) (record_in t)
   pub no_vain : (place : WordAt) → MayEndAt s.seat op.comm place → vain_tries (AtWord place (flag_value (value_at values op.comm))) events ≡ 0
 
 -- the call gave up: the barrier that is handed back stands where the record stands, and the last looks, as many as
@@ -41,6 +45,8 @@ pub record Stalls (s : Sight) (op : BarAt) (polls : ℕ) (t : Sight) (d : Privat
   pub looks : aim_at s.seat now.comm now.stage (flag_value (value_at values now.comm)) ≡ Some aim
   pub calls : (record_in t).calls ≡ (record_in s).calls
   pub call_left : bar_call now ≡ bar_call op
+  pub flips : (record_in t).flips ≡ flips_by op.comm op.stage (record_in s).flips
+  pub rest : KeepsRest (record_in s) (record_in t)
   pub vain : TriedInVain aim polls events
 
 -- what a call comes to

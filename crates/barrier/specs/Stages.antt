@@ -19,6 +19,10 @@ pub record BarAt : Type 0 where
   pub comm : ℕ
   pub stage : BarStage
 
+-- a barrier that is not yet entered
+abbrev pub new_barrier : ℕ → BarAt
+new_barrier comm = record { comm = comm; stage = Flip }
+
 abbrev pub is_finished : BarStage → Bool
 is_finished Finished = true
 is_finished _ = false
@@ -51,6 +55,12 @@ pub record BarStands (s : Sight) (c : Private) (op : BarAt) (values : List Bool)
   pub empty : c.out ≡ None
   pub parity : IsParityOf (record_in s) values
   pub at : IsAtStage s.seat (record_in s) op.comm op.stage
+
+-- the rank is in no call: nothing is open, nothing waits in the combiner, and the parity is the record's
+pub record IsBetweenCalls (s : Sight) (c : Private) (values : List Bool) : Type 0 where
+  pub stage : (record_in s).stage ≡ Idle
+  pub empty : c.out ≡ None
+  pub parity : IsParityOf (record_in s) values
 
 -- how many turns that do not wait are left
 abbrev pub left_by : (size place : ℕ) → BarStage → ℕ

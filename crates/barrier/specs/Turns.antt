@@ -32,7 +32,7 @@ Does seat comm (Release released) value s c t d = StoresWord s c (release_word s
 Does seat comm Await value s c t d = (found : ℕ) × LooksAt s c (release_word seat comm seat.rank) found t d
 Does seat comm Finished value s c t d = (t ≡ s) × (d ≡ c)
 
--- how often the own gather flags were flipped
+-- how often the own gather flags were flipped, by a turn or by a whole barrier from this stage on
 abbrev pub flips_by : ℕ → BarStage → (ℕ → ℕ) → ℕ → ℕ
 flips_by comm Flip flips = put flips comm (suc (flips comm))
 flips_by comm stage flips = flips

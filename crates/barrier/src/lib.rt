@@ -12,6 +12,6 @@ mod stages;
 mod tests;
 
 pub use barriers::{BarStop, barrier};
-pub use laws::bar_bound_law;
+pub use laws::{bar_bound_law, begins_law, ends_law, goes_on_law};
 pub use ops::BarOp;
 pub use parities::Parity;

@@ -41,12 +41,12 @@ impl BarOp {
     ghost use Rattle.barrier.specs.declared.stages.BarStage.TheVariants.{Flip, Gather, Release, Await, Finished};
     ghost use Rattle.sync_flags.specs.Flags.{flag_value};
     ghost use Rattle.barrier.specs.Flags.{value_at, gather_word, release_word, member_at};
-    ghost use Rattle.barrier.specs.Stages.{BarStands, group_size, own_place, after_flip, after_seen, after_release};
+    ghost use Rattle.barrier.specs.Stages.{BarStands, new_barrier, group_size, own_place, after_flip, after_seen, after_release};
     ghost use Rattle.barrier.specs.Turns.{BarTurned, waits_at};
 
     /// A barrier that is not yet entered.
     pub fn new(comm: u8) -> BarOp
-        ensures starts { result ≡ record { comm = comm; stage = Flip } }
+        ensures starts { result ≡ new_barrier comm }
     {
         BarOp {
             comm,

@@ -1,6 +1,9 @@
 use Rattle.std.proofs.Common.{arith}
-use Rattle.barrier.proofs.CallLemmas.{underway_moved, underway_waited, underway_ends, underway_stalls, left_falls, measure_falls}
+use Rattle.barrier.proofs.CallLemmas.{underway_none, underway_moved, underway_waited, underway_ends, underway_stalls, left_falls, measure_falls}
 use Rattle.barrier.proofs.barriers.barrier.Goals as goal
+
+pub turns-init : goal.turns-init
+turns-init g c = let some = c.requires.some in (underway_none c.requires.stands, λ es e h. h, omega (arith, some))
 
 pub returns-in-Done-clause-ends : goal.returns-in-Done-clause-ends
 returns-in-Done-clause-ends g c = underway_ends c.turns.invariant.0 c.in-Done.ensures.stands c.in-Done.ensures.turned
