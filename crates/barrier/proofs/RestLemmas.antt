@@ -1,6 +1,5 @@
 -- What a barrier leaves of a record over several turns, and how calls follow one another.
-use Rattle.std.proofs.Common.{◌≡◌, ◌≢◌, ℕ, ◌+◌, ◌-◌, ◌*◌, ◌%◌, ◌<◌, ◌==◌, Bool, List, ◌++◌, Some, refl, sym, ◌∙◌, ap, subst, arith}
-use Rattle.scc_base.specs.Calls.{DataCall}
+use Rattle.std.proofs.Common.{◌≡◌, ◌≢◌, ℕ, ◌+◌, ◌-◌, ◌*◌, ◌<◌, ◌==◌, Bool, List, ◌++◌, Some, refl, ◌∙◌, subst, arith}
 use Rattle.scc_base.specs.Communicators.{rule_of}
 use Rattle.scc_base.specs.declared.communicators.CommRule.TheVariants.{Absent}
 use Rattle.scc_proto.specs.Stages.{Record}
