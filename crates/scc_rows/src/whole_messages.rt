@@ -174,13 +174,19 @@ fn is_arrived(team: &Team<Caller>) -> bool {
 
 // Whether the receiver met this head where it asked for that one.
 fn met_heads(team: &Team<Caller>, met: Option<Head>, asked: Option<Head>) -> bool {
-    team.player(1).is_some_and(|caller| caller.met == met && caller.asked == asked)
+    team.player(1)
+        .is_some_and(|caller| caller.met == met && caller.asked == asked)
 }
 
 #[test]
 fn a_receive_that_stalled_goes_on(rt: HostRuntime) -> Result<(), Fail> {
     for layout in [Layout::lines(), Layout::bits()] {
-        let mut team = calling(rt.alloc(), layout, &[(Deed::Post, 100)], &[(Deed::Receive, 100)])?;
+        let mut team = calling(
+            rt.alloc(),
+            layout,
+            &[(Deed::Post, 100)],
+            &[(Deed::Receive, 100)],
+        )?;
         let _ = team.turn(1);
         let place = Place::new(CoreId::of(1), 1, 0);
         let spot = Spot::Flag { place, bit: 0 };
@@ -214,7 +220,12 @@ fn a_posted_message_is_received_and_tested(rt: HostRuntime) -> Result<(), Fail> 
 fn another_length_is_told_and_leaves_the_message(rt: HostRuntime) -> Result<(), Fail> {
     for layout in [Layout::lines(), Layout::bits()] {
         for deed in [Deed::Receive, Deed::Test] {
-            let mut team = calling(rt.alloc(), layout, &[(Deed::Post, 8)], &[(deed, 4), (deed, 8)])?;
+            let mut team = calling(
+                rt.alloc(),
+                layout,
+                &[(Deed::Post, 8)],
+                &[(deed, 4), (deed, 8)],
+            )?;
             let _ = team.turn(0);
             let _ = team.turn(1);
             assert!(rt; ended(&team, 1, End::OtherHead));
@@ -254,7 +265,7 @@ fn a_post_that_stalled_goes_on(rt: HostRuntime) -> Result<(), Fail> {
         let ready = layout.ready(Rank::of(1));
         let spot = Spot::Flag {
             place: ready.place(CoreId::of(0)),
-            bit: ready.bit()
+            bit: ready.bit(),
         };
         assert!(rt; ended(&team, 0, End::Stalled { spot, polls: POLLS }));
         for at in [1, 0, 1] {

@@ -164,7 +164,7 @@ bit_tried {s} {m} {n} {t} {c} {d} {p} {b} {set} ch core held at takes names free
     let freed = subst (λ (k : ℕ). Did n (free_of k ∷ []) t) (names ∙ at) frees in
     let loaded : WasLoaded s.seat (record_next s.seat (record_in s) take) loads
     = subst (λ (rec : Record). WasLoaded s.seat rec loads) (record_did_one s take m took)
-        (subst (λ (y : Seat). WasLoaded y (record_in m) loads) (seat_kept s (take ∷ []) m took) ch.was_loaded) in
+    (subst (λ (y : Seat). WasLoaded y (record_in m) loads) (seat_kept s (take ∷ []) m took) ch.was_loaded) in
     BitChanged refl ch.words (record { made = (took.made.0, loaded.made); sound = loaded.sound })
     (did_both s (take ∷ []) m (change ++ free_of p.core ∷ []) t took (did_both m change n (free_of p.core ∷ []) t ch.did freed))
     ch.loaded ch.fills ch.is
