@@ -1,7 +1,7 @@
 -- Accesses in turn, and who has made them.
 use Rattle.std.specs.Prelude.{◌≡◌, ℕ, zero, suc, ◌%◌, Bool, if◌then◌else◌, List, [], ◌∷◌, ◌++◌, map}
 use Rattle.scc_base.specs.Places.{WordAt}
-use Rattle.scc_base.specs.Setups.{SetupView, host_of}
+use Rattle.scc_base.specs.Setups.{host_of}
 use Rattle.scc_base.specs.declared.events.Access.{Access}
 use Rattle.scc_base.specs.declared.events.Access.TheVariants.{Load, Store}
 use Rattle.scc_base.specs.declared.events.Event.{Event}

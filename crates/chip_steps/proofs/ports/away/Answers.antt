@@ -1,4 +1,4 @@
-use Rattle.std.proofs.Common.{◌≡◌, ℕ, ◌<◌, [], sym, ◌∙◌, ap, subst, arith}
+use Rattle.std.proofs.Common.{◌≡◌, ◌<◌, [], sym, ◌∙◌, ap, subst}
 use Rattle.scc_base.specs.Setups.{SetupView}
 use Rattle.scc_proto.proofs.IdleLaws.{idle_at_start}
 use Rattle.scc_mesh.specs.AwayRanks.{Ticket, Away}
