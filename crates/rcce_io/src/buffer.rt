@@ -1,5 +1,5 @@
-ghost use Rattle.std.specs.Prelude.{◌≡◌, ◌<◌, ◌≤◌, ◌-◌, ◌^◌, [], Some, length, OnOk};
-ghost use Rattle.rcce_io.specs.Sending.{Gathers, Sends, Writes};
+ghost use Rattle.std.specs.Prelude.{◌≡◌, ◌≤◌, [], OnOk};
+ghost use Rattle.rcce_io.specs.Sending.{Gathers, Sends};
 
 use crate::{Put, Sink, TextSource, WriteFault, write_all};
 use arrayvec::ArrayVec;
