@@ -27,16 +27,17 @@ use Rattle.script_plain.specs.Messages.{AreDelivered, Message, is_of, received_b
 use Rattle.script_plain.specs.Program.{Act, Prim, acts_of, can_call, parts_of, setup_of}
 use Rattle.script_plain.specs.Program.Act.{Send, Gather, Accept}
 use Rattle.script_plain.specs.Step.{Configuration}
+use Rattle.script_plain.proofs.CollectiveFits.{AreFit}
 use Rattle.script_plain.proofs.CollectiveGroups.{bcast_parts, is_in_others, other_has, root_has}
 use Rattle.script_plain.proofs.CollectivePaths.{Facing, by_send, chosen, chosen_one, faced, first_sent, get_last, keeps, past}
 use Rattle.script_plain.proofs.MessageLaws.{received_as_sent}
 use Rattle.script_plain.proofs.StepLaws as steps
 
 -- a rank at a statement faces what the statement makes
-pub faces : (s : SetupView) (rank : ℕ) (statement : Stmt) (u : State) (stood : StandsAt s rank statement u) (acts : List Act) → acts_of s rank statement ≡ acts → Facing stood.line acts stood.rest u
-faces s rank statement u stood acts is = record {
+pub faces : (script : Script) (rank : ℕ) (statement : Stmt) (u : State) (stood : StandsAt script rank statement u) (acts : List Act) → acts_of (setup_of script) rank statement ≡ acts → Facing stood.item.line acts stood.rest u
+faces script rank statement u stood acts is = record {
   running = stood.running;
-  left = stood.next ∙ ap (λ (l : List Act). map (λ a. record { line = stood.line; act = a }) l ++ stood.rest) is;
+  left = stood.next ∙ ap (λ (l : List Act). map (λ a. record { line = stood.item.line; act = a }) l ++ stood.rest) is;
 }
 
 -- a message of this kind in this communicator
@@ -104,7 +105,7 @@ accepts kind comm line from dst head sized rest u (one ∷ last ∷ []) mine two
         ∙ keeps (is_of kind comm) (received_by from) later w (length (chosen (is_of kind comm) (received_by from) u.matched)) m there
 
 -- what a broadcast makes for the root, and for each of the others
-abbrev bcast_operands : ℕ → Operands
+abbrev pub bcast_operands : ℕ → Operands
 bcast_operands reg = record { op = op.Sum; ty = ty.Int; dst = reg; src = reg; sized = None }
 
 pub bcast_at_root : (s : SetupView) (comm place reg len root : ℕ) → can_call s root (coll.Bcast comm place len) ≡ true → place_of s comm root ≡ place
@@ -117,30 +118,46 @@ bcast_at_other : (s : SetupView) (comm place reg len root rank : ℕ) → can_ca
     → acts_of s rank (stmt.Bcast comm place reg len) ≡ Gather root (head_of kind_of.Bcast comm len) None ∷ Accept reg ∷ []
 bcast_at_other s comm place reg len root rank callable is = ap (parts_of (bcast_operands reg)) (other_has s (coll.Bcast comm place len) root rank callable is)
 
-pub broadcast : (script : Script) (c : Configuration State) → AreDelivered c → AreBroadcast script c
-broadcast script c delivered comm place len size reg dst root rank u v begun before after at_root at_rank other can_root can_rank came done same =
+-- what came to one of the others that has done a broadcast
+pub bcast_accepts : (script : Script) (comm place size dst root rank : ℕ) (v before after : State) → IsOther (setup_of script) comm place root rank → can_call (setup_of script) rank (coll.Bcast comm place size) ≡ true
+    → HasDone script rank (stmt.Bcast comm place dst size) v before after
+    → (m : Message) × (after.local.registers ≡ slice_set before.local.registers dst m.bytes)
+    × (slice_get (chosen (is_of (kind_number kind_of.Bcast) comm) (received_by root) v.matched) (length (chosen (is_of (kind_number kind_of.Bcast) comm) (received_by root) before.matched)) ≡ Some m)
+bcast_accepts script comm place size dst root rank v before after other can_rank done =
+    let (m, registers, found) = accepts K comm done.stood.item.line root dst (head_of kind_of.Bcast comm size) None done.stood.rest before done.taken (own_kind kind_of.Bcast comm size) (done.each ∙ ap length at_other)
+    (faces script rank (stmt.Bcast comm place dst size) before done.stood _ at_other) in (
+      m,
+      ap (λ (x : State). x.local.registers) done.came ∙ registers,
+      ap (λ (l : List DataCall). slice_get (chosen (is_of K comm) (received_by root) l) (length (chosen (is_of K comm) (received_by root) before.matched))) done.since
+          ∙ ap (λ (x : State). slice_get (chosen (is_of K comm) (received_by root) (gone_through done.later x).matched) (length (chosen (is_of K comm) (received_by root) before.matched))) done.came
+          ∙ found done.later,
+    )
+  where
+    K : ℕ
+    K = kind_number kind_of.Bcast
+
+    at_other : acts_of (setup_of script) rank (stmt.Bcast comm place dst size) ≡ Gather root (head_of kind_of.Bcast comm size) None ∷ Accept dst ∷ []
+    at_other = bcast_at_other (setup_of script) comm place dst size root rank can_rank other
+
+pub broadcast : (script : Script) (c : Configuration State) → AreDelivered c → AreFit script c → AreBroadcast script c
+broadcast script c delivered fit comm place len size reg dst root rank u v begun before after at_root at_rank other came done same =
     accepted.1 ∙ ap (λ (bytes : List ℕ). slice_set before.local.registers dst bytes) given
   where
+    can_root : can_call (setup_of script) root (coll.Bcast comm place len) ≡ true
+    can_root = fit.casts root u begun comm place reg len at_root came.stood
+
+    can_rank : can_call (setup_of script) rank (coll.Bcast comm place size) ≡ true
+    can_rank = fit.casts rank v before comm place dst size at_rank done.stood
+
     s : SetupView
     s = setup_of script
 
     K : ℕ
     K = kind_number kind_of.Bcast
 
-    at_other : acts_of s rank (stmt.Bcast comm place dst size) ≡ Gather root (head_of kind_of.Bcast comm size) None ∷ Accept dst ∷ []
-    at_other = bcast_at_other s comm place dst size root rank can_rank other
-
     accepted : (m : Message) × (after.local.registers ≡ slice_set before.local.registers dst m.bytes)
         × (slice_get (chosen (is_of K comm) (received_by root) v.matched) (length (chosen (is_of K comm) (received_by root) before.matched)) ≡ Some m)
-    accepted =
-        let (m, registers, found) = accepts K comm done.stood.line root dst (head_of kind_of.Bcast comm size) None done.stood.rest before done.taken (own_kind kind_of.Bcast comm size) (done.each ∙ ap length at_other)
-        (faces s rank (stmt.Bcast comm place dst size) before done.stood _ at_other) in (
-          m,
-          ap (λ (x : State). x.local.registers) done.came ∙ registers,
-          ap (λ (l : List DataCall). slice_get (chosen (is_of K comm) (received_by root) l) (length (chosen (is_of K comm) (received_by root) before.matched))) done.since
-              ∙ ap (λ (x : State). slice_get (chosen (is_of K comm) (received_by root) (gone_through done.later x).matched) (length (chosen (is_of K comm) (received_by root) before.matched))) done.came
-              ∙ found done.later,
-        )
+    accepted = bcast_accepts script comm place size dst root rank v before after other can_rank done
 
     sent : slice_get (chosen (is_of K comm) (sent_by rank) (gone_through came.later begun).matched) (length (chosen (is_of K comm) (sent_by rank) begun.matched)) ≡ Some accepted.0
     sent =
@@ -150,6 +167,6 @@ broadcast script c delivered comm place len size reg dst root rank u v begun bef
 
     given : accepted.0.bytes ≡ register_at begun.local reg
     given =
-        ap (λ (x : Message). x.bytes) (first_sent K comm came.stood.line rank (head_of kind_of.Bcast comm len) (source_of.Own reg) (register_at begun.local reg) [] came.stood.rest (others_of s comm root place) begun came.later accepted.0 (own_kind kind_of.Bcast comm len)
-        (faces s root (stmt.Bcast comm place reg len) begun came.stood _ (bcast_at_root s comm place reg len root can_root other.placed.placed ∙ sym (append-nil (map (λ to. Send to (head_of kind_of.Bcast comm len) (source_of.Own reg)) (others_of s comm root place)))))
+        ap (λ (x : Message). x.bytes) (first_sent K comm came.stood.item.line rank (head_of kind_of.Bcast comm len) (source_of.Own reg) (register_at begun.local reg) [] came.stood.rest (others_of s comm root place) begun came.later accepted.0 (own_kind kind_of.Bcast comm len)
+        (faces script root (stmt.Bcast comm place reg len) begun came.stood _ (bcast_at_root s comm place reg len root can_root other.placed.placed ∙ sym (append-nil (map (λ to. Send to (head_of kind_of.Bcast comm len) (source_of.Own reg)) (others_of s comm root place)))))
         refl (is_in_others s comm place root rank other) sent)

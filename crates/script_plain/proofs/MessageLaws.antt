@@ -196,7 +196,7 @@ within_cells us i u here =
     ⊎_elim (λ (low : i < length us). low) (λ (past : length us ≤ i). absurd (let none = slice_get_past us i past in cc)) (cases_lt i (length us))
 
 -- equal heads
-same_heads : (sent asked : MessageHead) → same_head sent asked ≡ true → sent ≡ asked
+pub same_heads : (sent asked : MessageHead) → same_head sent asked ≡ true → sent ≡ asked
 same_heads sent asked same =
     let parts = steps.both_true ((sent.kind == asked.kind) && (sent.comm == asked.comm)) (sent.len == asked.len) same in
     let front = steps.both_true (sent.kind == asked.kind) (sent.comm == asked.comm) parts.0 in
@@ -300,7 +300,7 @@ fits_runs keys (suc n) c d (a, t, step, rest) even fit =
     fits_runs keys n t d rest (kept.1 ∙ even ∙ sym kept.0) (fits_step keys c t a even (steps.seen keys next_of c t a step) fit)
 
 -- at the start nothing is done, and nothing stands in a slot
-empty_slot : (n k : ℕ) → slice_index_or {A = Option Posted} (replicate n None) k None ≡ None
+pub empty_slot : (n k : ℕ) → slice_index_or {A = Option Posted} (replicate n None) k None ≡ None
 empty_slot zero k = refl
 empty_slot (suc n) zero = refl
 empty_slot (suc n) (suc k) = empty_slot n k
@@ -340,8 +340,18 @@ received_as_sent c delivered kind comm n i j u v message at_i at_j got =
     ∙ ap (λ (l : List Message). slice_get l n) (filter-append (is_of kind comm) (received_from i v.matched) (waiting_for j (slot_at c i)))
     ∙ get_front (filter (is_of kind comm) (received_from i v.matched)) (filter (is_of kind comm) (waiting_for j (slot_at c i))) n message got
 
--- and so at the plain end
-pub plain_end_delivered : (script : Script) → AreDelivered (plain_end script)
-plain_end_delivered script =
+-- each rank of the script has its state
+cells_runs : (keys : ℕ → ℕ → ℕ) (n : ℕ) (c d : Configuration State) → Runs (IsPlainStep keys) (λ e. e ≡ d) n c → length d.cells ≡ length c.cells
+cells_runs keys zero c d same = ap (λ (x : Configuration State). length x.cells) (sym same)
+cells_runs keys (suc n) c d (a, t, step, rest) = cells_runs keys n t d rest ∙ (length-step keys next_of c t a step).0
+
+pub cells_kept : (script : Script) (n : ℕ) (c : Configuration State) → Runs (IsPlainStep (keys_of script)) (λ e. e ≡ c) n (start_of script) → length c.cells ≡ script.nue
+cells_kept script n c run =
+    cells_runs (keys_of script) n (start_of script) c run
+    ∙ length-map-range_with_len (λ (rank : ℕ). record { local = local_start script rank; matched = [] }) 0 script.nue
+
+-- steps lead to the plain end
+pub to_plain_end : (script : Script) → (n : ℕ) × Runs (IsPlainStep (keys_of script)) (λ e. e ≡ plain_end script) n (start_of script)
+to_plain_end script =
     let (n, run) = reached (keys_of script) next_of (steps_left (start_of script)) (start_of script) (plain_end_still script) in
-    delivered script n (plain_end script) (other_end (IsPlainStep (keys_of script)) (EndsAt (IsPlainStep (keys_of script)) (plain_end script)) (λ e. e ≡ plain_end script) (λ s end. end.0) n (start_of script) run)
+    (n, other_end (IsPlainStep (keys_of script)) (EndsAt (IsPlainStep (keys_of script)) (plain_end script)) (λ e. e ≡ plain_end script) (λ s end. end.0) n (start_of script) run)

@@ -76,7 +76,7 @@ stops calls (Recvs from head take refuse) each = λ sent. ap (recorded calls) (e
 stops calls (Bars comm after) each = tt
 
 -- what stands at a rank
-stands : (c : Configuration State) (i : ℕ) (n : Next State) → next_at next_of c i ≡ n → (n ≡ Ends → ⊥) → (u : State) × (slice_get c.cells i ≡ Some u) × (next_of u ≡ n)
+pub stands : (c : Configuration State) (i : ℕ) (n : Next State) → next_at next_of c i ≡ n → (n ≡ Ends → ⊥) → (u : State) × (slice_get c.cells i ≡ Some u) × (next_of u ≡ n)
 stands c i n at is_some =
     ⊎_elim
     (λ (ends : n ≡ Ends). absurd (is_some ends))
@@ -163,7 +163,7 @@ range_at a (suc n) zero x at = let is : a ≡ x = same_Some a x at in omega (ari
 range_at a (suc n) (suc k) x at = let rest = range_at (a + 1) n k x at in omega (arith, rest)
 
 -- at the start all is as it started
-start_cell : (script : Script) (k : ℕ) (u : State) → slice_get (start_of script).cells k ≡ Some u → started script k ≡ u
+pub start_cell : (script : Script) (k : ℕ) (u : State) → slice_get (start_of script).cells k ≡ Some u → started script k ≡ u
 start_cell script k u at =
     by (slice_get (range_with_len 0 script.nue) k) refl
     (sym (slice_get-map (started script) (range_with_len 0 script.nue) k) ∙ at)

@@ -8,13 +8,12 @@ use Rattle.scc_base.specs.Setups.{SetupView, IsMemberAt, place_of}
 use Rattle.scc_base.specs.declared.kinds.Kind.{Kind}
 use Rattle.scc_base.specs.declared.kinds.Kind.TheVariants as kind
 use Rattle.groups.specs.Collectives.{others_of}
-use Rattle.groups.specs.declared.collectives.Coll.{Coll}
-use Rattle.groups.specs.declared.collectives.Coll.TheVariants as coll
-use Rattle.groups.specs.Folds.{bytes_in, fold_of}
+use Rattle.groups.specs.Folds.{fold_of}
 use Rattle.groups.specs.declared.operations.Op.{Op}
 use Rattle.groups.specs.declared.operations.Ty.{Ty}
 use Rattle.script_plain.specs.declared.prims.Standing.TheVariants as standing
-use Rattle.script_reader.specs.Script.{Script}
+use Rattle.script_reader.specs.Script.{Script, has_rank}
+use Rattle.script_reader.specs.declared.script.Item.{Item}
 use Rattle.script_reader.specs.declared.script.Stmt.{Stmt}
 use Rattle.script_reader.specs.declared.script.Stmt.TheVariants as stmt
 use Rattle.script_plain.specs.Local.{local_start, register_at}
@@ -22,7 +21,7 @@ use Rattle.script_plain.specs.Meaning.{State, next_of}
 use Rattle.script_plain.specs.Messages.{AreReceivedAsSent, is_of, received_from, sent_to}
 use Rattle.script_plain.specs.Next.{Next}
 use Rattle.script_plain.specs.Next.Next.{Ends, Goes, Posts, Sends, Recvs, Bars}
-use Rattle.script_plain.specs.Program.{Prim, acts_of, can_call, setup_of}
+use Rattle.script_plain.specs.Program.{Prim, acts_of, setup_of}
 use Rattle.script_plain.specs.Step.{Configuration}
 
 -- what a rank comes to by itself in its next step: where it receives, it takes these bytes
@@ -48,24 +47,34 @@ abbrev pub AreOwnWays : Script → Configuration State → Type 0
 AreOwnWays script c =
     (rank : ℕ) (u : State) → slice_get c.cells rank ≡ Some u → (path : List (List ℕ)) × (u.matched ≡ (gone_through path (started script rank)).matched)
 
--- a rank stands at a statement: what the statement makes comes next
-pub record StandsAt (s : SetupView) (rank : ℕ) (statement : Stmt) (u : State) : Type 0 where
-  pub line : ℕ
+-- an item of the script which is one of this rank's
+pub record IsOfRank (items : List Item) (rank : ℕ) (item : Item) : Type 0 where
+  pub place : ℕ
+  pub listed : slice_get items place ≡ Some item
+  pub own : has_rank item.who rank ≡ true
+
+-- a rank stands at a statement of its own: by itself it came there from its start, and what the statement makes comes next
+pub record StandsAt (script : Script) (rank : ℕ) (statement : Stmt) (u : State) : Type 0 where
+  pub way : List (List ℕ)
+  pub reached : u ≡ gone_through way (started script rank)
+  pub item : Item
+  pub listed : IsOfRank script.items rank item
+  pub says : item.stmt ≡ statement
   pub rest : List Prim
   pub running : u.local.standing ≡ standing.Running
-  pub next : u.local.left ≡ map (λ act. record { line = line; act = act }) (acts_of s rank statement) ++ rest
+  pub next : u.local.left ≡ map (λ act. record { line = item.line; act = act }) (acts_of (setup_of script) rank statement) ++ rest
 
 -- a rank that holds `now` came to a statement: it stood there when it held `before`, and went on from there
-pub record CameTo (s : SetupView) (rank : ℕ) (statement : Stmt) (now before : State) : Type 0 where
-  pub stood : StandsAt s rank statement before
+pub record CameTo (script : Script) (rank : ℕ) (statement : Stmt) (now before : State) : Type 0 where
+  pub stood : StandsAt script rank statement before
   pub later : List (List ℕ)
   pub since : now.matched ≡ (gone_through later before).matched
 
 -- and has done it: it held `after` when all that the statement makes was done
-pub record HasDone (s : SetupView) (rank : ℕ) (statement : Stmt) (now before after : State) : Type 0 where
-  pub stood : StandsAt s rank statement before
+pub record HasDone (script : Script) (rank : ℕ) (statement : Stmt) (now before after : State) : Type 0 where
+  pub stood : StandsAt script rank statement before
   pub taken : List (List ℕ)
-  pub each : length taken ≡ length (acts_of s rank statement)
+  pub each : length taken ≡ length (acts_of (setup_of script) rank statement)
   pub came : after ≡ gone_through taken before
   pub later : List (List ℕ)
   pub since : now.matched ≡ (gone_through later after).matched
@@ -90,15 +99,34 @@ AreBroadcast script c =
     (comm place len size reg dst root rank : ℕ) (u v begun before after : State)
     → slice_get c.cells root ≡ Some u → slice_get c.cells rank ≡ Some v
     → IsOther (setup_of script) comm place root rank
-    → can_call (setup_of script) root (coll.Bcast comm place len) ≡ true
-    → can_call (setup_of script) rank (coll.Bcast comm place size) ≡ true
-    → CameTo (setup_of script) root (stmt.Bcast comm place reg len) u begun
-    → HasDone (setup_of script) rank (stmt.Bcast comm place dst size) v before after
+    → CameTo script root (stmt.Bcast comm place reg len) u begun
+    → HasDone script rank (stmt.Bcast comm place dst size) v before after
     → sends_of kind.Bcast comm rank begun ≡ receipts_of kind.Bcast comm root before
     → after.local.registers ≡ slice_set before.local.registers dst (register_at begun.local reg)
 
+-- the root came to the broadcast that a rank came to when it held `before`, and sent it these bytes
+pub record Casts (script : Script) (c : Configuration State) (comm place root rank : ℕ) (before : State) (bytes : List ℕ) : Type 0 where
+  pub reg : ℕ
+  pub len : ℕ
+  pub now : State
+  pub begun : State
+  pub there : slice_get c.cells root ≡ Some now
+  pub came : CameTo script root (stmt.Bcast comm place reg len) now begun
+  pub same : sends_of kind.Bcast comm rank begun ≡ receipts_of kind.Bcast comm root before
+  pub given : register_at begun.local reg ≡ bytes
+
+-- where one of the others has done the n-th broadcast of a communicator and root, the root came to its n-th, and what it
+-- sent then stands in the register that the other names
+abbrev pub RootCame : Script → Configuration State → Type 0
+RootCame script c =
+    (comm place size dst root rank : ℕ) (v before after : State)
+    → slice_get c.cells rank ≡ Some v
+    → IsOther (setup_of script) comm place root rank
+    → HasDone script rank (stmt.Bcast comm place dst size) v before after
+    → (bytes : List ℕ) × Casts script c comm place root rank before bytes × (after.local.registers ≡ slice_set before.local.registers dst bytes)
+
 -- one of the others came to its part in the fold that the root began when it held `begun`, with these bytes
-pub record Gives (s : SetupView) (c : Configuration State) (call : Op → Ty → ℕ → ℕ → Stmt) (coll : Coll) (kind : Kind) (comm root : ℕ) (begun : State) (rank : ℕ) (bytes : List ℕ) : Type 0 where
+pub record Gives (script : Script) (c : Configuration State) (call : Op → Ty → ℕ → ℕ → Stmt) (kind : Kind) (comm root : ℕ) (begun : State) (rank : ℕ) (bytes : List ℕ) : Type 0 where
   pub op : Op
   pub ty : Ty
   pub dst : ℕ
@@ -106,10 +134,14 @@ pub record Gives (s : SetupView) (c : Configuration State) (call : Op → Ty →
   pub now : State
   pub before : State
   pub there : slice_get c.cells rank ≡ Some now
-  pub callable : can_call s rank coll ≡ true
-  pub came : CameTo s rank (call op ty dst src) now before
+  pub came : CameTo script rank (call op ty dst src) now before
   pub same : sends_of kind comm root before ≡ receipts_of kind comm rank begun
   pub given : register_at before.local src ≡ bytes
+
+-- each of the others did, with these bytes by rank
+abbrev pub AllGive : Script → Configuration State → (Op → Ty → ℕ → ℕ → Stmt) → Kind → ℕ → ℕ → ℕ → State → (ℕ → List ℕ) → Type 0
+AllGive script c call kind comm place root begun bytes =
+    (rank : ℕ) → IsOther (setup_of script) comm place root rank → Gives script c call kind comm root begun rank (bytes rank)
 
 -- the fold of the root's bytes with those of the others, in rank order
 abbrev pub fold_at : SetupView → ℕ → ℕ → ℕ → Op → Ty → List ℕ → (ℕ → List ℕ) → List ℕ
@@ -121,12 +153,19 @@ abbrev pub AreReduced : Script → Configuration State → Type 0
 AreReduced script c =
     (comm place dst src root : ℕ) (op : Op) (ty : Ty) (u begun after : State) (bytes : ℕ → List ℕ)
     → slice_get c.cells root ≡ Some u → place_of (setup_of script) comm root ≡ place
-    → can_call (setup_of script) root (coll.Reduce comm place 0) ≡ true
-    → length (register_at begun.local src) % bytes_in ty ≡ 0
-    → HasDone (setup_of script) root (stmt.Reduce comm place op ty dst src) u begun after
-    → ((rank : ℕ) → IsOther (setup_of script) comm place root rank
-    → Gives (setup_of script) c (stmt.Reduce comm place) (coll.Reduce comm place 0) kind.Reduce comm root begun rank (bytes rank))
+    → HasDone script root (stmt.Reduce comm place op ty dst src) u begun after
+    → AllGive script c (stmt.Reduce comm place) kind.Reduce comm place root begun bytes
     → after.local.registers ≡ slice_set begun.local.registers dst (fold_at (setup_of script) comm place root op ty (register_at begun.local src) bytes)
+
+-- where the root has done its n-th reduction of a communicator, each of the others came to its n-th, and the root holds the
+-- fold of what they gave then
+abbrev pub OthersGave : Script → Configuration State → Type 0
+OthersGave script c =
+    (comm place dst src root : ℕ) (op : Op) (ty : Ty) (u begun after : State)
+    → slice_get c.cells root ≡ Some u → place_of (setup_of script) comm root ≡ place
+    → HasDone script root (stmt.Reduce comm place op ty dst src) u begun after
+    → (bytes : ℕ → List ℕ) × AllGive script c (stmt.Reduce comm place) kind.Reduce comm place root begun bytes
+    × (after.local.registers ≡ slice_set begun.local.registers dst (fold_at (setup_of script) comm place root op ty (register_at begun.local src) bytes))
 
 -- the n-th reduction to all of a communicator: member 0 that has done it holds the fold of all members' bytes in rank
 -- order, by its own operation and type
@@ -134,38 +173,64 @@ abbrev pub AreReducedToAll : Script → Configuration State → Type 0
 AreReducedToAll script c =
     (comm dst src root : ℕ) (op : Op) (ty : Ty) (u begun after : State) (bytes : ℕ → List ℕ)
     → slice_get c.cells root ≡ Some u → place_of (setup_of script) comm root ≡ 0
-    → can_call (setup_of script) root (coll.Allreduce comm 0) ≡ true
-    → length (register_at begun.local src) % bytes_in ty ≡ 0
-    → HasDone (setup_of script) root (stmt.Allreduce comm op ty dst src) u begun after
-    → ((rank : ℕ) → IsOther (setup_of script) comm 0 root rank
-    → Gives (setup_of script) c (stmt.Allreduce comm) (coll.Allreduce comm 0) kind.AllUp comm root begun rank (bytes rank))
+    → HasDone script root (stmt.Allreduce comm op ty dst src) u begun after
+    → AllGive script c (stmt.Allreduce comm) kind.AllUp comm 0 root begun bytes
     → after.local.registers ≡ slice_set begun.local.registers dst (fold_at (setup_of script) comm 0 root op ty (register_at begun.local src) bytes)
 
--- and so does each of the others that has done it, whatever operation and type it names
+-- where member 0 has done its n-th reduction to all of a communicator, each of the others came to its n-th
+abbrev pub OthersGaveToAll : Script → Configuration State → Type 0
+OthersGaveToAll script c =
+    (comm dst src root : ℕ) (op : Op) (ty : Ty) (u begun after : State)
+    → slice_get c.cells root ≡ Some u → place_of (setup_of script) comm root ≡ 0
+    → HasDone script root (stmt.Allreduce comm op ty dst src) u begun after
+    → (bytes : ℕ → List ℕ) × AllGive script c (stmt.Allreduce comm) kind.AllUp comm 0 root begun bytes
+    × (after.local.registers ≡ slice_set begun.local.registers dst (fold_at (setup_of script) comm 0 root op ty (register_at begun.local src) bytes))
+
+-- each of the others that has done the n-th reduction to all holds that fold too, whatever operation and type it names
 abbrev pub AreToldAll : Script → Configuration State → Type 0
 AreToldAll script c =
     (comm dst src root to from rank : ℕ) (op other : Op) (ty width : Ty) (u v begun before after : State) (bytes : ℕ → List ℕ)
     → slice_get c.cells root ≡ Some u → slice_get c.cells rank ≡ Some v
     → IsOther (setup_of script) comm 0 root rank
-    → can_call (setup_of script) root (coll.Allreduce comm 0) ≡ true
-    → can_call (setup_of script) rank (coll.Allreduce comm 0) ≡ true
-    → length (register_at begun.local src) % bytes_in ty ≡ 0
-    → CameTo (setup_of script) root (stmt.Allreduce comm op ty dst src) u begun
-    → ((other : ℕ) → IsOther (setup_of script) comm 0 root other
-    → Gives (setup_of script) c (stmt.Allreduce comm) (coll.Allreduce comm 0) kind.AllUp comm root begun other (bytes other))
-    → HasDone (setup_of script) rank (stmt.Allreduce comm other width to from) v before after
+    → CameTo script root (stmt.Allreduce comm op ty dst src) u begun
+    → AllGive script c (stmt.Allreduce comm) kind.AllUp comm 0 root begun bytes
+    → HasDone script rank (stmt.Allreduce comm other width to from) v before after
     → sends_of kind.AllDown comm rank begun ≡ receipts_of kind.AllDown comm root before
     → after.local.registers ≡ slice_set before.local.registers to (fold_at (setup_of script) comm 0 root op ty (register_at begun.local src) bytes)
+
+-- member 0 came to the reduction to all that a rank came to when it held `before`, and so did each of the others; these bytes
+-- are the fold of what they gave
+pub record Tells (script : Script) (c : Configuration State) (comm root rank : ℕ) (before : State) (told : List ℕ) : Type 0 where
+  pub op : Op
+  pub ty : Ty
+  pub dst : ℕ
+  pub src : ℕ
+  pub now : State
+  pub begun : State
+  pub bytes : ℕ → List ℕ
+  pub there : slice_get c.cells root ≡ Some now
+  pub came : CameTo script root (stmt.Allreduce comm op ty dst src) now begun
+  pub same : sends_of kind.AllDown comm rank begun ≡ receipts_of kind.AllDown comm root before
+  pub given : AllGive script c (stmt.Allreduce comm) kind.AllUp comm 0 root begun bytes
+  pub result : fold_at (setup_of script) comm 0 root op ty (register_at begun.local src) bytes ≡ told
+
+-- where one of the others has done the n-th reduction to all of a communicator, member 0 came to its n-th, and so did each
+-- of the others
+abbrev pub AllCame : Script → Configuration State → Type 0
+AllCame script c =
+    (comm root to from rank : ℕ) (op : Op) (ty : Ty) (v before after : State)
+    → slice_get c.cells rank ≡ Some v
+    → IsOther (setup_of script) comm 0 root rank
+    → HasDone script rank (stmt.Allreduce comm op ty to from) v before after
+    → (told : List ℕ) × Tells script c comm root rank before told × (after.local.registers ≡ slice_set before.local.registers to told)
 
 -- nobody else's registers change: neither those of the root of a broadcast, nor those of the others in a reduction
 abbrev pub AreUntouched : Script → Type 0
 AreUntouched script =
     (comm place len reg dst src root rank : ℕ) (op : Op) (ty : Ty) (now before after : State)
     → IsOther (setup_of script) comm place root rank
-    → (HasDone (setup_of script) root (stmt.Bcast comm place reg len) now before after
-    → can_call (setup_of script) root (coll.Bcast comm place len) ≡ true → after.local.registers ≡ before.local.registers)
-    × (HasDone (setup_of script) rank (stmt.Reduce comm place op ty dst src) now before after
-    → can_call (setup_of script) rank (coll.Reduce comm place 0) ≡ true → after.local.registers ≡ before.local.registers)
+    → (HasDone script root (stmt.Bcast comm place reg len) now before after → after.local.registers ≡ before.local.registers)
+    × (HasDone script rank (stmt.Reduce comm place op ty dst src) now before after → after.local.registers ≡ before.local.registers)
 
 -- what collective calls give, whatever they are
 pub record CollectivesHold (script : Script) (c : Configuration State) : Type 0 where
@@ -174,4 +239,8 @@ pub record CollectivesHold (script : Script) (c : Configuration State) : Type 0 
   pub reductions : AreReduced script c
   pub reductions_to_all : AreReducedToAll script c
   pub told : AreToldAll script c
+  pub root_came : RootCame script c
+  pub others_gave : OthersGave script c
+  pub others_gave_to_all : OthersGaveToAll script c
+  pub all_came : AllCame script c
   pub untouched : AreUntouched script

@@ -3,7 +3,8 @@
 ghost use Rattle.std.specs.Prelude.{◌≡◌, ℕ};
 ghost use Rattle.scc_base.specs.Runs.{Runs};
 ghost use Rattle.script_reader.specs.Script.{Script};
-ghost use Rattle.script_plain.specs.Collectives.{AreBroadcast, AreOwnWays, AreReduced, AreReducedToAll, AreToldAll, AreUntouched};
+ghost use Rattle.script_reader.specs.Settled.{IsWhole};
+ghost use Rattle.script_plain.specs.Collectives.{AllCame, AreBroadcast, AreOwnWays, AreReduced, AreReducedToAll, AreToldAll, AreUntouched, OthersGave, OthersGaveToAll, RootCame};
 ghost use Rattle.script_plain.specs.Meaning.{IsPlainStep, State, keys_of, start_of};
 ghost use Rattle.script_plain.specs.Messages.{AreDelivered, AreReceivedAsSent};
 ghost use Rattle.script_plain.specs.Step.{Configuration};
@@ -16,21 +17,26 @@ pub fn messages_arrive_as_sent()
 {}
 
 /// Wherever steps lead from the start, whoever has done the n-th broadcast of a communicator and root holds the bytes that
-/// the root sent then. The root of a broadcast has no register changed.
+/// the root sent then, and the root came to its n-th. The root of a broadcast has no register changed.
 pub fn broadcasts_arrive()
-    ensures law { (script : Script) (n : ℕ) (c : Configuration State) → Runs (IsPlainStep (keys_of script)) (λ e. e ≡ c) n (start_of script) → AreBroadcast script c }
-    ensures untouched { (script : Script) → AreUntouched script }
+    ensures law { (script : Script) → IsWhole script.nue script.items → (n : ℕ) (c : Configuration State) → Runs (IsPlainStep (keys_of script)) (λ e. e ≡ c) n (start_of script) → AreBroadcast script c }
+    ensures root_came { (script : Script) → IsWhole script.nue script.items → (n : ℕ) (c : Configuration State) → Runs (IsPlainStep (keys_of script)) (λ e. e ≡ c) n (start_of script) → RootCame script c }
+    ensures untouched { (script : Script) → IsWhole script.nue script.items → AreUntouched script }
 {}
 
 /// Wherever steps lead from the start, the root of a reduction that has done it holds the fold that starts with its own
 /// bytes and goes on with those of the others in rank order, and none of the others has a register changed. And whoever
 /// has done the n-th reduction to all of a communicator holds the fold of all members' bytes in rank order, by the
-/// operation and type of member 0.
+/// operation and type of member 0. The others came to their n-th: each of them where the root has done it, and where one
+/// of the others has done a reduction to all, member 0 and each of the others.
 pub fn reductions_fold()
-    ensures root { (script : Script) (n : ℕ) (c : Configuration State) → Runs (IsPlainStep (keys_of script)) (λ e. e ≡ c) n (start_of script) → AreReduced script c }
-    ensures first { (script : Script) (n : ℕ) (c : Configuration State) → Runs (IsPlainStep (keys_of script)) (λ e. e ≡ c) n (start_of script) → AreReducedToAll script c }
-    ensures others { (script : Script) (n : ℕ) (c : Configuration State) → Runs (IsPlainStep (keys_of script)) (λ e. e ≡ c) n (start_of script) → AreToldAll script c }
-    ensures untouched { (script : Script) → AreUntouched script }
+    ensures root { (script : Script) → IsWhole script.nue script.items → (n : ℕ) (c : Configuration State) → Runs (IsPlainStep (keys_of script)) (λ e. e ≡ c) n (start_of script) → AreReduced script c }
+    ensures first { (script : Script) → IsWhole script.nue script.items → (n : ℕ) (c : Configuration State) → Runs (IsPlainStep (keys_of script)) (λ e. e ≡ c) n (start_of script) → AreReducedToAll script c }
+    ensures others { (script : Script) → IsWhole script.nue script.items → (n : ℕ) (c : Configuration State) → Runs (IsPlainStep (keys_of script)) (λ e. e ≡ c) n (start_of script) → AreToldAll script c }
+    ensures others_gave { (script : Script) → IsWhole script.nue script.items → (n : ℕ) (c : Configuration State) → Runs (IsPlainStep (keys_of script)) (λ e. e ≡ c) n (start_of script) → OthersGave script c }
+    ensures others_gave_to_all { (script : Script) → IsWhole script.nue script.items → (n : ℕ) (c : Configuration State) → Runs (IsPlainStep (keys_of script)) (λ e. e ≡ c) n (start_of script) → OthersGaveToAll script c }
+    ensures all_came { (script : Script) → IsWhole script.nue script.items → (n : ℕ) (c : Configuration State) → Runs (IsPlainStep (keys_of script)) (λ e. e ≡ c) n (start_of script) → AllCame script c }
+    ensures untouched { (script : Script) → IsWhole script.nue script.items → AreUntouched script }
 {}
 
 /// Wherever steps lead from the start, the calls that each rank has done are those that it makes by itself, with the bytes

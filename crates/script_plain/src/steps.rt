@@ -52,6 +52,7 @@ pub fn plain_run(alloc: Global, scripts: &Scripts) -> Result<End, AllocError>
     // Messages have come as they were sent, and collective calls have given what they give.
     ensures collectives { CollectivesHold scripts.now (plain_end scripts.now) }
 {
+    scripts.acceptance_law();
     let setup = setup_of(scripts);
     let mut ues = start(alloc, scripts, &setup)?;
     let mut slots = empty_slots(alloc, scripts.nue() as usize)?;

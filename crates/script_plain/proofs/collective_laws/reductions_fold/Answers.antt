@@ -1,15 +1,27 @@
-use Rattle.script_plain.proofs.MessageLaws.{delivered}
+use Rattle.script_plain.proofs.CollectiveFits.{are_fit}
+use Rattle.script_plain.proofs.MessageLaws.{cells_kept, delivered}
+use Rattle.script_plain.proofs.OthersCame.{all_came, others_gave, others_gave_to_all}
+use Rattle.script_plain.proofs.OwnWayLaws.{own_ways}
 use Rattle.script_plain.proofs.ReductionLaws.{all_reduced, all_told, reduced, untouched}
 use Rattle.script_plain.proofs.collective_laws.reductions_fold.Goals as goal
 
 pub returns-clause-root : goal.returns-clause-root
-returns-clause-root c = λ script n end run. reduced script end (delivered script n end run)
+returns-clause-root c = λ script whole n end run. reduced script end (delivered script n end run) (are_fit script whole n end run)
 
 pub returns-clause-first : goal.returns-clause-first
-returns-clause-first c = λ script n end run. all_reduced script end (delivered script n end run)
+returns-clause-first c = λ script whole n end run. all_reduced script end (delivered script n end run) (are_fit script whole n end run)
 
 pub returns-clause-others : goal.returns-clause-others
-returns-clause-others c = λ script n end run. all_told script end (delivered script n end run)
+returns-clause-others c = λ script whole n end run. all_told script end (delivered script n end run) (are_fit script whole n end run)
+
+pub returns-clause-others_gave : goal.returns-clause-others_gave
+returns-clause-others_gave c = λ script whole n end run. others_gave script end (delivered script n end run) (are_fit script whole n end run) (own_ways script n end run) (cells_kept script n end run)
+
+pub returns-clause-others_gave_to_all : goal.returns-clause-others_gave_to_all
+returns-clause-others_gave_to_all c = λ script whole n end run. others_gave_to_all script end (delivered script n end run) (are_fit script whole n end run) (own_ways script n end run) (cells_kept script n end run)
+
+pub returns-clause-all_came : goal.returns-clause-all_came
+returns-clause-all_came c = λ script whole n end run. all_came script end (delivered script n end run) (are_fit script whole n end run) (own_ways script n end run) (cells_kept script n end run)
 
 pub returns-clause-untouched : goal.returns-clause-untouched
 returns-clause-untouched c = untouched

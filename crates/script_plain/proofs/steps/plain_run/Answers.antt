@@ -69,13 +69,13 @@ pub returns-clause-barriers : goal.returns-clause-barriers
 returns-clause-barriers c = plain_end_met c.args.scripts.now
 
 pub returns-in_err-ues-clause-collectives : goal.returns-in_err-ues-clause-collectives
-returns-in_err-ues-clause-collectives c = plain_end_collectives c.args.scripts.now
+returns-in_err-ues-clause-collectives c = plain_end_collectives c.args.scripts.now c.acceptance_law.ensures.whole
 
 pub returns-in_err-slots-clause-collectives : goal.returns-in_err-slots-clause-collectives
-returns-in_err-slots-clause-collectives c = plain_end_collectives c.args.scripts.now
+returns-in_err-slots-clause-collectives c = plain_end_collectives c.args.scripts.now c.acceptance_law.ensures.whole
 
 pub returns-in_err-end-clause-collectives : goal.returns-in_err-end-clause-collectives
-returns-in_err-end-clause-collectives c = plain_end_collectives c.args.scripts.now
+returns-in_err-end-clause-collectives c = plain_end_collectives c.args.scripts.now c.acceptance_law.ensures.whole
 
 pub returns-clause-collectives : goal.returns-clause-collectives
-returns-clause-collectives c = plain_end_collectives c.args.scripts.now
+returns-clause-collectives c = plain_end_collectives c.args.scripts.now c.acceptance_law.ensures.whole
