@@ -221,7 +221,7 @@ impl Scripts {
     ghost use Rattle.script_reader.specs.Acceptance.{ForEachRun, IsFitting, IsPostable, IsReadable, groups_of, length_before, length_of};
     ghost use Rattle.script_reader.specs.Checks.{open_of, operations, printed};
     ghost use Rattle.script_reader.specs.Script.{rules_of};
-    ghost use Rattle.script_reader.specs.Settled.{ArePassed, IsAccepted, IsNamed, IsSettled};
+    ghost use Rattle.script_reader.specs.Settled.{ArePassed, IsAccepted, IsNamed, IsSettled, IsWhole};
     ghost use Rattle.std.specs.Prelude.{◌≡◌, ◌<◌, ◌≤◌, ℕ, All, [], length, reverse, slice_get, slice_index_or, take};
 
     /// How many statements the script has.
@@ -279,6 +279,8 @@ impl Scripts {
     /// runs it.
     pub fn acceptance_law(&self)
         ensures accepted { ArePassed self.now.nue (reverse self.now.items) }
+        // All that is true of each script that was read.
+        ensures whole { IsWhole self.now.nue self.now.items }
         // A message has another rank of the run, a communicator that is used has a rule, a root is a place of the group.
         ensures settled { All (IsSettled self.now.nue (rules_of self.now.items)) self.now.items }
         // A register that is read has been set by the rank in an earlier line.

@@ -15,3 +15,6 @@ returns-clause-fitting c = fitting-law c.args.self.now (subst (λ (s : Script). 
 
 pub returns-clause-postable : goal.returns-clause-postable
 returns-clause-postable c = postable-law c.args.self.now (subst (λ (s : Script). IsWhole s.nue s.items) c.self.view_is c.self.invariant.whole)
+
+pub returns-clause-whole : goal.returns-clause-whole
+returns-clause-whole c = subst (λ (s : Script). IsWhole s.nue s.items) c.self.view_is c.self.invariant.whole
