@@ -19,7 +19,6 @@ use Rattle.script_reader.specs.Script.{Script, has_rank, rules_of}
 use Rattle.script_reader.specs.Settled.{IsWhole}
 use Rattle.script_reader.specs.declared.script.Item.{Item}
 use Rattle.script_reader.specs.declared.script.Stmt.TheVariants as stmt
-use Rattle.script_reader.proofs.LengthLemmas.{IsEven, Reckons, reckoned}
 use Rattle.script_plain.specs.declared.posts.Posted.{Posted}
 use Rattle.script_plain.specs.Collectives.{gone_through, started}
 use Rattle.script_plain.specs.Local.{local_start, register_at}
@@ -28,6 +27,7 @@ use Rattle.script_plain.specs.Next.{Next, is_at_barrier, past_barrier}
 use Rattle.script_plain.specs.Next.Next.{Ends, Goes, Posts, Sends, Recvs, Bars}
 use Rattle.script_plain.specs.Program.{setup_of}
 use Rattle.script_plain.specs.Step.{Configuration, all_at_barrier, by_rank, next_at, past_if, same_head, slot_at}
+use Rattle.script_plain.proofs.LengthLemmas.{IsEven, Reckons, reckoned}
 use Rattle.script_plain.proofs.LengthPaths.{AreFitting, Fits, Holds, IsSound, SoundNext, fitting_before, sound_next, sound_through}
 use Rattle.script_plain.proofs.LengthPrograms.{keeps_items}
 use Rattle.script_plain.proofs.MessageLaws.{cell_other, cell_there, empty_slot, same_heads}
@@ -162,7 +162,7 @@ sound_started script rank whole below = record {
     registers = λ reg. inl (empty_register (length script.names) reg);
     accumulator = inl refl;
     received = inl refl;
-    keeps = keeps_items (reckoned_at script rank) (setup_of script) rank script.items (λ k item found has. reckoned script.nue script.items whole k item rank found below has) None None;
+    keeps = keeps_items (reckoned_at script rank) (setup_of script) rank script.items (λ k item found has. reckoned script whole k item rank found below has) None None;
   };
   calls = tt;
 }
@@ -216,12 +216,12 @@ module _ (script : Script) (whole : IsWhole script.nue script.items) (n : ℕ) (
       → (k : ℕ) (item : Item) → slice_get script.items k ≡ Some item → has_rank item.who rank ≡ true
       → (comm place dst src : ℕ) (op : Op) (ty : Ty) → item.stmt ≡ stmt.Reduce comm place op ty dst src → length (register_at begun.local src) % bytes_in ty ≡ 0
   reduced_whole way later begun came since k item found has comm place dst src op ty is =
-      let reckons = subst (Reckons (rules_of script.items) (reckoned_at script rank) rank) is (reckoned script.nue script.items whole k item rank found sound_now.0 has) in
+      let reckons = subst (Reckons (rules_of script.items) (reckoned_at script rank) rank) is (reckoned script whole k item rank found sound_now.0 has) in
       source_whole way later begun came since ty src reckons.0
 
   pub reduced_to_all_whole : (way later : List (List ℕ)) (begun : State) → begun ≡ gone_through way (started script rank) → u.matched ≡ (gone_through later begun).matched
       → (k : ℕ) (item : Item) → slice_get script.items k ≡ Some item → has_rank item.who rank ≡ true
       → (comm dst src : ℕ) (op : Op) (ty : Ty) → item.stmt ≡ stmt.Allreduce comm op ty dst src → length (register_at begun.local src) % bytes_in ty ≡ 0
   reduced_to_all_whole way later begun came since k item found has comm dst src op ty is =
-      let reckons = subst (Reckons (rules_of script.items) (reckoned_at script rank) rank) is (reckoned script.nue script.items whole k item rank found sound_now.0 has) in
+      let reckons = subst (Reckons (rules_of script.items) (reckoned_at script rank) rank) is (reckoned script whole k item rank found sound_now.0 has) in
       source_whole way later begun came since ty src reckons.0

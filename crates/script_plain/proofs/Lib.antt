@@ -16,6 +16,7 @@ pub mod CollectivePaths
 pub mod CollectiveGroups
 pub mod ReductionPaths
 pub mod OwnWayLaws
+pub mod LengthLemmas
 pub mod CallableLaws
 pub mod LengthPaths
 pub mod LengthPrograms
