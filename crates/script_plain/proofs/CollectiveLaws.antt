@@ -8,6 +8,7 @@ use Rattle.script_plain.specs.Step.{Configuration}
 use Rattle.script_reader.specs.Settled.{IsWhole}
 use Rattle.script_plain.proofs.BroadcastLaws.{broadcast}
 use Rattle.script_plain.proofs.CollectiveFits.{AreFit, are_fit}
+use Rattle.script_plain.proofs.CountLaws.{counted}
 use Rattle.script_plain.proofs.MessageLaws.{cells_kept, delivered, received_as_sent, to_plain_end}
 use Rattle.script_plain.proofs.OthersCame.{all_came, others_gave, others_gave_to_all, root_came}
 use Rattle.script_plain.proofs.OwnWayLaws.{own_ways}
@@ -24,6 +25,7 @@ collectives script c whole fit delivered own even = record {
   others_gave = others_gave script c delivered fit own even;
   others_gave_to_all = others_gave_to_all script c delivered fit own even;
   all_came = all_came script c delivered fit own even;
+  counted = counted script;
   untouched = untouched script whole;
 }
 

@@ -7,14 +7,14 @@ use Rattle.scc_base.specs.Calls.{DataCall}
 use Rattle.script_reader.specs.declared.script.Item.{Item}
 use Rattle.script_reader.specs.declared.script.Stmt.{Stmt}
 use Rattle.script_reader.specs.Script.{Script}
-use Rattle.script_plain.specs.Collectives.{AreOwnWays, CameTo, IsOfRank, StandsAt, gone_through, started}
+use Rattle.script_plain.specs.Collectives.{AreOwnWays, CameTo, IsOfRank, Made, StandsAt, gone_through, started}
 use Rattle.script_plain.specs.Meaning.{State}
 use Rattle.script_plain.specs.Messages.{Message, is_of, sent_by}
 use Rattle.script_plain.specs.Program.{Act, Prim, acts_of, setup_of}
 use Rattle.script_plain.specs.Step.{Configuration}
 use Rattle.script_plain.proofs.CollectivePaths.{Facing, chosen, through_both}
 use Rattle.script_plain.proofs.MessageCounts.{Counts, sends_counted, sent_in, sent_so_far, some_counted, total_of}
-use Rattle.script_plain.proofs.ProgramLaws.{along_own_way}
+use Rattle.script_plain.proofs.ProgramLaws.{along_made_way}
 use Rattle.script_plain.proofs.StatementSends.{MakesOne}
 
 module _ (script : Script) (rank : ℕ) (measure : State → ℕ) (adds : Act → ℕ) (counts : Counts measure adds) (Such : Stmt → Type 0)
@@ -35,9 +35,9 @@ module _ (script : Script) (rank : ℕ) (measure : State → ℕ) (adds : Act �
     reached : now ≡ gone_through way (started script rank)
     found : (measure now ≤ n) ⊎ Found now
 
-  goes_on : (item : Item) (rest : List Prim) (u : State) (path : List (List ℕ)) → IsOfRank script.items rank item → Facing item.line (acts_of (setup_of script) rank item.stmt) rest u
+  goes_on : (item : Item) (rest : List Prim) (u : State) (path : List (List ℕ)) → IsOfRank script.items rank item → Made (setup_of script) rank script.items rest → Facing item.line (acts_of (setup_of script) rank item.stmt) rest u
       → length path ≤ length (acts_of (setup_of script) rank item.stmt) → Sought u → Sought (gone_through path u)
-  goes_on item rest u path is facing low sought = record {
+  goes_on item rest u path is behind facing low sought = record {
     way = sought.way ++ path;
     reached = ap (gone_through path) sought.reached ∙ sym (through_both sought.way path (started script rank));
     found = ⊎_elim (λ (few : measure u ≤ n). by few (makes item.stmt)) (λ (f : Found u). inr (more f)) sought.found;
@@ -64,7 +64,7 @@ module _ (script : Script) (rank : ℕ) (measure : State → ℕ) (adds : Act �
         statement = item.stmt;
         such = such;
         begun = u;
-        stood = record { way = sought.way; reached = sought.reached; item = item; listed = is; says = refl; rest = rest; running = facing.running; next = facing.left };
+        stood = record { way = sought.way; reached = sought.reached; item = item; listed = is; says = refl; rest = rest; behind = behind; running = facing.running; next = facing.left };
         later = path;
         since = refl;
         number = number;
@@ -80,7 +80,7 @@ module _ (script : Script) (rank : ℕ) (measure : State → ℕ) (adds : Act �
 
   pub finds : (path : List (List ℕ)) → measure (started script rank) ≤ n → n < measure (gone_through path (started script rank)) → Found (gone_through path (started script rank))
   finds path none past =
-      let sought = along_own_way script rank Sought goes_on (record { way = []; reached = refl; found = inl none }) path in
+      let sought = along_made_way script rank Sought goes_on (record { way = []; reached = refl; found = inl none }) path in
       ⊎_elim (λ (few : measure (gone_through path (started script rank)) ≤ n). absurd (omega (arith, few, past))) (λ (f : Found (gone_through path (started script rank))). f) sought.found
 
 -- the rank made the n-th message of a kind in a communicator to another at such a statement

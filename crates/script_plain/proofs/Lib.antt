@@ -29,4 +29,5 @@ pub mod MessageCounts
 pub mod StatementSends
 pub mod FoundCalls
 pub mod OthersCame
+pub mod CountLaws
 pub mod CollectiveLaws

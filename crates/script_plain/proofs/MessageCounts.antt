@@ -34,7 +34,7 @@ total_both adds [] more = omega arith
 total_both adds (a ∷ acts) more = let rest = total_both adds acts more in omega (arith, rest)
 
 module _ (measure : State → ℕ) (adds : Act → ℕ) (counts : Counts measure adds) (line : ℕ) (tail : List Act) (rest : List Prim) where
-  one_counted : (a : Act) (acts : List Act) (bytes : List ℕ) (u : State) → Facing line (a ∷ acts) rest u → measure (gone_by bytes u (next_of u)) ≡ measure u + adds a
+  pub one_counted : (a : Act) (acts : List Act) (bytes : List ℕ) (u : State) → Facing line (a ∷ acts) rest u → measure (gone_by bytes u (next_of u)) ≡ measure u + adds a
   one_counted a acts bytes u facing = ap (λ (n : Next State). measure (gone_by bytes u n)) (faced line rest acts u a facing) ∙ counts.by_act bytes u line a
 
   -- a rank that does all of these acts
@@ -164,7 +164,7 @@ module _ (kind comm to : ℕ) (head : MessageHead) (source : Source) where
       let more = sends_other other list in
       omega (arith, one, more)
 
-  sends_apart : (x : ℕ) → x ≡ to → (list : List ℕ) → Each (λ y. x ≢ y) list → total_of (sent_in kind comm to) (map (λ x. Act.Send x head source) list) ≡ 0
+  pub sends_apart : (x : ℕ) → x ≡ to → (list : List ℕ) → Each (λ y. x ≢ y) list → total_of (sent_in kind comm to) (map (λ x. Act.Send x head source) list) ≡ 0
   sends_apart x is [] apart = refl
   sends_apart x is (y ∷ list) apart =
       let one = none_if (has_kind kind comm head) (y == to) (different y to (λ e. apart.0 (is ∙ sym e))) in

@@ -10,7 +10,8 @@ use Rattle.script_reader.specs.Script.{Script, has_rank}
 use Rattle.script_plain.specs.declared.prims.Nesting.{Nesting}
 use Rattle.script_plain.specs.declared.prims.Nesting.TheVariants as nesting
 use Rattle.script_plain.specs.declared.prims.Standing.TheVariants as standing
-pub use Rattle.script_plain.specs.Collectives.{IsOfRank}
+pub use Rattle.script_plain.specs.Collectives.{IsOfRank, Made, made_by}
+use Rattle.script_plain.specs.Collectives.Made.{Done, Then}
 use Rattle.script_plain.specs.Collectives.{gone_by, gone_through, started}
 use Rattle.script_plain.specs.Local.{Local, next_by_act, next_by_prim, local_next, prim_by_standing}
 use Rattle.script_plain.specs.Meaning.{State, next_of, recorded}
@@ -19,15 +20,6 @@ use Rattle.script_plain.specs.Next.Next.{Ends, Goes, Posts, Sends, Recvs, Bars}
 use Rattle.script_plain.specs.Program.{Act, Prim, Unrolled, acts_of, copies, in_front, nesting_at, prims_of, program_of, repeated, setup_of, unrolled}
 use Rattle.script_plain.proofs.CollectivePaths.{Facing, faced, past, through_both}
 use Rattle.script_plain.proofs.ReductionPaths.{split_at}
-
--- what an item makes for a rank of its
-abbrev pub made_by : SetupView → ℕ → Item → List Prim
-made_by s rank item = map (λ act. record { line = item.line; act = act }) (acts_of s rank item.stmt)
-
--- primitives that items of a rank make, one item after another
-pub data Made (s : SetupView) (rank : ℕ) (items : List Item) : List Prim → Type 0 where
-  Done : Made s rank items []
-  Then : (item : Item) → IsOfRank items rank item → (rest : List Prim) → Made s rank items rest → Made s rank items (made_by s rank item ++ rest)
 
 module _ (s : SetupView) (rank : ℕ) (items : List Item) where
   pub made_both : (a b : List Prim) → Made s rank items a → Made s rank items b → Made s rank items (a ++ b)
@@ -126,28 +118,31 @@ stays (bytes ∷ path) u running none = ap (gone_through path) (ap (gone_by byte
 -- what holds of a rank's own way: it does so where the way begins, and each statement of the rank keeps it, as far as the
 -- rank comes in it
 module _ (s : SetupView) (rank : ℕ) (items : List Item) (P : State → Type 0)
-    (kept : (item : Item) (rest : List Prim) (u : State) (path : List (List ℕ)) → IsOfRank items rank item → Facing item.line (acts_of s rank item.stmt) rest u → length path ≤ length (acts_of s rank item.stmt) → P u → P (gone_through path u)) where
+    (kept : (item : Item) (rest : List Prim) (u : State) (path : List (List ℕ)) → IsOfRank items rank item → Made s rank items rest → Facing item.line (acts_of s rank item.stmt) rest u → length path ≤ length (acts_of s rank item.stmt) → P u → P (gone_through path u)) where
   way_by : (prims : List Prim) (u : State) (path : List (List ℕ)) → Made s rank items prims → u.local.standing ≡ standing.Running → u.local.left ≡ prims → P u → P (gone_through path u)
   way_by prims u path Done running none holds = subst P (sym (stays path u running none)) holds
   way_by prims u path (Then item is rest more) running left holds =
       ⊎_elim
-      (λ (short : length path < length (acts_of s rank item.stmt)). kept item rest u path is facing (omega (arith, short)) holds)
+      (λ (short : length path < length (acts_of s rank item.stmt)). kept item rest u path is more facing (omega (arith, short)) holds)
       (λ (long : length (acts_of s rank item.stmt) ≤ length path).
       let (one, two, whole, even) = split_at (length (acts_of s rank item.stmt)) path long in
       let on = past_acts item.line rest (acts_of s rank item.stmt) one u even facing in
       subst P (sym (ap (λ (p : List (List ℕ)). gone_through p u) whole ∙ through_both one two u))
-      (way_by rest (gone_through one u) two more on.running on.left (kept item rest u one is facing (omega (arith, even)) holds)))
+      (way_by rest (gone_through one u) two more on.running on.left (kept item rest u one is more facing (omega (arith, even)) holds)))
       (cases_lt (length path) (length (acts_of s rank item.stmt)))
     where
       facing : Facing item.line (acts_of s rank item.stmt) rest u
       facing = record { running = running; left = left }
 
-  pub along_way : (u : State) (path : List (List ℕ)) → u.local.standing ≡ standing.Running → Made s rank items u.local.left → P u → P (gone_through path u)
-  along_way u path running made holds = way_by u.local.left u path made running refl holds
-
 -- from the rank's start
+pub along_made_way : (script : Script) (rank : ℕ) (P : State → Type 0)
+    → ((item : Item) (rest : List Prim) (u : State) (path : List (List ℕ)) → IsOfRank script.items rank item → Made (setup_of script) rank script.items rest → Facing item.line (acts_of (setup_of script) rank item.stmt) rest u → length path ≤ length (acts_of (setup_of script) rank item.stmt) → P u → P (gone_through path u))
+    → P (started script rank) → (path : List (List ℕ)) → P (gone_through path (started script rank))
+along_made_way script rank P kept holds path =
+    way_by (setup_of script) rank script.items P kept (program_of script rank) (started script rank) path (program_made script rank) refl refl holds
+
 pub along_own_way : (script : Script) (rank : ℕ) (P : State → Type 0)
     → ((item : Item) (rest : List Prim) (u : State) (path : List (List ℕ)) → IsOfRank script.items rank item → Facing item.line (acts_of (setup_of script) rank item.stmt) rest u → length path ≤ length (acts_of (setup_of script) rank item.stmt) → P u → P (gone_through path u))
     → P (started script rank) → (path : List (List ℕ)) → P (gone_through path (started script rank))
 along_own_way script rank P kept holds path =
-    along_way (setup_of script) rank script.items P kept (started script rank) path refl (program_made script rank) holds
+    along_made_way script rank P (λ item rest u way is more facing low here. kept item rest u way is facing low here) holds path

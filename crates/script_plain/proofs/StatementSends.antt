@@ -28,16 +28,16 @@ use Rattle.script_plain.proofs.StepLaws as steps
 
 -- what a call makes for a rank: nothing, the root's part or another's
 module _ (s : SetupView) (rank : ℕ) (c : Coll) (o : Operands) where
-  abbrev root_part : List Act
+  abbrev pub root_part : List Act
   root_part = parts_of o (root_steps c (others_of s (comm_of c) rank (root_place c)))
 
-  abbrev other_part : List Act
+  abbrev pub other_part : List Act
   other_part = parts_of o (other_steps c (slice_index (members_of s (comm_of c) rank) (root_place c)))
 
-  abbrev part_by : Bool → Bool → List Act
+  abbrev pub part_by : Bool → Bool → List Act
   part_by can at = parts_of o (cond can (cond at (root_steps c (others_of s (comm_of c) rank (root_place c))) (other_steps c (slice_index (members_of s (comm_of c) rank) (root_place c)))) [])
 
-  by_part : (P : List Act → Type 0) → P []
+  pub by_part : (P : List Act → Type 0) → P []
       → (can_call s rank c ≡ true → place_of s (comm_of c) rank ≡ root_place c → P root_part)
       → (can_call s rank c ≡ true → P other_part)
       → P (part_by (can_call s rank c) (place_of s (comm_of c) rank == root_place c))
@@ -69,20 +69,20 @@ module _ (kind comm to : ℕ) (op : Op) (ty : Ty) (dst src : ℕ) where
 
 -- messages of other kinds, or of other communicators
 module _ (s : SetupView) (kind comm to rank : ℕ) where
-  quiet_bcast : (other place reg len : ℕ) → has_kind kind comm (head_of kind_of.Bcast other len) ≡ false → total_of (sent_in kind comm to) (acts_of s rank (stmt.Bcast other place reg len)) ≡ 0
+  pub quiet_bcast : (other place reg len : ℕ) → has_kind kind comm (head_of kind_of.Bcast other len) ≡ false → total_of (sent_in kind comm to) (acts_of s rank (stmt.Bcast other place reg len)) ≡ 0
   quiet_bcast other place reg len odd =
       by_part s rank (coll.Bcast other place len) (bcast_operands reg) (λ acts. total_of (sent_in kind comm to) acts ≡ 0) refl
       (λ can at. ap (total_of (sent_in kind comm to)) (bcast_parts (bcast_operands reg) (head_of kind_of.Bcast other len) (others_of s other rank place))
       ∙ sends_other kind comm to (head_of kind_of.Bcast other len) (source_of.Own reg) odd (others_of s other rank place))
       (λ can. refl)
 
-  quiet_reduce : (other place dst src : ℕ) (op : Op) (ty : Ty) → has_kind kind comm (head_of kind_of.Reduce other 0) ≡ false → total_of (sent_in kind comm to) (acts_of s rank (stmt.Reduce other place op ty dst src)) ≡ 0
+  pub quiet_reduce : (other place dst src : ℕ) (op : Op) (ty : Ty) → has_kind kind comm (head_of kind_of.Reduce other 0) ≡ false → total_of (sent_in kind comm to) (acts_of s rank (stmt.Reduce other place op ty dst src)) ≡ 0
   quiet_reduce other place dst src op ty odd =
       by_part s rank (coll.Reduce other place 0) (fold_operands op ty dst src) (λ acts. total_of (sent_in kind comm to) acts ≡ 0) refl
       (λ can at. reduce_root_none kind comm to op ty dst src (head_of kind_of.Reduce other 0) (others_of s other rank place))
       (λ can. sends_other kind comm to (head_of kind_of.Reduce other 0) (source_of.Own src) odd (slice_index (members_of s other rank) place ∷ []))
 
-  quiet_allreduce : (other dst src : ℕ) (op : Op) (ty : Ty) → has_kind kind comm (head_of kind_of.AllUp other 0) ≡ false → has_kind kind comm (head_of kind_of.AllDown other 0) ≡ false → total_of (sent_in kind comm to) (acts_of s rank (stmt.Allreduce other op ty dst src)) ≡ 0
+  pub quiet_allreduce : (other dst src : ℕ) (op : Op) (ty : Ty) → has_kind kind comm (head_of kind_of.AllUp other 0) ≡ false → has_kind kind comm (head_of kind_of.AllDown other 0) ≡ false → total_of (sent_in kind comm to) (acts_of s rank (stmt.Allreduce other op ty dst src)) ≡ 0
   quiet_allreduce other dst src op ty odd down =
       by_part s rank (coll.Allreduce other 0) (fold_operands op ty dst src) (λ acts. total_of (sent_in kind comm to) acts ≡ 0) refl
       (λ can at. all_root_sends kind comm to op ty dst src other (others_of s other rank 0)

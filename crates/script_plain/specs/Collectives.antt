@@ -53,7 +53,17 @@ pub record IsOfRank (items : List Item) (rank : ℕ) (item : Item) : Type 0 wher
   pub listed : slice_get items place ≡ Some item
   pub own : has_rank item.who rank ≡ true
 
--- a rank stands at a statement of its own: by itself it came there from its start, and what the statement makes comes next
+-- what an item makes for a rank of its
+abbrev pub made_by : SetupView → ℕ → Item → List Prim
+made_by s rank item = map (λ act. record { line = item.line; act = act }) (acts_of s rank item.stmt)
+
+-- primitives that items of a rank make, one item after another
+pub data Made (s : SetupView) (rank : ℕ) (items : List Item) : List Prim → Type 0 where
+  Done : Made s rank items []
+  Then : (item : Item) → IsOfRank items rank item → (rest : List Prim) → Made s rank items rest → Made s rank items (made_by s rank item ++ rest)
+
+-- a rank stands at a statement of its own: by itself it came there from its start, what the statement makes comes next, and
+-- then what others of its statements make
 pub record StandsAt (script : Script) (rank : ℕ) (statement : Stmt) (u : State) : Type 0 where
   pub way : List (List ℕ)
   pub reached : u ≡ gone_through way (started script rank)
@@ -61,6 +71,7 @@ pub record StandsAt (script : Script) (rank : ℕ) (statement : Stmt) (u : State
   pub listed : IsOfRank script.items rank item
   pub says : item.stmt ≡ statement
   pub rest : List Prim
+  pub behind : Made (setup_of script) rank script.items rest
   pub running : u.local.standing ≡ standing.Running
   pub next : u.local.left ≡ map (λ act. record { line = item.line; act = act }) (acts_of (setup_of script) rank statement) ++ rest
 
@@ -224,6 +235,22 @@ AllCame script c =
     → HasDone script rank (stmt.Allreduce comm op ty to from) v before after
     → (told : List ℕ) × Tells script c comm root rank before told × (after.local.registers ≡ slice_set before.local.registers to told)
 
+-- Wherever a rank stands at a statement, its calls of a kind are as many by whichever messages they are counted: a root's by
+-- those to or from one of the others or another, and each of the others' by what it sent or received.
+pub record AreCountedAlike (script : Script) : Type 0 where
+  pub broadcasts : (comm place root one two : ℕ) (statement : Stmt) (u : State)
+      → IsOther (setup_of script) comm place root one → IsOther (setup_of script) comm place root two
+      → StandsAt script root statement u → sends_of kind.Bcast comm one u ≡ sends_of kind.Bcast comm two u
+  pub reductions : (comm place root one two : ℕ) (statement : Stmt) (u : State)
+      → IsOther (setup_of script) comm place root one → IsOther (setup_of script) comm place root two
+      → StandsAt script root statement u → receipts_of kind.Reduce comm one u ≡ receipts_of kind.Reduce comm two u
+  pub reductions_to_all : (comm root one two : ℕ) (statement : Stmt) (u : State)
+      → IsOther (setup_of script) comm 0 root one → IsOther (setup_of script) comm 0 root two
+      → StandsAt script root statement u → receipts_of kind.AllUp comm one u ≡ sends_of kind.AllDown comm two u
+  pub told : (comm root rank : ℕ) (statement : Stmt) (u : State)
+      → IsOther (setup_of script) comm 0 root rank
+      → StandsAt script rank statement u → sends_of kind.AllUp comm root u ≡ receipts_of kind.AllDown comm root u
+
 -- nobody else's registers change: neither those of the root of a broadcast, nor those of the others in a reduction
 abbrev pub AreUntouched : Script → Type 0
 AreUntouched script =
@@ -243,4 +270,5 @@ pub record CollectivesHold (script : Script) (c : Configuration State) : Type 0 
   pub others_gave : OthersGave script c
   pub others_gave_to_all : OthersGaveToAll script c
   pub all_came : AllCame script c
+  pub counted : AreCountedAlike script
   pub untouched : AreUntouched script

@@ -4,7 +4,7 @@ ghost use Rattle.std.specs.Prelude.{◌≡◌, ℕ};
 ghost use Rattle.scc_base.specs.Runs.{Runs};
 ghost use Rattle.script_reader.specs.Script.{Script};
 ghost use Rattle.script_reader.specs.Settled.{IsWhole};
-ghost use Rattle.script_plain.specs.Collectives.{AllCame, AreBroadcast, AreOwnWays, AreReduced, AreReducedToAll, AreToldAll, AreUntouched, OthersGave, OthersGaveToAll, RootCame};
+ghost use Rattle.script_plain.specs.Collectives.{AllCame, AreBroadcast, AreCountedAlike, AreOwnWays, AreReduced, AreReducedToAll, AreToldAll, AreUntouched, OthersGave, OthersGaveToAll, RootCame};
 ghost use Rattle.script_plain.specs.Meaning.{IsPlainStep, State, keys_of, start_of};
 ghost use Rattle.script_plain.specs.Messages.{AreDelivered, AreReceivedAsSent};
 ghost use Rattle.script_plain.specs.Step.{Configuration};
@@ -43,4 +43,9 @@ pub fn reductions_fold()
 /// that it received.
 pub fn ranks_go_their_own_ways()
     ensures law { (script : Script) (n : ℕ) (c : Configuration State) → Runs (IsPlainStep (keys_of script)) (λ e. e ≡ c) n (start_of script) → AreOwnWays script c }
+{}
+
+/// Wherever a rank stands at a statement, its collective calls of a kind are as many by whichever messages they are counted.
+pub fn calls_are_counted_alike()
+    ensures law { (script : Script) → AreCountedAlike script }
 {}

@@ -1,0 +1,5 @@
+use Rattle.script_plain.proofs.CountLaws.{counted}
+use Rattle.script_plain.proofs.collective_laws.calls_are_counted_alike.Goals as goal
+
+pub returns : goal.returns
+returns c = record { law = counted }
