@@ -1,5 +1,5 @@
 -- What a broadcast gives, and how sends and receives of collective calls go.
-use Rattle.std.proofs.Common.{◌≡◌, ◌≢◌, ℕ, zero, suc, ◌+◌, ◌<◌, ◌==◌, Bool, true, false, cond, if◌then◌else◌, ◌&&◌, List, [], ◌∷◌, ◌++◌, length, map, drop, Option, Some, None, refl, sym, ap, ◌∙◌, subst, arith, slice_get, slice_set}
+use Rattle.std.proofs.Common.{◌≡◌, ℕ, ◌==◌, true, ◌&&◌, List, [], ◌∷◌, ◌++◌, length, map, Option, Some, None, refl, sym, ap, ◌∙◌, subst, arith, slice_get, slice_set}
 use Rattle.std.proofs.lemmas.Bool.{eq-eqb}
 use Rattle.std.proofs.lemmas.List.{append-nil}
 use Rattle.scc_base.specs.Calls.{DataCall}
@@ -10,9 +10,7 @@ use Rattle.scc_base.specs.declared.kinds.Kind.{Kind}
 use Rattle.scc_base.specs.declared.kinds.Kind.TheVariants as kind_of
 use Rattle.groups.specs.Collectives.{head_of, others_of}
 use Rattle.groups.specs.declared.collectives.Coll.TheVariants as coll
-use Rattle.groups.specs.declared.operations.Op.{Op}
 use Rattle.groups.specs.declared.operations.Op.TheVariants as op
-use Rattle.groups.specs.declared.operations.Ty.{Ty}
 use Rattle.groups.specs.declared.operations.Ty.TheVariants as ty
 use Rattle.script_reader.specs.Script.{Script}
 use Rattle.script_reader.specs.declared.script.Stmt.{Stmt}
@@ -20,8 +18,8 @@ use Rattle.script_reader.specs.declared.script.Stmt.TheVariants as stmt
 use Rattle.script_plain.specs.declared.prims.Operands.{Operands}
 use Rattle.script_plain.specs.declared.prims.Source.{Source}
 use Rattle.script_plain.specs.declared.prims.Source.TheVariants as source_of
-use Rattle.script_plain.specs.Collectives.{AreBroadcast, CameTo, HasDone, IsOther, StandsAt, gone_by, gone_through}
-use Rattle.script_plain.specs.Local.{Local, asked_head, gone_on, gone_on_gathering, gone_on_with, register_at}
+use Rattle.script_plain.specs.Collectives.{AreBroadcast, HasDone, IsOther, StandsAt, gone_by, gone_through}
+use Rattle.script_plain.specs.Local.{Local, asked_head, gone_on_gathering, gone_on_with, register_at}
 use Rattle.script_plain.specs.Meaning.{State, next_of}
 use Rattle.script_plain.specs.Messages.{AreDelivered, Message, is_of, received_by, sent_by}
 use Rattle.script_plain.specs.Program.{Act, Prim, acts_of, can_call, parts_of, setup_of}

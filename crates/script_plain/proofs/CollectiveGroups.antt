@@ -1,16 +1,15 @@
 -- The members of a group that take part in a collective call, and what the call makes for each.
-use Rattle.std.proofs.Common.{◌≡◌, ◌≢◌, ℕ, zero, suc, pred, ◌+◌, ◌<◌, ◌≤◌, ◌==◌, Bool, true, false, cond, if◌then◌else◌, ◌&&◌, List, [], ◌∷◌, ◌++◌, length, map, remove, Option, Some, None, refl, sym, ap, ◌∙◌, subst, arith, slice_get, ◌⊎◌, inl, inr, ⊎_elim}
+use Rattle.std.proofs.Common.{◌≡◌, ◌≢◌, ℕ, zero, suc, ◌<◌, ◌≤◌, ◌==◌, Bool, true, false, if◌then◌else◌, List, [], ◌∷◌, ◌++◌, map, remove, Some, refl, sym, ap, ◌∙◌, subst, arith, slice_get, inl, inr, ⊎_elim}
 use Rattle.std.specs.Prelude.{slice_index}
-use Rattle.std.proofs.lemmas.Bool.{cases_eq, cases_lt, eq-eqb}
+use Rattle.std.proofs.lemmas.Bool.{cases_lt, eq-eqb}
 use Rattle.std.proofs.lemmas.Option.{same_Some, get_or_from_slice_get}
 use Rattle.scc_base.specs.Groups.{is_with, list_below}
 use Rattle.scc_base.specs.Heads.{MessageHead}
-use Rattle.scc_base.specs.Setups.{SetupView, IsMemberAt, members_of, place_of, setup_key, size_of}
-use Rattle.scc_base.proofs.GroupFacts.{member_at_place, members_same, place_once, true_with}
-use Rattle.groups.specs.Collectives.{comm_of, fold_each, head_of, other_steps, others_of, root_place, root_steps, send_each, steps_of}
+use Rattle.scc_base.specs.Setups.{SetupView, members_of, place_of, setup_key}
+use Rattle.scc_base.proofs.GroupFacts.{member_at_place, place_once, true_with}
+use Rattle.groups.specs.Collectives.{comm_of, fold_each, other_steps, others_of, root_place, root_steps, send_each, steps_of}
 use Rattle.groups.specs.declared.collectives.Coll.{Coll}
 use Rattle.groups.specs.declared.collectives.Step.{Step}
-use Rattle.groups.specs.declared.collectives.Step.TheVariants as step
 use Rattle.groups.proofs.StepLemmas.{get_above, get_below}
 use Rattle.script_plain.specs.declared.prims.Operands.{Operands}
 use Rattle.script_plain.specs.declared.prims.Source.TheVariants as source_of

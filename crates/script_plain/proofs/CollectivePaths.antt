@@ -1,5 +1,5 @@
 -- What a rank comes to by itself, primitive by primitive.
-use Rattle.std.proofs.Common.{◌≡◌, ◌≢◌, ℕ, zero, suc, ◌+◌, ◌<◌, ◌≤◌, ◌==◌, Bool, true, false, cond, if◌then◌else◌, ◌&&◌, List, [], ◌∷◌, ◌++◌, length, map, drop, Option, Some, None, refl, sym, ap, ◌∙◌, subst, arith, slice_get, slice_set, ◌⊎◌, inl, inr, ⊎_elim, append_assoc, length-append}
+use Rattle.std.proofs.Common.{◌≡◌, ◌≢◌, ℕ, ◌==◌, Bool, true, ◌&&◌, List, [], ◌∷◌, ◌++◌, length, map, drop, Some, refl, sym, ap, ◌∙◌, arith, slice_get, ◌⊎◌, inl, inr, ⊎_elim, append_assoc}
 use Rattle.std.specs.List.{filter, flat_map}
 use Rattle.std.proofs.lemmas.Bool.{cases_eq, eq-eqb}
 use Rattle.std.proofs.lemmas.Grind.{flat_map-append}
@@ -7,16 +7,16 @@ use Rattle.std.proofs.lemmas.List.{append-nil}
 use Rattle.std.proofs.lemmas.List.Elements.{filter-append}
 use Rattle.std.proofs.lemmas.Option.{same_Some, slice_get_past}
 use Rattle.scc_base.specs.Calls.{DataCall}
-use Rattle.scc_base.specs.Calls.DataCall.{Send, Recv, Post, Bar}
+use Rattle.scc_base.specs.Calls.DataCall.{Send}
 use Rattle.scc_base.specs.Heads.{MessageHead}
 use Rattle.groups.proofs.StepLemmas.{get_front, get_behind}
 use Rattle.script_plain.specs.declared.prims.Source.{Source}
 use Rattle.script_plain.specs.declared.prims.Source.TheVariants as source_of
 use Rattle.script_plain.specs.declared.prims.Standing.TheVariants as standing
 use Rattle.script_plain.specs.Collectives.{gone_by, gone_through}
-use Rattle.script_plain.specs.Local.{Local, gone_on, local_next, next_by_act, next_by_prim, prim_by_standing, source_bytes, with_length}
+use Rattle.script_plain.specs.Local.{gone_on, local_next, next_by_act, next_by_prim, prim_by_standing, source_bytes, with_length}
 use Rattle.script_plain.specs.Meaning.{State, next_of, recorded}
-use Rattle.script_plain.specs.Messages.{Message, is_of, received_by, received_from, sent_by, sent_to}
+use Rattle.script_plain.specs.Messages.{Message, is_of, sent_by}
 use Rattle.script_plain.specs.Next.{Next}
 use Rattle.script_plain.specs.Next.Next.{Ends, Goes, Posts, Sends, Recvs, Bars}
 use Rattle.script_plain.specs.Program.{Act, Prim}

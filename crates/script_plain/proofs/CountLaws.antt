@@ -1,5 +1,5 @@
 -- By whichever messages a rank's collective calls are counted, the number is the same.
-use Rattle.std.proofs.Common.{◌≡◌, ◌≢◌, ℕ, zero, suc, ◌+◌, ◌<◌, ◌≤◌, ◌==◌, Bool, true, false, cond, ◌&&◌, List, [], ◌∷◌, ◌++◌, length, map, refl, sym, ap, ◌∙◌, subst, arith, inl, inr, ◌⊎◌}
+use Rattle.std.proofs.Common.{◌≡◌, ◌≢◌, ℕ, ◌+◌, ◌==◌, Bool, true, false, ◌&&◌, List, [], ◌∷◌, ◌++◌, map, refl, sym, ap, ◌∙◌, subst, arith, inl, inr}
 use Rattle.std.specs.Prelude.{slice_index}
 use Rattle.std.proofs.lemmas.Bool.{eq-eqb, eqb-true}
 use Rattle.scc_base.specs.Heads.{MessageHead, kind_number}
@@ -11,18 +11,17 @@ use Rattle.groups.specs.declared.collectives.Step.TheVariants as step
 use Rattle.groups.specs.declared.operations.Op.{Op}
 use Rattle.groups.specs.declared.operations.Ty.{Ty}
 use Rattle.script_reader.specs.Script.{Script}
-use Rattle.script_reader.specs.declared.script.Item.{Item}
 use Rattle.script_reader.specs.declared.script.Stmt.{Stmt}
 use Rattle.script_reader.specs.declared.script.Stmt.TheVariants as stmt
 use Rattle.script_plain.specs.declared.prims.Operands.{Operands}
 use Rattle.script_plain.specs.declared.prims.Source.{Source}
 use Rattle.script_plain.specs.declared.prims.Source.TheVariants as source_of
 use Rattle.script_plain.specs.declared.prims.Standing.TheVariants as standing
-use Rattle.script_plain.specs.Collectives.{AreCountedAlike, IsOther, Made, StandsAt, gone_by, gone_through, made_by, started}
+use Rattle.script_plain.specs.Collectives.{AreCountedAlike, IsOther, Made, StandsAt, gone_by, gone_through, started}
 use Rattle.script_plain.specs.Collectives.Made.{Done, Then}
 use Rattle.script_plain.specs.Meaning.{State, next_of}
 use Rattle.script_plain.specs.Program.{Act, Prim, acts_of, parts_of, program_of, setup_of}
-use Rattle.script_plain.specs.Program.Act.{Send, Gather, Begin, Finish}
+use Rattle.script_plain.specs.Program.Act.{Send, Begin, Finish}
 use Rattle.script_plain.proofs.BroadcastLaws.{bcast_operands}
 use Rattle.script_plain.proofs.CollectiveGroups.{AreApart, Each, bcast_parts, folds_parts, gathers, is_in_others, others_apart}
 use Rattle.script_plain.proofs.CollectivePaths.{Facing, IsIn}
@@ -159,7 +158,6 @@ in_root_others : (s : SetupView) (comm place root to other at : ℕ) → IsOther
 in_root_others s comm place root to other at is same here =
     subst (λ (x : ℕ). place_of s x root ≡ at → IsIn to (others_of s x root at)) (sym same)
     (λ (there : place_of s comm root ≡ at). subst (λ (p : ℕ). IsIn to (others_of s comm root p)) (sym is.placed.placed ∙ there) (is_in_others s comm place root to is)) here
-
 
 -- nothing is received of a broadcast but its own messages
 module _ (s : SetupView) (kind comm from rank : ℕ) where

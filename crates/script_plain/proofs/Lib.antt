@@ -28,6 +28,6 @@ pub mod ProgramLaws
 pub mod MessageCounts
 pub mod StatementSends
 pub mod FoundCalls
-pub mod OthersCame
 pub mod CountLaws
+pub mod OthersCame
 pub mod CollectiveLaws

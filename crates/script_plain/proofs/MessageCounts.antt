@@ -1,5 +1,5 @@
 -- How many messages of a kind in a communicator acts make, to a rank or from one.
-use Rattle.std.proofs.Common.{◌≡◌, ◌≢◌, ℕ, zero, suc, ◌+◌, ◌<◌, ◌≤◌, ◌==◌, Bool, true, false, cond, if◌then◌else◌, ◌&&◌, List, [], ◌∷◌, ◌++◌, length, map, Option, Some, None, refl, sym, ap, ◌∙◌, subst, arith, length-append, ◌⊎◌, inl, inr, ⊎_elim}
+use Rattle.std.proofs.Common.{◌≡◌, ◌≢◌, ℕ, ◌+◌, ◌≤◌, ◌==◌, Bool, true, false, if◌then◌else◌, ◌&&◌, List, [], ◌∷◌, ◌++◌, length, map, Option, Some, None, refl, sym, ap, ◌∙◌, arith, length-append, inl, inr, ⊎_elim}
 use Rattle.std.specs.List.{filter}
 use Rattle.std.proofs.lemmas.Bool.{cases_eq, eq-eqb}
 use Rattle.std.proofs.lemmas.List.{append-nil}
@@ -9,12 +9,12 @@ use Rattle.scc_base.specs.Heads.{MessageHead}
 use Rattle.script_plain.specs.declared.prims.Operands.{Operands}
 use Rattle.script_plain.specs.declared.prims.Source.{Source}
 use Rattle.script_plain.specs.Collectives.{gone_by, gone_through}
-use Rattle.script_plain.specs.Local.{Local, asked_head, message_of, next_by_act, source_bytes, with_length}
+use Rattle.script_plain.specs.Local.{asked_head, message_of, next_by_act, source_bytes, with_length}
 use Rattle.script_plain.specs.Meaning.{State, next_of, recorded}
 use Rattle.script_plain.specs.Messages.{Message, is_of, received_by, sent_by}
 use Rattle.script_plain.specs.Next.{Next}
 use Rattle.script_plain.specs.Program.{Act, Prim}
-use Rattle.script_plain.proofs.CollectiveGroups.{AreApart, Each, each_on, gathers}
+use Rattle.script_plain.proofs.CollectiveGroups.{AreApart, Each, gathers}
 use Rattle.script_plain.proofs.CollectivePaths.{Facing, IsIn, chosen, chosen_append, faced}
 use Rattle.script_plain.proofs.OrderLaws.{different}
 use Rattle.script_plain.proofs.ProgramLaws.{past_act}

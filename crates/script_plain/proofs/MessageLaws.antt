@@ -1,19 +1,18 @@
 -- The messages of a pair of ranks arrive as they were sent.
-use Rattle.std.proofs.Common.{◌≡◌, ◌≢◌, ℕ, zero, suc, ◌<◌, ◌≤◌, ◌==◌, Bool, true, false, cond, if◌then◌else◌, ◌&&◌, List, [], ◌∷◌, ◌++◌, length, map, set, Option, Some, None, refl, sym, ap, ◌∙◌, subst, arith, slice_get, slice_index_or, ◌⊎◌, inl, inr, ⊎_elim, append_assoc, replicate}
-use Rattle.std.specs.List.{filter, flat_map, range_with_len}
+use Rattle.std.proofs.Common.{◌≡◌, ◌≢◌, ℕ, zero, suc, ◌<◌, ◌≤◌, ◌==◌, Bool, true, false, if◌then◌else◌, ◌&&◌, List, [], ◌∷◌, ◌++◌, length, set, Option, Some, None, refl, sym, ap, ◌∙◌, subst, arith, slice_get, slice_index_or, ◌⊎◌, inl, inr, ⊎_elim, replicate}
+use Rattle.std.specs.List.{filter, range_with_len}
 use Rattle.std.specs.Option.{option_map, option_map_or}
 use Rattle.std.proofs.lemmas.Bool.{cases_eq, cases_lt, eqb-true, eq-eqb}
 use Rattle.std.proofs.lemmas.Grind.{flat_map-append}
 use Rattle.std.proofs.lemmas.List.{append-nil, get_or-set_same, get_or-set_other, get_or_past, length-replicate}
 use Rattle.std.proofs.lemmas.List.Elements.{filter-append}
 use Rattle.std.proofs.lemmas.List.FromFn.{length-map-range_with_len}
-use Rattle.std.proofs.lemmas.Option.{same_Some, slice_get-map, slice_get_past}
+use Rattle.std.proofs.lemmas.Option.{slice_get-map, slice_get_past}
 use Rattle.scc_base.specs.Calls.{DataCall}
 use Rattle.scc_base.specs.Calls.DataCall.{Send, Recv, Post, Bar}
 use Rattle.scc_base.specs.Groups.{is_with}
 use Rattle.scc_base.specs.Heads.{MessageHead}
 use Rattle.scc_base.specs.Runs.{EndsAt, Runs}
-use Rattle.scc_base.proofs.ChangeLaws.{true_or_false}
 use Rattle.scc_base.proofs.Confluence.{other_end}
 use Rattle.groups.proofs.StepLemmas.{get_front}
 use Rattle.script_reader.specs.Script.{Script}
@@ -23,7 +22,7 @@ use Rattle.script_plain.specs.Meaning.{IsPlainStep, State, keys_of, next_of, pla
 use Rattle.script_plain.specs.Messages.{AreDelivered, AreReceivedAsSent, Message, is_of, received_by, received_from, sent_by, sent_to, waiting_for}
 use Rattle.script_plain.specs.Next.{Next, is_at_barrier, past_barrier}
 use Rattle.script_plain.specs.Next.Next.{Ends, Goes, Posts, Sends, Recvs, Bars}
-use Rattle.script_plain.specs.Step.{Configuration, next_at, slot_at, all_at_barrier, by_rank, past_if, same_head, step_of}
+use Rattle.script_plain.specs.Step.{Configuration, next_at, slot_at, all_at_barrier, by_rank, past_if, same_head}
 use Rattle.script_plain.proofs.EndLaws.{reached}
 use Rattle.script_plain.proofs.OrderLaws.{different, get_set}
 use Rattle.script_plain.proofs.PlainLaws.{plain_end_still}

@@ -1,19 +1,16 @@
 -- That the others of a group came to a collective call: who has received a message of it, received it from a rank that was
 -- there.
-use Rattle.std.proofs.Common.{◌≡◌, ◌≢◌, ℕ, zero, suc, ◌+◌, ◌*◌, ◌%◌, ◌<◌, ◌≤◌, ◌==◌, Bool, true, false, ◌&&◌, List, [], ◌∷◌, ◌++◌, length, map, Option, Some, None, refl, sym, ap, ◌∙◌, subst, arith, slice_get, slice_set, length-append, append_assoc, ◌⊎◌, inl, inr, ⊎_elim}
+use Rattle.std.proofs.Common.{◌≡◌, ℕ, zero, suc, ◌+◌, ◌*◌, ◌<◌, ◌≤◌, ◌==◌, true, false, List, [], ◌∷◌, ◌++◌, length, Option, Some, None, refl, sym, ap, ◌∙◌, subst, arith, slice_get, slice_set, length-append, inl, inr, ⊎_elim}
 use Rattle.std.specs.Prelude.{slice_index}
-use Rattle.std.specs.Option.{option_map_or}
 use Rattle.std.proofs.lemmas.Bool.{cases_lt, ltb-true}
-use Rattle.std.proofs.lemmas.List.{append-nil}
-use Rattle.std.proofs.lemmas.Option.{get_or_from_slice_get, slice_get_past, slice_get_within, slice_get-get_or}
+use Rattle.std.proofs.lemmas.Option.{get_or_from_slice_get, slice_get_within}
 use Rattle.scc_base.specs.Calls.{DataCall}
-use Rattle.scc_base.specs.Heads.{MessageHead, kind_number, plain_head}
+use Rattle.scc_base.specs.Heads.{MessageHead, kind_number}
 use Rattle.scc_base.specs.Setups.{SetupView, members_of, place_of, setup_key, size_of}
 use Rattle.scc_base.specs.declared.kinds.Kind.{Kind}
 use Rattle.scc_base.specs.declared.kinds.Kind.TheVariants as kind_of
 use Rattle.scc_base.proofs.GroupFacts.{member_at_place, place_found}
 use Rattle.groups.specs.Collectives.{head_of, others_of}
-use Rattle.groups.specs.Folds.{bytes_in}
 use Rattle.groups.specs.declared.collectives.Coll.{Coll}
 use Rattle.groups.specs.declared.collectives.Coll.TheVariants as coll
 use Rattle.groups.specs.declared.operations.Op.{Op}
@@ -23,7 +20,7 @@ use Rattle.script_reader.specs.declared.script.Stmt.{Stmt}
 use Rattle.script_reader.specs.declared.script.Stmt.TheVariants as stmt
 use Rattle.script_plain.specs.declared.prims.Operands.{Operands}
 use Rattle.script_plain.specs.declared.prims.Source.TheVariants as source_of
-use Rattle.script_plain.specs.Collectives.{AllCame, AllGive, AreOwnWays, CameTo, Casts, Gives, HasDone, IsOther, OthersGave, OthersGaveToAll, RootCame, Tells, fold_at, gone_through}
+use Rattle.script_plain.specs.Collectives.{AllCame, AllGive, AreOwnWays, CameTo, Casts, Gives, IsOther, OthersGave, OthersGaveToAll, RootCame, Tells, gone_through}
 use Rattle.script_plain.specs.Local.{register_at}
 use Rattle.script_plain.specs.Meaning.{State}
 use Rattle.script_plain.specs.Messages.{AreDelivered, Message, is_of, received_by, sent_by}
@@ -34,6 +31,7 @@ use Rattle.script_plain.proofs.BroadcastLaws.{bcast_accepts, broadcast, faces, o
 use Rattle.script_plain.proofs.CollectiveFits.{AreFit}
 use Rattle.script_plain.proofs.CollectiveGroups.{gathers, is_in_others}
 use Rattle.script_plain.proofs.CollectivePaths.{Facing, IsIn, chosen, chosen_append, grows, through_both}
+use Rattle.script_plain.proofs.CountLaws.{counted}
 use Rattle.script_plain.proofs.FoundCalls.{CameToSend, sender_came}
 use Rattle.script_plain.proofs.MessageCounts.{all_counted, gathers_get_each, gathers_send_none, got_in, got_so_far, has_kind, receipts_counted, sends_counted, sent_in, sent_so_far, some_counted, total_of}
 use Rattle.script_plain.proofs.MessageLaws.{received_as_sent}
@@ -181,6 +179,17 @@ module _ (script : Script) (c : Configuration State) (delivered : AreDelivered c
                   given = refl;
                 }) m found).0
 
+    -- what one of them gave is what came to the root
+    gives_once : (rank : ℕ) (x y : List ℕ) → IsOther (setup_of script) comm place root rank → got_so_far (kind_number kind) comm rank begun < got_so_far (kind_number kind) comm rank u
+        → Gives script c call kind comm root begun rank x → Gives script c call kind comm root begun rank y → x ≡ y
+    gives_once rank x y is got one two = by (slice_get (chosen (is_of (kind_number kind) comm) (received_by rank) u.matched) (got_so_far (kind_number kind) comm rank begun)) refl
+      where
+        by : (o : Option Message) → slice_get (chosen (is_of (kind_number kind) comm) (received_by rank) u.matched) (got_so_far (kind_number kind) comm rank begun) ≡ o → x ≡ y
+        by None none = absurd (message_at (chosen (is_of (kind_number kind) comm) (received_by rank) u.matched) (got_so_far (kind_number kind) comm rank begun) got none)
+        by (Some m) found =
+            sym (comes_in script c delivered call coll kind comm place root u begun at_root tail gives may rank (λ j. x) is one m found).0
+            ∙ (comes_in script c delivered call coll kind comm place root u begun at_root tail gives may rank (λ j. y) is two m found).0
+
   -- the root came to the broadcast that another has done
   pub root_came : RootCame script c
   root_came comm place size dst root rank v before after at_rank other done =
@@ -278,17 +287,22 @@ module _ (script : Script) (c : Configuration State) (delivered : AreDelivered c
     gave_up got = gave (stmt.Allreduce comm) (coll.Allreduce comm 0) kind_of.AllUp comm 0 root u begun at_root refl (λ d r. Gather root (head_of kind_of.AllDown comm 0) (Some r) ∷ Accept d ∷ [])
         (λ j p t d r can is. allreduce_at_other (setup_of script) comm root j d r p t can is) (λ j is. all_up_makes (setup_of script) j comm root) may_up got
 
+    up_once : (rank : ℕ) (x y : List ℕ) → IsOther (setup_of script) comm 0 root rank → got_so_far (kind_number kind_of.AllUp) comm rank begun < got_so_far (kind_number kind_of.AllUp) comm rank u
+        → Gives script c (stmt.Allreduce comm) kind_of.AllUp comm root begun rank x → Gives script c (stmt.Allreduce comm) kind_of.AllUp comm root begun rank y → x ≡ y
+    up_once = gives_once (stmt.Allreduce comm) (coll.Allreduce comm 0) kind_of.AllUp comm 0 root u begun at_root refl (λ d r. Gather root (head_of kind_of.AllDown comm 0) (Some r) ∷ Accept d ∷ [])
+        (λ j p t d r can is. allreduce_at_other (setup_of script) comm root j d r p t can is) (λ j is. all_up_makes (setup_of script) j comm root) may_up
+
     module _ (dst src : ℕ) (op : Op) (ty : Ty) (line : ℕ) (rest : List Prim)
         (facing : Facing line (Begin src ∷ gathers (fold_operands op ty dst src) (head_of kind_of.AllUp comm 0) (others_of (setup_of script) comm root 0) ++ down_sends comm dst (others_of (setup_of script) comm root 0)) rest begun) where
       -- a member 0 that has gone past its folds
-      past_all : (path : List (List ℕ)) → u.matched ≡ (gone_through path begun).matched → suc (2 * length (others_of (setup_of script) comm root 0)) ≤ length path
-          → AllGive script c (stmt.Allreduce comm) kind_of.AllUp comm 0 root begun bytes_up
-      past_all path since low = gave_up (λ rank is.
+      past_got : (path : List (List ℕ)) → u.matched ≡ (gone_through path begun).matched → suc (2 * length (others_of (setup_of script) comm root 0)) ≤ length path
+          → (rank : ℕ) → IsOther (setup_of script) comm 0 root rank → got_so_far (kind_number kind_of.AllUp) comm rank begun < got_so_far (kind_number kind_of.AllUp) comm rank u
+      past_got path since low rank is =
           let U = kind_number kind_of.AllUp in
           let more = gets_each U comm line src (fold_operands op ty dst src) (head_of kind_of.AllUp comm 0) (down_sends comm dst (others_of (setup_of script) comm root 0)) rest (others_of (setup_of script) comm root 0) begun facing
           rank path (own_kind kind_of.AllUp comm 0) (is_in_others (setup_of script) comm 0 root rank is) low in
           let now : got_so_far U comm rank u ≡ got_so_far U comm rank (gone_through path begun) = ap (λ (l : List DataCall). length (chosen (is_of U comm) (received_by rank) l)) since in
-          omega (arith, more, now))
+          omega (arith, more, now)
 
       -- has done so where it has sent one of the others its fold
       past_folds_by : (rank : ℕ) (path : List (List ℕ)) → sent_so_far (kind_number kind_of.AllDown) comm rank begun < sent_so_far (kind_number kind_of.AllDown) comm rank (gone_through path begun)
@@ -327,8 +341,8 @@ module _ (script : Script) (c : Configuration State) (delivered : AreDelivered c
           omega (arith, all, folds, both)
 
       given : AllGive script c (stmt.Allreduce comm) kind_of.AllUp comm 0 root begun (bytes_up comm root u begun at_root)
-      given = past_all comm root u begun at_root dst src op ty done.stood.item.line done.stood.rest (faces script root (stmt.Allreduce comm op ty dst src) begun done.stood _ acts) (done.taken ++ done.later)
-          (done.since ∙ ap (λ (x : State). (gone_through done.later x).matched) done.came ∙ ap (λ (x : State). x.matched) (sym (through_both done.taken done.later begun))) long
+      given = gave_up comm root u begun at_root (past_got comm root u begun at_root dst src op ty done.stood.item.line done.stood.rest (faces script root (stmt.Allreduce comm op ty dst src) begun done.stood _ acts) (done.taken ++ done.later)
+          (done.since ∙ ap (λ (x : State). (gone_through done.later x).matched) done.came ∙ ap (λ (x : State). x.matched) (sym (through_both done.taken done.later begun))) long)
 
   -- member 0 and all the others came to the reduction to all that one of the others has done
   pub all_came : AllCame script c
@@ -365,11 +379,39 @@ module _ (script : Script) (c : Configuration State) (delivered : AreDelivered c
           let now : sent_so_far D comm rank u.0 ≡ sent_so_far D comm rank (gone_through came.later f.begun) = ap (λ (l : List DataCall). length (chosen (is_of D comm) (sent_by rank) l)) came.since in
           omega (arith, there, now, f.number)
 
-      given : AllGive script c (stmt.Allreduce comm) kind_of.AllUp comm 0 root f.begun (bytes_up comm root u.0 f.begun u.1)
-      given = past_all comm root u.0 f.begun u.1 f.such.dst f.such.src f.such.op f.such.ty came.stood.item.line came.stood.rest facing came.later came.since
+      got : (j : ℕ) → IsOther s comm 0 root j → got_so_far (kind_number kind_of.AllUp) comm j f.begun < got_so_far (kind_number kind_of.AllUp) comm j u.0
+      got = past_got comm root u.0 f.begun u.1 f.such.dst f.such.src f.such.op f.such.ty came.stood.item.line came.stood.rest facing came.later came.since
           (past_folds_by comm root u.0 f.begun u.1 f.such.dst f.such.src f.such.op f.such.ty came.stood.item.line came.stood.rest facing rank came.later more)
 
-      told : Tells script c comm root rank before accepted.0.bytes
+      given : AllGive script c (stmt.Allreduce comm) kind_of.AllUp comm 0 root f.begun (bytes_up comm root u.0 f.begun u.1)
+      given = gave_up comm root u.0 f.begun u.1 got
+
+      -- this call of the rank is the one that is counted
+      number : sent_so_far (kind_number kind_of.AllUp) comm root before ≡ got_so_far (kind_number kind_of.AllUp) comm rank f.begun
+      number =
+          (counted script).told comm root rank (stmt.Allreduce comm named width to from) before other done.stood ∙ sym f.number
+          ∙ sym ((counted script).reductions_to_all comm root rank rank (stmt.Allreduce comm f.such.op f.such.ty f.such.dst f.such.src) f.begun other other came.stood)
+
+      mine : bytes_up comm root u.0 f.begun u.1 rank ≡ register_at before.local from
+      mine = up_once comm root u.0 f.begun u.1 rank (bytes_up comm root u.0 f.begun u.1 rank) (register_at before.local from) other (got rank other) (given rank other)
+          (record {
+            op = named;
+            ty = width;
+            dst = to;
+            src = from;
+            now = v;
+            before = before;
+            there = at_rank;
+            came = record {
+              stood = done.stood;
+              later = done.taken ++ done.later;
+              since = done.since ∙ ap (λ (x : State). (gone_through done.later x).matched) done.came ∙ ap (λ (x : State). x.matched) (sym (through_both done.taken done.later before));
+            };
+            same = number;
+            given = refl;
+          })
+
+      told : Tells script c comm root rank before (register_at before.local from) accepted.0.bytes
       told = record {
         op = f.such.op;
         ty = f.such.ty;
@@ -382,6 +424,7 @@ module _ (script : Script) (c : Configuration State) (delivered : AreDelivered c
         came = came;
         same = f.number;
         given = given;
+        mine = mine;
         result = sym (tells script c delivered fit comm f.such.dst f.such.src root f.such.op f.such.ty u.0 f.begun (bytes_up comm root u.0 f.begun u.1) u.1 other.placed.placed f.such.callable
             (fit.width_to_all root u.0 f.begun comm f.such.dst f.such.src f.such.op f.such.ty u.1 came) given came rank other accepted.0
             (ap (slice_get (chosen (is_of D comm) (sent_by rank) u.0.matched)) f.number ∙ sent));

@@ -1,19 +1,17 @@
 -- Each rank's calls are those of its own way from the start.
-use Rattle.std.proofs.Common.{◌≡◌, ◌≢◌, ℕ, zero, suc, ◌+◌, ◌==◌, Bool, true, false, List, [], ◌∷◌, ◌++◌, map, set, Option, Some, None, refl, sym, ap, ◌∙◌, subst, arith, slice_get, ◌⊎◌, inl, inr, ⊎_elim}
+use Rattle.std.proofs.Common.{◌≡◌, ◌≢◌, ℕ, zero, suc, ◌+◌, Bool, true, false, List, [], ◌∷◌, ◌++◌, set, Option, Some, None, refl, sym, ap, ◌∙◌, subst, arith, slice_get, ◌⊎◌, inl, inr, ⊎_elim}
 use Rattle.std.specs.List.{range_with_len}
 use Rattle.std.specs.Option.{option_map}
-use Rattle.std.proofs.lemmas.Bool.{cases_eq, eq-eqb, eqb-true}
+use Rattle.std.proofs.lemmas.Bool.{cases_eq}
 use Rattle.std.proofs.lemmas.Option.{same_Some, slice_get-map}
 use Rattle.scc_base.specs.Groups.{is_with}
 use Rattle.scc_base.specs.Heads.{MessageHead}
 use Rattle.scc_base.specs.Runs.{Runs}
 use Rattle.script_reader.specs.Script.{Script}
 use Rattle.script_plain.specs.Collectives.{AreOwnWays, gone_by, gone_through, started}
-use Rattle.script_plain.specs.declared.prims.Standing.{Standing}
-use Rattle.script_plain.specs.declared.prims.Standing.TheVariants as standing_of
 use Rattle.scc_base.specs.Calls.{DataCall}
 use Rattle.script_plain.specs.Program.{Act, Prim}
-use Rattle.script_plain.specs.Local.{Local, local_next, local_start, next_by_act, next_by_prim, prim_by_standing}
+use Rattle.script_plain.specs.Local.{Local, local_next, next_by_act, next_by_prim, prim_by_standing}
 use Rattle.script_plain.specs.Meaning.{IsPlainStep, State, keys_of, next_of, recorded, start_of}
 use Rattle.script_plain.specs.Next.{Next, is_at_barrier, past_barrier}
 use Rattle.script_plain.specs.Next.Next.{Ends, Goes, Posts, Sends, Recvs, Bars}

@@ -1,11 +1,9 @@
 -- What the statements of a script make for a rank, one statement after another, and the rank's own way through it.
-use Rattle.std.proofs.Common.{◌≡◌, ℕ, zero, suc, ◌+◌, ◌-◌, ◌<◌, ◌≤◌, Bool, true, false, cond, List, [], ◌∷◌, ◌++◌, map, length, drop, slice_get, Option, Some, None, refl, sym, ap, subst, ◌∙◌, arith, append_assoc, ◌⊎◌, inl, inr, ⊎_elim}
+use Rattle.std.proofs.Common.{◌≡◌, ℕ, zero, suc, ◌-◌, ◌<◌, ◌≤◌, Bool, true, false, cond, List, [], ◌∷◌, ◌++◌, length, drop, slice_get, Some, refl, sym, ap, subst, ◌∙◌, arith, append_assoc, ⊎_elim}
 use Rattle.std.proofs.lemmas.Bool.{cases_lt}
 use Rattle.std.proofs.lemmas.List.{append-nil}
 use Rattle.scc_base.specs.Setups.{SetupView}
-use Rattle.scc_base.specs.Calls.{DataCall}
 use Rattle.script_reader.specs.declared.script.Item.{Item}
-use Rattle.script_reader.specs.declared.script.Stmt.{Stmt}
 use Rattle.script_reader.specs.Script.{Script, has_rank}
 use Rattle.script_plain.specs.declared.prims.Nesting.{Nesting}
 use Rattle.script_plain.specs.declared.prims.Nesting.TheVariants as nesting
@@ -13,10 +11,10 @@ use Rattle.script_plain.specs.declared.prims.Standing.TheVariants as standing
 pub use Rattle.script_plain.specs.Collectives.{IsOfRank, Made, made_by}
 use Rattle.script_plain.specs.Collectives.Made.{Done, Then}
 use Rattle.script_plain.specs.Collectives.{gone_by, gone_through, started}
-use Rattle.script_plain.specs.Local.{Local, next_by_act, next_by_prim, local_next, prim_by_standing}
+use Rattle.script_plain.specs.Local.{next_by_act, next_by_prim, local_next, prim_by_standing}
 use Rattle.script_plain.specs.Meaning.{State, next_of, recorded}
 use Rattle.script_plain.specs.Next.{Next}
-use Rattle.script_plain.specs.Next.Next.{Ends, Goes, Posts, Sends, Recvs, Bars}
+use Rattle.script_plain.specs.Next.Next.{Ends}
 use Rattle.script_plain.specs.Program.{Act, Prim, Unrolled, acts_of, copies, in_front, nesting_at, prims_of, program_of, repeated, setup_of, unrolled}
 use Rattle.script_plain.proofs.CollectivePaths.{Facing, faced, past, through_both}
 use Rattle.script_plain.proofs.ReductionPaths.{split_at}

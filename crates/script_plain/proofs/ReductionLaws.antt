@@ -1,5 +1,5 @@
 -- What a reduction gives, and a reduction to all.
-use Rattle.std.proofs.Common.{◌≡◌, ◌≢◌, ℕ, zero, suc, ◌+◌, ◌*◌, ◌%◌, ◌<◌, ◌≤◌, ◌==◌, Bool, true, false, cond, if◌then◌else◌, ◌&&◌, List, [], ◌∷◌, ◌++◌, length, map, drop, Option, Some, None, refl, sym, ap, ◌∙◌, subst, arith, slice_get, slice_set, length-append, append_assoc, ◌⊎◌, inl, inr, ⊎_elim}
+use Rattle.std.proofs.Common.{◌≡◌, ℕ, suc, ◌+◌, ◌*◌, ◌%◌, ◌<◌, ◌≤◌, ◌==◌, Bool, true, ◌&&◌, List, [], ◌∷◌, ◌++◌, length, map, Some, refl, sym, ap, ◌∙◌, subst, arith, slice_get, slice_set, length-append, append_assoc, inl, ⊎_elim}
 use Rattle.std.proofs.lemmas.Bool.{cases_lt, ltb-true}
 use Rattle.std.proofs.lemmas.List.{append-nil, length-map, map-append}
 use Rattle.std.proofs.lemmas.Option.{slice_get_past}
@@ -13,11 +13,9 @@ use Rattle.groups.specs.Collectives.{fold_each, head_of, others_of, send_each}
 use Rattle.groups.specs.Folds.{bytes_in, fold_of}
 use Rattle.groups.specs.declared.collectives.Coll.{Coll}
 use Rattle.groups.specs.declared.collectives.Coll.TheVariants as coll
-use Rattle.groups.specs.declared.collectives.Step.{Step}
 use Rattle.groups.specs.declared.collectives.Step.TheVariants as step
 use Rattle.groups.specs.declared.operations.Op.{Op}
 use Rattle.groups.specs.declared.operations.Ty.{Ty}
-use Rattle.groups.proofs.StepLemmas.{sends_length}
 use Rattle.script_reader.specs.Script.{Script}
 use Rattle.script_reader.specs.Settled.{IsWhole}
 use Rattle.script_reader.specs.declared.script.Stmt.{Stmt}
@@ -25,7 +23,7 @@ use Rattle.script_reader.specs.declared.script.Stmt.TheVariants as stmt
 use Rattle.script_plain.specs.declared.prims.Operands.{Operands}
 use Rattle.script_plain.specs.declared.prims.Source.TheVariants as source_of
 use Rattle.script_plain.specs.Collectives.{AreReduced, AreReducedToAll, AreToldAll, AreUntouched, CameTo, Gives, HasDone, IsOther, gone_by, gone_through}
-use Rattle.script_plain.specs.Local.{Local, asked_head, folded, gone_on, gone_on_folding, gone_on_gathering, register_at, with_length}
+use Rattle.script_plain.specs.Local.{asked_head, folded, gone_on, gone_on_folding, gone_on_gathering, register_at, with_length}
 use Rattle.script_plain.specs.Meaning.{State, next_of}
 use Rattle.script_plain.specs.Messages.{AreDelivered, Message, is_of, received_by, sent_by}
 use Rattle.script_plain.specs.Program.{Act, Prim, acts_of, can_call, part_of, parts_of, setup_of}
@@ -36,7 +34,7 @@ use Rattle.script_plain.proofs.CollectiveFits.{AreFit, came_to, may_cast, may_re
 use Rattle.script_plain.proofs.CollectiveGroups.{AreApart, Each, each_on, folds_parts, gathers, is_in_others, other_has, others_apart, others_each, root_has, sends_parts}
 use Rattle.script_plain.proofs.CollectivePaths.{Facing, by_send, chosen, chosen_none, faced, first_sent, past, through_both}
 use Rattle.script_plain.proofs.MessageLaws.{received_as_sent}
-use Rattle.script_plain.proofs.ReductionPaths.{AreQuiet, Comes, Counted, Folded, IsQuiet, fold_operands, gathers_length, gathers_quiet, past_folds, split_at}
+use Rattle.script_plain.proofs.ReductionPaths.{AreQuiet, Comes, Counted, Folded, fold_operands, gathers_length, gathers_quiet, past_folds, split_at}
 use Rattle.script_plain.proofs.StepLaws as steps
 
 -- nothing is sent on the way through quiet acts

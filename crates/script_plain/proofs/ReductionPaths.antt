@@ -1,22 +1,22 @@
 -- How receives and folds of a reduction go.
-use Rattle.std.proofs.Common.{◌≡◌, ◌≢◌, ℕ, zero, suc, ◌+◌, ◌*◌, ◌%◌, ◌<◌, ◌≤◌, ◌==◌, Bool, true, false, cond, if◌then◌else◌, ◌&&◌, List, [], ◌∷◌, ◌++◌, length, map, drop, Option, Some, None, refl, sym, ap, ◌∙◌, subst, arith, slice_get, slice_index_or, slice_set}
+use Rattle.std.proofs.Common.{◌≡◌, ◌≢◌, ℕ, zero, suc, ◌*◌, ◌%◌, ◌≤◌, ◌==◌, true, ◌&&◌, List, [], ◌∷◌, ◌++◌, length, map, Some, refl, sym, ap, ◌∙◌, subst, arith, slice_get, slice_index_or}
 use Rattle.std.proofs.lemmas.Bool.{eq-eqb}
 use Rattle.scc_base.specs.Calls.{DataCall}
 use Rattle.scc_base.specs.Calls.DataCall.{Recv}
 use Rattle.scc_base.specs.Heads.{MessageHead}
-use Rattle.groups.specs.Folds.{Fits, bytes_in, fold_of, fold_values}
+use Rattle.groups.specs.Folds.{bytes_in, fold_of, fold_values}
 use Rattle.groups.specs.declared.operations.Op.{Op}
 use Rattle.groups.specs.declared.operations.Ty.{Ty}
 use Rattle.groups.proofs.FoldLemmas.{fold_length}
 use Rattle.script_plain.specs.declared.prims.Operands.{Operands}
 use Rattle.script_plain.specs.Collectives.{gone_by, gone_through}
-use Rattle.script_plain.specs.Local.{Local, folded, gone_on_folding, gone_on_gathering, register_at, with_length}
+use Rattle.script_plain.specs.Local.{folded, gone_on_folding, gone_on_gathering, register_at, with_length}
 use Rattle.script_plain.specs.Meaning.{State, next_of}
-use Rattle.script_plain.specs.Messages.{Message, is_of, received_by, sent_by}
+use Rattle.script_plain.specs.Messages.{Message, is_of, received_by}
 use Rattle.script_plain.specs.Program.{Act, Prim}
 use Rattle.script_plain.specs.Program.Act.{Gather, Begin, Fold}
 use Rattle.script_plain.proofs.CollectiveGroups.{AreApart, Each, each_both, each_on, gathers}
-use Rattle.script_plain.proofs.CollectivePaths.{Facing, chosen, chosen_none, chosen_one, faced, get_last, keeps, past, through_both}
+use Rattle.script_plain.proofs.CollectivePaths.{Facing, chosen, chosen_none, chosen_one, faced, get_last, keeps, past}
 use Rattle.script_plain.proofs.OrderLaws.{different}
 use Rattle.script_plain.proofs.StepLaws as steps
 

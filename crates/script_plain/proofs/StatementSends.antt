@@ -1,30 +1,27 @@
 -- Which statement makes a message of a collective call: one of its kind, and no more than one.
-use Rattle.std.proofs.Common.{◌≡◌, ◌≢◌, ℕ, zero, suc, ◌+◌, ◌<◌, ◌≤◌, ◌==◌, Bool, true, false, cond, ◌&&◌, List, [], ◌∷◌, ◌++◌, map, refl, sym, ap, ◌∙◌, subst, arith, ◌⊎◌, inl, inr}
+use Rattle.std.proofs.Common.{◌≡◌, ℕ, ◌≤◌, ◌==◌, Bool, true, false, cond, ◌&&◌, List, [], ◌∷◌, ◌++◌, map, refl, sym, ap, ◌∙◌, subst, arith, ◌⊎◌, inl, inr}
 use Rattle.std.specs.Prelude.{slice_index}
 use Rattle.std.proofs.lemmas.Bool.{eqb-true}
 use Rattle.scc_base.specs.Heads.{MessageHead, kind_number}
 use Rattle.scc_base.specs.Setups.{SetupView, members_of, place_of}
 use Rattle.scc_base.specs.declared.kinds.Kind.TheVariants as kind_of
-use Rattle.groups.specs.Collectives.{comm_of, fold_each, head_of, other_steps, others_of, root_place, root_steps, send_each}
+use Rattle.groups.specs.Collectives.{comm_of, fold_each, head_of, other_steps, others_of, root_place, root_steps}
 use Rattle.groups.specs.declared.collectives.Coll.{Coll}
 use Rattle.groups.specs.declared.collectives.Coll.TheVariants as coll
 use Rattle.groups.specs.declared.collectives.Step.TheVariants as step
 use Rattle.groups.specs.declared.operations.Op.{Op}
-use Rattle.groups.specs.declared.operations.Op.TheVariants as op_of
 use Rattle.groups.specs.declared.operations.Ty.{Ty}
-use Rattle.groups.specs.declared.operations.Ty.TheVariants as ty_of
 use Rattle.script_reader.specs.declared.script.Stmt.{Stmt}
 use Rattle.script_reader.specs.declared.script.Stmt.TheVariants as stmt
 use Rattle.script_plain.specs.declared.prims.Operands.{Operands}
 use Rattle.script_plain.specs.declared.prims.Source.TheVariants as source_of
 use Rattle.script_plain.specs.Program.{Act, acts_of, can_call, parts_of}
 use Rattle.script_plain.specs.Program.Act.{Send, Begin, Finish}
-use Rattle.script_plain.proofs.CollectiveGroups.{bcast_parts, folds_parts, gathers, others_apart, sends_parts}
+use Rattle.script_plain.proofs.CollectiveGroups.{bcast_parts, folds_parts, gathers, others_apart}
 use Rattle.script_plain.proofs.MessageCounts.{gathers_send_none, has_kind, most_if, none_if, sends_once, sends_other, sent_in, total_both, total_of}
 use Rattle.script_plain.proofs.BroadcastLaws.{bcast_operands}
 use Rattle.script_plain.proofs.ReductionLaws.{all_down_parts, down_sends}
 use Rattle.script_plain.proofs.ReductionPaths.{fold_operands}
-use Rattle.script_plain.proofs.StepLaws as steps
 
 -- what a call makes for a rank: nothing, the root's part or another's
 module _ (s : SetupView) (rank : ℕ) (c : Coll) (o : Operands) where

@@ -1,7 +1,7 @@
 -- What collective calls give (RCCE specification 2.0: RCCE_bcast, RCCE_reduce, RCCE_allreduce; the order of a fold is
 -- this project's profile). A rank's calls of one kind, communicator and root are counted by their messages: each is one
 -- message between the root and each of the others.
-use Rattle.std.specs.Prelude.{◌≡◌, ◌≢◌, ℕ, ◌<◌, ◌%◌, Bool, true, List, [], ◌∷◌, ◌++◌, length, map, Some, slice_get, slice_set}
+use Rattle.std.specs.Prelude.{◌≡◌, ◌≢◌, ℕ, ◌<◌, ◌%◌, true, List, [], ◌∷◌, ◌++◌, length, map, Some, slice_get, slice_set}
 use Rattle.std.specs.List.{filter}
 use Rattle.scc_base.specs.Heads.{kind_number}
 use Rattle.scc_base.specs.Setups.{SetupView, IsMemberAt, place_of}
@@ -53,7 +53,7 @@ pub record IsOfRank (items : List Item) (rank : ℕ) (item : Item) : Type 0 wher
   pub listed : slice_get items place ≡ Some item
   pub own : has_rank item.who rank ≡ true
 
--- what an item makes for a rank of its
+-- what an item makes for one of its ranks
 abbrev pub made_by : SetupView → ℕ → Item → List Prim
 made_by s rank item = map (λ act. record { line = item.line; act = act }) (acts_of s rank item.stmt)
 
@@ -209,9 +209,9 @@ AreToldAll script c =
     → sends_of kind.AllDown comm rank begun ≡ receipts_of kind.AllDown comm root before
     → after.local.registers ≡ slice_set before.local.registers to (fold_at (setup_of script) comm 0 root op ty (register_at begun.local src) bytes)
 
--- member 0 came to the reduction to all that a rank came to when it held `before`, and so did each of the others; these bytes
--- are the fold of what they gave
-pub record Tells (script : Script) (c : Configuration State) (comm root rank : ℕ) (before : State) (told : List ℕ) : Type 0 where
+-- member 0 came to the reduction to all that a rank came to when it held `before`, and so did each of the others; what the
+-- rank gave itself is `own`, and `told` is the fold of what all gave
+pub record Tells (script : Script) (c : Configuration State) (comm root rank : ℕ) (before : State) (own told : List ℕ) : Type 0 where
   pub op : Op
   pub ty : Ty
   pub dst : ℕ
@@ -223,6 +223,7 @@ pub record Tells (script : Script) (c : Configuration State) (comm root rank : �
   pub came : CameTo script root (stmt.Allreduce comm op ty dst src) now begun
   pub same : sends_of kind.AllDown comm rank begun ≡ receipts_of kind.AllDown comm root before
   pub given : AllGive script c (stmt.Allreduce comm) kind.AllUp comm 0 root begun bytes
+  pub mine : bytes rank ≡ own
   pub result : fold_at (setup_of script) comm 0 root op ty (register_at begun.local src) bytes ≡ told
 
 -- where one of the others has done the n-th reduction to all of a communicator, member 0 came to its n-th, and so did each
@@ -233,7 +234,7 @@ AllCame script c =
     → slice_get c.cells rank ≡ Some v
     → IsOther (setup_of script) comm 0 root rank
     → HasDone script rank (stmt.Allreduce comm op ty to from) v before after
-    → (told : List ℕ) × Tells script c comm root rank before told × (after.local.registers ≡ slice_set before.local.registers to told)
+    → (told : List ℕ) × Tells script c comm root rank before (register_at before.local from) told × (after.local.registers ≡ slice_set before.local.registers to told)
 
 -- Wherever a rank stands at a statement, its calls of a kind are as many by whichever messages they are counted: a root's by
 -- those to or from one of the others or another, and each of the others' by what it sent or received.

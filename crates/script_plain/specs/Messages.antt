@@ -2,7 +2,7 @@
 use Rattle.std.specs.Prelude.{◌≡◌, ℕ, ◌==◌, Bool, ◌&&◌, if◌then◌else◌, List, [], ◌∷◌, ◌++◌, Option, Some, None, slice_get}
 use Rattle.std.specs.List.{filter, flat_map}
 use Rattle.scc_base.specs.Calls.{DataCall}
-use Rattle.scc_base.specs.Calls.DataCall.{Send, Recv, Post, Bar}
+use Rattle.scc_base.specs.Calls.DataCall.{Send, Recv, Post}
 use Rattle.scc_base.specs.Heads.{MessageHead}
 use Rattle.script_plain.specs.declared.posts.Posted.{Posted}
 use Rattle.script_plain.specs.Meaning.{State}
