@@ -1,21 +1,16 @@
 -- Each collective call of a script that was read may be made by the ranks of its section.
-use Rattle.std.proofs.Common.{◌≡◌, ◌≢◌, ℕ, ◌<◌, ◌≤◌, Bool, true, false, not, ◌&&◌, List, Option, Some, None, arith, refl, sym, ap, ◌∙◌, subst, slice_get}
+use Rattle.std.proofs.Common.{◌≡◌, ℕ, ◌<◌, ◌≤◌, Bool, true, false, not, ◌&&◌, Some, arith, refl, subst, slice_get}
 use Rattle.std.proofs.lemmas.Bool.{le-leb, lt-ltb, not-false}
 use Rattle.std.proofs.lemmas.Option.{same_Some}
 use Rattle.std.specs.Prelude.{nat_le, nat_lt}
 use Rattle.groups.specs.Collectives.{comm_of, len_of}
 use Rattle.groups.specs.declared.collectives.Coll.{Coll}
 use Rattle.groups.specs.declared.collectives.Coll.TheVariants as coll
-use Rattle.groups.specs.declared.operations.Op.{Op}
-use Rattle.groups.specs.declared.operations.Op.TheVariants as op_of
-use Rattle.groups.specs.declared.operations.Ty.{Ty}
-use Rattle.groups.specs.declared.operations.Ty.TheVariants as ty_of
 use Rattle.scc_base.specs.Communicators.{rule_of}
-use Rattle.scc_base.specs.Setups.{SetupView, size_of}
+use Rattle.scc_base.specs.Setups.{size_of}
 use Rattle.scc_base.specs.declared.communicators.CommRule.{CommRule}
 use Rattle.scc_base.specs.declared.communicators.CommRule.TheVariants as rule
-use Rattle.script_reader.specs.Checks.{comm_needed, has_no_root, is_past_group}
-use Rattle.script_reader.specs.Checks as checks
+use Rattle.script_reader.specs.Checks.{comm_needed, has_no_root, has_root, is_absent, is_past_group}
 use Rattle.script_reader.specs.Script.{IsSized, Script, has_rank, rules_of}
 use Rattle.script_reader.specs.Settled.{IsSettled, IsWhole, run_with}
 use Rattle.script_reader.specs.declared.script.Item.{Item}
@@ -24,7 +19,7 @@ use Rattle.script_reader.specs.declared.script.Stmt.TheVariants as stmt
 use Rattle.script_plain.proofs.LengthLemmas.{at-found}
 use Rattle.script_reader.proofs.SettledLemmas.{present-low}
 use Rattle.script_plain.specs.declared.prims.Collective.{Collective}
-use Rattle.script_plain.specs.Program.{can_call, collective_of, has_root, is_absent, setup_of}
+use Rattle.script_plain.specs.Program.{can_call, collective_of, setup_of}
 use Rattle.script_plain.proofs.StepLaws as steps
 
 -- a rule that is there
@@ -35,7 +30,7 @@ known (rule.Mod parent k) there = refl
 known (rule.Div parent k) there = refl
 
 -- where its groups are known, a root that is not past them is in them
-rooted_by : (r : CommRule) (within : Bool) → (r ≡ rule.Absent → ⊥) → (not (checks.is_absent r) && not within) ≡ false → within ≡ true
+rooted_by : (r : CommRule) (within : Bool) → (r ≡ rule.Absent → ⊥) → (not (is_absent r) && not within) ≡ false → within ≡ true
 rooted_by rule.Absent within there none = absurd (there refl)
 rooted_by rule.World within there none = not-false within none
 rooted_by (rule.Mod parent k) within there none = not-false within none

@@ -1,5 +1,5 @@
 -- A rank of a script that was read may make each collective call that it comes to, and what it reduces is whole values.
-use Rattle.std.proofs.Common.{◌≡◌, ℕ, ◌<◌, ◌%◌, true, List, ◌++◌, Option, Some, None, length, refl, sym, ap, ◌∙◌, slice_get}
+use Rattle.std.proofs.Common.{◌≡◌, ℕ, ◌<◌, ◌%◌, true, ◌++◌, Some, None, length, refl, sym, ap, ◌∙◌, slice_get}
 use Rattle.scc_base.specs.Runs.{Runs}
 use Rattle.groups.specs.Folds.{bytes_in}
 use Rattle.groups.specs.declared.collectives.Coll.{Coll}

@@ -1,10 +1,9 @@
 -- Wherever steps lead from the start of a script that was read, each register of a rank has no bytes, or as many as the
 -- reader reckoned, and so it was wherever the rank stood on its way.
-use Rattle.std.proofs.Common.{◌≡◌, ◌≢◌, ℕ, zero, suc, ◌+◌, ◌<◌, ◌≤◌, ◌%◌, ◌==◌, Bool, true, false, List, [], ◌∷◌, ◌++◌, length, map, reverse, replicate, set, get_or, Option, Some, None, refl, sym, ap, ◌∙◌, subst, arith, slice_get, slice_index_or, ◌⊎◌, inl, inr, ⊎_elim}
-use Rattle.std.specs.List.{range_with_len}
+use Rattle.std.proofs.Common.{◌≡◌, ◌≢◌, ℕ, zero, suc, ◌<◌, ◌≤◌, ◌%◌, Bool, true, false, List, [], length, reverse, replicate, set, get_or, Option, Some, None, refl, sym, ap, ◌∙◌, subst, arith, slice_get, slice_index_or, inl, inr, ⊎_elim}
 use Rattle.std.specs.Option.{option_map}
-use Rattle.std.proofs.lemmas.Bool.{cases_eq, cases_lt, eqb-true}
-use Rattle.std.proofs.lemmas.List.{get_or-replicate, get_or-set_other, get_or-set_same, get_or_past, length-replicate, length-set}
+use Rattle.std.proofs.lemmas.Bool.{cases_eq, cases_lt}
+use Rattle.std.proofs.lemmas.List.{get_or-set_other, get_or-set_same, get_or_past, length-set}
 use Rattle.std.proofs.lemmas.List.FromFn.{length-map-range_with_len}
 use Rattle.std.proofs.lemmas.Option.{same_Some, slice_get_within}
 use Rattle.scc_base.specs.Groups.{is_with}
@@ -21,14 +20,14 @@ use Rattle.script_reader.specs.declared.script.Item.{Item}
 use Rattle.script_reader.specs.declared.script.Stmt.TheVariants as stmt
 use Rattle.script_plain.specs.declared.posts.Posted.{Posted}
 use Rattle.script_plain.specs.Collectives.{gone_through, started}
-use Rattle.script_plain.specs.Local.{local_start, register_at}
+use Rattle.script_plain.specs.Local.{register_at}
 use Rattle.script_plain.specs.Meaning.{IsPlainStep, State, keys_of, next_of, start_of}
 use Rattle.script_plain.specs.Next.{Next, is_at_barrier, past_barrier}
 use Rattle.script_plain.specs.Next.Next.{Ends, Goes, Posts, Sends, Recvs, Bars}
 use Rattle.script_plain.specs.Program.{setup_of}
 use Rattle.script_plain.specs.Step.{Configuration, all_at_barrier, by_rank, next_at, past_if, same_head, slot_at}
 use Rattle.script_plain.proofs.LengthLemmas.{IsEven, Reckons, reckoned}
-use Rattle.script_plain.proofs.LengthPaths.{AreFitting, Fits, Holds, IsSound, SoundNext, fitting_before, sound_next, sound_through}
+use Rattle.script_plain.proofs.LengthPaths.{AreFitting, Holds, IsSound, SoundNext, fitting_before, sound_next, sound_through}
 use Rattle.script_plain.proofs.LengthPrograms.{keeps_items}
 use Rattle.script_plain.proofs.MessageLaws.{cell_other, cell_there, empty_slot, same_heads}
 use Rattle.script_plain.proofs.OwnWayLaws.{stands, start_cell}

@@ -1,5 +1,5 @@
 -- What the statements of a script that was read say of the lengths of a rank's registers.
-use Rattle.std.proofs.Common.{◌≡◌, ◌≢◌, ℕ, ◌<◌, ◌≤◌, ◌%◌, true, List, All, length, reverse, slice_get, Option, Some, None, IfSome, IsSome, refl, subst}
+use Rattle.std.proofs.Common.{◌≡◌, ◌≢◌, ℕ, ◌<◌, ◌≤◌, ◌%◌, true, List, All, length, slice_get, Option, Some, None, IfSome, IsSome, refl, subst}
 use Rattle.std.proofs.lemmas.Option.{get_or_from_slice_get, slice_get_within}
 use Rattle.groups.specs.Folds.{bytes_in}
 use Rattle.groups.specs.declared.operations.Ty.{Ty}
@@ -7,7 +7,6 @@ use Rattle.scc_base.specs.Communicators.{key_of}
 use Rattle.scc_base.specs.Groups.{place_in}
 use Rattle.scc_base.specs.declared.communicators.CommRule.{CommRule}
 use Rattle.script_reader.specs.Acceptance.{IsFitting, IsPostable, IsReadable, IsWholeOf, length_before, length_of}
-use Rattle.script_reader.specs.Checks.{length_at}
 use Rattle.script_reader.specs.Script.{Script, has_rank, rules_of}
 use Rattle.script_reader.specs.Settled.{IsWhole, run_with}
 use Rattle.script_reader.specs.declared.script.Item.{Item}

@@ -1,18 +1,14 @@
 -- The program of a rank keeps the lengths of its registers, where its statements do.
-use Rattle.std.proofs.Common.{◌≡◌, ◌≢◌, ℕ, zero, suc, ◌+◌, ◌-◌, ◌<◌, ◌%◌, ◌==◌, Bool, true, false, cond, List, [], ◌∷◌, ◌++◌, length, map, Option, Some, None, refl, sym, ap, ◌∙◌, subst, slice_get, append_assoc}
-use Rattle.std.specs.List.{range_with_len}
+use Rattle.std.proofs.Common.{◌≡◌, ◌≢◌, ℕ, zero, suc, ◌+◌, ◌-◌, ◌%◌, ◌==◌, Bool, true, false, cond, List, [], ◌∷◌, ◌++◌, map, Option, Some, None, refl, sym, ap, ◌∙◌, subst, slice_get, append_assoc}
 use Rattle.std.specs.Prelude.{pos, slice_index}
 use Rattle.std.proofs.lemmas.Bool.{eqb-true, eqb-false}
 use Rattle.std.proofs.lemmas.List.FromFn.{length-map-range_with_len}
 use Rattle.groups.specs.Collectives.{comm_of, fold_each, head_of, other_steps, others_of, root_place, root_steps, send_each, steps_of}
-use Rattle.groups.specs.Folds.{bytes_of}
 use Rattle.groups.specs.declared.collectives.Coll.{Coll}
 use Rattle.groups.specs.declared.collectives.Coll.TheVariants as coll
 use Rattle.groups.specs.declared.collectives.Step.{Step}
 use Rattle.groups.specs.declared.collectives.Step.TheVariants as step
-use Rattle.groups.specs.declared.operations.Op.{Op}
 use Rattle.groups.specs.declared.operations.Op.TheVariants as op_of
-use Rattle.groups.specs.declared.operations.Ty.{Ty}
 use Rattle.groups.specs.declared.operations.Ty.TheVariants as ty_of
 use Rattle.groups.proofs.FoldLemmas.{bytes_length}
 use Rattle.scc_base.specs.Heads.{MessageHead}
@@ -26,7 +22,7 @@ use Rattle.script_plain.proofs.LengthLemmas.{Reckons}
 use Rattle.script_plain.specs.declared.prims.Nesting.{Nesting}
 use Rattle.script_plain.specs.declared.prims.Nesting.TheVariants as nesting
 use Rattle.script_plain.specs.declared.prims.Operands.{Operands}
-use Rattle.script_plain.specs.Program.{Act, Prim, Unrolled, acts_of, begins, call_steps, can_call, copies, filling, in_front, nesting_at, part_of, parts_of, prims_of, repeated, unrolled}
+use Rattle.script_plain.specs.Program.{Act, Prim, Unrolled, acts_of, begins, call_steps, can_call, copies, in_front, nesting_at, part_of, parts_of, prims_of, repeated, unrolled}
 use Rattle.script_plain.proofs.LengthPaths.{Keeps, folding, gathering}
 use Rattle.script_plain.proofs.ReductionPaths.{fold_operands}
 

@@ -1,7 +1,7 @@
 -- What collective calls give (RCCE specification 2.0: RCCE_bcast, RCCE_reduce, RCCE_allreduce; the order of a fold is
 -- this project's profile). A rank's calls of one kind, communicator and root are counted by their messages: each is one
 -- message between the root and each of the others.
-use Rattle.std.specs.Prelude.{◌≡◌, ◌≢◌, ℕ, ◌<◌, ◌%◌, true, List, [], ◌∷◌, ◌++◌, length, map, Some, slice_get, slice_set}
+use Rattle.std.specs.Prelude.{◌≡◌, ◌≢◌, ℕ, ◌<◌, true, List, [], ◌∷◌, ◌++◌, length, map, Some, slice_get, slice_set}
 use Rattle.std.specs.List.{filter}
 use Rattle.scc_base.specs.Heads.{kind_number}
 use Rattle.scc_base.specs.Setups.{SetupView, IsMemberAt, place_of}

@@ -5,9 +5,7 @@ use Rattle.std.specs.List.{range_with_len}
 use Rattle.std.specs.Option.{option_to_list}
 use Rattle.scc_base.specs.Communicators.{rule_of}
 use Rattle.scc_base.specs.Heads.{MessageHead, plain_head}
-use Rattle.scc_base.specs.Setups.{SetupView, size_of}
-use Rattle.scc_base.specs.declared.communicators.CommRule.{CommRule}
-use Rattle.scc_base.specs.declared.communicators.CommRule.TheVariants as rule
+use Rattle.scc_base.specs.Setups.{SetupView}
 use Rattle.scc_base.specs.declared.layouts.Layout.TheVariants as layout
 use Rattle.groups.specs.declared.collectives.Coll.{Coll}
 use Rattle.groups.specs.declared.collectives.Coll.TheVariants as coll
@@ -25,6 +23,7 @@ use Rattle.script_plain.specs.declared.prims.Nesting.TheVariants as nesting
 use Rattle.script_plain.specs.declared.prims.Operands.{Operands}
 use Rattle.script_plain.specs.declared.prims.Source.{Source}
 use Rattle.script_plain.specs.declared.prims.Source.TheVariants as source
+use Rattle.script_reader.specs.Checks.{has_root, is_absent, parent_of}
 use Rattle.script_reader.specs.declared.script.Form.{Form}
 use Rattle.script_reader.specs.declared.script.Item.{Item}
 use Rattle.script_reader.specs.declared.script.Stmt.{Stmt}
@@ -66,12 +65,6 @@ pub record Prim : Type 0 where
 abbrev pub filling : ℕ → ℕ → List ℕ
 filling len start = map (λ i. (start + i) % 251) (range_with_len 0 len)
 
--- the parent of a split
-abbrev pub parent_of : CommRule → ℕ
-parent_of (rule.Mod parent k) = parent
-parent_of (rule.Div parent k) = parent
-parent_of _ = 0
-
 -- a statement that is one primitive: a barrier is one of its communicator, and a split is one of its parent
 abbrev pub single_of : ℕ → ℕ → Stmt → Option Act
 single_of nue rank (stmt.Bytes reg bytes) = Some (Set reg bytes)
@@ -100,15 +93,6 @@ collective_of (stmt.Reduce comm root op ty dst src) =
 collective_of (stmt.Allreduce comm op ty dst src) =
     Some (record { coll = coll.Allreduce comm 0; operands = record { op = op; ty = ty; dst = dst; src = src; sized = Some src } })
 collective_of _ = None
-
-abbrev pub is_absent : CommRule → Bool
-is_absent rule.Absent = true
-is_absent _ = false
-
-abbrev pub has_root : SetupView → ℕ → Coll → Bool
-has_root s r (coll.Bcast comm root len) = nat_lt root (size_of s comm r)
-has_root s r (coll.Reduce comm root len) = nat_lt root (size_of s comm r)
-has_root s r (coll.Allreduce comm len) = true
 
 -- a collective call that rank r may make. (A script that was read has no others.)
 abbrev pub can_call : SetupView → ℕ → Coll → Bool

@@ -4,7 +4,8 @@ ghost use Rattle.std.specs.Prelude.{◌≡◌, ◌<◌, ◌≤◌, length, slice
 ghost use Rattle.std.specs.Option.{option_map};
 ghost use Rattle.scc_base.specs.Heads.{plain_head};
 ghost use Rattle.script_reader.specs.Script.{IsSized};
-ghost use Rattle.script_plain.specs.Program.{acts_of, call_steps, collective_of, is_begin, nesting_of, parent_of, part_of, parts_of, single_of};
+ghost use Rattle.script_reader.specs.Checks.{parent_of};
+ghost use Rattle.script_plain.specs.Program.{acts_of, call_steps, collective_of, is_begin, nesting_of, part_of, parts_of, single_of};
 ghost use Rattle.script_plain.specs.Walk.{IsShort, act_meant};
 
 use crate::registers::{Register, plain_message};
