@@ -4,6 +4,7 @@ pub mod Next
 pub mod Local
 pub mod Ends
 pub mod Step
+pub mod Paths
 pub mod Meaning
 pub mod Code
 pub mod Barriers
