@@ -10,6 +10,7 @@ pub mod WayLaws
 pub mod BarrierLaws
 pub mod CodeLaws
 pub mod WalkLaws
+pub mod DepthLaws
 pub mod RestLaws
 pub mod MessageLaws
 pub mod CollectivePaths
@@ -19,6 +20,7 @@ pub mod OwnWayLaws
 pub mod LengthLemmas
 pub mod CallableLaws
 pub mod LengthPaths
+pub mod RoomLaws
 pub mod LengthPrograms
 pub mod LengthLaws
 pub mod CollectiveFits

@@ -1,21 +1,35 @@
--- How many bytes a rank's registers and work buffers have, which is known of each point of its program before it runs
--- (this project's profile).
-use Rattle.std.specs.Prelude.{ℕ, List, map, length, Option, Some, None, slice_index_or, slice_set}
+-- How many bytes a rank's registers and work buffers have, and how much it has printed, which is known of each point of its
+-- program before it runs (this project's profile).
+use Rattle.std.specs.Prelude.{ℕ, ◌+◌, List, map, length, slice_index_or, slice_set, sum_by, Option, Some, None}
 use Rattle.scc_base.specs.Heads.{MessageHead}
+use Rattle.script_plain.specs.declared.prims.Printed.{Printed}
 use Rattle.script_plain.specs.declared.prims.Source.{Source}
 use Rattle.script_plain.specs.declared.prims.Source.TheVariants as source
 use Rattle.script_plain.specs.Local.{Local}
 use Rattle.script_plain.specs.Program.{Act}
 use Rattle.script_plain.specs.Program.Act.{Set, Apply, Print, Send, Post, Recv, Gather, Bar, Begin, Fold, Accept, Finish, Pass}
 
--- how many bytes each register, the accumulator and the buffer of received bytes have
+-- how many bytes each register, the accumulator and the buffer of received bytes have, how many items are printed so far,
+-- and how many bytes these have
 pub record Lengths : Type 0 where
   pub registers : List ℕ
   pub accumulator : ℕ
   pub received : ℕ
+  pub items : ℕ
+  pub printed : ℕ
+
+abbrev pub printed_bytes : List Printed → ℕ
+printed_bytes items = sum_by (λ item. length item.bytes) items
 
 abbrev pub lengths_of : Local → Lengths
-lengths_of u = record { registers = map length u.registers; accumulator = length u.accumulator; received = length u.received }
+lengths_of u =
+    record {
+      registers = map length u.registers;
+      accumulator = length u.accumulator;
+      received = length u.received;
+      items = length u.printed;
+      printed = printed_bytes u.printed;
+    }
 
 abbrev pub length_at : Lengths → ℕ → ℕ
 length_at l reg = slice_index_or l.registers reg 0
@@ -37,7 +51,7 @@ with_register l reg len = record l { registers = slice_set l.registers reg len }
 abbrev pub lengths_after : Lengths → Act → Lengths
 lengths_after l (Set reg content) = with_register l reg (length content)
 lengths_after l (Apply op ty dst src) = l
-lengths_after l (Print reg form) = l
+lengths_after l (Print reg form) = record l { items = l.items + 1; printed = l.printed + length_at l reg }
 lengths_after l (Send to head source) = l
 lengths_after l (Post to reg) = l
 lengths_after l (Recv from reg head) = with_register l reg head.len

@@ -13,3 +13,5 @@ pub mod Collectives
 pub mod Moves
 pub mod Lengths
 pub mod Machine
+pub mod Depths
+pub mod Rooms

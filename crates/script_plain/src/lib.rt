@@ -8,9 +8,13 @@ mod ends;
 mod laws;
 #[cfg(test)]
 mod lowest;
+mod machines;
 mod posts;
 mod prims;
+mod prints;
+mod reckoning;
 mod registers;
+mod rooms;
 mod steps;
 #[cfg(test)]
 mod tests;
@@ -25,8 +29,10 @@ pub use laws::{
     barriers_meet, every_order_has_one_end, every_order_is_finite, lowest_owner_steps,
     steps_commute,
 };
+pub use machines::Machine;
 pub use posts::{OnItsWay, Posted};
 pub use prims::{Action, Content, Primitive, Printed, Source, Standing};
+pub use prints::PrintedItem;
 pub use registers::Register;
 pub use steps::plain_run;
 pub use walk::Walk;

@@ -32,7 +32,7 @@ impl<'s> Model for Ue<'s> {
 
     ghost Value = { Local };
 
-    ghost view = { λ u. record { registers = u.contents.items; accumulator = u.folded; received = u.taken; left = u.walk; printed = u.items.items; standing = u.state } };
+    ghost view = { λ u. record { registers = u.contents.items; accumulator = u.folded; received = u.taken; left = u.walk.left; printed = u.items.items; standing = u.state } };
 }
 
 /// A head with another length.
@@ -70,7 +70,7 @@ impl<'s> Ue<'s> {
         ensures { IfOk result (λ u. u ≡ local_start scripts.now rank) }
     {
         Ok(Ue {
-            walk: Walk::new(alloc, scripts, setup, rank)?,
+            walk: Walk::new(alloc, scripts, setup.copy(), rank)?,
             contents: empty_registers(alloc, scripts.registers())?,
             folded: Register::empty(alloc),
             taken: Register::empty(alloc),
@@ -186,7 +186,7 @@ impl<'s> Ue<'s> {
         let Some(prim) = self.prim() else {
             unreachable!()
         };
-        self.walk.advance()?;
+        self.walk.advance();
         match prim.action {
             Action::Set { reg, content } => {
                 let content = Register::new(alloc, &content)?;
@@ -238,7 +238,10 @@ impl<'s> Ue<'s> {
             unreachable!()
         };
         match prim.action {
-            Action::Bar { .. } => self.walk.advance(),
+            Action::Bar { .. } => {
+                self.walk.advance();
+                Ok(())
+            }
             _ => unreachable!(),
         }
     }
@@ -255,7 +258,7 @@ impl<'s> Ue<'s> {
             Action::Post { to, reg } => {
                 let head = self.post_head(*reg);
                 let bytes = self.content(alloc, *reg)?;
-                self.walk.advance()?;
+                self.walk.advance();
                 Ok(Posted {
                     to: *to,
                     head,
@@ -278,7 +281,7 @@ impl<'s> Ue<'s> {
         match prim.action {
             Action::Send { source, .. } => {
                 let bytes = self.source(alloc, source)?;
-                self.walk.advance()?;
+                self.walk.advance();
                 Ok(bytes)
             }
             _ => unreachable!(),
@@ -293,7 +296,7 @@ impl<'s> Ue<'s> {
         let Some(prim) = self.prim() else {
             unreachable!()
         };
-        self.walk.advance()?;
+        self.walk.advance();
         match prim.action {
             Action::Recv { reg, .. } => {
                 self.set(reg, bytes);
