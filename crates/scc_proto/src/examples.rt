@@ -18,7 +18,7 @@ use scc_base::Place;
 pub fn store_then_load<P: Port>(port: &mut P, p: Place, v: u64, q: Place) -> u64
     requires { MayMake (P.sight port.old).seat (record_in (P.sight port.old)) (store_of p v) }
     ensures did { Did (P.sight port.old) (store_of p v ∷ load_of q result ∷ []) (P.sight port.new) }
-    ensures step { P.stepped port.new ((P.sight port.old).events ++ store_of p v ∷ []) (load_of q result) }
+    ensures step { P.stepped (P.sight port.old).seat ((P.sight port.old).events ++ store_of p v ∷ []) (load_of q result) }
 {
     port.store(p, v);
     port.load(q)
