@@ -35,6 +35,7 @@ pub mod PlaceMoves
 pub mod PortLaws
 pub mod QuietMoves
 pub mod RegisterLaw
+pub mod RestLaw
 pub mod Roles
 pub mod SenderLaw
 pub mod SenderMoves

@@ -6,6 +6,7 @@ pub mod Histories
 pub mod IdlePorts
 pub mod LegalExamples
 pub mod Legality
+pub mod Like
 pub mod Lone
 pub mod Memories
 pub mod Messages
@@ -19,6 +20,7 @@ pub mod Records
 pub mod Refusals
 pub mod Permits
 pub mod Registers
+pub mod Resting
 pub mod Singles
 pub mod Soundness
 pub mod Stages

@@ -2,6 +2,7 @@
 
 ghost use Rattle.std.specs.Prelude.{◌≡◌, ◌↔◌, ℕ, ◌<◌, ◌≤◌, true, false, List, ◌++◌, Option, None, is_some, ◌⊎◌, Contains};
 ghost use Rattle.std.specs.Int.{bit_at};
+ghost use Rattle.std.specs.List.{list_all};
 ghost use Rattle.scc_base.specs.declared.events.Event.{Event};
 ghost use Rattle.scc_base.specs.Events.{IsEvent, load_of, store_of, take_of};
 ghost use Rattle.scc_base.specs.Heads.{MessageHead, IsHead, IsPostHead};
@@ -9,7 +10,9 @@ ghost use Rattle.scc_base.specs.Places.{WordAt, IsPlace};
 ghost use Rattle.scc_base.specs.Setups.{SetupView, IsSetup, setup_key};
 ghost use Rattle.scc_proto.specs.Stages.{Record, Idle, blank};
 ghost use Rattle.scc_proto.specs.Words.{Memory, zeros, IsStep, memory_after, RankEvent, IsRun, HeapWord, IdleWord, SentFlags, ReadyFlags, are_peers, role_of, word_at};
-ghost use Rattle.scc_proto.specs.Records.{IsPermitted, IsHonest, record_after, record_of};
+ghost use Rattle.scc_proto.specs.Records.{IsPermitted, IsHonest, record_after, record_from, record_of};
+ghost use Rattle.scc_proto.specs.Like.{Like};
+ghost use Rattle.scc_proto.specs.Resting.{is_resting};
 ghost use Rattle.scc_proto.specs.Tables.{put};
 ghost use Rattle.scc_proto.specs.Histories.{records_of, memory_from, IsPermittedRun};
 ghost use Rattle.scc_proto.specs.Passed.{IsPassed, open_call, passed_calls, slot_of};
@@ -99,6 +102,19 @@ pub fn flags_law()
         → Agrees s one records → Agrees s other records → SameFlagWords s (view_of s one) (view_of s other) }
     ensures registers { (s : SetupView) (one other : Memory) (records : ℕ → Record)
         → Agrees s one records → Agrees s other records → (core : ℕ) → one.register core ≡ other.register core }
+{}
+
+/// Records that are alike tell the same flags.
+pub fn likeness_law()
+    ensures flags { (s : SetupView) (one other : Memory) (records recs : ℕ → Record)
+        → Agrees s one records → Agrees s other recs → ((k : ℕ) → Like (records k) (recs k)) → SameFlagWords s (view_of s one) (view_of s other) }
+{}
+
+/// Looks are never undone: where a list of events that store nothing leaves a record alike, each front of it does.
+pub fn resting_law()
+    ensures law { (s : SetupView) (me : ℕ) (rec : Record) (before rest : List Event)
+        → list_all is_resting before ≡ true → list_all is_resting rest ≡ true
+        → Like rec (record_from s me rec (before ++ rest)) → Like rec (record_from s me rec before) }
 {}
 
 /// The law of agreement. Words and records agree at the start; where they agree, and an event is a step of
