@@ -10,7 +10,7 @@ use write_combine::Combiner;
 /// What a core has for itself between it and the shared words.
 ///
 /// It is seen as the lines in its cache, the line in its write-combining buffer, the number of lines that
-/// its evictor had dropped, and what its evictor answers now. Reads go through the cache: what it holds may be old until `cl1invmb`.
+/// its evictor had dropped, how often its evictor was asked, and what that answers now. Reads go through the cache: what it holds may be old until `cl1invmb`.
 /// Writes wait in the buffer until another line is written or `flush`.
 #[derive(Drop)]
 pub struct Core<V: Evict> {
@@ -20,7 +20,7 @@ pub struct Core<V: Evict> {
 }
 
 impl<V: Evict> Model for Core<V> {
-    ghost use Rattle.put_get.specs.Cores.{Private};
+    ghost use Rattle.put_get.specs.Cores.{Private, IsCore};
 
     ghost Value = { Private };
 
@@ -28,8 +28,11 @@ impl<V: Evict> Model for Core<V> {
       lines = s.cache;
       out = s.combiner;
       evictions = V.count s.evict;
+      asked = V.asked s.evict;
       answers = V.answers s.evict;
     } };
+
+    ghost invariant = { λ s. IsCore s.cache s.combiner };
 }
 
 impl<V: Evict> Core<V> {
@@ -40,7 +43,7 @@ impl<V: Evict> Core<V> {
     ghost use Rattle.line_cache.specs.Lines.{held};
     ghost use Rattle.write_combine.specs.Combining.{handed_out};
     ghost use Rattle.put_get.specs.Accesses.{stores_of};
-    ghost use Rattle.put_get.specs.Cores.{Private, Fills, Fetch, ReadsWord, ReadsLine, Writes, WritesLine, Flushes, MadeSteps};
+    ghost use Rattle.put_get.specs.Cores.{Private, IsCore, Fills, Fetch, ReadsWord, ReadsLine, Writes, WritesLine, Flushes, MadeSteps};
 
     /// A core that holds nothing.
     pub fn new(evict: V) -> Core<V>
@@ -48,6 +51,7 @@ impl<V: Evict> Core<V> {
           lines = [];
           out = None;
           evictions = V.count evict;
+          asked = V.asked evict;
           answers = V.answers evict;
         } }
     {
@@ -60,7 +64,8 @@ impl<V: Evict> Core<V> {
 
     /// Whether the write-combining buffer holds nothing, as reads, put and get ask for.
     pub fn is_flushed(&self) -> bool
-        ensures { IsTrue result ↔ (self.now.out ≡ None) }
+        ensures empty { IsTrue result ↔ (self.now.out ≡ None) }
+        ensures valid { IsCore self.now.lines self.now.out }
     {
         self.combiner.is_empty()
     }

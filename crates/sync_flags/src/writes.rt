@@ -1,6 +1,6 @@
 //! Writes of flags.
 
-ghost use Rattle.std.specs.Prelude.{◌≡◌, ◌<◌, ◌≤◌, ◌↔◌, ℕ, List, [], ◌∷◌, None, Some, IsErr, is_some, false};
+ghost use Rattle.std.specs.Prelude.{◌≡◌, ◌<◌, ◌≤◌, ◌↔◌, ℕ, List, [], ◌∷◌, None, Some, IsErr, IfSome, is_some, false};
 ghost use Rattle.scc_base.specs.Events.{store_of, take_of};
 ghost use Rattle.scc_base.specs.declared.events.Event.{Event};
 ghost use Rattle.scc_proto.specs.Ports.{Did, MayMake, record_in};
@@ -83,6 +83,7 @@ pub fn try_change_bit<V: Evict, P: Port>(
     requires empty { core.old.out ≡ None }
     requires permitted { MayWrite (P.sight port.old).seat (record_in (P.sight port.old)) place (Some bit) set }
     ensures tries { TriesChange (P.sight port.old) core.old place bit set result (P.sight port.new) core.new }
+    ensures freed { IsNotHolding (record_in (P.sight port.new)) place.core }
     ensures empty { core.new.out ≡ None }
     ensures steps { result ≡ false → MadeSteps P.stepped (P.sight port.old) (P.sight port.new) }
 {
@@ -111,6 +112,7 @@ fn write_bit<V: Evict, P: Port>(
     requires some { 1 ≤ polls }
     requires permitted { MayWrite (P.sight port.old).seat (record_in (P.sight port.old)) place (Some bit) set }
     ensures writes { WritesFlag (P.sight port.old) core.old place (Some bit) set polls (P.sight port.new) core.new result }
+    ensures freed { IsNotHolding (record_in (P.sight port.new)) place.core }
     ensures empty { core.new.out ≡ None }
 {
     let register = place.core();
@@ -142,6 +144,7 @@ pub fn flag_write<V: Evict, P: Port>(
     requires some { 1 ≤ polls }
     requires permitted { MayWrite (P.sight port.old).seat (record_in (P.sight port.old)) (flag_of (P.sight port.old).seat.setup at f) f.bit set }
     ensures writes { WritesFlag (P.sight port.old) core.old (flag_of (P.sight port.old).seat.setup at f) f.bit set polls (P.sight port.new) core.new result }
+    ensures freed { IfSome f.bit (λ b. IsNotHolding (record_in (P.sight port.new)) (flag_of (P.sight port.old).seat.setup at f).core) }
     ensures stalls { (events : List Event) → Did (P.sight port.old) events (P.sight port.new) → (IsErr result
         ↔ TriedInVain (AtRegister (flag_of (P.sight port.old).seat.setup at f).core) polls events) }
     ensures empty { core.new.out ≡ None }

@@ -56,6 +56,8 @@ pub fn release<P: Port>(port: &mut P, held: Held)
     requires held { IsHolding (record_in (P.sight port.old)) held }
     ensures frees { Did (P.sight port.old) (free_of held ∷ []) (P.sight port.new) }
     ensures holds { record_in (P.sight port.new) ≡ after_release held (record_in (P.sight port.old)) }
+    ensures step { P.stepped (P.sight port.old).seat (P.sight port.old).events (free_of held) }
+    ensures freed { IsNotHolding (record_in (P.sight port.new)) held }
 {
     let Held { core } = held;
     port.free(core);
