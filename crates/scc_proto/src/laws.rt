@@ -1,6 +1,6 @@
 //! Laws of legal lists of calls, and of words and records, each a function whose contract is the law.
 
-ghost use Rattle.std.specs.Prelude.{◌≡◌, ◌↔◌, ℕ, ◌<◌, ◌≤◌, true, false, List, ◌++◌, Option, None, is_some, ◌⊎◌, Contains};
+ghost use Rattle.std.specs.Prelude.{◌≡◌, ◌↔◌, ℕ, ◌<◌, ◌≤◌, true, false, List, ◌++◌, Option, None, is_some, ◌⊎◌, Contains, All};
 ghost use Rattle.std.specs.Int.{bit_at};
 ghost use Rattle.std.specs.List.{list_all};
 ghost use Rattle.scc_base.specs.declared.events.Event.{Event};
@@ -17,6 +17,7 @@ ghost use Rattle.scc_proto.specs.Tables.{put};
 ghost use Rattle.scc_proto.specs.Histories.{records_of, memory_from, IsPermittedRun};
 ghost use Rattle.scc_proto.specs.Passed.{IsPassed, open_call, passed_calls, slot_of};
 ghost use Rattle.scc_proto.specs.Views.{view_of, SameFlagWords};
+ghost use Rattle.scc_proto.specs.Singles.{IsMade};
 ghost use Rattle.scc_proto.specs.Soundness.{IsSound};
 ghost use Rattle.scc_proto.specs.PairMessages.{PairMessages};
 ghost use Rattle.scc_proto.specs.Agreement.{Agrees};
@@ -146,6 +147,12 @@ pub fn heap_law()
 pub fn open_call_law()
     ensures passed { (s : SetupView) (records : ℕ → Record) (me : ℕ) → IsPassed (records me).calls (open_call s (records me)) (passed_calls s records me) }
     ensures idle { (s : SetupView) (rec : Record) → rec.stage ≡ Idle → open_call s rec ≡ None }
+{}
+
+/// Each finished call of a rank is one that it can make, with all its bytes.
+pub fn calls_law()
+    ensures law { (s : SetupView) (memory : Memory) (records : ℕ → Record) (me : ℕ)
+        → Agrees s memory records → me < s.nue → All (IsMade s me) (records me).calls }
 {}
 
 /// The test of a head says what a head is.
