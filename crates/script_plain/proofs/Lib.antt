@@ -31,3 +31,4 @@ pub mod FoundCalls
 pub mod CountLaws
 pub mod OthersCame
 pub mod CollectiveLaws
+pub mod CameDid

@@ -23,7 +23,7 @@ pub use collective_laws::{
 pub use ends::{End, UeEnd};
 pub use laws::{
     barriers_meet, every_order_has_one_end, every_order_is_finite, lowest_owner_steps,
-    steps_commute,
+    steps_commute, ways_tell_calls,
 };
 pub use posts::{OnItsWay, Posted};
 pub use prims::{Action, Content, Primitive, Printed, Source, Standing};
