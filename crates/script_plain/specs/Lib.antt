@@ -9,4 +9,5 @@ pub mod Meaning
 pub mod Code
 pub mod Barriers
 pub mod Messages
+pub mod Matches
 pub mod Collectives
