@@ -12,6 +12,7 @@ pub mod CodeLaws
 pub mod WalkLaws
 pub mod RestLaws
 pub mod MessageLaws
+pub mod MatchLaws
 pub mod CollectivePaths
 pub mod CollectiveGroups
 pub mod ReductionPaths

@@ -8,6 +8,9 @@ mod ends;
 mod laws;
 #[cfg(test)]
 mod lowest;
+#[cfg(test)]
+mod match_tests;
+mod matches;
 mod posts;
 mod prims;
 mod registers;
@@ -25,6 +28,7 @@ pub use laws::{
     barriers_meet, every_order_has_one_end, every_order_is_finite, lowest_owner_steps,
     steps_commute, ways_tell_calls,
 };
+pub use matches::{Match, Matches, plain_matches};
 pub use posts::{OnItsWay, Posted};
 pub use prims::{Action, Content, Primitive, Printed, Source, Standing};
 pub use registers::Register;
