@@ -31,3 +31,6 @@ pub mod FoundCalls
 pub mod CountLaws
 pub mod OthersCame
 pub mod CollectiveLaws
+pub mod AimLemmas
+pub mod SaneLemmas
+pub mod ReadyLemmas

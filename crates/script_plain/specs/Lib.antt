@@ -10,3 +10,4 @@ pub mod Code
 pub mod Barriers
 pub mod Messages
 pub mod Collectives
+pub mod Ready
