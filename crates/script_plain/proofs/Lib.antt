@@ -33,3 +33,6 @@ pub mod CountLaws
 pub mod OthersCame
 pub mod CollectiveLaws
 pub mod CameDid
+pub mod AimLemmas
+pub mod SaneLemmas
+pub mod ReadyLemmas

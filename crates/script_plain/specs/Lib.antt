@@ -14,3 +14,4 @@ pub mod Collectives
 pub mod Moves
 pub mod Lengths
 pub mod Machine
+pub mod Ready
