@@ -11,6 +11,7 @@ pub mod GatherFacts
 pub mod GroupLaw
 pub mod Growth
 pub mod HeapLaw
+pub mod WordFacts
 pub mod HistoryWalks
 pub mod HonestLaw
 pub mod IdleLaws

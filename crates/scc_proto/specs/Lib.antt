@@ -18,6 +18,7 @@ pub mod Permission
 pub mod Ports
 pub mod Records
 pub mod Refusals
+pub mod Permits
 pub mod Registers
 pub mod Resting
 pub mod Singles
