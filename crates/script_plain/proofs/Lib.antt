@@ -32,3 +32,6 @@ pub mod FoundCalls
 pub mod CountLaws
 pub mod OthersCame
 pub mod CollectiveLaws
+pub mod AimLemmas
+pub mod SaneLemmas
+pub mod ReadyLemmas

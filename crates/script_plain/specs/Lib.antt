@@ -11,3 +11,4 @@ pub mod Barriers
 pub mod Messages
 pub mod Matches
 pub mod Collectives
+pub mod Ready

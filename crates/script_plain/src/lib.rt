@@ -3,6 +3,7 @@
 #![tactic(auto)]
 
 mod barriers;
+mod call_laws;
 mod collective_laws;
 mod ends;
 mod laws;
@@ -20,6 +21,7 @@ mod tests;
 mod ues;
 mod walk;
 
+pub use call_laws::calls_can_be_made;
 pub use collective_laws::{
     broadcasts_arrive, messages_arrive_as_sent, ranks_go_their_own_ways, reductions_fold,
 };
