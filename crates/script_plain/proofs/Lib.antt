@@ -35,3 +35,5 @@ pub mod CollectiveLaws
 pub mod AimLemmas
 pub mod SaneLemmas
 pub mod ReadyLemmas
+pub mod KeptLaws
+pub mod HeldUpLaws

@@ -10,5 +10,6 @@ pub mod Code
 pub mod Barriers
 pub mod Messages
 pub mod Matches
+pub mod HeldUp
 pub mod Collectives
 pub mod Ready
