@@ -22,6 +22,7 @@ mod tests;
 mod ues;
 mod walk;
 
+pub use barriers::{is_with, setup_of};
 pub use call_laws::calls_can_be_made;
 pub use collective_laws::{
     broadcasts_arrive, messages_arrive_as_sent, ranks_go_their_own_ways, reductions_fold,
