@@ -36,3 +36,5 @@ pub mod CameDid
 pub mod AimLemmas
 pub mod SaneLemmas
 pub mod ReadyLemmas
+pub mod KeptLaws
+pub mod HeldUpLaws

@@ -10,6 +10,7 @@ pub mod Code
 pub mod Barriers
 pub mod Messages
 pub mod Matches
+pub mod HeldUp
 pub mod Collectives
 pub mod Moves
 pub mod Lengths

@@ -6,6 +6,7 @@ mod barriers;
 mod call_laws;
 mod collective_laws;
 mod ends;
+mod held_laws;
 mod laws;
 #[cfg(test)]
 mod lowest;
@@ -21,11 +22,13 @@ mod tests;
 mod ues;
 mod walk;
 
+pub use barriers::{is_with, setup_of};
 pub use call_laws::calls_can_be_made;
 pub use collective_laws::{
     broadcasts_arrive, messages_arrive_as_sent, ranks_go_their_own_ways, reductions_fold,
 };
 pub use ends::{End, UeEnd};
+pub use held_laws::ends_are_explained;
 pub use laws::{
     barriers_meet, every_order_has_one_end, every_order_is_finite, lowest_owner_steps,
     steps_commute, ways_tell_calls,
