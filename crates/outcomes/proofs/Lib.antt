@@ -1,0 +1,3 @@
+pub mod ComplaintLemmas
+pub mod DeliveryLemmas
+pub mod PromiseLemmas
