@@ -1,5 +1,5 @@
 -- What the sinks took of an outcome's texts.
-use Rattle.std.proofs.Common.{◌≡◌, ◌⊎◌, ℕ, ◌<◌, true, false, List, [], refl, sym, ap, subst, ◌∙◌, inl, inr, arith, Result, Ok, Err}
+use Rattle.std.proofs.Common.{◌≡◌, ◌⊎◌, ℕ, ◌<◌, ◌≤◌, true, false, List, [], refl, sym, ap, subst, ◌∙◌, inl, inr, arith, Result, Ok, Err}
 use Rattle.std.proofs.lemmas.Bool.{false≢true}
 use Rattle.std.proofs.lemmas.List.{append-nil}
 use Rattle.std.specs.Result.{IsErr}
@@ -45,7 +45,28 @@ cut_rose text before after cut = omega (arith, cut_fault text before after cut)
 whole_still : (text : List ℕ) (before after : SinkView) → after ≡ with_text text before → before.faults < after.faults → ⊥
 whole_still text before after taken rose = let same = ap (λ (s : SinkView). s.faults) taken in omega (arith, rose, same)
 
+whole_later : (text : List ℕ) (before after : SinkView) → after ≡ with_text text before → before.faults ≤ after.faults
+whole_later text before after taken = let same = ap (λ (s : SinkView). s.faults) taken in omega (arith, same)
+
+cut_later : (text : List ℕ) (before after : SinkView) → CutShort text before after → before.faults ≤ after.faults
+cut_later text before after cut = omega (arith, cut_fault text before after cut)
+
+still_later : (before after : SinkView) → after ≡ before → before.faults ≤ after.faults
+still_later before after same = let count = ap (λ (s : SinkView). s.faults) same in omega (arith, count)
+
 module _ (o : Outcome) (before after : Sinks) (s : Status) where
+  -- no count falls
+  pub later_of : Delivers o before after s → (before.out.faults ≤ after.out.faults) × (before.err.faults ≤ after.err.faults)
+  later_of (inl shown) = (
+    whole_later o.out before.out after.out (ap (λ (x : Sinks). x.out) shown.1),
+    whole_later o.err before.err after.err (ap (λ (x : Sinks). x.err) shown.1),
+  )
+  later_of (inr short) =
+      elim short.1 [
+        | inl cut ↦ (cut_later o.out before.out after.out cut.0, still_later before.err after.err cut.1)
+        | inr cut ↦ (whole_later o.out before.out after.out cut.0, cut_later o.err before.err after.err cut.1)
+      ]
+
   -- with no failed write the texts were taken whole
   pub shows_steady : AreSteady before after → Delivers o before after s → Shows o before after s
   shows_steady steady (inl shown) = record { same_status = shown.0; texts = shown.1 }

@@ -2,7 +2,7 @@
 use Rattle.std.proofs.Common.{◌≡◌, ◌⊎◌, ℕ, ◌+◌, ◌<◌, ◌≤◌, Bool, true, false, List, [], length, take, refl, sym, ap, subst, ◌∙◌, inl, inr, arith, length-take, Option, Some, None, IfSome, Result, Ok, Err}
 use Rattle.std.proofs.lemmas.Bool.{lt-ltb, ltb-true, ltb-false}
 use Rattle.std.proofs.lemmas.List.{take_all}
-use Rattle.std.specs.Prelude.{nat_lt}
+use Rattle.std.specs.Prelude.{codes, nat_lt}
 use Rattle.std.specs.Result.{IsErr, IsOk}
 use Rattle.rcce_io.specs.declared.reading.ReadEnd.{ReadEnd}
 use Rattle.rcce_io.specs.declared.reading.ReadEnd.TheVariants as ends
@@ -18,7 +18,7 @@ use Rattle.outcomes.specs.Plans.Plan.{Runs, Refuses, Reads}
 use Rattle.outcomes.specs.Coming.{ByTest, LeadsOn, Comes, IsMeant, Holds, Asks, IsAsked}
 use Rattle.outcomes.specs.Delivery.{Sinks, Delivers, Shows}
 use Rattle.outcomes.specs.Promises.{EndsWith, EndsAsMeant, Promises}
-use Rattle.outcomes.proofs.DeliveryLemmas.{rose_not_steady, shows_steady, shows_or_write, shows_unless_write, status_of_end, rose_by_write, write_out_of, write_err_of, quiet_of, fronts_of, shown_or}
+use Rattle.outcomes.proofs.DeliveryLemmas.{rose_not_steady, shows_steady, shows_or_write, shows_unless_write, status_of_end, rose_by_write, write_out_of, write_err_of, quiet_of, fronts_of, later_of, shown_or}
 
 -- facts about told files
 told_all : {P : List NamedFile → Type 0} (told : Option (List NamedFile)) → ((files : List NamedFile) → P files) → IfSome told P
@@ -138,7 +138,7 @@ module _ (program file : List ℕ) (limit : ℕ) (next : List ℕ → Plan) wher
       IfSome told (λ files. (whole : List ℕ) × (contents_of file files ≡ Some whole) × (bytes ≡ take (limit + 1) whole)) →
       Fate program (Reads file limit next) told count after_count (too_long program file)
   fate_long told count after_count bytes same long given =
-      fate_still program (Reads file limit next) told count after_count (too_long program file) same (refused_judged program file 0 _)
+      fate_still program (Reads file limit next) told count after_count (too_long program file) same (refused_judged program file 0 (codes "TooLong"))
       (told_more told (λ files whole. inl (sym (
       read_contents files (Some whole.0) whole.1
       ∙ long_contents (λ b. plan_outcome program (next b) files) whole.0 (long_front whole.0 bytes whole.2 long)))) given)
@@ -210,6 +210,64 @@ fate_of program (Refuses file line kind) before after o came =
 fate_of program (Reads file limit next) before after o came =
     fate_answer program file limit next before came.0 after o came.1 (λ bytes on. fate_of program (next bytes) came.0 after o on) came.2 came.3
 
+-- what is told of files stays, and their count of faults does not fall
+record IsKept (before after : FilesView) : Type 0 where
+  told : after.told ≡ before.told
+  later : before.faults ≤ after.faults
+
+kept_same : (before after : FilesView) → after ≡ before → IsKept before after
+kept_same before after same = record {
+  told = ap (λ (f : FilesView). f.told) same;
+  later = let count = ap (λ (f : FilesView). f.faults) same in omega (arith, count);
+}
+
+kept_then : (before between after : FilesView) → IsKept before between → IsKept between after → IsKept before after
+kept_then before between after first second = record { told = second.told ∙ first.told; later = omega (arith, first.later, second.later) }
+
+kept_read : (file : List ℕ) (limit : ℕ) (before between : FilesView) (answer : Result (List ℕ) ReadEnd) → ReadsAll file limit before between answer →
+    IsKept before between
+kept_read file limit before between (Ok bytes) reads = record {
+  told = ap (λ (f : FilesView). f.told) reads.0;
+  later = let count = ap (λ (f : FilesView). f.faults) reads.0 in omega (arith, count);
+}
+kept_read file limit before between (Err ends.Absent) reads = record {
+  told = ap (λ (f : FilesView). f.told) reads.0;
+  later = let count = ap (λ (f : FilesView). f.faults) reads.0 in omega (arith, count);
+}
+kept_read file limit before between (Err ends.Failed) reads = record {
+  told = ap (λ (f : FilesView). f.told) reads;
+  later = let count = ap (λ (f : FilesView). f.faults) reads in omega (arith, count);
+}
+kept_read file limit before between (Err ends.Memory) reads = record {
+  told = ap (λ (f : FilesView). f.told) reads;
+  later = let count = ap (λ (f : FilesView). f.faults) reads in omega (arith, count);
+}
+
+kept_bytes : (long : Bool) (between after : FilesView) (P Q : Type 0) → (P → IsKept between after) → (Q → IsKept between after) → ByTest long P Q → IsKept between after
+kept_bytes true between after P Q first second given = first given
+kept_bytes false between after P Q first second given = second given
+
+kept_leads : (program file : List ℕ) (limit : ℕ) (on : List ℕ → Type 0) (between after : FilesView) (o : Outcome) (answer : Result (List ℕ) ReadEnd) →
+    ((bytes : List ℕ) → on bytes → IsKept between after) → LeadsOn program file limit on between after o answer → IsKept between after
+kept_leads program file limit on between after o (Ok bytes) hence leads =
+    kept_bytes (nat_lt limit (length bytes)) between after ((after ≡ between) × (o ≡ too_long program file)) (on bytes)
+    (λ long. kept_same between after long.0) (hence bytes) leads
+kept_leads program file limit on between after o (Err ends.Absent) hence leads = kept_same between after leads.0
+kept_leads program file limit on between after o (Err ends.Failed) hence leads = kept_same between after leads.0
+kept_leads program file limit on between after o (Err ends.Memory) hence leads = kept_same between after leads.0
+
+kept_of : (program : List ℕ) (plan : Plan) (before after : FilesView) (o : Outcome) → Comes program plan before after o → IsKept before after
+kept_of program (Runs ran) before after o came = kept_same before after came.0
+kept_of program (Refuses file line kind) before after o came = kept_same before after came.0
+kept_of program (Reads file limit next) before after o came =
+    kept_then before came.0 after (kept_read file limit before came.0 came.1 came.2)
+    (kept_leads program file limit (λ bytes. Comes program (next bytes) came.0 after o) came.0 after o came.1
+    (λ bytes on. kept_of program (next bytes) came.0 after o on) came.3)
+
+words_kept : (program : List ℕ) (asked : Result Plan (List ℕ)) (before after : FilesView) (o : Outcome) → IsMeant program asked before after o → IsKept before after
+words_kept program (Err text) before after o meant = kept_same before after meant.0
+words_kept program (Ok plan) before after o meant = kept_of program plan before after o meant
+
 -- what is true of the outcome of words
 record WordsFate (program : List ℕ) (asked : Result Plan (List ℕ)) (told : Option (List NamedFile)) (count after_count : ℕ) (o : Outcome) : Type 0 where
   exact : IfSome told (λ files. IsSteady count after_count → (o ≡ words_outcome program asked files) ⊎ (o ≡ no_memory program))
@@ -266,6 +324,8 @@ module _ (program : Program) (words : List (List ℕ)) (files files_after : File
   promises_of o meant delivered =
       let fate = words_fate program.name (program.plan words) files files_after o meant in
       let fronts = fronts_of o before after s delivered in
+      let kept = words_kept program.name (program.plan words) files files_after o meant in
+      let sinks_later = later_of o before after s delivered in
       record {
         output = told_more files.told (λ told given steady sinks_steady.
             shown_or o before after s program.name _ (shows_steady o before after s sinks_steady delivered) (given steady)) fate.exact;
@@ -286,6 +346,8 @@ module _ (program : Program) (words : List (List ℕ)) (files files_after : File
         quiet = quiet_of o before after s fate.quiet delivered;
         fronts = (o, meant, fronts.0, fronts.1);
         whole = λ other. (o, meant, shows_unless_write o before after s other delivered);
+        told = kept.told;
+        later = (kept.later, sinks_later.0, sinks_later.1);
         ends = (o, meant, delivered);
       }
 

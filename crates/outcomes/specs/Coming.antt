@@ -10,8 +10,8 @@ use Rattle.outcomes.specs.Plans.Plan.{Runs, Refuses, Reads}
 
 -- the first fact where a test is true, the second where it is false
 abbrev pub ByTest : Bool → Type 0 → Type 0 → Type 0
-ByTest true yes no = yes
-ByTest false yes no = no
+ByTest true first second = first
+ByTest false first second = second
 
 -- what the answer of a reading leads to: the outcome that it stands for, with no further call on the files, or what the
 -- bytes lead to

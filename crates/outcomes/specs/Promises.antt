@@ -1,5 +1,5 @@
 -- What every program promises (this project's profile).
-use Rattle.std.specs.Prelude.{◌≡◌, ◌⊎◌, ◌<◌, ℕ, true, List, IfSome, IsOk, IsErr, Ok, Err}
+use Rattle.std.specs.Prelude.{◌≡◌, ◌⊎◌, ◌<◌, ◌≤◌, ℕ, true, List, IfSome, IsOk, IsErr, Ok, Err}
 use Rattle.rcce_io.specs.Faults.{IsSteady, Rose}
 use Rattle.rcce_io.specs.Files.{FilesView}
 use Rattle.outcomes.specs.declared.status.Status.{Status}
@@ -46,5 +46,8 @@ pub record Promises (program : Program) (words : List (List ℕ)) (files files_a
   -- each sink took a front of its text, and with any status but that of a failed write both took theirs whole
   pub fronts : (o : Outcome) × IsMeant program.name (program.plan words) files files_after o × TakesFront o.out before.out after.out × TakesFront o.err before.err after.err
   pub whole : (s ≡ status.Write → ⊥) → (o : Outcome) × IsMeant program.name (program.plan words) files files_after o × Shows o before after s
+  -- what is told of the files stays, and no count of faults falls
+  pub told : files_after.told ≡ files.told
+  pub later : (files.faults ≤ files_after.faults) × (before.out.faults ≤ after.out.faults) × (before.err.faults ≤ after.err.faults)
   -- all of it at once: nothing was written or read behind a failed call
   pub ends : EndsAsMeant program words files files_after before after s

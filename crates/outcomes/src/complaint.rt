@@ -57,10 +57,10 @@ impl<'a> Complaint<'a> {
     }
 
     /// Writes the program's one line of it.
-    pub fn write<S: Sink>(&self, program: &str, sink: &mut S) -> Result<(), WriteFault>
+    pub fn write<S: Sink>(&self, program: &'a str, sink: &mut S) -> Result<(), WriteFault>
         ensures { Sends (complaint_outcome program.now self.now).err (S.seen sink.old) (S.seen sink.new) result }
     {
-        match self {
+        match *self {
             Complaint::Words {
                 fault,
                 word,
@@ -99,7 +99,7 @@ impl<'a> Complaint<'a> {
                     Text(": "),
                     Text(file),
                     Text(" line "),
-                    Number(*line),
+                    Number(line),
                     Text(": "),
                     Text(kind),
                     Text("\n"),

@@ -10,9 +10,9 @@ use rcce_io::{Sink, WriteFault};
 
 /// Writes the texts of a report or of a complaint, first out's and then err's, and answers how the program ends. Nothing
 /// is written behind a failed write.
-pub fn deliver<R: Report, O: Sink, E: Sink>(
-    program: &str,
-    ending: &Result<R, Complaint>,
+pub fn deliver<'a, R: Report, O: Sink, E: Sink>(
+    program: &'a str,
+    ending: &Result<R, Complaint<'a>>,
     out: &mut O,
     err: &mut E,
 ) -> Status
@@ -40,9 +40,9 @@ fn status<R: Report>(ending: &Result<R, Complaint>) -> Status
     }
 }
 
-fn write_ending<R: Report, O: Sink, E: Sink>(
-    program: &str,
-    ending: &Result<R, Complaint>,
+fn write_ending<'a, R: Report, O: Sink, E: Sink>(
+    program: &'a str,
+    ending: &Result<R, Complaint<'a>>,
     out: &mut O,
     err: &mut E,
 ) -> Result<(), WriteFault>
