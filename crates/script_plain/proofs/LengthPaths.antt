@@ -172,7 +172,7 @@ module _ (had : ℕ → Option ℕ) (u : Local) (fits : Fits had u) where
   fits_standing standing.Running = fits_left u.left refl
   fits_standing (standing.Mismatched line from sent asked) = tt
 
-  fits_next : FitsNext had (local_next u)
+  pub fits_next : FitsNext had (local_next u)
   unfolding local_next
   fits_next = fits_standing u.standing
 

@@ -13,6 +13,7 @@ pub mod WalkLaws
 pub mod DepthLaws
 pub mod RestLaws
 pub mod MessageLaws
+pub mod MatchLaws
 pub mod CollectivePaths
 pub mod CollectiveGroups
 pub mod ReductionPaths
@@ -33,3 +34,9 @@ pub mod FoundCalls
 pub mod CountLaws
 pub mod OthersCame
 pub mod CollectiveLaws
+pub mod CameDid
+pub mod AimLemmas
+pub mod SaneLemmas
+pub mod ReadyLemmas
+pub mod KeptLaws
+pub mod HeldUpLaws
