@@ -12,6 +12,7 @@ pub mod CodeLaws
 pub mod WalkLaws
 pub mod RestLaws
 pub mod MessageLaws
+pub mod MatchLaws
 pub mod CollectivePaths
 pub mod CollectiveGroups
 pub mod ReductionPaths
@@ -31,3 +32,7 @@ pub mod FoundCalls
 pub mod CountLaws
 pub mod OthersCame
 pub mod CollectiveLaws
+pub mod CameDid
+pub mod AimLemmas
+pub mod SaneLemmas
+pub mod ReadyLemmas

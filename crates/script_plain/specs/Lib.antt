@@ -9,4 +9,9 @@ pub mod Meaning
 pub mod Code
 pub mod Barriers
 pub mod Messages
+pub mod Matches
 pub mod Collectives
+pub mod Moves
+pub mod Lengths
+pub mod Machine
+pub mod Ready

@@ -54,6 +54,7 @@ impl<'s> Ue<'s> {
     ghost use Rattle.script_plain.specs.Next.Next.{Goes};
     ghost use Rattle.scc_base.specs.Heads.{plain_head};
     ghost use Rattle.script_reader.specs.Script.{rules_of};
+    ghost use Rattle.script_plain.specs.Matches.{line_of};
     ghost use Rattle.script_plain.specs.Walk.{IsShort, prim_meant};
     ghost use Rattle.script_plain.specs.Code.{IsAtPost, IsAtReceive, IsAtSend, HasPosted, HasRefused, HasSent, HasTaken, printing};
 
@@ -87,6 +88,16 @@ impl<'s> Ue<'s> {
         match &self.state {
             Standing::Running => self.walk.front(),
             Standing::Mismatched { .. } => None,
+        }
+    }
+
+    /// The line of the statement at which the rank stands.
+    pub fn line(&self) -> u32
+        ensures { result ≡ line_of self.now }
+    {
+        match self.prim() {
+            Some(prim) => prim.line,
+            None => 0,
         }
     }
 
