@@ -1,5 +1,5 @@
 -- What the sinks took of an outcome's texts.
-use Rattle.std.proofs.Common.{◌≡◌, ◌⊎◌, ℕ, ◌<◌, ◌≤◌, true, false, List, [], refl, sym, ap, subst, ◌∙◌, inl, inr, arith, Result, Ok, Err}
+use Rattle.std.proofs.Common.{◌≡◌, ◌⊎◌, ℕ, ◌<◌, ◌≤◌, true, List, [], refl, sym, ap, subst, ◌∙◌, inl, inr, arith, Result, Ok, Err}
 use Rattle.std.proofs.lemmas.Bool.{false≢true}
 use Rattle.std.proofs.lemmas.List.{append-nil}
 use Rattle.std.specs.Result.{IsErr}
@@ -11,7 +11,7 @@ use Rattle.outcomes.specs.declared.status.Status.{Status}
 use Rattle.outcomes.specs.declared.status.Status.TheVariants as status
 use Rattle.outcomes.specs.Statuses.{is_quiet}
 use Rattle.outcomes.specs.Outcomes.{Outcome, no_memory}
-use Rattle.outcomes.specs.Delivery.{Sinks, sinks, with_outcome, StopsShort, Sent, Delivers, AreSteady, Shows, ShowsOr, TakesFront}
+use Rattle.outcomes.specs.Delivery.{Sinks, sinks, Sent, Delivers, AreSteady, Shows, ShowsOr, TakesFront}
 
 -- both texts, one behind the other
 pub sent_both : (o : Outcome) (out out_after err err_after : SinkView) (r : Result (Unit {0}) WriteFault) →

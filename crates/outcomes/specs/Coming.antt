@@ -1,5 +1,5 @@
 -- Which outcomes a plan can come to, on files that may fail or tell nothing (this project's profile).
-use Rattle.std.specs.Prelude.{◌≡◌, ◌⊎◌, ◌≤◌, ℕ, nat_lt, Bool, true, false, List, length, Option, Some, None, IfSome, Result, Ok, Err}
+use Rattle.std.specs.Prelude.{◌≡◌, ◌⊎◌, ◌≤◌, ℕ, nat_lt, Bool, true, false, List, length, Option, Some, IfSome, Result, Ok, Err}
 use Rattle.rcce_io.specs.declared.reading.ReadEnd.{ReadEnd}
 use Rattle.rcce_io.specs.declared.reading.ReadEnd.TheVariants as ends
 use Rattle.rcce_io.specs.Files.{FilesView, NamedFile, contents_of}

@@ -13,8 +13,12 @@ lines_in bytes = length (filter (λ b. b == 10) bytes)
 abbrev pub count_ran : ℕ → Ran
 count_ran lines = record { finished = true; out = decimal lines ++ (codes "\n" ++ []); err = [] }
 
+abbrev pub bytes_plan : List ℕ → Plan
+bytes_plan bytes = Runs (count_ran (lines_in bytes))
+
+-- a file of at most 5,000 bytes
 abbrev pub file_plan : List ℕ → Plan
-file_plan file = Reads file 5000 (λ bytes. Runs (count_ran (lines_in bytes)))
+file_plan file = Reads file 5000 bytes_plan
 
 -- the words are one file's name
 abbrev pub words_plan : List (List ℕ) → Result Plan (List ℕ)

@@ -4,13 +4,14 @@ ghost use Rattle.std.specs.Prelude.{◌≡◌, ◌≤◌, codes, length, map, st
 ghost use Rattle.outcomes.specs.Coming.{Comes, IsMeant};
 ghost use Rattle.outcomes.specs.Complaints.{outcome_of};
 ghost use Rattle.outcomes.specs.Delivery.{sinks};
-ghost use Rattle.outcomes.specs.LineCount.{file_plan, lines, lines_in, words_plan};
+ghost use Rattle.outcomes.specs.LineCount.{count_ran, file_plan, lines, lines_in, words_plan};
 ghost use Rattle.outcomes.specs.Promises.{Promises};
 
 use crate::Piece::{Number, Text};
 use crate::{Complaint, Report, Status, deliver, is_option, read_file};
 use rcce_io::{Files, Sink, WriteFault, write_texts};
 use std::alloc::Global;
+use std::marker::Model;
 
 /// The longest file, in bytes.
 const FILE_BYTES: usize = 5_000;
@@ -21,10 +22,16 @@ struct Count {
     lines: u32,
 }
 
-impl Report for Count {
-    ghost use Rattle.outcomes.specs.LineCount.{count_ran};
+impl Model for Count {
+    ghost use Rattle.std.specs.Prelude.{ℕ};
 
-    ghost ran = { λ count. count_ran count.lines };
+    ghost Value = { ℕ };
+
+    ghost view = { λ count. count.lines };
+}
+
+impl Report for Count {
+    ghost ran = { count_ran };
 
     fn is_finished(&self) -> bool {
         true
@@ -60,7 +67,7 @@ fn count_words<'a, F: Files>(
     files: &mut F,
 ) -> Result<Count, Complaint<'a>>
     ensures { IsMeant (codes "lines") (words_plan (map string_bytes words.now)) (F.seen files.old) (F.seen files.new)
-        (outcome_of (codes "lines") Count.ran result) }
+        (outcome_of (codes "lines") count_ran result) }
 {
     match words {
         [file] if !is_option(file.as_str()) => count_file(alloc, files, file.as_str()),
@@ -74,7 +81,7 @@ fn count_file<'a, F: Files>(
     file: &'a str,
 ) -> Result<Count, Complaint<'a>>
     ensures { Comes (codes "lines") (file_plan file.now) (F.seen files.old) (F.seen files.new)
-        (outcome_of (codes "lines") Count.ran result) }
+        (outcome_of (codes "lines") count_ran result) }
 {
     match read_file(alloc, files, file, FILE_BYTES) {
         Ok(bytes) => Ok(Count {

@@ -2,17 +2,18 @@
 use Rattle.std.proofs.Common.{◌≡◌, ℕ, List, refl, sym, subst, ap, ◌∙◌, inl, inr, Option, Some, None, Result, Ok, Err}
 use Rattle.rcce_io.specs.Files.{FilesView}
 use Rattle.script_reader.specs.declared.fault.ReadFault.{ReadFault}
-use Rattle.script_reader.specs.Faults.{kind_name}
+use Rattle.script_reader.specs.declared.fault.ReadStop.{ReadStop}
+use Rattle.script_reader.specs.declared.fault.ReadStop.TheVariants as stop
+use Rattle.script_reader.specs.Faults.{Gives}
 use Rattle.script_reader.specs.Script.{Script}
 use Rattle.script_plain.specs.Ends.{Ended}
 use Rattle.script_plain.specs.Meaning.{plain_ends}
 use Rattle.outcomes.specs.Coming.{Comes, IsMeant}
-use Rattle.outcomes.specs.Outcomes.{Outcome, file_refused, no_memory, run_outcome, words_refused}
-use Rattle.outcomes.specs.Plans.{Plan}
+use Rattle.outcomes.specs.Outcomes.{Outcome, no_memory, run_outcome}
 use Rattle.rccerun.specs.declared.command.Job.{Job}
 use Rattle.rccerun.specs.Command.{Command}
 use Rattle.rccerun.specs.Job.{IsJob, job_command}
-use Rattle.rccerun.specs.Program.{parsed_plan, command_plan, words_plan}
+use Rattle.rccerun.specs.Program.{command_plan, fault_outcome, parsed_plan, stop_outcome, words_plan}
 use Rattle.rccerun.specs.Reports.{ran_of}
 
 -- a plan of a script that was read
@@ -30,12 +31,12 @@ pub comes_run : (program file : List ℕ) (script : Script) (ues : List Ended) (
     Comes program (parsed_plan file (Ok script)) files files (run_outcome (ran_of script.names ues))
 comes_run program file script ues files ended = (refl, inl (ap (λ e. run_outcome (ran_of script.names e)) ended))
 
--- a script that is refused
-pub comes_refused : (program file : List ℕ) (meant : Result Script ReadFault) (fault : ReadFault) (kind : List ℕ) (files : FilesView) →
-    meant ≡ Err fault → kind ≡ kind_name fault.kind → Comes program (parsed_plan file meant) files files (file_refused program file fault.line kind)
-comes_refused program file meant fault kind files same named =
-    subst (λ k. Comes program (parsed_plan file meant) files files (file_refused program file fault.line k)) (sym named)
-    (comes_parsed program file meant (Err fault) files _ same (refl, inl refl))
+-- a reading that stopped, at the grammar's fault or for want of memory
+pub comes_stopped : {X : Type 0} (view : X → Script) (program file : List ℕ) (meant : Result Script ReadFault) (why : ReadStop) (files : FilesView) →
+    Gives view (Err why) meant → Comes program (parsed_plan file meant) files files (stop_outcome program file why)
+comes_stopped view program file meant (stop.Fault fault) files given =
+    comes_parsed program file meant (Err fault) files (fault_outcome program file fault) given (refl, inl refl)
+comes_stopped view program file meant stop.Memory files given = comes_memory program file meant files
 
 -- the outcome of a job is that of its command
 pub meant_by_job : (program : List ℕ) (command : Option Command) (job : Job) (before after : FilesView) (o : Outcome) → IsJob command (Some job) →

@@ -7,7 +7,6 @@ use Rattle.script_plain.specs.declared.prims.Printed.{Printed}
 use Rattle.script_plain.specs.Ends.{Ended}
 use Rattle.rcce_io.specs.Sending.{joined}
 use Rattle.outcomes.specs.Outcomes.{Ran}
-use Rattle.rccerun.specs.declared.report.Report.{Report}
 use Rattle.rccerun.specs.Texts.{item_line, call_pieces, waiting_line, mismatch_line}
 
 -- the lines of each unit of execution, by rank from `rank` on
@@ -48,6 +47,3 @@ ran_of names ues = record {
   out = by_rank (printed_text names) 0 ues;
   err = by_rank unfinished_text 0 ues;
 }
-
-abbrev pub report_ran : Report → Ran
-report_ran report = ran_of report.script.names report.end

@@ -1,22 +1,21 @@
 //! The top call.
 
-ghost use Rattle.std.specs.Prelude.{◌≤◌, codes, map, string_bytes, List, ℕ};
+ghost use Rattle.std.specs.Prelude.{◌≡◌, ◌≤◌, codes, map, string_bytes, List, ℕ};
 ghost use Rattle.rcce_io.specs.Files.{FilesView};
 ghost use Rattle.outcomes.specs.Coming.{Comes, IsMeant};
-ghost use Rattle.outcomes.specs.Complaints.{outcome_of};
+ghost use Rattle.outcomes.specs.Complaints.{complaint_outcome, outcome_of};
 ghost use Rattle.outcomes.specs.Delivery.{sinks};
 ghost use Rattle.outcomes.specs.Promises.{Promises};
 ghost use Rattle.rccerun.specs.Command.{command_of};
 ghost use Rattle.rccerun.specs.Job.{job_command};
-ghost use Rattle.rccerun.specs.Program.{command_plan, parsed_plan, rccerun, script_plan, words_plan};
-ghost use Rattle.rccerun.specs.Reports.{report_ran};
+ghost use Rattle.rccerun.specs.Program.{command_plan, fault_outcome, parsed_plan, rccerun, report_ran, script_plan, stop_outcome, words_plan};
 
 use crate::command::{Job, job_of};
 use crate::report::Report;
 use outcomes::{Complaint, Status, deliver, read_file};
 use rcce_io::{Files, Sink};
 use script_plain::plain_run;
-use script_reader::{ReadStop, Scripts, read_script};
+use script_reader::{ReadFault, ReadStop, Scripts, read_script};
 use std::alloc::Global;
 
 /// The longest script file, in bytes.
@@ -66,7 +65,7 @@ fn run_file<'a, F: Files>(
 ) -> Result<Report, Complaint<'a>>
     requires some { 1 ≤ job.nue }
     requires most { job.nue ≤ 48 }
-    ensures { Comes (codes "rccerun") (command_plan (job_command job))
+    ensures { Comes (codes "rccerun") (command_plan (job_command job.entry))
         (F.seen files.old) (F.seen files.new) (outcome_of (codes "rccerun") report_ran result) }
 {
     match read_file(alloc, files, job.script, SCRIPT_BYTES) {
@@ -79,17 +78,32 @@ fn run_file<'a, F: Files>(
 fn run_bytes<'a>(alloc: Global, job: Job<'a>, bytes: &[u8]) -> Result<Report, Complaint<'a>>
     requires some { 1 ≤ job.nue }
     requires most { job.nue ≤ 48 }
-    ensures { (files : FilesView) → Comes (codes "rccerun") (script_plan (job_command job) bytes.now) files files
+    ensures { (files : FilesView) → Comes (codes "rccerun") (script_plan (job_command job.entry) bytes.now) files files
         (outcome_of (codes "rccerun") report_ran result) }
 {
     match read_script(alloc, bytes, job.nue) {
         Ok(script) => run_script(alloc, script),
-        Err(ReadStop::Fault(fault)) => Err(Complaint::Refused {
-            file: job.script,
-            line: fault.line,
-            kind: fault.kind.name(),
-        }),
-        Err(ReadStop::Memory) => Err(Complaint::Memory),
+        Err(stop) => Err(stopped(job.script, stop)),
+    }
+}
+
+// Why the reading of a script stopped.
+fn stopped(file: &str, stop: ReadStop) -> Complaint<'_>
+    ensures { (program : List ℕ) → complaint_outcome program result ≡ stop_outcome program file.now stop }
+{
+    match stop {
+        ReadStop::Fault(fault) => refused(file, fault),
+        ReadStop::Memory => Complaint::Memory,
+    }
+}
+
+fn refused(file: &str, fault: ReadFault) -> Complaint<'_>
+    ensures { (program : List ℕ) → complaint_outcome program result ≡ fault_outcome program file.now fault }
+{
+    Complaint::Refused {
+        file,
+        line: fault.line,
+        kind: fault.kind.name(),
     }
 }
 

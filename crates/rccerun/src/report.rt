@@ -20,9 +20,9 @@ pub struct Report {
 }
 
 impl outcomes::Report for Report {
-    ghost use Rattle.rccerun.specs.Reports.{report_ran};
+    ghost use Rattle.rccerun.specs.Reports.{ran_of};
 
-    ghost ran = { report_ran };
+    ghost ran = { λ report. ran_of report.script.names report.end };
 
     // Whether every unit of execution has finished.
     fn is_finished(&self) -> bool {
