@@ -1,6 +1,5 @@
 -- A whole barrier: what its turns have come to so far, and what ends it.
 use Rattle.std.proofs.Common.{◌≡◌, ◌≢◌, inl, inr, ℕ, ◌+◌, ◌-◌, ◌*◌, ◌%◌, ◌<◌, ◌≤◌, Bool, true, false, List, [], ◌∷◌, ◌++◌, None, Some, refl, sym, ◌∙◌, ap, subst, arith}
-use Rattle.std.proofs.Math.Nat.{add-mul}
 use Rattle.scc_base.specs.Calls.{Bar}
 use Rattle.scc_base.specs.Places.{WordAt, line_of_word}
 use Rattle.scc_base.specs.Events.{store_of}
@@ -227,7 +226,3 @@ pub left_falls : {s m t : Sight} {b d : Private} {op cur now : BarAt} {vain : �
     → BarTurned m b cur t d now later turn.Moved → bar_left s.seat cur ≡ bar_left s.seat now + 1
 left_falls {s} {m} {cur = cur} {now = now} u turned =
     subst (λ (x : Seat). bar_left x cur ≡ bar_left x now + 1) (seat_kept s u.events m u.did) turned.means.0
-
-pub measure_falls : (left now polls vain : ℕ) → left ≡ now + 1 → vain < polls → now * polls + (polls - 0) < left * polls + (polls - vain)
-measure_falls left now polls vain e low =
-    let product : left * polls ≡ now * polls + 1 * polls = ap (λ (x : ℕ). x * polls) e ∙ add-mul now 1 polls in omega (arith, product, low)

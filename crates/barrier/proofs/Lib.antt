@@ -5,5 +5,6 @@ pub mod GatherTurn
 pub mod AwaitTurn
 pub mod ReleaseTurn
 pub mod FlipTurn
+pub mod OtherPort
 pub mod RestLemmas
 pub mod CallLemmas

@@ -1,17 +1,20 @@
 //! Laws of barriers: how many turns a new one has left, and how calls follow one another. Each is a function that
 //! does nothing and ensures it.
 
-ghost use Rattle.std.specs.Prelude.{◌≡◌, ◌≢◌, ℕ, ◌+◌, ◌*◌, ◌<◌, ◌≤◌, ◌++◌, Bool, List};
+ghost use Rattle.std.specs.Prelude.{◌≡◌, ◌≢◌, ℕ, ◌+◌, ◌*◌, ◌<◌, ◌≤◌, ◌++◌, Bool, false, List, [], None};
+ghost use base.Stored.{Gv};
 ghost use Rattle.scc_base.specs.Communicators.{rule_of};
+ghost use Rattle.scc_base.specs.declared.events.Turn.TheVariants.{Done};
 ghost use Rattle.scc_base.specs.declared.communicators.CommRule.TheVariants.{Absent};
 ghost use Rattle.scc_proto.specs.Stages.{Record};
 ghost use Rattle.scc_proto.specs.Ports.{Sight, record_in};
 ghost use Rattle.put_get.specs.Cores.{Private};
+ghost use Rattle.sync_flags.specs.Turns.{at_port};
 ghost use Rattle.barrier.specs.declared.barriers.BarStop.{BarStop};
 ghost use Rattle.barrier.specs.declared.stages.BarStage.TheVariants.{Flip};
-ghost use Rattle.barrier.specs.Flags.{IsParityOf};
+ghost use Rattle.barrier.specs.Flags.{IsParityOf, value_at};
 ghost use Rattle.barrier.specs.Stages.{BarAt, BarStands, IsBetweenCalls, new_barrier, bar_call, left_by};
-ghost use Rattle.barrier.specs.Turns.{KeepsRest, flips_by};
+ghost use Rattle.barrier.specs.Turns.{KeepsRest, BarTurned, flips_by};
 ghost use Rattle.barrier.specs.Calls.{Finishes, Stalls};
 
 /// A new barrier in a group of some members has at most two turns a member and one more left that do not wait.
@@ -41,4 +44,24 @@ pub fn goes_on_law()
         → Finishes m first.now t d later → (record_in t).flips ≡ flips_by op.comm op.stage (record_in s).flips }
     ensures rest { (s m t : Sight) (b d : Private) (op : BarAt) (polls : ℕ) (values later : List Bool) (stop : BarStop) (first : Stalls s op polls m b values stop)
         → Finishes m first.now t d later → KeepsRest (record_in s) (record_in t) }
+{}
+
+/// What stands at a port stands at every port of the same rank: the same setup, rank and events.
+pub fn other_port_law()
+    ensures barrier { (s : Sight) (mark rest : Gv) (hold : ℕ) (c : Private) (op : BarAt) (values : List Bool)
+        → BarStands s c op values → BarStands (at_port s mark rest hold) c op values }
+    ensures between { (s : Sight) (mark rest : Gv) (hold : ℕ) (c : Private) (values : List Bool)
+        → IsBetweenCalls s c values → IsBetweenCalls (at_port s mark rest hold) c values }
+{}
+
+/// Before its first event a rank is in no call, and its parity has no flag set.
+pub fn start_law()
+    ensures between { (s : Sight) (c : Private) (values : List Bool) → s.events ≡ [] → c.out ≡ None → ((comm : ℕ) → value_at values comm ≡ false)
+        → IsBetweenCalls s c values }
+{}
+
+/// After the turn that ends a barrier the rank is in no call.
+pub fn done_law()
+    ensures between { (s t : Sight) (c d : Private) (op now : BarAt) (later : List Bool) → BarTurned s c op t d now later Done
+        → BarStands t d now later → IsBetweenCalls t d later }
 {}

@@ -1,2 +1,3 @@
 pub mod Collectives
 pub mod Folds
+pub mod Peers

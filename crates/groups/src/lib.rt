@@ -12,5 +12,5 @@ mod tests;
 pub use collectives::{Coll, Step};
 pub use expansion::{step, steps};
 pub use folds::{Shape, fold_into};
-pub use laws::fold_law;
+pub use laws::{fold_law, peers_law};
 pub use operations::{Op, Ty};

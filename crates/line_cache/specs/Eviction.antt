@@ -1,6 +1,6 @@
 -- What an evictor answers and how its count goes. That cached lines may be dropped at any fill is of the
 -- SCC External Architecture Specification; the evictors are this project's profile.
-use Rattle.std.specs.Prelude.{◌≡◌, ℕ, ◌+◌, ◌-◌, ◌/◌, ◌%◌, ◌^◌, Bool, ◌&&◌, not, ◌==◌, if◌then◌else◌, List, map, slice_get, Option, Some, None, IfSome, is_some}
+use Rattle.std.specs.Prelude.{◌≡◌, ℕ, suc, ◌+◌, ◌-◌, ◌/◌, ◌%◌, ◌^◌, Bool, ◌&&◌, not, ◌==◌, if◌then◌else◌, List, map, slice_get, Option, Some, None, IfSome, is_some, option_map}
 use Rattle.std.specs.List.{range_with_len}
 use Rattle.rand_pcg.specs.Lcg.{Lcg}
 use Rattle.rand_pcg.specs.Pcg.{pcg32}
@@ -13,6 +13,10 @@ most_evictions = 2 ^ 64 - 1
 -- the count after an answer: one more where an entry was named
 abbrev pub count_after : Option ℕ → ℕ → ℕ
 count_after answer count = if is_some answer then count + 1 else count
+
+-- how often an evictor was asked after one question more, where it counts that
+abbrev pub asked_after : Option ℕ → Option ℕ
+asked_after asked = option_map (λ (n : ℕ). suc n) asked
 
 -- an evictor with this table of answers may give this one with so many entries held: what stands there in the
 -- table is its only answer, and beyond the table it may give any

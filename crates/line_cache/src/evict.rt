@@ -3,7 +3,7 @@
 ghost use Rattle.std.specs.Prelude.{◌≡◌, ℕ, ◌+◌, ◌<◌, ◌^◌, List, IfSome, None, Option};
 ghost use Rattle.rand_pcg.specs.Pcg.{pcg32_of_seed};
 ghost use Rattle.rand_core.specs.Pcg32Seed.{pcg32_seed};
-ghost use Rattle.line_cache.specs.Eviction.{most_evictions, count_after, MayAnswer, answers_of, seeded_answer, seeded_next, always_answer, always_next};
+ghost use Rattle.line_cache.specs.Eviction.{most_evictions, count_after, asked_after, MayAnswer, answers_of, seeded_answer, seeded_next, always_answer, always_next};
 
 use rand_core::SeedableRng;
 use rand_core::utils::NextWord;
@@ -18,6 +18,9 @@ pub trait Evict {
     // How many entries it has had dropped.
     ghost count: { Self → ℕ };
 
+    // How often it was asked, and None where it does not count that.
+    ghost asked: { Self → Option ℕ };
+
     // What it answers now, by the number of entries held. To a number beyond the list it may give any answer,
     // so an evictor of whose answers nothing is known has the empty list.
     ghost answers: { Self → List (Option ℕ) };
@@ -28,7 +31,8 @@ pub trait Evict {
         ensures counted { count self.new ≡ count_after result (count self.old) }
         ensures full { count self.old ≡ most_evictions → result ≡ None }
         ensures fits { count self.new < 2 ^ 64 }
-        ensures given { MayAnswer (answers self.old) held result };
+        ensures given { MayAnswer (answers self.old) held result }
+        ensures once { asked self.new ≡ asked_after (asked self.old) };
 }
 
 /// The evictor that drops nothing.
@@ -37,6 +41,8 @@ pub struct Never;
 
 impl Evict for Never {
     ghost count = { λ _. 0 };
+
+    ghost asked = { λ _. None };
 
     ghost answers = { λ _. answers_of (λ _. None) };
 
@@ -47,6 +53,7 @@ impl Evict for Never {
         ensures full { 0 ≡ most_evictions → result ≡ None }
         ensures fits { 0 < 2 ^ 64 }
         ensures given { MayAnswer (answers_of (λ _. None)) held result }
+        ensures once { None ≡ asked_after None }
         ensures never { result ≡ None }
     {
         let _ = held;
@@ -89,6 +96,8 @@ impl Seeded {
 impl Evict for Seeded {
     ghost count = { λ e. e.count };
 
+    ghost asked = { λ _. None };
+
     ghost answers = { λ e. answers_of (seeded_answer e) };
 
     #[tactic(auto, using(crate::proofs::EvictLemmas::only_answer))]
@@ -98,6 +107,7 @@ impl Evict for Seeded {
         ensures full { self.old.count ≡ most_evictions → result ≡ None }
         ensures fits { self.new.count < 2 ^ 64 }
         ensures given { MayAnswer (answers_of (seeded_answer self.old)) held result }
+        ensures once { None ≡ asked_after None }
         ensures answer { result ≡ seeded_answer self.old held }
         ensures next { self.new ≡ seeded_next self.old held }
     {
@@ -124,6 +134,8 @@ impl Evict for Choice {
 
     ghost count = { choice_count };
 
+    ghost asked = { λ _. None };
+
     ghost answers = { λ e. answers_of (choice_answer e) };
 
     #[tactic(auto, using(crate::proofs::EvictLemmas::only_answer))]
@@ -133,6 +145,7 @@ impl Evict for Choice {
         ensures full { choice_count self.old ≡ most_evictions → result ≡ None }
         ensures fits { choice_count self.new < 2 ^ 64 }
         ensures given { MayAnswer (answers_of (choice_answer self.old)) held result }
+        ensures once { None ≡ asked_after None }
         ensures answer { result ≡ choice_answer self.old held }
         ensures next { self.new ≡ choice_next self.old held }
     {
@@ -171,6 +184,8 @@ impl Always {
 impl Evict for Always {
     ghost count = { λ e. e };
 
+    ghost asked = { λ _. None };
+
     ghost answers = { λ e. answers_of (always_answer e) };
 
     #[tactic(auto, using(crate::proofs::EvictLemmas::only_answer))]
@@ -180,6 +195,7 @@ impl Evict for Always {
         ensures full { self.old ≡ most_evictions → result ≡ None }
         ensures fits { self.new < 2 ^ 64 }
         ensures given { MayAnswer (answers_of (always_answer self.old)) held result }
+        ensures once { None ≡ asked_after None }
         ensures answer { result ≡ always_answer self.old held }
         ensures next { self.new ≡ always_next self.old held }
     {

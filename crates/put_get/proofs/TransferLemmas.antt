@@ -107,10 +107,11 @@ putting_next s c core line src i ws t d u e v f h is p w fl =
     ap (λ (x : Private). line_noted x.lines at ws) p.puts.is ∙ lines in
     let end_out : None ≡ c.out = sym p.out ∙ ap (λ (x : Private). x.out) p.puts.is in
     let end_count : d.evictions ≡ c.evictions = ap (λ (x : Private). x.evictions) p.puts.is in
+    let end_asked : d.asked ≡ c.asked = ap (λ (x : Private). x.asked) p.puts.is in
     let end_answers : d.answers ≡ c.answers = ap (λ (x : Private). x.answers) p.puts.is in
     let done : f ≡ record c { lines = put_lines c.lines core line (take (suc i) src) } =
     fl.is ∙ ap (λ (x : Private). record x { out = None }) w.is
-    ∙ (λ k. record { lines = end_lines k; out = end_out k; evictions = end_count k; answers = end_answers k }) in
+    ∙ (λ k. record { lines = end_lines k; out = end_out k; evictions = end_count k; asked = end_asked k; answers = end_answers k }) in
     let one : line + i + 1 ≡ line + suc i = omega arith in
     let q : Putting s c core line src (suc i) v f = record {
       puts = record {

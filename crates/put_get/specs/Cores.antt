@@ -3,29 +3,36 @@
 use Rattle.std.specs.Prelude.{◌≡◌, ℕ, suc, ◌<◌, List, Option, None, Some, length, remove, slice_index}
 use Rattle.scc_base.specs.Places.{LineAt, WordAt, line_of_word, word_of_line}
 use Rattle.scc_base.specs.declared.events.Event.{Event}
-use Rattle.scc_proto.specs.Ports.{Sight, Did}
+use Rattle.scc_proto.specs.Ports.{Seat, Sight, Did}
 use Rattle.line_cache.specs.declared.cache.Entry.{Entry}
-use Rattle.line_cache.specs.Lines.{held, filled, noted}
-use Rattle.line_cache.specs.Eviction.{MayAnswer}
+use Rattle.line_cache.specs.Lines.{held, filled, noted, IsCache}
+use Rattle.line_cache.specs.Eviction.{MayAnswer, asked_after}
 use Rattle.write_combine.specs.declared.combiner.Out.{Out}
-use Rattle.write_combine.specs.Combining.{handed_out, held_after}
+use Rattle.write_combine.specs.Combining.{handed_out, held_after, HoldsWord}
 use Rattle.put_get.specs.Accesses.{loads_of, stores_of, whole_line, WereSteps}
 
 -- what is seen of a core: the lines in its cache, the line in its write-combining buffer, how many lines
--- its evictor had dropped, and what its evictor answers now
+-- its evictor had dropped, how often its evictor was asked, where it counts that, and what it answers now
 pub record Private : Type 0 where
   pub lines : List Entry
   pub out : Option Out
   pub evictions : ℕ
+  pub asked : Option ℕ
   pub answers : List (Option ℕ)
 
--- a line came in, and the evictor was asked with so many lines held: it named none, and the line stands last,
+-- what a core always has: at most 512 cached lines, none of them twice, and in its buffer no line of which no word
+-- was written
+pub record IsCore (lines : List Entry) (out : Option Out) : Type 0 where
+  pub cache : IsCache lines
+  pub buffer : HoldsWord out
+
+-- a line came in, and the evictor was asked once, with so many lines held: it named none, and the line stands last,
 -- or the one that it named left; nothing is said of what it answers afterwards
 pub data Fills (c : Private) (line : LineAt) (words : List ℕ) (d : Private) : Type 0 where
   Kept : MayAnswer c.answers (length (filled c.lines line words)) None
-      → d ≡ record c { lines = filled c.lines line words; answers = d.answers } → Fills c line words d
+      → d ≡ record c { lines = filled c.lines line words; asked = asked_after c.asked; answers = d.answers } → Fills c line words d
   Dropped : (at : ℕ) → at < length (filled c.lines line words) → MayAnswer c.answers (length (filled c.lines line words)) (Some at)
-      → d ≡ record c { lines = remove (filled c.lines line words) at; evictions = suc c.evictions; answers = d.answers } → Fills c line words d
+      → d ≡ record c { lines = remove (filled c.lines line words) at; evictions = suc c.evictions; asked = asked_after c.asked; answers = d.answers } → Fills c line words d
 
 -- the words of a line were got: from the cache with no event, or by four loads, after which the line came in
 pub data Fetch (s : Sight) (c : Private) (line : LineAt) (words : List ℕ) (t : Sight) (d : Private) : Type 0 where
@@ -76,9 +83,5 @@ pub record WritesLine (s : Sight) (c : Private) (line : LineAt) (words : List �
   pub is : d ≡ record c { lines = line_noted c.lines line words; out = Some (whole_line line words) }
 
 -- each event between two sights of a port was a step of the chip's memory
-abbrev pub MadeSteps : (List Event → Event → Type 0) → Sight → Sight → Type 0
-MadeSteps stepped s t = (es : List Event) → Did s es t → WereSteps stepped s.events es
-
--- what was a step is one still
-abbrev pub KeepsSteps : (List Event → Event → Type 0) → (List Event → Event → Type 0) → Type 0
-KeepsSteps old new = (es : List Event) (e : Event) → old es e → new es e
+abbrev pub MadeSteps : (Seat → List Event → Event → Type 0) → Sight → Sight → Type 0
+MadeSteps stepped s t = (es : List Event) → Did s es t → WereSteps (stepped s.seat) s.events es

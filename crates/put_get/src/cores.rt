@@ -10,7 +10,7 @@ use write_combine::Combiner;
 /// What a core has for itself between it and the shared words.
 ///
 /// It is seen as the lines in its cache, the line in its write-combining buffer, the number of lines that
-/// its evictor had dropped, and what its evictor answers now. Reads go through the cache: what it holds may be old until `cl1invmb`.
+/// its evictor had dropped, how often its evictor was asked, and what that answers now. Reads go through the cache: what it holds may be old until `cl1invmb`.
 /// Writes wait in the buffer until another line is written or `flush`.
 #[derive(Drop)]
 pub struct Core<V: Evict> {
@@ -20,7 +20,7 @@ pub struct Core<V: Evict> {
 }
 
 impl<V: Evict> Model for Core<V> {
-    ghost use Rattle.put_get.specs.Cores.{Private};
+    ghost use Rattle.put_get.specs.Cores.{Private, IsCore};
 
     ghost Value = { Private };
 
@@ -28,8 +28,11 @@ impl<V: Evict> Model for Core<V> {
       lines = s.cache;
       out = s.combiner;
       evictions = V.count s.evict;
+      asked = V.asked s.evict;
       answers = V.answers s.evict;
     } };
+
+    ghost invariant = { λ s. IsCore s.cache s.combiner };
 }
 
 impl<V: Evict> Core<V> {
@@ -40,7 +43,7 @@ impl<V: Evict> Core<V> {
     ghost use Rattle.line_cache.specs.Lines.{held};
     ghost use Rattle.write_combine.specs.Combining.{handed_out};
     ghost use Rattle.put_get.specs.Accesses.{stores_of};
-    ghost use Rattle.put_get.specs.Cores.{Private, Fills, Fetch, ReadsWord, ReadsLine, Writes, WritesLine, Flushes, MadeSteps, KeepsSteps};
+    ghost use Rattle.put_get.specs.Cores.{Private, IsCore, Fills, Fetch, ReadsWord, ReadsLine, Writes, WritesLine, Flushes, MadeSteps};
 
     /// A core that holds nothing.
     pub fn new(evict: V) -> Core<V>
@@ -48,6 +51,7 @@ impl<V: Evict> Core<V> {
           lines = [];
           out = None;
           evictions = V.count evict;
+          asked = V.asked evict;
           answers = V.answers evict;
         } }
     {
@@ -60,7 +64,8 @@ impl<V: Evict> Core<V> {
 
     /// Whether the write-combining buffer holds nothing, as reads, put and get ask for.
     pub fn is_flushed(&self) -> bool
-        ensures { IsTrue result ↔ (self.now.out ≡ None) }
+        ensures empty { IsTrue result ↔ (self.now.out ≡ None) }
+        ensures valid { IsCore self.now.lines self.now.out }
     {
         self.combiner.is_empty()
     }
@@ -87,8 +92,7 @@ impl<V: Evict> Core<V> {
     /// The words of a line, from the cache where it is held there.
     fn fetch<P: Port>(&mut self, port: &mut P, line: Line) -> [u64; 4]
         ensures fetch { Fetch (P.sight port.old) self.old line result (P.sight port.new) self.new }
-        ensures steps { MadeSteps (P.stepped port.new) (P.sight port.old) (P.sight port.new) }
-        ensures keeps { KeepsSteps (P.stepped port.old) (P.stepped port.new) }
+        ensures steps { MadeSteps P.stepped (P.sight port.old) (P.sight port.new) }
     {
         if let Some(words) = self.cache.look(line) {
             return words;
@@ -102,8 +106,7 @@ impl<V: Evict> Core<V> {
     pub fn word_read<P: Port>(&mut self, port: &mut P, place: Place) -> u64
         requires empty { self.old.out ≡ None }
         ensures reads { ReadsWord (P.sight port.old) self.old place result (P.sight port.new) self.new }
-        ensures steps { MadeSteps (P.stepped port.new) (P.sight port.old) (P.sight port.new) }
-        ensures keeps { KeepsSteps (P.stepped port.old) (P.stepped port.new) }
+        ensures steps { MadeSteps P.stepped (P.sight port.old) (P.sight port.new) }
     {
         let words = self.fetch(port, place.line_at());
         words[usize::from(place.word())]
@@ -113,8 +116,7 @@ impl<V: Evict> Core<V> {
     pub fn line_read<P: Port>(&mut self, port: &mut P, line: Line) -> [u64; 4]
         requires empty { self.old.out ≡ None }
         ensures reads { ReadsLine (P.sight port.old) self.old line result (P.sight port.new) self.new }
-        ensures steps { MadeSteps (P.stepped port.new) (P.sight port.old) (P.sight port.new) }
-        ensures keeps { KeepsSteps (P.stepped port.old) (P.stepped port.new) }
+        ensures steps { MadeSteps P.stepped (P.sight port.old) (P.sight port.new) }
     {
         let first = self.word_read(port, line.word(0));
         let second = self.word_read(port, line.word(1));
@@ -128,7 +130,6 @@ impl<V: Evict> Core<V> {
         requires permitted { MayMakeAll (P.sight port.old).seat (record_in (P.sight port.old))
             (stores_of (handed_out self.old.out (line_of_word place))) }
         ensures writes { Writes (P.sight port.old) self.old place value (P.sight port.new) self.new }
-        ensures keeps { KeepsSteps (P.stepped port.old) (P.stepped port.new) }
     {
         self.cache.note_write(place, value);
         let out = self.combiner.write(place, value);
@@ -140,7 +141,6 @@ impl<V: Evict> Core<V> {
         requires other { handed_out self.old.out line ≡ self.old.out }
         requires permitted { MayMakeAll (P.sight port.old).seat (record_in (P.sight port.old)) (stores_of self.old.out) }
         ensures writes { WritesLine (P.sight port.old) self.old line words.now (P.sight port.new) self.new }
-        ensures keeps { KeepsSteps (P.stepped port.old) (P.stepped port.new) }
     {
         self.word_write(port, line.word(0), words[0]);
         self.word_write(port, line.word(1), words[1]);
@@ -152,7 +152,6 @@ impl<V: Evict> Core<V> {
     pub fn flush<P: Port>(&mut self, port: &mut P)
         requires permitted { MayMakeAll (P.sight port.old).seat (record_in (P.sight port.old)) (stores_of self.old.out) }
         ensures flushes { Flushes (P.sight port.old) self.old (P.sight port.new) self.new }
-        ensures keeps { KeepsSteps (P.stepped port.old) (P.stepped port.new) }
     {
         let out = self.combiner.flush();
         store_out(port, &out);

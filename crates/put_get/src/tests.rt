@@ -26,6 +26,8 @@ struct MiddleOnce {
 impl Evict for MiddleOnce {
     ghost count = { λ e. if e.done then 1 else 0 };
 
+    ghost asked = { λ _. None };
+
     ghost answers = { λ _. [] };
 
     fn drop_one(&mut self, held: usize) -> Option<usize> {

@@ -1,9 +1,9 @@
 -- Counts, which stop at the largest value of u64, and when one of faults rose. This project's profile.
-use Rattle.std.specs.Prelude.{ℕ, ◌+◌, ◌-◌, ◌^◌, ◌<◌, ◌≤◌, min}
+use Rattle.std.specs.Prelude.{ℕ, ◌+◌, ◌-◌, ◌^◌, ◌<◌, ◌≤◌, min, max}
 
--- one more, up to the largest value
+-- one more, up to the largest value of u64
 abbrev pub next_count : ℕ → ℕ
-next_count count = min (count + 1) (2 ^ 64 - 1)
+next_count count = max count (min (count + 1) (2 ^ 64 - 1))
 
 -- the count is greater after the call than before, or stands at the largest value
 abbrev pub Rose : ℕ → ℕ → Type 0

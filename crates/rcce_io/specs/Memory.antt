@@ -7,7 +7,8 @@ use Rattle.rcce_io.specs.declared.files.Got.TheVariants as got
 use Rattle.rcce_io.specs.declared.sink.Put.{Put}
 use Rattle.rcce_io.specs.declared.sink.Put.TheVariants as put
 use Rattle.rcce_io.specs.Faults.{next_count}
-use Rattle.rcce_io.specs.Files.{NamedFile, contents_of}
+use Rattle.rcce_io.specs.Files.{FilesView, NamedFile, contents_of}
+use Rattle.rcce_io.specs.Sending.{SinkView}
 
 -- how many calls were made, the number of the one that fails, counted from 1, and how many failed
 pub record Calls : Type 0 where
@@ -42,6 +43,10 @@ pub record FilesState : Type 0 where
 
 abbrev pub no_files : FilesState
 no_files = record { files = []; rest = None; calls = no_calls }
+
+-- as a caller of any files sees them: all is told
+abbrev pub files_seen : FilesState → FilesView
+files_seen state = record { told = Some state.files; rest = state.rest; is_open = is_some state.rest; faults = state.calls.faults }
 
 -- the same with one more file
 abbrev pub with_file : List ℕ → List ℕ → FilesState → FilesState
@@ -78,6 +83,10 @@ pub record SinkState : Type 0 where
   pub room : ℕ
   pub most : ℕ
   pub calls : Calls
+
+-- as a caller of any sink sees it: its bytes are told
+abbrev pub sink_seen : SinkState → SinkView
+sink_seen state = record { taken = Some state.taken; faults = state.calls.faults }
 
 abbrev pub new_sink : ℕ → ℕ → SinkState
 new_sink room most = record { taken = []; room = room; most = most; calls = no_calls }

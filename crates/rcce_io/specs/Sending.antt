@@ -1,46 +1,55 @@
--- Texts that a sink takes, whole or cut short. A text is one list of bytes. This project's profile.
-use Rattle.std.specs.Prelude.{◌≡◌, ℕ, ◌<◌, ◌≤◌, List, ◌++◌, length, take, Option, option_map, Result, Ok, Err}
+-- What sinks take of texts, whole or cut short. A text is one list of bytes. This project's profile.
+use Rattle.std.specs.Prelude.{◌≡◌, ℕ, ◌<◌, ◌≤◌, List, [], ◌∷◌, ◌++◌, length, take, Option, option_map, Result, Ok, Err}
 use Rattle.rcce_io.specs.declared.sink.Put.{Put}
 use Rattle.rcce_io.specs.declared.sink.Put.TheVariants as put
 use Rattle.rcce_io.specs.declared.writing.WriteFault.{WriteFault}
-use Rattle.rcce_io.specs.Faults.{Rose}
+use Rattle.rcce_io.specs.Faults.{next_count}
 
--- the sink took this text behind what it had taken
-abbrev pub Gains : Option (List ℕ) → Option (List ℕ) → List ℕ → Type 0
-Gains taken more text = more ≡ option_map (λ bytes. bytes ++ text) taken
+-- a sink: the bytes that it took, where they are told, and its count of faults
+pub record SinkView : Type 0 where
+  pub taken : Option (List ℕ)
+  pub faults : ℕ
 
--- what a write says of the bytes taken and of the count of faults
-abbrev pub Writes : Option (List ℕ) → Option (List ℕ) → List ℕ → ℕ → ℕ → Put → Type 0
-Writes taken more bytes before now (put.Took n) = (now ≡ before) × (0 < n) × (n ≤ length bytes) × Gains taken more (take n bytes)
-Writes taken more _ before now put.Failed = Rose before now × (more ≡ taken)
+-- the sink that took this text too
+abbrev pub with_text : List ℕ → SinkView → SinkView
+with_text text sink = record { taken = option_map (λ bytes. bytes ++ text) sink.taken; faults = sink.faults }
 
--- the sink took the whole text, with no fault
-pub record Whole (taken more : Option (List ℕ)) (before now : ℕ) (text : List ℕ) : Type 0 where
-  pub steady : now ≡ before
-  pub gains : Gains taken more text
+-- the sink with one fault more
+abbrev pub with_fault : SinkView → SinkView
+with_fault sink = record { taken = sink.taken; faults = next_count sink.faults }
 
--- the sink took a front of the text, and its count of faults rose
-pub record CutShort (taken more : Option (List ℕ)) (before now : ℕ) (text : List ℕ) : Type 0 where
-  pub rose : Rose before now
+-- what a write does to a sink: it takes a front of the bytes, or counts one fault and takes nothing
+abbrev pub Writes : List ℕ → SinkView → SinkView → Put → Type 0
+Writes bytes before after (put.Took n) = (0 < n) × (n ≤ length bytes) × (after ≡ with_text (take n bytes) before)
+Writes bytes before after put.Failed = after ≡ with_fault before
+
+-- The sink took a front of the text, and then one write failed. Nothing was written behind it: that might have failed
+-- too, and then two faults were counted.
+pub record CutShort (text : List ℕ) (before after : SinkView) : Type 0 where
   pub front : List ℕ
   pub back : List ℕ
   pub whole : text ≡ front ++ back
-  pub gains : Gains taken more front
+  pub missing : 0 < length back
+  pub left : after ≡ with_fault (with_text front before)
 
 -- a text that is sent is taken whole, or cut short by a fault
-abbrev pub Sends : Option (List ℕ) → Option (List ℕ) → ℕ → ℕ → List ℕ → Result (Unit {0}) WriteFault → Type 0
-Sends taken more before now text (Ok _) = Whole taken more before now text
-Sends taken more before now text (Err _) = CutShort taken more before now text
+abbrev pub Sends : List ℕ → SinkView → SinkView → Result (Unit {0}) WriteFault → Type 0
+Sends text before after (Ok _) = after ≡ with_text text before
+Sends text before after (Err _) = CutShort text before after
 
 -- so much of the text was taken, with no fault, and the rest of it waits
-pub record Waits (taken more : Option (List ℕ)) (before now : ℕ) (text waiting : List ℕ) : Type 0 where
-  pub steady : now ≡ before
+pub record Waits (text waiting : List ℕ) (before after : SinkView) : Type 0 where
   pub gone : List ℕ
   pub whole : text ≡ gone ++ waiting
-  pub gains : Gains taken more gone
+  pub left : after ≡ with_text gone before
 
 -- A text was put behind what waited: of both so much was taken and the rest of them waits, or they were cut short by a
 -- fault.
-abbrev pub Gathers : Option (List ℕ) → Option (List ℕ) → ℕ → ℕ → List ℕ → List ℕ → List ℕ → Result (Unit {0}) WriteFault → Type 0
-Gathers taken more before now waited waiting text (Ok _) = Waits taken more before now (waited ++ text) waiting
-Gathers taken more before now waited waiting text (Err _) = CutShort taken more before now (waited ++ text)
+abbrev pub Gathers : List ℕ → List ℕ → List ℕ → SinkView → SinkView → Result (Unit {0}) WriteFault → Type 0
+Gathers text waited waiting before after (Ok _) = Waits (waited ++ text) waiting before after
+Gathers text waited waiting before after (Err _) = CutShort (waited ++ text) before after
+
+-- texts, one behind the other
+abbrev pub joined : List (List ℕ) → List ℕ
+joined [] = []
+joined (text ∷ texts) = text ++ joined texts

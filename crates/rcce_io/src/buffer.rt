@@ -1,4 +1,4 @@
-ghost use Rattle.std.specs.Prelude.{◌≡◌, ◌≤◌, [], OnOk};
+ghost use Rattle.std.specs.Prelude.{◌≡◌, [], OnOk};
 ghost use Rattle.rcce_io.specs.Sending.{Gathers, Sends};
 
 use crate::{Put, Sink, TextSource, WriteFault, write_all};
@@ -11,6 +11,12 @@ const ROOM: usize = 1024;
 /// Bytes that wait for a sink, so that many short texts go to it by one write. No memory is taken.
 #[derive(Drop)]
 pub struct Buffer {
+    room: Room,
+}
+
+/// The bytes that wait.
+#[derive(Drop)]
+struct Room {
     bytes: ArrayVec<u8, ROOM>,
 }
 
@@ -19,7 +25,7 @@ impl Model for Buffer {
 
     ghost Value = { List ℕ };
 
-    ghost view = { λ b. b.bytes.items };
+    ghost view = { λ b. b.room.bytes.items };
 }
 
 impl Buffer {
@@ -27,7 +33,9 @@ impl Buffer {
         ensures { result ≡ [] }
     {
         Buffer {
-            bytes: ArrayVec::new(),
+            room: Room {
+                bytes: ArrayVec::new(),
+            },
         }
     }
 
@@ -37,15 +45,13 @@ impl Buffer {
         sink: &mut S,
         source: &T,
     ) -> Result<(), WriteFault>
-        ensures later { S.faults sink.old ≤ S.faults sink.new }
-        ensures gathers { Gathers (S.taken sink.old) (S.taken sink.new) (S.faults sink.old) (S.faults sink.new)
-            self.old self.new (T.text source.now) result }
+        ensures { Gathers (T.text source.now) self.old self.new (S.seen sink.old) (S.seen sink.new) result }
     {
-        let waiting = self.bytes.len();
-        match source.write_to(self) {
+        let waiting = self.room.bytes.len();
+        match source.write_to(&mut self.room) {
             Ok(()) => Ok(()),
             Err(WriteFault) => {
-                self.bytes.truncate(waiting);
+                self.room.bytes.truncate(waiting);
                 self.flush(sink)?;
                 source.write_to(sink)
             }
@@ -54,25 +60,20 @@ impl Buffer {
 
     /// Writes the bytes that wait.
     pub fn flush<S: Sink>(&mut self, sink: &mut S) -> Result<(), WriteFault>
-        ensures later { S.faults sink.old ≤ S.faults sink.new }
-        ensures sends { Sends (S.taken sink.old) (S.taken sink.new) (S.faults sink.old) (S.faults sink.new)
-            self.old result }
+        ensures sends { Sends self.old (S.seen sink.old) (S.seen sink.new) result }
         ensures emptied { OnOk result (self.new ≡ []) }
     {
-        write_all(sink, self.bytes.as_slice())?;
-        self.bytes.clear();
+        write_all(sink, self.room.bytes.as_slice())?;
+        self.room.bytes.clear();
         Ok(())
     }
 }
 
-/// A write fails where the bytes do not fit.
-impl Sink for Buffer {
+// A write fails where the bytes do not fit. The count of faults stands at its largest value.
+impl Sink for Room {
     ghost use Rattle.std.specs.Prelude.{Some, ◌-◌, ◌^◌};
 
-    ghost taken = { λ b. Some b };
-
-    // No faults are counted: the count stands at its largest value.
-    ghost faults = { λ _. 2 ^ 64 - 1 };
+    ghost seen = { λ r. record { taken = Some r.bytes.items; faults = 2 ^ 64 - 1 } };
 
     fn write(&mut self, bytes: &[u8]) -> Put {
         match self.bytes.try_extend_from_slice(bytes) {

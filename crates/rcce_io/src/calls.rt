@@ -1,4 +1,4 @@
-ghost use Rattle.std.specs.Prelude.{◌≡◌, ◌≤◌, Some};
+ghost use Rattle.std.specs.Prelude.{◌≡◌, Some};
 ghost use Rattle.rcce_io.specs.Memory.{Calls, no_calls, fails_next, after_call};
 
 use std::marker::Model;
@@ -36,6 +36,13 @@ impl CallCounter {
         self.failing = Some(call);
     }
 
+    /// How many calls were made.
+    pub fn made(&self) -> u64
+        ensures { result ≡ self.now.made }
+    {
+        self.made
+    }
+
     /// Whether the next call is to fail.
     pub fn fails_next(&self) -> bool
         ensures { result ≡ fails_next self.now }
@@ -49,8 +56,7 @@ impl CallCounter {
 
     /// Counts the next call, which failed or did not.
     pub fn count(&mut self, failed: bool)
-        ensures counted { self.new ≡ after_call failed self.old }
-        ensures later { self.old.faults ≤ self.new.faults }
+        ensures { self.new ≡ after_call failed self.old }
     {
         self.made = self.made.saturating_add(1);
         if failed {

@@ -1,5 +1,5 @@
-ghost use Rattle.std.specs.Prelude.{◌≡◌, ℕ, ◌<◌, ◌≤◌, ◌↔◌, Bool, List, length, Option, IsTrue};
-ghost use Rattle.rcce_io.specs.Files.{NamedFile, Opens, Reads};
+ghost use Rattle.std.specs.Prelude.{◌<◌, length, IsTrue};
+ghost use Rattle.rcce_io.specs.Files.{FilesView, Opens, Reads};
 
 /// What an `open` answers.
 #[derive(Clone, Copy, Debug, PartialEq, Eq)]
@@ -21,31 +21,17 @@ pub enum Got {
 
 /// Files that are read one at a time, from front to end.
 pub trait Files {
-    /// The files with their bytes, where they are told.
-    ghost contents: { Self → Option (List NamedFile) };
+    /// The files with their bytes and the rest of the open one, where they are told, whether one is open, and the count
+    /// of faults, which stops at the largest value of u64.
+    ghost seen: { Self → FilesView };
 
-    /// The rest of the open file, where it is told.
-    ghost rest: { Self → Option (List ℕ) };
-
-    /// Whether a file is open.
-    ghost is_open: { Self → Bool };
-
-    /// The count of faults, which stops at the largest value of u64.
-    ghost faults: { Self → ℕ };
-
-    /// Closes what was open, and opens the file of this name at its front.
+    /// Closes what was open, and opens the file of this name at its front. A call that fails counts exactly one fault.
     fn open(&mut self, name: &str) -> Opened
-        ensures told { contents self.new ≡ contents self.old }
-        ensures later { faults self.old ≤ faults self.new }
-        ensures opens { Opens (contents self.old) name.now (faults self.old) (faults self.new) (rest self.new) result }
-        ensures open { IsTrue (is_open self.new) ↔ (result ≡ Opened.Open) };
+        ensures { Opens name.now (seen self.old) (seen self.new) result };
 
-    /// Reads on in the open file, into the front of the buffer.
+    /// Reads on in the open file, into the front of the buffer. A call that fails counts exactly one fault.
     fn read(&mut self, buf: &mut [u8]) -> Got
-        requires open { IsTrue (is_open self.old) }
+        requires open { IsTrue (seen self.old).is_open }
         requires room { 0 < length buf.old }
-        ensures told { contents self.new ≡ contents self.old }
-        ensures later { faults self.old ≤ faults self.new }
-        ensures reads { Reads (rest self.old) (rest self.new) buf.new (faults self.old) (faults self.new) result }
-        ensures open { IsTrue (is_open self.new) };
+        ensures { Reads (seen self.old) (seen self.new) buf.new result };
 }

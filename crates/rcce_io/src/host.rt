@@ -39,13 +39,7 @@ impl HostFiles {
 impl Files for HostFiles {
     ghost use Rattle.std.specs.Prelude.{None};
 
-    ghost contents = { λ _. None };
-
-    ghost rest = { λ _. None };
-
-    ghost is_open = { λ h. h.is_open };
-
-    ghost faults = { λ h. h.faults };
+    ghost seen = { λ h. record { told = None; rest = None; is_open = h.is_open; faults = h.faults } };
 
     fn open(&mut self, name: &str) -> Opened {
         self.file = None;
@@ -121,9 +115,7 @@ impl StdSink {
 impl Sink for StdSink {
     ghost use Rattle.std.specs.Prelude.{None};
 
-    ghost taken = { λ _. None };
-
-    ghost faults = { λ s. s };
+    ghost seen = { λ s. record { taken = None; faults = s } };
 
     fn write(&mut self, bytes: &[u8]) -> Put {
         let written = match &mut self.stream {

@@ -1,4 +1,4 @@
-ghost use Rattle.std.specs.Prelude.{◌≡◌, ◌<◌, ◌≤◌, ◌↔◌, Some, None, length, map, OnOk, OnErr, IsTrue, IfSome, is_some, option_map};
+ghost use Rattle.std.specs.Prelude.{◌≡◌, ◌<◌, Some, None, length, map, OnOk, OnErr, IsTrue, IfSome, is_some, option_map};
 ghost use Rattle.rcce_io.specs.Files.{Opens, Reads, contents_of};
 ghost use Rattle.rcce_io.specs.MemoryFiles.{named, contents_at};
 
@@ -83,25 +83,22 @@ impl MemFiles {
     {
         self.calls.fail_at(call);
     }
+
+    /// How many calls of `open` and `read` were made, up to the largest value of u64.
+    pub fn calls_made(&self) -> u64
+        ensures { result ≡ self.now.calls.made }
+    {
+        self.calls.made()
+    }
 }
 
 impl Files for MemFiles {
-    ghost use Rattle.std.specs.Prelude.{Some, is_some};
-    ghost use Rattle.rcce_io.specs.Memory.{open_answer, after_open, read_answer, after_read};
+    ghost use Rattle.rcce_io.specs.Memory.{open_answer, after_open, read_answer, after_read, files_seen};
 
-    ghost contents = { λ m. Some m.files };
-
-    ghost rest = { λ m. m.rest };
-
-    ghost is_open = { λ m. is_some m.rest };
-
-    ghost faults = { λ m. m.calls.faults };
+    ghost seen = { files_seen };
 
     fn open(&mut self, name: &str) -> Opened
-        ensures told { Some self.new.files ≡ Some self.old.files }
-        ensures later { self.old.calls.faults ≤ self.new.calls.faults }
-        ensures opens { Opens (Some self.old.files) name.now self.old.calls.faults self.new.calls.faults self.new.rest result }
-        ensures open { IsTrue (is_some self.new.rest) ↔ (result ≡ Opened.Open) }
+        ensures opens { Opens name.now (files_seen self.old) (files_seen self.new) result }
 
         // Exactly the call of the number set fails.
         ensures answers { result ≡ open_answer self.old name.now }
@@ -123,12 +120,9 @@ impl Files for MemFiles {
     }
 
     fn read(&mut self, buf: &mut [u8]) -> Got
-        requires open { IsTrue (is_some self.old.rest) }
+        requires open { IsTrue (files_seen self.old).is_open }
         requires room { 0 < length buf.old }
-        ensures told { Some self.new.files ≡ Some self.old.files }
-        ensures later { self.old.calls.faults ≤ self.new.calls.faults }
-        ensures reads { Reads self.old.rest self.new.rest buf.new self.old.calls.faults self.new.calls.faults result }
-        ensures open { IsTrue (is_some self.new.rest) }
+        ensures reads { Reads (files_seen self.old) (files_seen self.new) buf.new result }
 
         // Exactly the call of the number set fails.
         ensures answers { result ≡ read_answer self.old (length buf.old) }

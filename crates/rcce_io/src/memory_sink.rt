@@ -1,6 +1,6 @@
-ghost use Rattle.std.specs.Prelude.{◌≡◌, ◌<◌, ◌≤◌, Some, length, IfOk};
+ghost use Rattle.std.specs.Prelude.{◌≡◌, ◌<◌, Some, length, IfOk};
 ghost use Rattle.rcce_io.specs.Sending.{Writes};
-ghost use Rattle.rcce_io.specs.Memory.{new_sink, write_answer, after_write};
+ghost use Rattle.rcce_io.specs.Memory.{new_sink, sink_seen, write_answer, after_write};
 
 use crate::calls::CallCounter;
 use crate::{Put, Sink};
@@ -49,6 +49,14 @@ impl MemSink {
         self.calls.fail_at(call);
     }
 
+    /// How many writes were made, up to the largest value of u64.
+    pub fn writes_made(&self) -> u64
+        ensures { result ≡ self.now.calls.made }
+    {
+        self.calls.made()
+    }
+
+    /// The bytes taken.
     pub fn bytes(&self) -> &[u8]
         ensures { result.now ≡ self.now.taken }
     {
@@ -57,16 +65,13 @@ impl MemSink {
 }
 
 impl Sink for MemSink {
-    ghost use Rattle.std.specs.Prelude.{Some};
+    ghost use Rattle.rcce_io.specs.Memory.{sink_seen};
 
-    ghost taken = { λ s. Some s.taken };
-
-    ghost faults = { λ s. s.calls.faults };
+    ghost seen = { sink_seen };
 
     fn write(&mut self, bytes: &[u8]) -> Put
         requires { 0 < length bytes.now }
-        ensures later { self.old.calls.faults ≤ self.new.calls.faults }
-        ensures writes { Writes (Some self.old.taken) (Some self.new.taken) bytes.now self.old.calls.faults self.new.calls.faults result }
+        ensures writes { Writes bytes.now (sink_seen self.old) (sink_seen self.new) result }
 
         // Exactly the write of the number set fails, and each where no room is left.
         ensures answers { result ≡ write_answer self.old (length bytes.now) }

@@ -1,7 +1,5 @@
-ghost use Rattle.std.specs.Prelude.{◌≡◌, ◌+◌, ◌<◌, ◌≤◌, length, IsTrue, IfOk, IfSome};
-ghost use Rattle.rcce_io.specs.Faults.{Rose, IsSteady};
-ghost use Rattle.rcce_io.specs.Files.{contents_of};
-ghost use Rattle.rcce_io.specs.Reading.{ReadGives, RestGives, MovesBlock};
+ghost use Rattle.std.specs.Prelude.{◌<◌, IsTrue};
+ghost use Rattle.rcce_io.specs.Reading.{ReadsAll, ReadsRest, ReadsBlock};
 
 use crate::{Bytes, Files, Got, Opened};
 use std::alloc::{AllocError, Global};
@@ -37,13 +35,7 @@ pub fn read_all<F: Files>(
     limit: usize,
 ) -> Result<Bytes, ReadEnd>
     requires { limit < usize.MAX }
-    ensures told { F.contents files.new ≡ F.contents files.old }
-    ensures later { F.faults files.old ≤ F.faults files.new }
-    ensures failed { result ≡ Err ReadEnd.Failed → Rose (F.faults files.old) (F.faults files.new) }
-    ensures fails { F.faults files.old < F.faults files.new → result ≡ Err ReadEnd.Failed }
-    ensures within { IfOk result (λ bytes. length bytes ≤ limit + 1) }
-    ensures gives { IfSome (F.contents files.old) (λ told. IsSteady (F.faults files.old) (F.faults files.new) →
-        ReadGives (contents_of name.now told) limit result) }
+    ensures { ReadsAll name.now limit (F.seen files.old) (F.seen files.new) result }
 {
     match files.open(name) {
         Opened::Open => read_rest(alloc, files, limit),
@@ -54,10 +46,8 @@ pub fn read_all<F: Files>(
 
 fn read_rest<F: Files>(alloc: Global, files: &mut F, limit: usize) -> Result<Bytes, ReadEnd>
     requires limit { limit < usize.MAX }
-    requires open { IsTrue (F.is_open files.old) }
-    ensures told { F.contents files.new ≡ F.contents files.old }
-    ensures later { F.faults files.old ≤ F.faults files.new }
-    ensures rest { RestGives (F.rest files.old) limit (F.faults files.old) (F.faults files.new) result }
+    requires open { IsTrue (F.seen files.old).is_open }
+    ensures { ReadsRest limit (F.seen files.old) (F.seen files.new) result }
 {
     let mut bytes = Vec::new(alloc);
     while bytes.len() <= limit {
@@ -72,12 +62,8 @@ fn read_rest<F: Files>(alloc: Global, files: &mut F, limit: usize) -> Result<Byt
 // Whether a block was read; at the end of the file none was.
 fn read_block<F: Files>(files: &mut F, bytes: &mut Vec<u8>, room: usize) -> Result<bool, ReadEnd>
     requires room { 0 < room }
-    requires open { IsTrue (F.is_open files.old) }
-    ensures told { F.contents files.new ≡ F.contents files.old }
-    ensures later { F.faults files.old ≤ F.faults files.new }
-    ensures block { MovesBlock bytes.old.items (F.rest files.old) bytes.new.items (F.rest files.new) room
-        (F.faults files.old) (F.faults files.new) result }
-    ensures open { IsTrue (F.is_open files.new) }
+    requires open { IsTrue (F.seen files.old).is_open }
+    ensures { ReadsBlock bytes.old.items bytes.new.items room (F.seen files.old) (F.seen files.new) result }
 {
     let mut block = [0u8; BLOCK];
     let most = room.min(BLOCK);

@@ -1,5 +1,5 @@
-ghost use Rattle.std.specs.Prelude.{ℕ, ◌<◌, ◌≤◌, List, length, Option};
-ghost use Rattle.rcce_io.specs.Sending.{Writes};
+ghost use Rattle.std.specs.Prelude.{◌<◌, length};
+ghost use Rattle.rcce_io.specs.Sending.{SinkView, Writes};
 
 /// What a `write` answers.
 #[derive(Clone, Copy, Debug, PartialEq, Eq)]
@@ -11,14 +11,11 @@ pub enum Put {
 
 /// What takes bytes, one behind the other.
 pub trait Sink {
-    /// The bytes taken so far, where they are told.
-    ghost taken: { Self → Option (List ℕ) };
+    /// The bytes taken so far, where they are told, and the count of faults, which stops at the largest value of u64.
+    ghost seen: { Self → SinkView };
 
-    /// The count of faults, which stops at the largest value of u64.
-    ghost faults: { Self → ℕ };
-
+    /// Takes a front of the bytes, or fails. A failed write counts exactly one fault.
     fn write(&mut self, bytes: &[u8]) -> Put
         requires { 0 < length bytes.now }
-        ensures later { faults self.old ≤ faults self.new }
-        ensures writes { Writes (taken self.old) (taken self.new) bytes.now (faults self.old) (faults self.new) result };
+        ensures { Writes bytes.now (seen self.old) (seen self.new) result };
 }

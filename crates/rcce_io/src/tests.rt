@@ -1,6 +1,6 @@
 use crate::{
     Buffer, Files, Got, HostFiles, MemFiles, MemSink, Opened, Put, ReadEnd, Sink, StdSink,
-    TextSource, WriteFault, read_all, write_all,
+    TextSource, WriteFault, read_all, write_all, write_texts,
 };
 use std::alloc::Global;
 use std::test::Fail;
@@ -105,12 +105,46 @@ fn short_texts_wait_and_go_by_one_write(rt: HostRuntime) -> Result<(), Fail> {
     Ok(())
 }
 
-#[test]
-fn a_buffer_takes_a_text_whole_or_not(rt: HostRuntime) {
+/// Gathers a text of this length and then one byte, and tells how many bytes stand on the sink and by how many writes.
+fn gathered(alloc: Global, len: usize) -> Result<(usize, u64), Fail> {
+    let long = [7; 1_025];
+    let mut sink = MemSink::new(alloc, 2_000, 2_000)?;
     let mut buffer = Buffer::new();
-    assert_eq!(rt; buffer.write(&[7; 1_025]), Put::Failed);
-    assert_eq!(rt; buffer.write(&[7; 1_024]), Put::Took(1_024));
-    assert_eq!(rt; buffer.write(&[7]), Put::Failed);
+    buffer.gather(
+        &mut sink,
+        &Line {
+            bytes: &long[..len.min(1_025)],
+        },
+    )?;
+    buffer.gather(&mut sink, &Line { bytes: b"7" })?;
+    Ok((sink.bytes().len(), sink.writes_made()))
+}
+
+#[test]
+fn a_text_that_does_not_fit_goes_by_itself(rt: HostRuntime) -> Result<(), Fail> {
+    assert_eq!(rt; gathered(rt.alloc(), 1_023)?, (0, 0));
+    assert_eq!(rt; gathered(rt.alloc(), 1_024)?, (1_025, 2));
+    assert_eq!(rt; gathered(rt.alloc(), 1_025)?, (1_025, 1));
+    Ok(())
+}
+
+#[test]
+fn no_call_is_made_behind_a_failed_one(rt: HostRuntime) -> Result<(), Fail> {
+    let alloc = rt.alloc();
+    let mut sink = MemSink::new(alloc, 16, 1)?;
+    sink.fail_at(2);
+    let texts = [Line { bytes: b"ue 1" }, Line { bytes: b" y\n" }];
+    assert_eq!(rt; write_texts(&mut sink, &texts), Err(WriteFault));
+    assert_eq!(rt; sink.writes_made(), 2);
+    let mut files = MemFiles::new(alloc);
+    files.add("a", b"one")?;
+    files.fail_at(2);
+    assert_eq!(rt;
+        read_all(alloc, &mut files, "a", 9).err(),
+        Some(ReadEnd::Failed)
+    );
+    assert_eq!(rt; files.calls_made(), 2);
+    Ok(())
 }
 
 #[test]

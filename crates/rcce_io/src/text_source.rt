@@ -1,4 +1,4 @@
-ghost use Rattle.std.specs.Prelude.{ℕ, ◌≤◌, List};
+ghost use Rattle.std.specs.Prelude.{ℕ, List};
 ghost use Rattle.rcce_io.specs.Sending.{Sends};
 
 use crate::{Sink, WriteFault};
@@ -9,7 +9,5 @@ pub trait TextSource {
     ghost text: { Self → List ℕ };
 
     fn write_to<S: Sink>(&self, sink: &mut S) -> Result<(), WriteFault>
-        ensures later { S.faults sink.old ≤ S.faults sink.new }
-        ensures sends { Sends (S.taken sink.old) (S.taken sink.new) (S.faults sink.old) (S.faults sink.new)
-            (text self.now) result };
+        ensures { Sends (text self.now) (S.seen sink.old) (S.seen sink.new) result };
 }

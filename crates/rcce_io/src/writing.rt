@@ -1,7 +1,7 @@
-ghost use Rattle.std.specs.Prelude.{◌≤◌};
-ghost use Rattle.rcce_io.specs.Sending.{Sends};
+ghost use Rattle.std.specs.Prelude.{map};
+ghost use Rattle.rcce_io.specs.Sending.{Sends, joined};
 
-use crate::{Put, Sink};
+use crate::{Put, Sink, TextSource};
 
 /// A sink did not take a text whole.
 #[derive(Clone, Copy, Debug, PartialEq, Eq)]
@@ -9,8 +9,7 @@ pub struct WriteFault;
 
 /// Writes the bytes until all are taken or a write fails.
 pub fn write_all<S: Sink>(sink: &mut S, bytes: &[u8]) -> Result<(), WriteFault>
-    ensures later { S.faults sink.old ≤ S.faults sink.new }
-    ensures sends { Sends (S.taken sink.old) (S.taken sink.new) (S.faults sink.old) (S.faults sink.new) bytes.now result }
+    ensures { Sends bytes.now (S.seen sink.old) (S.seen sink.new) result }
 {
     let mut sent = 0;
     while sent < bytes.len() {
@@ -18,6 +17,16 @@ pub fn write_all<S: Sink>(sink: &mut S, bytes: &[u8]) -> Result<(), WriteFault>
             Put::Took(n) => sent += n,
             Put::Failed => return Err(WriteFault),
         }
+    }
+    Ok(())
+}
+
+/// Writes texts, one behind the other, until all are taken or a write fails.
+pub fn write_texts<S: Sink, T: TextSource>(sink: &mut S, texts: &[T]) -> Result<(), WriteFault>
+    ensures { Sends (joined (map T.text texts.now)) (S.seen sink.old) (S.seen sink.new) result }
+{
+    for text in texts {
+        text.write_to(sink)?;
     }
     Ok(())
 }

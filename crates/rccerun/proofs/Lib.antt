@@ -1,6 +1,4 @@
-pub mod DeliveryLemmas
-pub mod MeaningLemmas
-pub mod OutputLemmas
+pub mod PlanLemmas
 pub mod ReportLemmas
 pub mod TextLemmas
 pub mod ValueLemmas

@@ -5,7 +5,7 @@ use Rattle.std.proofs.lemmas.List.{take-append-drop, take_more, append-nil, leng
 use Rattle.std.proofs.lemmas.List.Folds.{list_all-append, list_all_more}
 use Rattle.script_plain.specs.declared.ends.UeEnd.{UeEnd}
 use Rattle.script_plain.specs.Ends.{Ended, ended_at, nothing_ended}
-use Rattle.rccerun.specs.Outcome.{by_rank, end_text, unfinished_text}
+use Rattle.rccerun.specs.Reports.{by_rank, end_text, unfinished_text}
 
 -- the lines of two lists, the second of which goes on in the ranks
 by_rank-append : (text : ℕ → Ended → List ℕ) (rank : ℕ) (a b : List Ended) →

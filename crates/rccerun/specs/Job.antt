@@ -10,6 +10,10 @@ pub record IsJobOf (command : Command) (job : Job) : Type 0 where
   pub some : 1 ≤ job.nue
   pub most : job.nue ≤ 48
 
+-- the command of a job
+abbrev pub job_command : Job → Command
+job_command job = record { nue = job.nue; script = job.script.now }
+
 -- a job where the words are a command, and none where they are not
 abbrev pub IsJob : Option Command → Option Job → Type 0
 IsJob None None = ⊤

@@ -1,9 +1,6 @@
 pub mod Command
-pub mod Delivery
 pub mod Job
-pub mod Meaning
-pub mod Outcome
 pub mod Pieces
-pub mod Statuses
+pub mod Program
+pub mod Reports
 pub mod Texts
-pub mod Verdict

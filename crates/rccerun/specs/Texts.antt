@@ -6,6 +6,7 @@ use Rattle.groups.specs.declared.operations.Ty.{Ty}
 use Rattle.groups.specs.declared.operations.Ty.TheVariants.{Int, Long}
 use Rattle.groups.specs.Folds.{bytes_in, value_at}
 use Rattle.hex.specs.Hex.{encode_lower}
+use Rattle.rcce_io.specs.Sending.{joined}
 use Rattle.scc_base.specs.declared.kinds.Kind.{Kind}
 use Rattle.scc_base.specs.declared.kinds.Kind.TheVariants.{Plain, Bcast, Reduce, AllUp, AllDown}
 use Rattle.scc_base.specs.Heads.{MessageHead, kind_at}
@@ -13,11 +14,6 @@ use Rattle.script_reader.specs.declared.script.Form.{Form}
 use Rattle.script_reader.specs.declared.script.Form.TheVariants as form
 use Rattle.scc_base.specs.declared.calls.Call.{Call}
 use Rattle.scc_base.specs.declared.calls.Call.TheVariants as call
-
--- a line of these pieces
-abbrev pub joined : List (List ℕ) → List ℕ
-joined [] = []
-joined (piece ∷ pieces) = piece ++ joined pieces
 
 -- bytes as hex digits in lower case, and `-` for none
 abbrev pub hex_text : List ℕ → List ℕ

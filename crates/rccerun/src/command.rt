@@ -1,13 +1,10 @@
 //! The words after the program's name.
 
-ghost use Rattle.std.specs.Prelude.{◌≡◌, ◌≤◌, map, string_bytes, IfSome};
-ghost use Rattle.rccerun.specs.Command.{command_of, is_option, ue_count_of};
+ghost use Rattle.std.specs.Prelude.{map, string_bytes};
+ghost use Rattle.rccerun.specs.Command.{command_of};
 ghost use Rattle.rccerun.specs.Job.{IsJob};
 
-use script_reader::number;
-
-/// The most units of execution: one for each core of the chip.
-const MOST_UES: u32 = 48;
+use outcomes::{is_option, ue_count};
 
 /// What the words ask for: how many units of execution, and the script's file.
 #[derive(Clone, Copy, Debug)]
@@ -31,22 +28,4 @@ pub fn job_of(words: &[String]) -> Option<Job<'_>>
         nue,
         script: script.as_str(),
     })
-}
-
-fn is_option(word: &str) -> bool
-    ensures { result ≡ is_option word.now }
-{
-    match word.as_bytes() {
-        [first, ..] => *first == b'-',
-        [] => false,
-    }
-}
-
-fn ue_count(word: &str) -> Option<u8>
-    ensures { result ≡ ue_count_of word.now }
-{
-    match number(word.as_bytes()) {
-        Some(n) if 1 <= n && n <= MOST_UES => Some(n as u8),
-        _ => None,
-    }
 }

@@ -3,13 +3,12 @@
 ghost use Rattle.std.specs.Prelude.{◌≡◌, ◌≤◌, [], ◌∷◌, codes, decimal};
 ghost use Rattle.rcce_io.specs.Sending.{Sends};
 ghost use Rattle.scc_base.specs.Heads.{kind_at};
-ghost use Rattle.rccerun.specs.Outcome.{end_text, is_finished};
+ghost use Rattle.rccerun.specs.Reports.{end_text, is_finished};
 ghost use Rattle.rccerun.specs.Texts.{call_pieces, item_line, kind_text, message_pieces, mismatch_line, type_text, waiting_line};
 
 use crate::pieces::Piece::{Hex, Number, Text, Values};
-use crate::pieces::write_line;
 use groups::Ty;
-use rcce_io::{Sink, TextSource, WriteFault};
+use rcce_io::{Sink, TextSource, WriteFault, write_texts};
 use scc_base::{Call, Head, Kind, Rank};
 use script_plain::{Printed, UeEnd};
 use script_reader::Form;
@@ -52,7 +51,7 @@ impl TextSource for ItemLine<'_> {
         let ue = self.rank.number() as u32;
         let bytes = self.item.bytes.as_slice();
         match self.item.form {
-            Form::Hex => write_line(
+            Form::Hex => write_texts(
                 sink,
                 &[
                     Text("ue "),
@@ -64,7 +63,7 @@ impl TextSource for ItemLine<'_> {
                     Text("\n"),
                 ],
             ),
-            Form::Decimal(ty) => write_line(
+            Form::Decimal(ty) => write_texts(
                 sink,
                 &[
                     Text("ue "),
@@ -90,9 +89,7 @@ pub fn is_finished(end: &UeEnd) -> bool
 
 /// Writes where a unit of execution stands, a line where it has not finished, else nothing.
 pub fn write_end<S: Sink>(sink: &mut S, rank: Rank, end: &UeEnd) -> Result<(), WriteFault>
-    ensures later { S.faults sink.old ≤ S.faults sink.new }
-    ensures sends { Sends (S.taken sink.old) (S.taken sink.new) (S.faults sink.old) (S.faults sink.new)
-        (end_text rank end.now) result }
+    ensures { Sends (end_text rank end.now) (S.seen sink.old) (S.seen sink.new) result }
 {
     match end {
         UeEnd::Finished => Ok(()),
@@ -112,9 +109,7 @@ fn write_waiting<S: Sink>(
     line: u32,
     call: &Call,
 ) -> Result<(), WriteFault>
-    ensures later { S.faults sink.old ≤ S.faults sink.new }
-    ensures sends { Sends (S.taken sink.old) (S.taken sink.new) (S.faults sink.old) (S.faults sink.new)
-        (waiting_line rank line (call_pieces call.now)) result }
+    ensures { Sends (waiting_line rank line (call_pieces call.now)) (S.seen sink.old) (S.seen sink.new) result }
 {
     match call {
         Call::Send { to, head } => write_message(sink, rank, line, "send to ", *to, *head),
@@ -132,11 +127,9 @@ fn write_message<S: Sink>(
     peer: Rank,
     head: Head,
 ) -> Result<(), WriteFault>
-    ensures later { S.faults sink.old ≤ S.faults sink.new }
-    ensures sends { Sends (S.taken sink.old) (S.taken sink.new) (S.faults sink.old) (S.faults sink.new)
-        (waiting_line rank line (message_pieces does.now peer head)) result }
+    ensures { Sends (waiting_line rank line (message_pieces does.now peer head)) (S.seen sink.old) (S.seen sink.new) result }
 {
-    write_line(
+    write_texts(
         sink,
         &[
             Text("ue "),
@@ -158,11 +151,9 @@ fn write_message<S: Sink>(
 }
 
 fn write_barrier<S: Sink>(sink: &mut S, rank: Rank, line: u32, comm: u8) -> Result<(), WriteFault>
-    ensures later { S.faults sink.old ≤ S.faults sink.new }
-    ensures sends { Sends (S.taken sink.old) (S.taken sink.new) (S.faults sink.old) (S.faults sink.new)
-        (waiting_line rank line (codes "barrier " ∷ decimal comm ∷ [])) result }
+    ensures { Sends (waiting_line rank line (codes "barrier " ∷ decimal comm ∷ [])) (S.seen sink.old) (S.seen sink.new) result }
 {
-    write_line(
+    write_texts(
         sink,
         &[
             Text("ue "),
@@ -185,11 +176,9 @@ fn write_mismatch<S: Sink>(
     sent: Head,
     asked: Head,
 ) -> Result<(), WriteFault>
-    ensures later { S.faults sink.old ≤ S.faults sink.new }
-    ensures sends { Sends (S.taken sink.old) (S.taken sink.new) (S.faults sink.old) (S.faults sink.new)
-        (mismatch_line rank line from sent asked) result }
+    ensures { Sends (mismatch_line rank line from sent asked) (S.seen sink.old) (S.seen sink.new) result }
 {
-    write_line(
+    write_texts(
         sink,
         &[
             Text("ue "),

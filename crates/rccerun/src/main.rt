@@ -2,17 +2,14 @@
 #![tactic(auto)]
 
 mod command;
-mod delivery;
 mod launcher;
 mod lines;
 mod pieces;
 mod report;
 #[cfg(test)]
 mod runs;
-mod status;
 #[cfg(test)]
 mod tests;
-mod verdict;
 
 use launcher::rccerun;
 use rcce_io::{HostFiles, StdSink};

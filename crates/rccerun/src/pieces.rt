@@ -1,12 +1,11 @@
 //! The pieces of a line, written one after the other. No memory is taken.
 
-ghost use Rattle.std.specs.Prelude.{◌≡◌, ◌≤◌, ◌<◌, ◌*◌, ◌/◌, ◌++◌, codes, length, flat_map, decimal, map};
+ghost use Rattle.std.specs.Prelude.{◌≡◌, ◌≤◌, ◌<◌, ◌*◌, ◌/◌, ◌++◌, codes, length, flat_map, decimal};
 ghost use Rattle.std.specs.Fmt.{signed_decimal};
 ghost use Rattle.groups.specs.Folds.{bytes_in, value_of};
 ghost use Rattle.hex.specs.Hex.{encode_lower};
 ghost use Rattle.rcce_io.specs.Sending.{Sends};
-ghost use Rattle.rccerun.specs.Texts.{hex_text, joined, value_text, values_text};
-ghost use Rattle.rccerun.specs.Pieces.{piece_text};
+ghost use Rattle.rccerun.specs.Texts.{hex_text, value_text, values_text};
 
 use groups::Ty;
 use rcce_io::{Buffer, Sink, TextSource, WriteFault, write_all};
@@ -25,44 +24,30 @@ pub enum Piece<'a> {
     Values(Ty, &'a [u8]),
 }
 
-/// Writes a line of these pieces.
-pub fn write_line<S: Sink>(sink: &mut S, pieces: &[Piece]) -> Result<(), WriteFault>
-    ensures later { S.faults sink.old ≤ S.faults sink.new }
-    ensures sends { Sends (S.taken sink.old) (S.taken sink.new) (S.faults sink.old) (S.faults sink.new)
-        (joined (map piece_text pieces.now)) result }
-{
-    for piece in pieces {
-        write_piece(sink, piece)?;
-    }
-    Ok(())
-}
+impl TextSource for Piece<'_> {
+    ghost use Rattle.rccerun.specs.Pieces.{piece_text};
 
-fn write_piece<S: Sink>(sink: &mut S, piece: &Piece) -> Result<(), WriteFault>
-    ensures later { S.faults sink.old ≤ S.faults sink.new }
-    ensures sends { Sends (S.taken sink.old) (S.taken sink.new) (S.faults sink.old) (S.faults sink.new)
-        (piece_text piece.now) result }
-{
-    match piece {
-        Piece::Text(text) => write_all(sink, text.as_bytes()),
-        Piece::Number(n) => write_number(sink, *n),
-        Piece::Hex(bytes) => write_hex(sink, bytes),
-        Piece::Values(ty, bytes) => write_values(sink, *ty, bytes),
+    ghost text = { piece_text };
+
+    fn write_to<S: Sink>(&self, sink: &mut S) -> Result<(), WriteFault> {
+        match self {
+            Piece::Text(text) => write_all(sink, text.as_bytes()),
+            Piece::Number(n) => write_number(sink, *n),
+            Piece::Hex(bytes) => write_hex(sink, bytes),
+            Piece::Values(ty, bytes) => write_values(sink, *ty, bytes),
+        }
     }
 }
 
 fn write_number<S: Sink>(sink: &mut S, n: u32) -> Result<(), WriteFault>
-    ensures later { S.faults sink.old ≤ S.faults sink.new }
-    ensures sends { Sends (S.taken sink.old) (S.taken sink.new) (S.faults sink.old) (S.faults sink.new)
-        (decimal n) result }
+    ensures { Sends (decimal n) (S.seen sink.old) (S.seen sink.new) result }
 {
     let mut buffer = itoa::Buffer::new();
     write_all(sink, buffer.format(n).as_bytes())
 }
 
 fn write_hex<S: Sink>(sink: &mut S, bytes: &[u8]) -> Result<(), WriteFault>
-    ensures later { S.faults sink.old ≤ S.faults sink.new }
-    ensures sends { Sends (S.taken sink.old) (S.taken sink.new) (S.faults sink.old) (S.faults sink.new)
-        (hex_text bytes.now) result }
+    ensures { Sends (hex_text bytes.now) (S.seen sink.old) (S.seen sink.new) result }
 {
     if bytes.is_empty() {
         write_all(sink, b"-")
@@ -72,9 +57,7 @@ fn write_hex<S: Sink>(sink: &mut S, bytes: &[u8]) -> Result<(), WriteFault>
 }
 
 fn write_digits<S: Sink>(sink: &mut S, bytes: &[u8]) -> Result<(), WriteFault>
-    ensures later { S.faults sink.old ≤ S.faults sink.new }
-    ensures sends { Sends (S.taken sink.old) (S.taken sink.new) (S.faults sink.old) (S.faults sink.new)
-        (encode_lower bytes.now) result }
+    ensures { Sends (encode_lower bytes.now) (S.seen sink.old) (S.seen sink.new) result }
 {
     let mut done = 0;
     while done < bytes.len() {
@@ -87,9 +70,7 @@ fn write_digits<S: Sink>(sink: &mut S, bytes: &[u8]) -> Result<(), WriteFault>
 
 fn write_block<S: Sink>(sink: &mut S, bytes: &[u8]) -> Result<(), WriteFault>
     requires { length bytes.now ≤ HEX_BLOCK }
-    ensures later { S.faults sink.old ≤ S.faults sink.new }
-    ensures sends { Sends (S.taken sink.old) (S.taken sink.new) (S.faults sink.old) (S.faults sink.new)
-        (encode_lower bytes.now) result }
+    ensures { Sends (encode_lower bytes.now) (S.seen sink.old) (S.seen sink.new) result }
 {
     let mut digits = [0u8; 2 * HEX_BLOCK];
     let text = &mut digits[..2 * bytes.len()];
@@ -101,9 +82,7 @@ fn write_block<S: Sink>(sink: &mut S, bytes: &[u8]) -> Result<(), WriteFault>
 
 /// Writes bytes as values of a type.
 fn write_values<S: Sink>(sink: &mut S, ty: Ty, bytes: &[u8]) -> Result<(), WriteFault>
-    ensures later { S.faults sink.old ≤ S.faults sink.new }
-    ensures sends { Sends (S.taken sink.old) (S.taken sink.new) (S.faults sink.old) (S.faults sink.new)
-        (values_text ty bytes.now) result }
+    ensures { Sends (values_text ty bytes.now) (S.seen sink.old) (S.seen sink.new) result }
 {
     let mut buffer = Buffer::new();
     let width = ty.width();
@@ -136,9 +115,7 @@ impl TextSource for Value<'_> {
 /// Writes a value of a type.
 fn write_value<S: Sink>(sink: &mut S, ty: Ty, bytes: &[u8]) -> Result<(), WriteFault>
     requires { length bytes.now ≡ bytes_in ty }
-    ensures later { S.faults sink.old ≤ S.faults sink.new }
-    ensures sends { Sends (S.taken sink.old) (S.taken sink.new) (S.faults sink.old) (S.faults sink.new)
-        (signed_decimal (value_of ty bytes.now)) result }
+    ensures { Sends (signed_decimal (value_of ty bytes.now)) (S.seen sink.old) (S.seen sink.new) result }
 {
     match ty {
         Ty::Int => {

@@ -1,8 +1,8 @@
 //! What no clause says: that the definitions mean the language. Whole scripts with their texts.
 
 use crate::launcher::rccerun;
-use crate::status::Status;
 use crate::tests::{Ended, run, words_of};
+use outcomes::Status;
 use rcce_io::{MemFiles, MemSink};
 use std::alloc::{AllocError, Global};
 use std::process::Abort;

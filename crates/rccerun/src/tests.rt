@@ -2,7 +2,7 @@
 
 use crate::launcher::rccerun;
 use crate::lines::write_end;
-use crate::status::Status;
+use outcomes::Status;
 use rcce_io::{MemFiles, MemSink};
 use scc_base::{Call, Head, Kind, PostHead, Rank};
 use script_plain::UeEnd;

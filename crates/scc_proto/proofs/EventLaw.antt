@@ -55,7 +55,7 @@ holding held records = λ k. record (records k) { held = held k }
 
 module _ (s : SetupView) (held : ℕ → ℕ → Option FlagWords) (records : ℕ → Record) where
   pub single_holding : (r : ℕ) → IsConsistent s r (records r) → IsConsistent s r (holding held records r)
-  single_holding r c = record { stage = c.stage; post = c.post; notes = c.notes; flips = c.flips; bytes = c.bytes }
+  single_holding r c = record { stage = c.stage; post = c.post; notes = c.notes; flips = c.flips; calls = c.calls }
 
   pub pairs_holding : (view : View) → PairsAgree s view records → PairsAgree s view (holding held records)
   pairs_holding view pairs from to peers = pairs from to peers

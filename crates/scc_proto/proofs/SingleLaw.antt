@@ -1,37 +1,26 @@
 -- The record of any list of permitted events is consistent, whatever the words are.
 use Rattle.std.proofs.Common.{◌≡◌, ◌≢◌, ◌⊎◌, inl, inr, ⊎_elim, ℕ, zero, suc, ◌+◌, ◌-◌, ◌*◌, ◌%◌, ◌<◌, ◌≤◌, min, Bool, true, false, ◌&&◌, ◌==◌, if◌then◌else◌, List, [], ◌∷◌, ◌++◌, length, Option, Some, None, is_none, option_map, unwrap_or, All, get_or, refl, sym, ◌∙◌, ap, subst, arith, length-append, mul-suc, mul-zero}
 use Rattle.std.proofs.lemmas.Bool.Decides.{nat_tests}
-use Rattle.std.proofs.lemmas.List.Elements.{All-append}
-use Rattle.scc_base.specs.Calls.{DataCall, Bar, HasItsBytes}
+use Rattle.std.proofs.lemmas.List.Elements.{All-append, All-nil, All-cons}
+use Rattle.scc_base.specs.Calls.{DataCall, Bar}
 use Rattle.scc_base.specs.Setups.{SetupView, place_of, setup_key}
 use Rattle.scc_base.proofs.GroupFacts.{place_below, size_same, root_with}
 use Rattle.scc_proto.specs.Tables.{put}
-use Rattle.scc_proto.specs.Messages.{Notes, noted, note_word, has_all, Progress, begun, chunk_bytes, is_last, is_whole, is_padded, with_chunk, bytes_from, head_of, is_head, is_post_head, message_of, send_to, recv_from, post_to, barriers_of}
+use Rattle.scc_proto.specs.Messages.{Notes, noted, note_word, has_all, Progress, begun, chunk_bytes, is_last, is_whole, is_padded, with_chunk, byte_at, bytes_from, head_of, is_head, is_post_head, message_of, send_to, recv_from, post_to, barriers_of}
 use Rattle.scc_proto.specs.Stages.{Filling, Raised, Answered, Stage, Idle, Drafting, Sending, Between, Taking, Barrier, OnItsWay, Record, blank}
 use Rattle.scc_proto.specs.Moves.{Move, DraftHeader, DraftChunk, RaiseSent, LookSent, ReadHeader, ReadChunk, LowerSent, RaiseReady, LookReady, LowerReady, FlipGather, LookGather, WriteRelease, LookRelease, StoreHeap, NoMove, Misplaced, after, draft_header, draft_chunk, raise_sent, read_chunk, lower_sent, raise_ready, look_ready, lower_ready, flip_gather, look_gather, write_release, look_release, post_raised, post_answered, calls_raised, calls_received, calls_sent, calls_released, calls_let_go, finished_if, is_posted}
 use Rattle.scc_proto.specs.Permission.{permits, drafts_header, drafts_chunk, may_raise, may_take, has_taken, may_release, is_idle, is_whole_header, is_post_word, is_drafted}
 use Rattle.scc_proto.specs.Words.{are_peers, is_present}
 use Rattle.scc_proto.specs.Records.{chunk_of, last_of}
 use Rattle.scc_proto.specs.Views.{View}
-use Rattle.scc_proto.specs.Singles.{IsUnderWay, IsStage, is_free, IsPosted, open_barriers, IsConsistent}
+use Rattle.scc_proto.specs.Singles.{AreBytes, IsWholeMessage, IsMade, IsUnderWay, IsStage, is_free, IsPosted, open_barriers, IsConsistent}
 use Rattle.scc_proto.proofs.MoveFacts.{IsMoveOf, IsMember, IsViewStep}
 use Rattle.scc_proto.proofs.Tests.{same_or_other, put_here, put_there, same_by_eqb, eqb_same, eqb_other, both_first, both_second}
 use Rattle.scc_proto.proofs.MessageLists.{barriers_of-append}
 use Rattle.scc_proto.proofs.NoteFacts.{length-bytes_from}
 use Rattle.scc_proto.proofs.OfferFacts.{post_is_last}
 
--- ---- the bytes of calls
-
-alone : (call : DataCall) → HasItsBytes call → (k : ℕ) (d : DataCall) → k < 1 → HasItsBytes (get_or (call ∷ []) k d)
-alone call has zero d lt = has
-alone call has (suc k) d lt = absurd (omega arith)
-
-all_push : (calls : List DataCall) (call : DataCall) → All HasItsBytes calls → HasItsBytes call → All HasItsBytes (calls ++ call ∷ [])
-all_push calls call all has = All-append HasItsBytes calls (call ∷ []) all (alone call has)
-
-all_if : (b : Bool) (calls : List DataCall) (call : DataCall) → All HasItsBytes calls → (b ≡ true → HasItsBytes call) → All HasItsBytes (finished_if b call calls)
-all_if true calls call all has = all_push calls call all (has refl)
-all_if false calls call all has = all
+-- ---- the finished calls
 
 -- a chunk after those that are through
 last_bytes : (len size through chunks : ℕ) → through ≡ size * chunks → (chunks ≡ 0) ⊎ (size * chunks < len) → len ≤ size * suc chunks → through + min size (len - size * chunks) ≡ len
@@ -45,9 +34,25 @@ more_bytes len size through chunks is lt = let m : size * suc chunks ≡ size * 
 length-with_chunk : (size : ℕ) (message : Progress) (chunk : Notes) → length (with_chunk size message chunk).bytes ≡ length message.bytes + chunk_bytes size message
 length-with_chunk size message chunk = length-append message.bytes (bytes_from chunk 0 (chunk_bytes size message)) ∙ ap (λ n. length message.bytes + n) (length-bytes_from chunk 0 (chunk_bytes size message))
 
+each_from : (chunk : Notes) (start n : ℕ) → AreBytes (bytes_from chunk start n)
+unfolding bytes_from
+each_from chunk start zero = All-nil (λ b. b < 256)
+each_from chunk start (suc n) = All-cons (λ b. b < 256) (byte_at chunk start) (bytes_from chunk (suc start) n) (omega arith) (each_from chunk (suc start) n)
+
+each-with_chunk : (size : ℕ) (message : Progress) (chunk : Notes) → AreBytes message.bytes → AreBytes (with_chunk size message chunk).bytes
+each-with_chunk size message chunk each = All-append (λ b. b < 256) message.bytes (bytes_from chunk 0 (chunk_bytes size message)) each (each_from chunk 0 (chunk_bytes size message))
+
 module _ (s : SetupView) (me : ℕ) where
+  all_push : (calls : List DataCall) (call : DataCall) → All (IsMade s me) calls → IsMade s me call → All (IsMade s me) (calls ++ call ∷ [])
+  all_push calls call all made = All-append (IsMade s me) calls (call ∷ []) all (All-cons (IsMade s me) call [] made (All-nil (IsMade s me)))
+
   whole_bytes : (other : ℕ) (message : Progress) (chunk : Notes) → IsUnderWay s me other message → is_last (chunk_of s) message ≡ true → length (with_chunk (chunk_of s) message chunk).bytes ≡ message.head.len
   whole_bytes other message chunk under last = length-with_chunk (chunk_of s) message chunk ∙ last_bytes message.head.len (chunk_of s) (length message.bytes) message.chunks under.bytes under.left (grind (arith, nat_tests))
+
+  whole_message : (other : ℕ) (message : Progress) (chunk : Notes) → IsUnderWay s me other message → is_last (chunk_of s) message ≡ true
+      → IsWholeMessage s me other is_head message.head (with_chunk (chunk_of s) message chunk).bytes
+  whole_message other message chunk under last =
+      record { peers = under.peers; valid = under.head; long = whole_bytes other message chunk under last; each = each-with_chunk (chunk_of s) message chunk under.each }
 
   -- the next chunk of a message
   goes_on : (other : ℕ) (message : Progress) (chunk : Notes) → IsUnderWay s me other message → is_last (chunk_of s) message ≡ false → IsUnderWay s me other (with_chunk (chunk_of s) message chunk)
@@ -57,16 +62,17 @@ module _ (s : SetupView) (me : ℕ) where
         head = under.head;
         bytes = length-with_chunk (chunk_of s) message chunk ∙ more_bytes message.head.len (chunk_of s) (length message.bytes) message.chunks under.bytes lt;
         left = inr lt;
+        each = each-with_chunk (chunk_of s) message chunk under.each;
       }
 
   begins : (other : ℕ) (header : Notes) → are_peers s me other ≡ true → is_head (head_of header) ≡ true → IsUnderWay s me other (begun (head_of header))
-  begins other header peers head = record { peers = peers; head = head; bytes = sym (mul-zero (chunk_of s)); left = inl refl }
+  begins other header peers head = record { peers = peers; head = head; bytes = sym (mul-zero (chunk_of s)); left = inl refl; each = All-nil (λ b. b < 256) }
 
   -- ---- what a move owes of the stage and the calls
   record Goes (st : Stage) (calls : List DataCall) (new : Stage) (late : List DataCall) : Type 0 where
     stage : IsStage s me new
     count : (comm : ℕ) → barriers_of comm late + open_barriers comm new ≡ barriers_of comm calls + open_barriers comm st
-    bytes : All HasItsBytes calls → All HasItsBytes late
+    bytes : All (IsMade s me) calls → All (IsMade s me) late
     free : is_free st ≡ true → is_free new ≡ true
 
   stays : (st : Stage) (calls : List DataCall) → IsStage s me st → Goes st calls st calls
@@ -132,7 +138,7 @@ module _ (s : SetupView) (me : ℕ) where
       by true is = record {
         stage = tt;
         count = λ comm. ap (λ n. n + 0) (no_barrier true calls (recv_from i (message_of (with_chunk (chunk_of s) m c))) (λ k. refl) comm);
-        bytes = λ all. all_push calls _ all (whole_bytes i m c stage is);
+        bytes = λ all. all_push calls _ all (whole_message i m c stage is);
         free = λ t. refl;
       }
       by false is = record { stage = (goes_on i m c stage is, omega arith); count = λ comm. refl; bytes = λ all. all; free = λ t. refl }
@@ -156,7 +162,7 @@ module _ (s : SetupView) (me : ℕ) where
   record Lowers (st : Stage) (calls : List DataCall) (new : Stage) (late : List DataCall) : Type 0 where
     stage : IsStage s me new
     count : (comm : ℕ) → barriers_of comm late + open_barriers comm new ≡ barriers_of comm calls + open_barriers comm st
-    bytes : All HasItsBytes calls → All HasItsBytes late
+    bytes : All (IsMade s me) calls → All (IsMade s me) late
 
   ready_lowered : (st : Stage) (calls : List DataCall) → IsStage s me st → Lowers st calls (lower_ready (chunk_of s) st) (calls_sent (chunk_of s) st calls)
   ready_lowered Idle calls stage = record { stage = stage; count = λ comm. refl; bytes = λ all. all }
@@ -168,7 +174,7 @@ module _ (s : SetupView) (me : ℕ) where
       by true is = record {
         stage = tt;
         count = λ comm. ap (λ n. n + 0) (no_barrier true calls (send_to j (message_of (with_chunk (chunk_of s) m c))) (λ k. refl) comm);
-        bytes = λ all. all_push calls _ all (whole_bytes j m c stage.0 is);
+        bytes = λ all. all_push calls _ all (whole_message j m c stage.0 is);
       }
       by false is = record { stage = (goes_on j m c stage.0 is, omega arith); count = λ comm. refl; bytes = λ all. all }
   ready_lowered (Between i m) calls stage = record { stage = stage; count = λ comm. refl; bytes = λ all. all }
@@ -179,12 +185,12 @@ module _ (s : SetupView) (me : ℕ) where
 
   gather_flipped : (comm value last : ℕ) (st : Stage) (calls : List DataCall) → is_idle st ≡ true → is_present s comm ≡ true → last ≡ last_of s comm me
       → IsStage s me (flip_gather comm last st) × ((c : ℕ) → barriers_of c (finished_if (last == 0) (Bar comm) calls) + open_barriers c (flip_gather comm last st) ≡ (barriers_of c calls + open_barriers c st) + (if comm == c then 1 else 0))
-      × (All HasItsBytes calls → All HasItsBytes (finished_if (last == 0) (Bar comm) calls)) × (is_free (flip_gather comm last st) ≡ true)
+      × (All (IsMade s me) calls → All (IsMade s me) (finished_if (last == 0) (Bar comm) calls)) × (is_free (flip_gather comm last st) ≡ true)
   gather_flipped comm value last Idle calls idle present is = by (last == 0) refl
     where
       by : (b : Bool) → (last == 0) ≡ b → IsStage s me (if b then Idle else Barrier comm 0 0) × ((c : ℕ) → barriers_of c (finished_if b (Bar comm) calls) + open_barriers c (if b then Idle else Barrier comm 0 0) ≡ (barriers_of c calls + 0) + (if comm == c then 1 else 0))
-          × (All HasItsBytes calls → All HasItsBytes (finished_if b (Bar comm) calls)) × (is_free (if b then Idle else Barrier comm 0 0) ≡ true)
-      by true zero_last = (tt, λ c. omega (arith, one_barrier calls comm c), λ all. all_push calls (Bar comm) all tt, refl)
+          × (All (IsMade s me) calls → All (IsMade s me) (finished_if b (Bar comm) calls)) × (is_free (if b then Idle else Barrier comm 0 0) ≡ true)
+      by true zero_last = (tt, λ c. omega (arith, one_barrier calls comm c), λ all. all_push calls (Bar comm) all present, refl)
       by false some =
           let more : 0 < last = grind (arith, nat_tests) in
           (record { present = present; released_below = omega (arith, more, is); seen_within = omega arith; all_seen = inl refl; of_root = inr refl }, λ c. omega arith, λ all. all, refl)
@@ -227,7 +233,7 @@ module _ (s : SetupView) (me : ℕ) where
   release_written comm place value last v (Barrier c seen released) calls may is stage = by (suc released == last) refl
     where
       by : (b : Bool) → (suc released == last) ≡ b → Goes (Barrier c seen released) calls (if b then Idle else Barrier c seen (suc released)) (finished_if b (Bar c) calls)
-      by true t = record { stage = tt; count = λ k. one_barrier calls c k; bytes = λ all. all_push calls (Bar c) all tt; free = λ u. refl }
+      by true t = record { stage = tt; count = λ k. one_barrier calls c k; bytes = λ all. all_push calls (Bar c) all stage.present; free = λ u. refl }
       by false t =
           let same : c ≡ comm = same_by_eqb c comm (both_first (c == comm) ((seen == last) && ((place == suc released) && (value == v))) may) in
           let all : seen ≡ last = same_by_eqb seen last (both_first (seen == last) ((place == suc released) && (value == v)) (both_second (c == comm) ((seen == last) && ((place == suc released) && (value == v))) may)) in
@@ -250,7 +256,7 @@ module _ (s : SetupView) (me : ℕ) where
   release_looked_at comm value v (Barrier c seen released) calls stage = by ((c == comm) && (value == v))
     where
       by : (b : Bool) → Goes (Barrier c seen released) calls (if b then Idle else Barrier c seen released) (finished_if b (Bar c) calls)
-      by true = record { stage = tt; count = λ k. one_barrier calls c k; bytes = λ all. all_push calls (Bar c) all tt; free = λ u. refl }
+      by true = record { stage = tt; count = λ k. one_barrier calls c k; bytes = λ all. all_push calls (Bar c) all stage.present; free = λ u. refl }
       by false = stays (Barrier c seen released) calls stage
 
   -- ---- raising `sent`
@@ -258,7 +264,7 @@ module _ (s : SetupView) (me : ℕ) where
   record Raises (st : Stage) (calls : List DataCall) (new : Stage) (late : List DataCall) (post : Option OnItsWay) : Type 0 where
     stage : IsStage s me new
     count : (comm : ℕ) → barriers_of comm late + open_barriers comm new ≡ barriers_of comm calls + open_barriers comm st
-    bytes : All HasItsBytes calls → All HasItsBytes late
+    bytes : All (IsMade s me) calls → All (IsMade s me) late
     posted : IsPosted s me new post
 
   first_raised : (posted : Bool) (to : ℕ) (header chunk : Notes) (calls : List DataCall) → is_posted header ≡ posted → is_whole_header header ≡ true → is_drafted (chunk_of s) (begun (head_of header)) chunk ≡ true → are_peers s me to ≡ true
@@ -273,7 +279,7 @@ module _ (s : SetupView) (me : ℕ) where
       record {
         stage = tt;
         count = λ comm. ap (λ n. n + 0) (no_barrier true calls (post_to to (message_of (with_chunk (chunk_of s) (begun (head_of header)) chunk))) (λ k. refl) comm);
-        bytes = λ all. all_push calls _ all (whole_bytes to (begun (head_of header)) chunk under (post_is_last s (head_of header) word));
+        bytes = λ all. all_push calls _ all (record { peers = peers; valid = word; long = whole_bytes to (begun (head_of header)) chunk under (post_is_last s (head_of header) word); each = each-with_chunk (chunk_of s) (begun (head_of header)) chunk under.each });
         posted = record { peers = peers; head = word; whole = both_first (is_whole (chunk_of s) (begun (head_of header)) chunk) (is_padded (chunk_of s) (begun (head_of header)) chunk) drafted; free = refl };
       }
   first_raised false to header chunk calls is whole drafted peers =
@@ -332,15 +338,15 @@ module _ (s : SetupView) (me : ℕ) where
   pub single_by : (rec : Record) (move : Move) → me < s.nue → IsMoveOf s me move → permits (chunk_of s) move rec ≡ true → IsConsistent s me rec → IsConsistent s me (after (chunk_of s) move rec)
   single_by rec (DraftHeader k v) below own may old =
       let r = header_drafted k v rec.stage rec.calls (both_second (is_none rec.post) (drafts_header rec.stage) may) old.stage in
-      record { stage = r.0; post = post_none (drafts_header rec.stage) _ rec.post may; notes = old.notes; flips = λ c. old.flips c ∙ ap (λ n. barriers_of c rec.calls + n) (sym (r.1 c)); bytes = old.bytes }
+      record { stage = r.0; post = post_none (drafts_header rec.stage) _ rec.post may; notes = old.notes; flips = λ c. old.flips c ∙ ap (λ n. barriers_of c rec.calls + n) (sym (r.1 c)); calls = old.calls }
   single_by rec (DraftChunk k v) below own may old =
       let r = chunk_drafted k v rec.stage rec.calls (both_second (is_none rec.post) (drafts_chunk rec.stage) may) old.stage in
-      record { stage = r.0; post = post_none (drafts_chunk rec.stage) _ rec.post may; notes = old.notes; flips = λ c. old.flips c ∙ ap (λ n. barriers_of c rec.calls + n) (sym (r.1 c)); bytes = old.bytes }
+      record { stage = r.0; post = post_none (drafts_chunk rec.stage) _ rec.post may; notes = old.notes; flips = λ c. old.flips c ∙ ap (λ n. barriers_of c rec.calls + n) (sym (r.1 c)); calls = old.calls }
   single_by rec (RaiseSent to) below own may old =
       let r = sent_raised to rec.stage rec.post rec.calls may own old.stage in
-      record { stage = r.stage; post = r.posted; notes = old.notes; flips = λ c. old.flips c ∙ sym (r.count c); bytes = r.bytes old.bytes }
+      record { stage = r.stage; post = r.posted; notes = old.notes; flips = λ c. old.flips c ∙ sym (r.count c); calls = r.bytes old.calls }
   single_by rec (LookSent is_set) below own may old =
-      record { stage = old.stage; post = old.post; notes = λ j none. look_notes (is_set j) (rec.notes j) (λ t is. absurd (cc (own j t, none))) (old.notes j none); flips = old.flips; bytes = old.bytes }
+      record { stage = old.stage; post = old.post; notes = λ j none. look_notes (is_set j) (rec.notes j) (λ t is. absurd (cc (own j t, none))) (old.notes j none); flips = old.flips; calls = old.calls }
   single_by rec (ReadHeader from k v) below own may old =
       record {
         stage = old.stage;
@@ -349,11 +355,11 @@ module _ (s : SetupView) (me : ℕ) where
             (λ t e. ap (λ x. put rec.notes from (option_map (note_word k v) (rec.notes from)) x) e ∙ put_here rec.notes from (option_map (note_word k v) (rec.notes from)) ∙ ap (λ (o : Option Notes). option_map (note_word k v) o) (ap rec.notes (sym e) ∙ old.notes j none))
             (λ t ne. put_there rec.notes from (option_map (note_word k v) (rec.notes from)) j ne ∙ old.notes j none);
         flips = old.flips;
-        bytes = old.bytes;
+        calls = old.calls;
       }
   single_by rec (ReadChunk from k v) below own may old =
       let r = chunk_read from k v rec.stage rec.calls old.stage in
-      record { stage = r.stage; post = post_kept rec.stage _ rec.post r.free old.post; notes = old.notes; flips = λ c. old.flips c ∙ sym (r.count c); bytes = r.bytes old.bytes }
+      record { stage = r.stage; post = post_kept rec.stage _ rec.post r.free old.post; notes = old.notes; flips = λ c. old.flips c ∙ sym (r.count c); calls = r.bytes old.calls }
   single_by rec (LowerSent from) below own may old =
       let r = sent_lowered from (rec.notes from) rec.stage rec.calls may own old.stage in
       record {
@@ -361,17 +367,17 @@ module _ (s : SetupView) (me : ℕ) where
         post = post_kept rec.stage _ rec.post r.free old.post;
         notes = λ j none. same_or_other (put rec.notes from None j ≡ None) j from (λ t e. ap (λ x. put rec.notes from None x) e ∙ put_here rec.notes from None) (λ t ne. put_there rec.notes from None j ne ∙ old.notes j none);
         flips = λ c. old.flips c ∙ sym (r.count c);
-        bytes = r.bytes old.bytes;
+        calls = r.bytes old.calls;
       }
   single_by rec (RaiseReady to) below own may old =
       let r = ready_raised to rec.stage rec.calls may old.stage in
-      record { stage = r.stage; post = post_kept rec.stage _ rec.post r.free old.post; notes = old.notes; flips = λ c. old.flips c ∙ sym (r.count c); bytes = r.bytes old.bytes }
+      record { stage = r.stage; post = post_kept rec.stage _ rec.post r.free old.post; notes = old.notes; flips = λ c. old.flips c ∙ sym (r.count c); calls = r.bytes old.calls }
   single_by rec (LookReady is_set) below own may old =
       let r = ready_looked_at is_set rec.stage rec.calls old.stage in
-      record { stage = r.stage; post = post_seen is_set rec.stage _ rec.post r.free old.post; notes = old.notes; flips = λ c. old.flips c ∙ sym (r.count c); bytes = r.bytes old.bytes }
+      record { stage = r.stage; post = post_seen is_set rec.stage _ rec.post r.free old.post; notes = old.notes; flips = λ c. old.flips c ∙ sym (r.count c); calls = r.bytes old.calls }
   single_by rec (LowerReady by) below own may old =
       let r = ready_lowered rec.stage rec.calls old.stage in
-      record { stage = r.stage; post = tt; notes = old.notes; flips = λ c. old.flips c ∙ sym (r.count c); bytes = r.bytes old.bytes }
+      record { stage = r.stage; post = tt; notes = old.notes; flips = λ c. old.flips c ∙ sym (r.count c); calls = r.bytes old.calls }
   single_by rec (FlipGather comm value last) below own may old =
       let r = gather_flipped comm value last rec.stage rec.calls (both_first (is_idle rec.stage) (value == 1 - rec.flips comm % 2) may) own.0 own.1 in
       record {
@@ -381,7 +387,7 @@ module _ (s : SetupView) (me : ℕ) where
         flips = λ c. same_or_other (put rec.flips comm (suc (rec.flips comm)) c ≡ barriers_of c (finished_if (last == 0) (Bar comm) rec.calls) + open_barriers c (flip_gather comm last rec.stage)) c comm
             (λ t e. put_at rec.flips comm c e ∙ flipped c (rec.flips c) _ _ e (old.flips c) (r.1 c))
             (λ t ne. put_there rec.flips comm (suc (rec.flips comm)) c ne ∙ others c (rec.flips c) _ _ ne (old.flips c) (r.1 c));
-        bytes = r.2 old.bytes;
+        calls = r.2 old.calls;
       }
     where
       put_at : (flips : ℕ → ℕ) (i c : ℕ) → c ≡ i → put flips i (suc (flips i)) c ≡ suc (flips c)
@@ -395,7 +401,7 @@ module _ (s : SetupView) (me : ℕ) where
   single_by rec (LookGather comm from place value) below own may old =
       let within : place ≤ last_of s comm me = place_within from comm place own in
       let r = gather_looked_at comm place value (rec.flips comm % 2) rec.stage rec.calls own.first within old.stage in
-      record { stage = r.stage; post = post_kept rec.stage _ rec.post r.free old.post; notes = old.notes; flips = λ c. old.flips c ∙ sym (r.count c); bytes = r.bytes old.bytes }
+      record { stage = r.stage; post = post_kept rec.stage _ rec.post r.free old.post; notes = old.notes; flips = λ c. old.flips c ∙ sym (r.count c); calls = r.bytes old.calls }
     where
       place_within : (r comm place : ℕ) → IsMember s me comm r place → place ≤ last_of s comm me
       place_within r comm place is =
@@ -405,12 +411,12 @@ module _ (s : SetupView) (me : ℕ) where
           omega (arith, lt, same, is.at)
   single_by rec (WriteRelease comm to place value last) below own may old =
       let r = release_written comm place value last (rec.flips comm % 2) rec.stage rec.calls may own.1 old.stage in
-      record { stage = r.stage; post = post_kept rec.stage _ rec.post r.free old.post; notes = old.notes; flips = λ c. old.flips c ∙ sym (r.count c); bytes = r.bytes old.bytes }
+      record { stage = r.stage; post = post_kept rec.stage _ rec.post r.free old.post; notes = old.notes; flips = λ c. old.flips c ∙ sym (r.count c); calls = r.bytes old.calls }
   single_by rec (LookRelease comm value) below own may old =
       let r = release_looked_at comm value (rec.flips comm % 2) rec.stage rec.calls old.stage in
-      record { stage = r.stage; post = post_kept rec.stage _ rec.post r.free old.post; notes = old.notes; flips = λ c. old.flips c ∙ sym (r.count c); bytes = r.bytes old.bytes }
-  single_by rec (StoreHeap place value) below own may old = record { stage = old.stage; post = old.post; notes = old.notes; flips = old.flips; bytes = old.bytes }
-  single_by rec NoMove below own may old = record { stage = old.stage; post = old.post; notes = old.notes; flips = old.flips; bytes = old.bytes }
+      record { stage = r.stage; post = post_kept rec.stage _ rec.post r.free old.post; notes = old.notes; flips = λ c. old.flips c ∙ sym (r.count c); calls = r.bytes old.calls }
+  single_by rec (StoreHeap place value) below own may old = record { stage = old.stage; post = old.post; notes = old.notes; flips = old.flips; calls = old.calls }
+  single_by rec NoMove below own may old = record { stage = old.stage; post = old.post; notes = old.notes; flips = old.flips; calls = old.calls }
   single_by rec Misplaced below own may old = absurd (cc)
 
 pub single_kept : (s : SetupView) (me : ℕ) (view : View) (rec : Record) (move : Move) → IsViewStep s me view rec move → IsConsistent s me rec → IsConsistent s me (after (chunk_of s) move rec)
@@ -418,4 +424,4 @@ single_kept s me view rec move step old = single_by s me rec move step.rank step
 
 -- the record of no event
 pub single_at_start : (s : SetupView) (me : ℕ) → IsConsistent s me blank
-single_at_start s me = record { stage = tt; post = tt; notes = λ j none. refl; flips = λ comm. refl; bytes = λ k d lt. absurd (omega arith) }
+single_at_start s me = record { stage = tt; post = tt; notes = λ j none. refl; flips = λ comm. refl; calls = λ k d lt. absurd (omega arith) }

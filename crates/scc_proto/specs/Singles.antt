@@ -1,11 +1,30 @@
 -- What holds of the record of any list of permitted events, whatever the words are.
-use Rattle.std.specs.Prelude.{◌≡◌, ℕ, ◌+◌, ◌*◌, ◌<◌, ◌≤◌, ◌⊎◌, Bool, true, false, ◌==◌, if◌then◌else◌, Option, Some, None, length, All}
-use Rattle.scc_base.specs.Calls.{HasItsBytes}
+use Rattle.std.specs.Prelude.{◌≡◌, ℕ, ◌+◌, ◌*◌, ◌<◌, ◌≤◌, ◌⊎◌, Bool, true, false, ◌==◌, if◌then◌else◌, List, Option, Some, None, length, All}
+use Rattle.scc_base.specs.Calls.{DataCall, Send, Recv, Post, Bar}
+use Rattle.scc_base.specs.Heads.{MessageHead}
 use Rattle.scc_base.specs.Setups.{SetupView, place_of}
 use Rattle.scc_proto.specs.Messages.{Notes, Progress, begun, is_whole, is_head, is_post_head, barriers_of}
 use Rattle.scc_proto.specs.Stages.{Part, Filling, Raised, Answered, Stage, Drafting, Sending, Between, Taking, Barrier, OnItsWay, Record}
 use Rattle.scc_proto.specs.Words.{are_peers, is_present}
 use Rattle.scc_proto.specs.Records.{chunk_of, last_of}
+
+-- each of these numbers is a byte
+abbrev pub AreBytes : List ℕ → Type 0
+AreBytes bytes = All (λ b. b < 256) bytes
+
+-- a message with another rank, whole: a head that messages have, and as many bytes as it says
+pub record IsWholeMessage (s : SetupView) (me other : ℕ) (test : MessageHead → Bool) (head : MessageHead) (bytes : List ℕ) : Type 0 where
+  pub peers : are_peers s me other ≡ true
+  pub valid : test head ≡ true
+  pub long : length bytes ≡ head.len
+  pub each : AreBytes bytes
+
+-- a call that a rank of the run can make, with all its bytes
+abbrev pub IsMade : SetupView → ℕ → DataCall → Type 0
+IsMade s me (Send to head bytes) = IsWholeMessage s me to is_head head bytes
+IsMade s me (Recv from head bytes) = IsWholeMessage s me from is_head head bytes
+IsMade s me (Post to head bytes) = IsWholeMessage s me to is_post_head head bytes
+IsMade s me (Bar comm) = is_present s comm ≡ true
 
 -- a message with another rank of which the chunk in hand is not through: a head that messages have, whole
 -- chunks, and bytes left for this one
@@ -14,6 +33,7 @@ pub record IsUnderWay (s : SetupView) (me other : ℕ) (message : Progress) : Ty
   pub head : is_head message.head ≡ true
   pub bytes : length message.bytes ≡ chunk_of s * message.chunks
   pub left : (message.chunks ≡ 0) ⊎ (chunk_of s * message.chunks < message.head.len)
+  pub each : AreBytes message.bytes
 
 -- a later chunk is drafted, or a whole one is raised
 abbrev pub IsPart : ℕ → Part → Progress → Notes → Type 0
@@ -64,4 +84,5 @@ pub record IsConsistent (s : SetupView) (me : ℕ) (rec : Record) : Type 0 where
   pub notes : (j : ℕ) → are_peers s me j ≡ false → rec.notes j ≡ None
   -- each flip entered a barrier, which is finished or open
   pub flips : (comm : ℕ) → rec.flips comm ≡ barriers_of comm rec.calls + open_barriers comm rec.stage
-  pub bytes : All HasItsBytes rec.calls
+  -- each finished call is one that this rank can make
+  pub calls : All (IsMade s me) rec.calls

@@ -30,14 +30,13 @@ impl<P: Port> CountingPort<P> {
 }
 
 impl<P: Port> Port for CountingPort<P> {
-    ghost use Rattle.std.specs.Prelude.{◌≡◌, ◌+◌, ◌-◌, ◌^◌, min, List, [], ◌∷◌};
-    ghost use Rattle.scc_base.specs.Events.{load_of};
-    ghost use Rattle.scc_base.specs.declared.events.Event.{Event};
-    ghost use Rattle.scc_proto.specs.Ports.{Did, IsSoundPort};
+    ghost use Rattle.std.specs.Prelude.{◌≡◌, ◌+◌, ◌-◌, ◌^◌, min, false, [], ◌∷◌};
+    ghost use Rattle.scc_base.specs.Events.{load_of, store_of, take_of, free_of};
+    ghost use Rattle.scc_proto.specs.Ports.{Did, MayMake, IsSoundPort, record_in};
 
     ghost sight = { λ c. P.sight c.port };
 
-    ghost stepped = { λ c es e. P.stepped c.port es e };
+    ghost stepped = { P.stepped };
 
     fn setup(&self) -> &Setup {
         self.port.setup()
@@ -49,9 +48,7 @@ impl<P: Port> Port for CountingPort<P> {
 
     fn load(&mut self, p: Place) -> u64
         ensures did { Did (P.sight self.old.port) (load_of p result ∷ []) (P.sight self.new.port) }
-        ensures step { P.stepped self.new.port (P.sight self.old.port).events (load_of p result) }
-        ensures keeps { (es : List Event) (e : Event)
-            → P.stepped self.old.port es e → P.stepped self.new.port es e }
+        ensures step { P.stepped (P.sight self.old.port).seat (P.sight self.old.port).events (load_of p result) }
         ensures sound { IsSoundPort (P.sight self.new.port) }
         ensures counts { self.new.loads ≡ min (self.old.loads + 1) (2 ^ 64 - 1) }
     {
@@ -59,15 +56,33 @@ impl<P: Port> Port for CountingPort<P> {
         self.port.load(p)
     }
 
-    fn store(&mut self, p: Place, v: u64) {
+    fn store(&mut self, p: Place, v: u64)
+        requires permitted { MayMake (P.sight self.old.port).seat (record_in (P.sight self.old.port)) (store_of p v) }
+        ensures did { Did (P.sight self.old.port) (store_of p v ∷ []) (P.sight self.new.port) }
+        ensures step { P.stepped (P.sight self.old.port).seat (P.sight self.old.port).events (store_of p v) }
+        ensures sound { IsSoundPort (P.sight self.new.port) }
+        ensures counts { self.new.loads ≡ self.old.loads }
+    {
         self.port.store(p, v);
     }
 
-    fn take(&mut self, c: CoreId) -> bool {
+    fn take(&mut self, c: CoreId) -> bool
+        requires permitted { MayMake (P.sight self.old.port).seat (record_in (P.sight self.old.port)) (take_of c false) }
+        ensures did { Did (P.sight self.old.port) (take_of c result ∷ []) (P.sight self.new.port) }
+        ensures step { P.stepped (P.sight self.old.port).seat (P.sight self.old.port).events (take_of c result) }
+        ensures sound { IsSoundPort (P.sight self.new.port) }
+        ensures counts { self.new.loads ≡ self.old.loads }
+    {
         self.port.take(c)
     }
 
-    fn free(&mut self, c: CoreId) {
+    fn free(&mut self, c: CoreId)
+        requires permitted { MayMake (P.sight self.old.port).seat (record_in (P.sight self.old.port)) (free_of c) }
+        ensures did { Did (P.sight self.old.port) (free_of c ∷ []) (P.sight self.new.port) }
+        ensures step { P.stepped (P.sight self.old.port).seat (P.sight self.old.port).events (free_of c) }
+        ensures sound { IsSoundPort (P.sight self.new.port) }
+        ensures counts { self.new.loads ≡ self.old.loads }
+    {
         self.port.free(c);
     }
 }

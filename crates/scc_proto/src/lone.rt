@@ -61,7 +61,7 @@ impl Port for LonePort {
 
     ghost sight = { λ p. p };
 
-    ghost stepped = { λ p es e. IsStep (memory_since p.seat.rank es) e };
+    ghost stepped = { λ seat es e. IsStep (memory_since seat.rank es) e };
 
     fn setup(&self) -> &Setup {
         &self.setup

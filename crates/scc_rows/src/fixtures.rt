@@ -206,6 +206,8 @@ pub(crate) struct Watched<'a, E> {
 impl<'a, E: Evict> Evict for Watched<'a, E> {
     ghost count = { λ w. E.count w.inner };
 
+    ghost asked = { λ w. E.asked w.inner };
+
     ghost answers = { λ w. E.answers w.inner };
 
     fn drop_one(&mut self, held: usize) -> Option<usize> {

@@ -5,14 +5,10 @@ use Rattle.std.proofs.lemmas.Bool.{cases_eq}
 use Rattle.scc_base.specs.Runs.{EndsAt, IsStill, NoneBelow, Runs}
 use Rattle.scc_base.proofs.Confluence as confluence
 use Rattle.script_plain.specs.Next.{Next}
-use Rattle.script_plain.specs.Step.{Configuration, step_of, lowest, lowest_step, run_on}
+use Rattle.script_plain.specs.Step.{Configuration, IsStep, step_of, lowest, lowest_step, run_on}
 use Rattle.script_plain.proofs.Costs.{Lowers}
 use Rattle.script_plain.proofs.OrderLaws as orders
 use Rattle.script_plain.proofs.RunLaws as runs
-
--- a step whose owner is this rank
-abbrev pub IsStep : {U : Type 0} → (ℕ → ℕ → ℕ) → (U → Next U) → ℕ → Configuration U → Configuration U → Type 0
-IsStep keys next owner c d = step_of keys next c owner ≡ Some d
 
 module _ {U : Type 0} (keys : ℕ → ℕ → ℕ) (next : U → Next U) where
   -- all orders come to one end, in one number of steps

@@ -153,7 +153,7 @@ empty_register zero reg = refl
 empty_register (suc n) zero = refl
 empty_register (suc n) (suc reg) = empty_register n reg
 
-sound_started : (script : Script) (rank : ℕ) → IsWhole script.nue script.items → rank < script.nue → IsSound (reckoned_at script rank) (started script rank)
+pub sound_started : (script : Script) (rank : ℕ) → IsWhole script.nue script.items → rank < script.nue → IsSound (reckoned_at script rank) (started script rank)
 sound_started script rank whole below = record {
   fits = record {
     acc = None;

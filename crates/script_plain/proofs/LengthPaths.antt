@@ -71,7 +71,7 @@ FitsNext had (Recvs from head take refuse) = ((bytes : List ℕ) → length byte
 FitsNext had (Bars comm after) = Fits had after
 
 -- a fold is as long as what it is folded into
-folded_length : (op : Op) (ty : Ty) (acc more : List ℕ) → length (folded op ty acc more) ≡ length acc
+pub folded_length : (op : Op) (ty : Ty) (acc more : List ℕ) → length (folded op ty acc more) ≡ length acc
 folded_length op ty acc more = by ((length acc == length more) && (length acc % bytes_in ty == 0)) refl
   where
     by : (b : Bool) → ((length acc == length more) && (length acc % bytes_in ty == 0)) ≡ b → length (cond b (fold_values op ty acc more) acc) ≡ length acc
@@ -172,7 +172,7 @@ module _ (had : ℕ → Option ℕ) (u : Local) (fits : Fits had u) where
   fits_standing standing.Running = fits_left u.left refl
   fits_standing (standing.Mismatched line from sent asked) = tt
 
-  fits_next : FitsNext had (local_next u)
+  pub fits_next : FitsNext had (local_next u)
   unfolding local_next
   fits_next = fits_standing u.standing
 

@@ -10,8 +10,10 @@ pub mod WayLaws
 pub mod BarrierLaws
 pub mod CodeLaws
 pub mod WalkLaws
+pub mod DepthLaws
 pub mod RestLaws
 pub mod MessageLaws
+pub mod MatchLaws
 pub mod CollectivePaths
 pub mod CollectiveGroups
 pub mod ReductionPaths
@@ -19,6 +21,7 @@ pub mod OwnWayLaws
 pub mod LengthLemmas
 pub mod CallableLaws
 pub mod LengthPaths
+pub mod RoomLaws
 pub mod LengthPrograms
 pub mod LengthLaws
 pub mod CollectiveFits
@@ -31,3 +34,9 @@ pub mod FoundCalls
 pub mod CountLaws
 pub mod OthersCame
 pub mod CollectiveLaws
+pub mod CameDid
+pub mod AimLemmas
+pub mod SaneLemmas
+pub mod ReadyLemmas
+pub mod KeptLaws
+pub mod HeldUpLaws

@@ -70,7 +70,7 @@ recorded_seen calls (Sends to head bytes after) = refl
 recorded_seen calls (Recvs from head take refuse) = refl
 recorded_seen calls (Bars comm after) = refl
 
-state_seen : (u : State) → local_next u.local ≡ next_map (λ (v : State). v.local) (next_of u)
+pub state_seen : (u : State) → local_next u.local ≡ next_map (λ (v : State). v.local) (next_of u)
 state_seen u = recorded_seen u.matched (local_next u.local)
 
 -- the end takes no step

@@ -42,7 +42,7 @@ module _ {U V : Type 0} (f : U → V) (keys : ℕ → ℕ → ℕ) (next : U →
   seen_by None = refl
   seen_by (Some u) = sees u
 
-  next_at-map : (c : Configuration U) (i : ℕ) → next_at seen (view_of f c) i ≡ next_map f (next_at next c i)
+  pub next_at-map : (c : Configuration U) (i : ℕ) → next_at seen (view_of f c) i ≡ next_map f (next_at next c i)
   next_at-map c i = ap (λ o. option_map_or seen o Ends) (slice_get-map f c.cells i) ∙ seen_by (slice_get c.cells i)
 
   with_cell-map : (c : Configuration U) (i : ℕ) (u : U) → with_cell (view_of f c) i (f u) ≡ view_of f (with_cell c i u)

@@ -110,7 +110,7 @@ no_pass s rank (stmt.Bcast comm root reg len) times opens = absurd (cc)
 no_pass s rank (stmt.Reduce comm root op ty dst src) times opens = absurd (cc)
 no_pass s rank (stmt.Allreduce comm op ty dst src) times opens = absurd (cc)
 
-closes_by : (s : SetupView) (rank : ℕ) (item : Item) (b : Bool) → has_rank item.who rank ≡ b → nesting_at rank item ≡ nesting.Closes → length (prims_of s rank item) ≡ 1
+pub closes_by : (s : SetupView) (rank : ℕ) (item : Item) (b : Bool) → has_rank item.who rank ≡ b → nesting_at rank item ≡ nesting.Closes → length (prims_of s rank item) ≡ 1
 closes_by s rank item true has closes =
     let closing : nesting_of item.stmt ≡ nesting.Closes = sym (ap (λ (b : Bool). cond b (nesting_of item.stmt) nesting.Stays) has) ∙ closes in
     rw has (length-map (acts_of s rank item.stmt) (λ (act : Act). record { line = item.line; act = act }) ∙ one_pass s rank item.line item.stmt closing)

@@ -11,7 +11,9 @@ use Rattle.script_plain.specs.declared.posts.Posted.{Posted}
 use Rattle.script_plain.specs.declared.prims.Action.{Action}
 use Rattle.script_plain.specs.declared.steps.Step.{Step}
 use Rattle.script_plain.specs.declared.steps.Step.TheVariants as step
+use Rattle.script_plain.specs.declared.matches.Match.{Match}
 use Rattle.script_plain.specs.Local.{Local, cost_of, local_next, register_at}
+use Rattle.script_plain.specs.Matches.{brought, line_of, step_brought}
 use Rattle.script_plain.specs.Next.{Next, call_of, is_going}
 use Rattle.script_plain.specs.Next.Next.{Ends, Posts, Sends, Recvs}
 use Rattle.script_plain.specs.Program.{Act}
@@ -158,3 +160,15 @@ GoesOn keys false i old new = (step_of keys local_next old i ≡ None) × (new �
 abbrev pub Sweeps : (ℕ → ℕ → ℕ) → Bool → ℕ → Configuration Local → Configuration Local → Type 0
 Sweeps keys true n old new = IsOnTheWay keys old new
 Sweeps keys false n old new = ((k : ℕ) → k < n → step_of keys local_next old k ≡ None) × (new ≡ old)
+
+-- rank i's step was taken, and what it brings stands behind what came before; or it owns none
+abbrev pub BringsAt : (ℕ → ℕ → ℕ) → Bool → ℕ → Configuration Local → Configuration Local → List Match → List Match → Type 0
+BringsAt keys true i old new before after =
+    (step_of keys local_next old i ≡ Some new) × (after ≡ before ++ brought local_next line_of old i)
+BringsAt keys false i old new before after = (step_of keys local_next old i ≡ None) × (new ≡ old) × (after ≡ before)
+
+-- the same of the enabled step with the lowest owner; or none is enabled
+abbrev pub BringsLowest : (ℕ → ℕ → ℕ) → Bool → Configuration Local → Configuration Local → List Match → List Match → Type 0
+BringsLowest keys true old new before after =
+    (lowest_step keys local_next old ≡ Some new) × (after ≡ before ++ step_brought keys local_next line_of old)
+BringsLowest keys false old new before after = (lowest_step keys local_next old ≡ None) × (new ≡ old) × (after ≡ before)

@@ -9,4 +9,12 @@ pub mod Meaning
 pub mod Code
 pub mod Barriers
 pub mod Messages
+pub mod Matches
+pub mod HeldUp
 pub mod Collectives
+pub mod Moves
+pub mod Lengths
+pub mod Machine
+pub mod Depths
+pub mod Rooms
+pub mod Ready

@@ -1,6 +1,6 @@
 -- The plain meaning of scripts: what their ranks come to where sends meet receives (RCCE specification 2.0) and nothing
 -- is said of a chip.
-use Rattle.std.specs.Prelude.{◌≡◌, ℕ, List, [], ◌∷◌, ◌++◌, Option, None, Some, map, replicate, sum_by}
+use Rattle.std.specs.Prelude.{ℕ, List, [], ◌∷◌, ◌++◌, Option, None, map, replicate, sum_by}
 use Rattle.std.specs.List.{range_with_len}
 use Rattle.scc_base.specs.Calls.{DataCall}
 use Rattle.scc_base.specs.Calls.DataCall.{Send, Recv, Post, Bar}
@@ -10,7 +10,7 @@ use Rattle.script_plain.specs.Ends.{Ended, ends_of}
 use Rattle.script_plain.specs.Local.{Local, local_start, local_next, cost_of}
 use Rattle.script_plain.specs.Next.{Next}
 use Rattle.script_plain.specs.Next.Next.{Ends, Goes, Posts, Sends, Recvs, Bars}
-use Rattle.script_plain.specs.Step.{Configuration, step_of, lowest_step, run_on}
+use Rattle.script_plain.specs.Step.{Configuration, IsStep, lowest_step, run_on}
 
 -- a rank with the calls that it has done so far, in order and with their bytes
 pub record State : Type 0 where
@@ -68,7 +68,7 @@ seen_of c = record { cells = locals_of c; slots = c.slots }
 
 -- a plain step whose owner is this rank
 abbrev pub IsPlainStep : (ℕ → ℕ → ℕ) → ℕ → Configuration State → Configuration State → Type 0
-IsPlainStep keys owner c d = step_of keys next_of c owner ≡ Some d
+IsPlainStep keys = IsStep keys next_of
 
 -- what ranks leave behind in a configuration
 abbrev pub ends_at : Configuration Local → List Ended

@@ -1,7 +1,7 @@
 -- The plain step: what ranks do in one step of a run, over the list of their states and the messages that they posted
 -- (this project's profile; a send and a receive are those of RCCE specification 2.0, which meet, and so do the barriers
 -- of a group). Each step has one owner.
-use Rattle.std.specs.Prelude.{ℕ, zero, suc, ◌+◌, ◌==◌, Bool, true, ◌&&◌, not, if◌then◌else◌, List, [], ◌∷◌, length, Option, Some, None, slice_get, slice_index_or, slice_set}
+use Rattle.std.specs.Prelude.{◌≡◌, ℕ, zero, suc, ◌+◌, ◌==◌, Bool, true, ◌&&◌, not, if◌then◌else◌, List, [], ◌∷◌, length, Option, Some, None, slice_get, slice_index_or, slice_set}
 use Rattle.std.specs.Option.{option_map_or, option_or}
 use Rattle.scc_base.specs.Groups.{is_with, root_in}
 use Rattle.scc_base.specs.Heads.{MessageHead}
@@ -92,6 +92,10 @@ step_by keys next c i (Bars comm after) = barrier_step keys next c i comm
 
 abbrev pub step_of : {U : Type 0} → (ℕ → ℕ → ℕ) → (U → Next U) → Configuration U → ℕ → Option (Configuration U)
 step_of keys next c i = step_by keys next c i (next_at next c i)
+
+-- a step whose owner is this rank
+abbrev pub IsStep : {U : Type 0} → (ℕ → ℕ → ℕ) → (U → Next U) → ℕ → Configuration U → Configuration U → Type 0
+IsStep keys next owner c d = step_of keys next c owner ≡ Some d
 
 -- the enabled step with the lowest owner among n ranks from i on
 abbrev pub lowest : {U : Type 0} → (ℕ → ℕ → ℕ) → (U → Next U) → Configuration U → ℕ → ℕ → Option (Configuration U)

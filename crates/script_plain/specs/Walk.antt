@@ -10,6 +10,7 @@ use Rattle.script_plain.specs.declared.prims.Nesting.TheVariants as nesting
 use Rattle.script_plain.specs.declared.prims.Primitive.{Primitive}
 use Rattle.script_plain.specs.declared.walk.Open.{Open}
 use Rattle.script_reader.specs.declared.script.Item.{Item}
+use Rattle.script_reader.specs.Script.{Script}
 use Rattle.script_plain.specs.Program.{Act, Prim, Unrolled, copies, filling, prims_of, unrolled}
 use Rattle.script_plain.specs.Program.Act.{Set, Apply, Print, Send, Post, Recv, Gather, Bar, Begin, Fold, Accept, Finish, Pass}
 use Rattle.groups.specs.Folds.{bytes_of}
@@ -44,6 +45,13 @@ act_meant action.Pass = Pass
 
 abbrev pub prim_meant : Primitive → Prim
 prim_meant p = record { line = p.line; act = act_meant p.action }
+
+-- a walk: the script, the setup and the rank, and the primitives that are left
+pub record WalkView : Type 0 where
+  pub script : Script
+  pub setup : SetupView
+  pub rank : ℕ
+  pub left : List Prim
 
 -- what the further passes of an open repeat make
 abbrev pub again : SetupView → ℕ → List Item → Open → List Prim

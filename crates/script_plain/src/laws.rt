@@ -1,11 +1,13 @@
 //! The laws of plain steps: no user could notice in which order they are taken.
 
-ghost use Rattle.std.specs.Prelude.{◌≡◌, ◌≢◌, ◌+◌, ◌<◌, ◌≤◌, ℕ, None, Some};
+ghost use Rattle.std.specs.Prelude.{◌≡◌, ◌≢◌, ◌+◌, ◌<◌, ◌≤◌, ℕ, [], None, Option, Some};
 ghost use Rattle.scc_base.specs.Runs.{EndsAt, IsStill, NoneBelow, Runs};
 ghost use Rattle.script_reader.specs.Script.{Script};
 ghost use Rattle.script_plain.specs.Barriers.{AreMet};
-ghost use Rattle.script_plain.specs.Meaning.{IsPlainStep, State, keys_of, plain_end, plain_step, start_of, steps_left};
+ghost use Rattle.script_plain.specs.Meaning.{IsPlainStep, State, keys_of, next_of, plain_end, plain_step, start_of, steps_left};
+ghost use Rattle.script_plain.specs.Paths.{Came, Did};
 ghost use Rattle.script_plain.specs.Step.{Configuration};
+ghost use Rattle.script_plain.specs.declared.posts.Posted.{Posted};
 
 /// Two enabled steps of different owners stay enabled after each other, and come to one configuration in either order.
 pub fn steps_commute()
@@ -38,4 +40,10 @@ pub fn lowest_owner_steps()
 /// group has entered.
 pub fn barriers_meet()
     ensures law { (script : Script) (n : ℕ) (c : Configuration State) → Runs (IsPlainStep (keys_of script)) (λ e. e ≡ c) n (start_of script) → AreMet (keys_of script) c }
+{}
+
+/// A state that a rank has come to by itself, from a start at which nothing is done, has the calls of its way, in order and
+/// with their bytes.
+pub fn ways_tell_calls()
+    ensures law { (start u : State) (last : Option Posted) → start.matched ≡ [] → Came next_of start u last → Did next_of u last start None u.matched }
 {}

@@ -3,30 +3,45 @@
 #![tactic(auto)]
 
 mod barriers;
+mod call_laws;
 mod collective_laws;
 mod ends;
+mod held_laws;
 mod laws;
 #[cfg(test)]
 mod lowest;
+mod machines;
+#[cfg(test)]
+mod match_tests;
+mod matches;
 mod posts;
 mod prims;
+mod prints;
+mod reckoning;
 mod registers;
+mod rooms;
 mod steps;
 #[cfg(test)]
 mod tests;
 mod ues;
 mod walk;
 
+pub use barriers::{is_with, setup_of};
+pub use call_laws::calls_can_be_made;
 pub use collective_laws::{
     broadcasts_arrive, messages_arrive_as_sent, ranks_go_their_own_ways, reductions_fold,
 };
 pub use ends::{End, UeEnd};
+pub use held_laws::ends_are_explained;
 pub use laws::{
     barriers_meet, every_order_has_one_end, every_order_is_finite, lowest_owner_steps,
-    steps_commute,
+    steps_commute, ways_tell_calls,
 };
-pub use posts::Posted;
+pub use machines::Machine;
+pub use matches::{Match, Matches, plain_matches};
+pub use posts::{OnItsWay, Posted};
 pub use prims::{Action, Content, Primitive, Printed, Source, Standing};
+pub use prints::PrintedItem;
 pub use registers::Register;
 pub use steps::plain_run;
 pub use walk::Walk;

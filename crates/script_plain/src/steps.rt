@@ -1,6 +1,6 @@
 //! The plain step, and the run that takes it again and again.
 
-ghost use Rattle.std.specs.Prelude.{◌≡◌, ◌<◌, None, Some, true, length, IfOk, OnOk, replicate, slice_index_or, sum_by};
+ghost use Rattle.std.specs.Prelude.{◌≡◌, ◌≢◌, ◌<◌, None, Some, true, length, IfOk, OnOk, replicate, slice_index_or, sum_by};
 ghost use Rattle.scc_base.specs.Setups.{setup_key};
 ghost use Rattle.script_plain.specs.Barriers.{AreMet};
 ghost use Rattle.script_plain.specs.Collectives.{CollectivesHold};
@@ -171,33 +171,45 @@ pub(crate) fn step_at(
     requires run { IsRun setup.now ues.old slots.old }
     ensures { IfOk result (λ moved. StepsAt (setup_key setup.now) moved rank (config ues.old slots.old) (config ues.new slots.new)) }
 {
-    let i = rank.number() as usize;
     match decide(setup, ues, slots, rank) {
         Step::Stays => Ok(false),
-        Step::Goes => {
-            ues[i].go(alloc)?;
+        step => {
+            take_step(alloc, setup, ues, slots, rank, step)?;
             Ok(true)
         }
+    }
+}
+
+/// Takes the step that a rank owns.
+pub(crate) fn take_step(
+    alloc: Global,
+    setup: &Setup,
+    ues: &mut [Ue],
+    slots: &mut [Option<Posted>],
+    rank: Rank,
+    step: Step,
+) -> Result<(), AllocError>
+    requires rank { rank < setup.now.nue }
+    requires run { IsRun setup.now ues.old slots.old }
+    requires step { step ≡ decision (setup_key setup.now) ues.old slots.old rank }
+    requires moves { step ≢ variant.Stays }
+    ensures { OnOk result (StepsAt (setup_key setup.now) true rank (config ues.old slots.old) (config ues.new slots.new)) }
+{
+    let i = rank.number() as usize;
+    match step {
+        Step::Stays => unreachable!(),
+        Step::Goes => ues[i].go(alloc),
         Step::Posts => {
             slots[i] = Some(ues[i].post(alloc)?);
-            Ok(true)
+            Ok(())
         }
-        Step::Matches { to } => {
-            deliver(alloc, setup, ues, slots, i, to.number() as usize)?;
-            Ok(true)
-        }
-        Step::Takes { from } => {
-            take(setup, ues, slots, i, from.number() as usize)?;
-            Ok(true)
-        }
+        Step::Matches { to } => deliver(alloc, setup, ues, slots, i, to.number() as usize),
+        Step::Takes { from } => take(setup, ues, slots, i, from.number() as usize),
         Step::Mismatches { sent } => {
             ues[i].refuse(sent);
-            Ok(true)
+            Ok(())
         }
-        Step::Passes { comm } => {
-            pass_barrier(setup, ues, comm, rank)?;
-            Ok(true)
-        }
+        Step::Passes { comm } => pass_barrier(setup, ues, comm, rank),
     }
 }
 
@@ -237,7 +249,7 @@ fn take(
 }
 
 /// The step that a rank owns.
-fn decide(setup: &Setup, ues: &[Ue], slots: &[Option<Posted>], rank: Rank) -> Step
+pub(crate) fn decide(setup: &Setup, ues: &[Ue], slots: &[Option<Posted>], rank: Rank) -> Step
     requires rank { rank < setup.now.nue }
     requires run { IsRun setup.now ues.now slots.now }
     ensures { result ≡ decision (setup_key setup.now) ues.now slots.now rank }
@@ -332,7 +344,7 @@ fn barrier_of(setup: &Setup, ues: &[Ue], rank: Rank, comm: u8) -> Step
 }
 
 /// The call at which a rank stands.
-fn call_at(ues: &[Ue], rank: Rank) -> Option<Call>
+pub(crate) fn call_at(ues: &[Ue], rank: Rank) -> Option<Call>
     ensures { result ≡ call_at ues.now rank }
 {
     ues.get(rank.number() as usize)?.call()

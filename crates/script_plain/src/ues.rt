@@ -32,7 +32,7 @@ impl<'s> Model for Ue<'s> {
 
     ghost Value = { Local };
 
-    ghost view = { λ u. record { registers = u.contents.items; accumulator = u.folded; received = u.taken; left = u.walk; printed = u.items.items; standing = u.state } };
+    ghost view = { λ u. record { registers = u.contents.items; accumulator = u.folded; received = u.taken; left = u.walk.left; printed = u.items.items; standing = u.state } };
 }
 
 /// A head with another length.
@@ -54,6 +54,7 @@ impl<'s> Ue<'s> {
     ghost use Rattle.script_plain.specs.Next.Next.{Goes};
     ghost use Rattle.scc_base.specs.Heads.{plain_head};
     ghost use Rattle.script_reader.specs.Script.{rules_of};
+    ghost use Rattle.script_plain.specs.Matches.{line_of};
     ghost use Rattle.script_plain.specs.Walk.{IsShort, prim_meant};
     ghost use Rattle.script_plain.specs.Code.{IsAtPost, IsAtReceive, IsAtSend, HasPosted, HasRefused, HasSent, HasTaken, printing};
 
@@ -70,7 +71,7 @@ impl<'s> Ue<'s> {
         ensures { IfOk result (λ u. u ≡ local_start scripts.now rank) }
     {
         Ok(Ue {
-            walk: Walk::new(alloc, scripts, setup, rank)?,
+            walk: Walk::new(alloc, scripts, setup.copy(), rank)?,
             contents: empty_registers(alloc, scripts.registers())?,
             folded: Register::empty(alloc),
             taken: Register::empty(alloc),
@@ -87,6 +88,16 @@ impl<'s> Ue<'s> {
         match &self.state {
             Standing::Running => self.walk.front(),
             Standing::Mismatched { .. } => None,
+        }
+    }
+
+    /// The line of the statement at which the rank stands.
+    pub fn line(&self) -> u32
+        ensures { result ≡ line_of self.now }
+    {
+        match self.prim() {
+            Some(prim) => prim.line,
+            None => 0,
         }
     }
 
@@ -186,7 +197,7 @@ impl<'s> Ue<'s> {
         let Some(prim) = self.prim() else {
             unreachable!()
         };
-        self.walk.advance()?;
+        self.walk.advance();
         match prim.action {
             Action::Set { reg, content } => {
                 let content = Register::new(alloc, &content)?;
@@ -238,7 +249,10 @@ impl<'s> Ue<'s> {
             unreachable!()
         };
         match prim.action {
-            Action::Bar { .. } => self.walk.advance(),
+            Action::Bar { .. } => {
+                self.walk.advance();
+                Ok(())
+            }
             _ => unreachable!(),
         }
     }
@@ -255,7 +269,7 @@ impl<'s> Ue<'s> {
             Action::Post { to, reg } => {
                 let head = self.post_head(*reg);
                 let bytes = self.content(alloc, *reg)?;
-                self.walk.advance()?;
+                self.walk.advance();
                 Ok(Posted {
                     to: *to,
                     head,
@@ -278,7 +292,7 @@ impl<'s> Ue<'s> {
         match prim.action {
             Action::Send { source, .. } => {
                 let bytes = self.source(alloc, source)?;
-                self.walk.advance()?;
+                self.walk.advance();
                 Ok(bytes)
             }
             _ => unreachable!(),
@@ -293,7 +307,7 @@ impl<'s> Ue<'s> {
         let Some(prim) = self.prim() else {
             unreachable!()
         };
-        self.walk.advance()?;
+        self.walk.advance();
         match prim.action {
             Action::Recv { reg, .. } => {
                 self.set(reg, bytes);

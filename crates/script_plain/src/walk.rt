@@ -1,7 +1,9 @@
 //! A walk through the primitives of a rank.
 
-ghost use Rattle.std.specs.Prelude.{◌≡◌, ◌<◌, ◌≤◌, ◌+◌, drop, length, slice_get, IfOk, OnOk};
+ghost use Rattle.std.specs.Prelude.{◌≡◌, ◌<◌, ◌≤◌, ◌+◌, drop, length, slice_get, IfOk};
+ghost use Rattle.std.specs.VecDeque.{deque_capacity};
 ghost use Rattle.script_reader.specs.Script.{IsSized};
+ghost use Rattle.script_plain.specs.Depths.{HasRoom, IsDeep, depth_after};
 ghost use Rattle.script_plain.specs.Program.{nesting_at, prims_of};
 ghost use Rattle.script_plain.specs.Walk.{AreOpenAt, StandsAt, closed, closed_to, left_at, opened, passed, passed_to};
 
@@ -20,11 +22,11 @@ pub struct Open {
 }
 
 /// A walk through the primitives of a rank: its place in the script, the step of a collective call there, and the repeats
-/// that are open, the innermost one first.
+/// that are open, the innermost one first. There is room for the most that the script opens.
 #[derive(Drop)]
 pub struct Walk<'s> {
     scripts: &'s Scripts,
-    setup: &'s Setup,
+    setup: Setup,
     rank: Rank,
     place: usize,
     step: u32,
@@ -32,20 +34,29 @@ pub struct Walk<'s> {
 }
 
 impl<'s> Model for Walk<'s> {
-    ghost use Rattle.std.specs.Prelude.{List, drop};
-    ghost use Rattle.script_plain.specs.Program.{Prim};
+    ghost use Rattle.std.specs.Prelude.{drop};
+    ghost use Rattle.script_plain.specs.Walk.{WalkView, left_at};
 
-    ghost Value = { List Prim };
+    ghost Value = { WalkView };
 
-    ghost use Rattle.script_plain.specs.Walk.{IsAt, left_at};
+    ghost view = { λ w. record {
+      script = w.scripts.now;
+      setup = w.setup;
+      rank = w.rank;
+      left = drop w.step (left_at w.setup w.rank w.scripts.now.items w.place w.repeats.items);
+    } };
 
-    ghost view = { λ w. drop w.step (left_at w.setup.now w.rank w.scripts.now.items w.place w.repeats.items) };
+    ghost use Rattle.std.specs.VecDeque.{deque_capacity};
+    ghost use Rattle.script_plain.specs.Depths.{HasRoom, IsDeep};
+    ghost use Rattle.script_plain.specs.Walk.{IsAt};
 
-    ghost invariant = { λ w. IsAt w.setup.now w.rank w.scripts.now.items w.place w.step w.repeats.items };
+    ghost invariant = { λ w.
+        IsAt w.setup w.rank w.scripts.now.items w.place w.step w.repeats.items
+        × (IsDeep w.rank w.scripts.now.items w.place w.repeats.items × HasRoom w.rank w.scripts.now.items (deque_capacity w.repeats)) };
 }
 
 impl<'s> Walk<'s> {
-    ghost use Rattle.std.specs.Prelude.{◌≡◌, ◌<◌, drop, slice_get, IfOk, IfSome, OnOk};
+    ghost use Rattle.std.specs.Prelude.{◌≡◌, ◌<◌, drop, slice_get, IfOk, IfSome};
     ghost use Rattle.std.specs.Option.{option_map};
     ghost use Rattle.script_reader.specs.Script.{rules_of};
     ghost use Rattle.script_plain.specs.Program.{program_of};
@@ -55,16 +66,16 @@ impl<'s> Walk<'s> {
     pub fn new(
         alloc: Global,
         scripts: &'s Scripts,
-        setup: &'s Setup,
+        setup: Setup,
         rank: Rank,
     ) -> Result<Walk<'s>, AllocError>
-        requires within { rank < setup.now.nue }
-        requires ranks { setup.now.nue ≡ scripts.now.nue }
-        requires communicators { setup.now.comms ≡ rules_of scripts.now.items }
-        ensures { IfOk result (λ w. w ≡ program_of scripts.now rank) }
+        requires within { rank < setup.nue }
+        requires ranks { setup.nue ≡ scripts.now.nue }
+        requires communicators { setup.comms ≡ rules_of scripts.now.items }
+        ensures { IfOk result (λ w. w ≡ record { script = scripts.now; setup = setup; rank = rank; left = program_of scripts.now rank }) }
     {
-        let mut repeats = VecDeque::new(alloc);
-        let place = settled(scripts, setup, rank, 0, &mut repeats)?;
+        let mut repeats = VecDeque::with_capacity(alloc, deepest(scripts, rank))?;
+        let place = settled(scripts, &setup, rank, 0, &mut repeats);
         Ok(Walk {
             scripts,
             setup,
@@ -77,7 +88,7 @@ impl<'s> Walk<'s> {
 
     /// The primitive that comes next.
     pub fn front(&self) -> Option<Primitive<'s>>
-        ensures same { option_map prim_meant result ≡ slice_get self.now 0 }
+        ensures same { option_map prim_meant result ≡ slice_get self.now.left 0 }
         ensures short { IfSome result (λ p. IsShort p.action) }
     {
         if self.place >= self.scripts.len() {
@@ -86,32 +97,29 @@ impl<'s> Walk<'s> {
         let item = self.scripts.item(self.place);
         Some(Primitive {
             line: item.line,
-            action: action_of(self.setup, self.rank, &item.stmt, self.step),
+            action: action_of(&self.setup, self.rank, &item.stmt, self.step),
         })
     }
 
     /// Goes past the primitive that comes next.
-    pub fn advance(&mut self) -> Result<(), AllocError>
-        ensures { OnOk result (self.new ≡ drop 1 self.old) }
+    pub fn advance(&mut self)
+        ensures { self.new ≡ record self.old { left = drop 1 self.old.left } }
     {
         let scripts = self.scripts;
-        let setup = self.setup;
         let rank = self.rank;
         let at = self.place;
         if at >= scripts.len() {
-            return Ok(());
+            return;
         }
         let item = scripts.item(at);
-        let count = count_at(setup, rank, item);
+        let count = count_at(&self.setup, rank, item);
         if self.step + 1 < count {
             self.step += 1;
-            return Ok(());
+            return;
         }
-        self.place = scripts.len();
+        let next = pass_item(rank, item, at, scripts.len(), &mut self.repeats);
+        self.place = settled(scripts, &self.setup, rank, next, &mut self.repeats);
         self.step = 0;
-        let next = pass_item(rank, item, at, scripts.len(), &mut self.repeats)?;
-        self.place = settled(scripts, setup, rank, next, &mut self.repeats)?;
-        Ok(())
     }
 }
 
@@ -139,20 +147,46 @@ fn nesting_at(rank: Rank, item: &Item) -> Nesting
     }
 }
 
+/// How many repeats are open behind an item.
+fn depth_behind(nesting: Nesting, depth: usize) -> usize
+    requires { depth < usize.MAX }
+    ensures { result ≡ depth_after nesting depth }
+{
+    match nesting {
+        Nesting::Opens(_) => depth + 1,
+        Nesting::Closes => depth.saturating_sub(1),
+        Nesting::Stays => depth,
+    }
+}
+
+/// The most repeats of a rank that are open at a place of a script.
+fn deepest(scripts: &Scripts, rank: Rank) -> usize
+    ensures { HasRoom rank scripts.now.items result }
+{
+    let mut depth = 0;
+    let mut most = 0;
+    for at in 0..scripts.len() {
+        depth = depth_behind(nesting_at(rank, scripts.item(at)), depth);
+        if most < depth {
+            most = depth;
+        }
+    }
+    most
+}
+
 /// Enters the repeat that an item opens, if it opens one.
-fn enter(rank: Rank, item: &Item, at: usize, repeats: &mut VecDeque<Open>) -> Result<(), AllocError>
-    requires { at < usize.MAX }
-    ensures { OnOk result (repeats.new.items ≡ opened (nesting_at rank item.now) at repeats.old.items) }
+fn enter(rank: Rank, item: &Item, at: usize, repeats: &mut VecDeque<Open>)
+    requires below { at < usize.MAX }
+    requires room { length (opened (nesting_at rank item.now) at repeats.old.items) ≤ deque_capacity repeats.old }
+    ensures same { repeats.new.items ≡ opened (nesting_at rank item.now) at repeats.old.items }
+    ensures room { deque_capacity repeats.new ≡ deque_capacity repeats.old }
 {
     match nesting_at(rank, item) {
-        Nesting::Opens(times) => {
-            repeats.push_front(Open {
-                start: at + 1,
-                left: times.saturating_sub(1),
-            })?;
-            Ok(())
-        }
-        Nesting::Closes | Nesting::Stays => Ok(()),
+        Nesting::Opens(times) => repeats.push_front_reserved(Open {
+            start: at + 1,
+            left: times.saturating_sub(1),
+        }),
+        Nesting::Closes | Nesting::Stays => {}
     }
 }
 
@@ -163,59 +197,61 @@ fn settled(
     rank: Rank,
     place: usize,
     repeats: &mut VecDeque<Open>,
-) -> Result<usize, AllocError>
+) -> usize
     requires within { rank < setup.now.nue }
     requires opens { AreOpenAt setup.now rank scripts.now.items place repeats.old.items }
-    ensures same { IfOk result (λ to. left_at setup.now rank scripts.now.items to repeats.new.items
-        ≡ left_at setup.now rank scripts.now.items place repeats.old.items) }
-    ensures opens { IfOk result (λ to. AreOpenAt setup.now rank scripts.now.items to repeats.new.items) }
-    ensures stands { IfOk result (λ to. StandsAt setup.now rank scripts.now.items to 0) }
+    requires deep { IsDeep rank scripts.now.items place repeats.old.items }
+    requires room { HasRoom rank scripts.now.items (deque_capacity repeats.old) }
+    ensures same { left_at setup.now rank scripts.now.items result repeats.new.items
+        ≡ left_at setup.now rank scripts.now.items place repeats.old.items }
+    ensures opens { AreOpenAt setup.now rank scripts.now.items result repeats.new.items }
+    ensures stands { StandsAt setup.now rank scripts.now.items result 0 }
+    ensures deep { IsDeep rank scripts.now.items result repeats.new.items }
+    ensures room { deque_capacity repeats.new ≡ deque_capacity repeats.old }
 {
     for at in place..scripts.len() {
         let item = scripts.item(at);
         if count_at(setup, rank, item) > 0 {
-            return Ok(at);
+            return at;
         }
-        enter(rank, item, at, repeats)?;
+        enter(rank, item, at, repeats);
     }
-    Ok(scripts.len())
+    scripts.len()
 }
 
 /// The place behind the end of a pass of the innermost open repeat: the next pass, or what stands behind the end.
-fn close(at: usize, end: usize, repeats: &mut VecDeque<Open>) -> Result<usize, AllocError>
-    requires { at < usize.MAX }
-    ensures to { IfOk result (λ to. to ≡ closed_to at end repeats.old.items) }
-    ensures left { OnOk result (repeats.new.items ≡ closed repeats.old.items) }
+fn close(at: usize, end: usize, repeats: &mut VecDeque<Open>) -> usize
+    requires below { at < usize.MAX }
+    requires room { length repeats.old.items ≤ deque_capacity repeats.old }
+    ensures to { result ≡ closed_to at end repeats.old.items }
+    ensures left { repeats.new.items ≡ closed repeats.old.items }
+    ensures room { deque_capacity repeats.new ≡ deque_capacity repeats.old }
 {
     match repeats.pop_front() {
-        None => Ok(end),
+        None => end,
         Some(open) => {
             if open.left == 0 {
-                return Ok(at + 1);
+                return at + 1;
             }
-            repeats.push_front(Open {
+            repeats.push_front_reserved(Open {
                 start: open.start,
                 left: open.left - 1,
-            })?;
-            Ok(open.start)
+            });
+            open.start
         }
     }
 }
 
 /// The place behind an item that has primitives.
-fn pass_item(
-    rank: Rank,
-    item: &Item,
-    at: usize,
-    end: usize,
-    repeats: &mut VecDeque<Open>,
-) -> Result<usize, AllocError>
-    requires { at < usize.MAX }
-    ensures to { IfOk result (λ to. to ≡ passed_to (nesting_at rank item.now) at end repeats.old.items) }
-    ensures left { OnOk result (repeats.new.items ≡ passed (nesting_at rank item.now) repeats.old.items) }
+fn pass_item(rank: Rank, item: &Item, at: usize, end: usize, repeats: &mut VecDeque<Open>) -> usize
+    requires below { at < usize.MAX }
+    requires room { length repeats.old.items ≤ deque_capacity repeats.old }
+    ensures to { result ≡ passed_to (nesting_at rank item.now) at end repeats.old.items }
+    ensures left { repeats.new.items ≡ passed (nesting_at rank item.now) repeats.old.items }
+    ensures room { deque_capacity repeats.new ≡ deque_capacity repeats.old }
 {
     match nesting_at(rank, item) {
         Nesting::Closes => close(at, end, repeats),
-        Nesting::Opens(_) | Nesting::Stays => Ok(at + 1),
+        Nesting::Opens(_) | Nesting::Stays => at + 1,
     }
 }

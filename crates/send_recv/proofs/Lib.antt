@@ -1,4 +1,5 @@
 pub mod NotedReads
+pub mod OtherPort
 pub mod Sources
 pub mod LookLemmas
 pub mod TryLemmas

@@ -1,7 +1,6 @@
 -- A receive as a whole call: what its turns have come to so far, and what ends it.
 use Rattle.std.proofs.Common.{◌≡◌, ◌≢◌, ℕ, zero, suc, ◌+◌, ◌-◌, ◌*◌, ◌<◌, ◌≤◌, Bool, true, false, ◌||◌, ◌&&◌, if◌then◌else◌, List, [], ◌∷◌, ◌++◌, Option, Some, None, length, take, refl, sym, ◌∙◌, ap, subst, arith, slice_index}
 use Rattle.std.specs.List.{list_all}
-use Rattle.std.proofs.Math.Nat.{add-mul}
 use Rattle.scc_base.specs.Calls.{Recv}
 use Rattle.scc_base.specs.Heads.{MessageHead}
 use Rattle.scc_base.specs.Layouts.{sent_at}
@@ -400,7 +399,3 @@ underway_differs {s} {m} {t} {c} {b} {d} {op} {cur} {now} {bytes} {mid} {after} 
 pub left_falls : {s m t : Sight} {c b d : Private} {op cur now : RecvAt} {bytes mid after : List ℕ} {vain : ℕ} → Underway s c op bytes vain m b cur mid
     → RecvTurned m b cur mid t d now after turn.Moved → recv_left (chunk_of s.seat.setup) cur ≡ recv_left (chunk_of s.seat.setup) now + 1
 left_falls {s} {m} {cur = cur} {now = now} u v = subst (λ (x : Seat). recv_left (chunk_of x.setup) cur ≡ recv_left (chunk_of x.setup) now + 1) (seat_kept s u.events m u.did) v.means.0
-
-pub measure_falls : (left now polls vain : ℕ) → left ≡ now + 1 → vain < polls → now * polls + (polls - 0) < left * polls + (polls - vain)
-measure_falls left now polls vain e low =
-    let product : left * polls ≡ now * polls + 1 * polls = ap (λ (x : ℕ). x * polls) e ∙ add-mul now 1 polls in omega (arith, product, low)

@@ -1,21 +1,29 @@
 -- How a message begins at a rank that is in no call, and what stands after it.
-use Rattle.std.proofs.Common.{◌≡◌, ◌<◌, ◌≤◌, ℕ, ◌+◌, ◌-◌, ◌*◌, Bool, true, false, List, Option, Some, None, option_map, length, refl, sym, ◌∙◌, ap, subst, arith}
+use Rattle.std.proofs.Common.{◌≡◌, ◌<◌, ◌≤◌, ℕ, ◌+◌, ◌-◌, ◌*◌, Bool, true, false, List, [], Option, Some, None, option_map, length, refl, sym, ◌∙◌, ap, subst, arith}
 use Rattle.std.proofs.Math.Nat.{mul-le-mul_right}
 use Rattle.scc_base.specs.Heads.{MessageHead, IsHead, IsPostHead}
 use Rattle.scc_base.specs.Layouts.{chunk_size}
 use Rattle.scc_base.specs.declared.events.Event.{Event}
+use Rattle.scc_base.specs.declared.events.Turn.{Turn}
+use Rattle.scc_base.specs.declared.events.Turn.TheVariants as turn
 use Rattle.scc_base.specs.declared.layouts.Layout.{Layout}
 use Rattle.scc_base.specs.declared.layouts.Layout.TheVariants.{LineFlags, BitFlags}
-use Rattle.scc_proto.specs.Stages.{OnItsWay, Record}
+use Rattle.scc_proto.specs.Stages.{OnItsWay, Idle, Record, blank}
 use Rattle.scc_proto.specs.Words.{are_peers}
 use Rattle.scc_proto.specs.Ports.{Seat, Sight, Did, record_in}
 use Rattle.scc_proto.proofs.PortLaws.{seat_kept}
 use Rattle.put_get.specs.Cores.{Private}
 use Rattle.sync_flags.specs.Tries.{Aim}
+use Rattle.sync_flags.proofs.TurnLemmas.{record_at_start}
+use Rattle.send_recv.specs.declared.stages.RecvStage.{RecvStage}
+use Rattle.send_recv.specs.declared.stages.RecvStage.TheVariants as receive
+use Rattle.send_recv.specs.declared.stages.SendStage.{SendStage}
+use Rattle.send_recv.specs.declared.stages.SendStage.TheVariants as sending
+use Rattle.send_recv.specs.declared.answers.RecvTurn.TheVariants as recv_turn
 use Rattle.send_recv.specs.Chunks.{chunk_count, lines_of, lines_from}
-use Rattle.send_recv.specs.Ops.{RecvAt, SendAt, SlotAt, new_receive, new_send, slot_left, slot_left_by}
-use Rattle.send_recv.specs.Receiving.{RecvStands, recv_left}
-use Rattle.send_recv.specs.Sending.{SlotStands, SendStands, was_answered, send_left, of_chunk}
+use Rattle.send_recv.specs.Ops.{RecvAt, SendAt, SlotAt, new_receive, new_send, empty_slot, slot_left, slot_left_by}
+use Rattle.send_recv.specs.Receiving.{RecvStands, RecvTurned, IsReceiving, IsAtStage, recv_left}
+use Rattle.send_recv.specs.Sending.{SlotStands, SlotTurned, SendStands, SendTurned, IsSending, IsAtSendStage, was_answered, send_left, of_chunk}
 use Rattle.send_recv.specs.Calling.{IsInNoCall, Received, RecvDiffers, FoundUnset, Sent}
 use Rattle.send_recv.specs.Turns.{HoldsNone, IsSamePost, KeepsRest}
 use Rattle.send_recv.proofs.LookTurn.{holds_kept}
@@ -92,6 +100,65 @@ free_after_send {s} {t} st r = record {
   empty = r.empty;
   hands = hands_after r.events r.did r.rest st.hands;
   slot_stands = r.slot_stands;
+}
+
+-- ---- before the first event, and after a turn
+
+holds_blank : (layout : Layout) (rec : Record) → rec ≡ blank → HoldsNone layout rec
+holds_blank LineFlags rec new = tt
+holds_blank BitFlags rec new = λ core. ap (λ (x : Record). x.held core) new
+
+-- before its first event a rank is in no call
+pub free_at_start : (s : Sight) (c : Private) → s.events ≡ [] → c.out ≡ None → IsInNoCall s c empty_slot
+free_at_start s c fresh empty =
+    let none = record_at_start s fresh in
+    record {
+      stage = ap (λ (x : Record). x.stage) none;
+      empty = empty;
+      hands = holds_blank s.seat.setup.layout (record_in s) none;
+      slot_stands = record { to = sym (ap (λ (x : Record). option_map (λ (post : OnItsWay). post.to) x.post) none); seen = λ h. absurd (cc); peers = tt };
+    }
+
+sent_at : (seat : Seat) (rec : Record) (c : Private) (op : SendAt) (slot : SlotAt) (bytes : List ℕ) → op.stage ≡ sending.Finished → IsSending seat rec c op slot bytes → (rec.stage ≡ Idle) × (c.out ≡ None)
+sent_at seat rec c op slot bytes is st = subst (λ (x : SendStage). IsAtSendStage seat rec c op bytes x) is st.at
+
+received_at : (seat : Seat) (rec : Record) (c : Private) (op : RecvAt) (bytes : List ℕ) → op.stage ≡ receive.Finished → IsReceiving seat rec c op bytes → rec.stage ≡ Idle
+received_at seat rec c op bytes is st = subst (λ (x : RecvStage). IsAtStage seat rec c op bytes x) is st.at
+
+untaken_at : (seat : Seat) (rec : Record) (c : Private) (op : RecvAt) (bytes : List ℕ) → op.stage ≡ receive.Header → IsReceiving seat rec c op bytes → rec.stage ≡ Idle
+untaken_at seat rec c op bytes is st = (subst (λ (x : RecvStage). IsAtStage seat rec c op bytes x) is st.at).1
+
+pub free_after_sent : {s t : Sight} {c d : Private} {op now : SendAt} {slot after : SlotAt} {bytes : List ℕ} → SendTurned s c op slot bytes t d now after turn.Done
+    → SendStands t d now after bytes → IsInNoCall t d after
+free_after_sent {t = t} {d = d} {now = now} {after = after} {bytes = bytes} turned st =
+    let end = sent_at t.seat (record_in t) d now after bytes turned.means.0 st in
+    record { stage = end.0; empty = end.1; hands = st.hands; slot_stands = st.slot_stands }
+
+pub free_after_received : {s t : Sight} {c d : Private} {op now : RecvAt} {slot : SlotAt} {bytes after : List ℕ} → SlotStands s.seat (record_in s) slot
+    → RecvTurned s c op bytes t d now after recv_turn.Done → RecvStands t d now after → IsInNoCall t d slot
+free_after_received {t = t} {d = d} {now = now} {after = after} slot turned st = record {
+  stage = received_at t.seat (record_in t) d now after turned.means.0 st;
+  empty = st.empty;
+  hands = st.hands;
+  slot_stands = slot_after turned.events turned.did turned.post slot;
+}
+
+pub free_after_mismatch : {s t : Sight} {c d : Private} {op now : RecvAt} {slot : SlotAt} {bytes after : List ℕ} {sent : MessageHead} → SlotStands s.seat (record_in s) slot
+    → RecvTurned s c op bytes t d now after (recv_turn.Mismatch sent) → RecvStands t d now after → IsInNoCall t d slot
+free_after_mismatch {t = t} {d = d} {now = now} {after = after} slot turned st = record {
+  stage = untaken_at t.seat (record_in t) d now after (ap (λ (o : RecvAt). o.stage) turned.means.0 ∙ turned.means.2) st;
+  empty = st.empty;
+  hands = st.hands;
+  slot_stands = slot_after turned.events turned.did turned.post slot;
+}
+
+pub free_after_slot : {s t : Sight} {c d : Private} {slot now : SlotAt} {answer : Turn} → IsInNoCall s c slot → SlotTurned s c slot t d now answer
+    → SlotStands t.seat (record_in t) now → IsInNoCall t d now
+free_after_slot free turned st = record {
+  stage = turned.stage ∙ free.stage;
+  empty = turned.buffer;
+  hands = hands_after turned.events turned.did turned.rest free.hands;
+  slot_stands = st;
 }
 
 -- ---- how many turns are left of a new one

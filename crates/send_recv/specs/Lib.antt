@@ -8,3 +8,4 @@ pub mod Steps
 pub mod Receiving
 pub mod Sending
 pub mod Calling
+pub mod Sights

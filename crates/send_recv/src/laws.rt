@@ -1,18 +1,23 @@
 //! Laws of messages: how many turns a new one has left, and how calls follow one another.
 
-ghost use Rattle.std.specs.Prelude.{◌≡◌, ℕ, ◌+◌, ◌*◌, ◌≤◌, Bool, true, List, length};
+ghost use Rattle.std.specs.Prelude.{◌≡◌, ℕ, ◌+◌, ◌*◌, ◌≤◌, Bool, true, List, [], None, length};
+ghost use base.Stored.{Gv};
 ghost use Rattle.scc_base.specs.Heads.{MessageHead, IsHead, IsPostHead};
 ghost use Rattle.scc_base.specs.declared.events.Spot.{Spot};
+ghost use Rattle.scc_base.specs.declared.events.Turn.{Turn};
+ghost use Rattle.scc_base.specs.declared.events.Turn.TheVariants as turn;
 ghost use Rattle.scc_base.specs.declared.layouts.Layout.{Layout};
 ghost use Rattle.scc_proto.specs.Words.{are_peers};
 ghost use Rattle.scc_proto.specs.Ports.{Sight, record_in};
 ghost use Rattle.put_get.specs.Cores.{Private};
 ghost use Rattle.sync_flags.specs.Tries.{Aim};
+ghost use Rattle.sync_flags.specs.Turns.{at_port};
+ghost use Rattle.send_recv.specs.declared.answers.RecvTurn.TheVariants as recv_turn;
 ghost use Rattle.send_recv.specs.Chunks.{chunk_count, lines_of};
-ghost use Rattle.send_recv.specs.Ops.{SlotAt, RecvAt, SendAt, new_receive, new_send, slot_left};
-ghost use Rattle.send_recv.specs.Receiving.{RecvStands, recv_left};
+ghost use Rattle.send_recv.specs.Ops.{SlotAt, RecvAt, SendAt, new_receive, new_send, empty_slot, slot_left};
+ghost use Rattle.send_recv.specs.Receiving.{RecvStands, RecvTurned, recv_left};
 ghost use Rattle.send_recv.specs.Turns.{HoldsNone};
-ghost use Rattle.send_recv.specs.Sending.{SlotStands, SendStands, send_left};
+ghost use Rattle.send_recv.specs.Sending.{SlotStands, SlotTurned, SendStands, SendTurned, send_left};
 ghost use Rattle.send_recv.specs.Calling.{IsInNoCall, Received, RecvStalled, RecvDiffers, FoundUnset, Sent};
 
 /// A new receive, a new send and a new post have at most 4 + 5c + l turns left that do not wait, for c chunks
@@ -49,4 +54,34 @@ pub fn ends_law()
 pub fn stalls_law()
     ensures slot { (s t : Sight) (d : Private) (slot : SlotAt) (op now : RecvAt) (polls : ℕ) (old bytes : List ℕ) (spot : Spot) → SlotStands s.seat (record_in s) slot
         → RecvStalled s op old polls t d bytes now spot → SlotStands t.seat (record_in t) slot }
+{}
+
+/// What stands at a port stands at every port of the same rank: the same setup, rank and events.
+pub fn other_port_law()
+    ensures receive { (s : Sight) (mark rest : Gv) (hold : ℕ) (c : Private) (op : RecvAt) (bytes : List ℕ)
+        → RecvStands s c op bytes → RecvStands (at_port s mark rest hold) c op bytes }
+    ensures send { (s : Sight) (mark rest : Gv) (hold : ℕ) (c : Private) (op : SendAt) (slot : SlotAt) (bytes : List ℕ)
+        → SendStands s c op slot bytes → SendStands (at_port s mark rest hold) c op slot bytes }
+    ensures slot { (s : Sight) (mark rest : Gv) (hold : ℕ) (slot : SlotAt) → SlotStands s.seat (record_in s) slot
+        → SlotStands (at_port s mark rest hold).seat (record_in (at_port s mark rest hold)) slot }
+    ensures no_call { (s : Sight) (mark rest : Gv) (hold : ℕ) (c : Private) (slot : SlotAt) → IsInNoCall s c slot
+        → IsInNoCall (at_port s mark rest hold) c slot }
+{}
+
+/// Before its first event a rank is in no call.
+pub fn start_law()
+    ensures no_call { (s : Sight) (c : Private) → s.events ≡ [] → c.out ≡ None → IsInNoCall s c empty_slot }
+{}
+
+/// After a turn that ends a message, done or with another head, the rank is in no call; so it is after a turn of the
+/// slot if it was before.
+pub fn done_law()
+    ensures receive { (s t : Sight) (c d : Private) (op now : RecvAt) (slot : SlotAt) (bytes after : List ℕ) → SlotStands s.seat (record_in s) slot
+        → RecvTurned s c op bytes t d now after recv_turn.Done → RecvStands t d now after → IsInNoCall t d slot }
+    ensures other_head { (s t : Sight) (c d : Private) (op now : RecvAt) (slot : SlotAt) (bytes after : List ℕ) (sent : MessageHead) → SlotStands s.seat (record_in s) slot
+        → RecvTurned s c op bytes t d now after (recv_turn.Mismatch sent) → RecvStands t d now after → IsInNoCall t d slot }
+    ensures send { (s t : Sight) (c d : Private) (op now : SendAt) (slot after : SlotAt) (bytes : List ℕ) → SendTurned s c op slot bytes t d now after turn.Done
+        → SendStands t d now after bytes → IsInNoCall t d after }
+    ensures slot { (s t : Sight) (c d : Private) (slot now : SlotAt) (answer : Turn) → IsInNoCall s c slot → SlotTurned s c slot t d now answer
+        → SlotStands t.seat (record_in t) now → IsInNoCall t d now }
 {}

@@ -33,19 +33,16 @@ impl Model for RecvOp {
 }
 
 impl RecvOp {
-    ghost use Rattle.std.specs.Prelude.{◌≡◌, ◌+◌, ◌*◌, ◌≤◌, ◌<◌, ℕ, true, false, None, Some, length, slice_index, List};
-    ghost use Rattle.scc_base.specs.Layouts.{first_chunk};
+    ghost use Rattle.std.specs.Prelude.{◌≡◌, ◌+◌, ◌≤◌, ◌<◌, ℕ, true, false, None, Some, length, slice_index, List};
     ghost use Rattle.scc_proto.specs.Messages.{Notes};
     ghost use Rattle.scc_proto.specs.Ports.{IsSoundPort, record_in};
-    ghost use Rattle.scc_proto.specs.Records.{chunk_of};
-    ghost use Rattle.scc_proto.specs.Words.{are_peers};
-    ghost use Rattle.put_get.specs.Cores.{ReadsLine, MadeSteps, KeepsSteps};
+    ghost use Rattle.put_get.specs.Cores.{ReadsLine, MadeSteps};
     ghost use Rattle.send_recv.specs.Bytes.{byte_of_line};
-    ghost use Rattle.send_recv.specs.Chunks.{chunk_start, chunk_lines_of};
-    ghost use Rattle.send_recv.specs.Flags.{Looks, Changes, MayChange};
+    ghost use Rattle.send_recv.specs.Chunks.{chunk_lines_of};
     ghost use Rattle.send_recv.specs.Ops.{new_receive};
     ghost use Rattle.send_recv.specs.Receiving.{RecvStands, RecvTurned, recv_waits};
-    ghost use Rattle.send_recv.specs.Steps.{cleared, own_core, core_of, sent_flag, ready_flag, flag_spot, line_at, goes_on, recv_or_waits, after_look, after_lower, after_line, after_raise, raise_answer, HeadRead, before_line};
+    ghost use Rattle.send_recv.specs.Sights.{chunk_at, IsPeer, first_byte, header_line, chunk_line, LooksForSent, LowersSent, RaisesReady, MayLowerSent, MayRaiseReady, sent_spot, own_register, register_of};
+    ghost use Rattle.send_recv.specs.Steps.{cleared, goes_on, recv_or_waits, after_look, after_lower, after_line, after_raise, raise_answer, HeadRead, before_line};
     ghost use Rattle.scc_base.specs.declared.events.Spot.{Spot};
     ghost use Rattle.scc_base.specs.declared.events.Spot.TheVariants.{Register};
 
@@ -71,12 +68,10 @@ impl RecvOp {
     // Looks whether the next chunk was sent.
     fn look_sent<V: Evict, P: Port>(&mut self, core: &mut Core<V>, port: &mut P) -> RecvTurn
         requires empty { core.old.out ≡ None }
-        ensures looks { Looks (P.sight port.old) core.old (own_core (P.sight port.old).seat) (sent_flag (P.sight port.old).seat self.old.from)
-            (goes_on result) (P.sight port.new) core.new }
+        ensures looks { LooksForSent (P.sight port.old) core.old self.old.from (goes_on result) (P.sight port.new) core.new }
         ensures next { self.new ≡ after_look (goes_on result) self.old }
-        ensures answers { result ≡ recv_or_waits (goes_on result) (flag_spot (own_core (P.sight port.old).seat) (sent_flag (P.sight port.old).seat self.old.from)) }
-        ensures steps { MadeSteps (P.stepped port.new) (P.sight port.old) (P.sight port.new) }
-        ensures keeps { KeepsSteps (P.stepped port.old) (P.stepped port.new) }
+        ensures answers { result ≡ recv_or_waits (goes_on result) (sent_spot (P.sight port.old) self.old.from) }
+        ensures steps { MadeSteps P.stepped (P.sight port.old) (P.sight port.new) }
     {
         let own = own_core(port);
         let flag = layout_of(port).sent(self.from);
@@ -96,13 +91,12 @@ impl RecvOp {
 
     // Reads the header line of the sender.
     fn read_head<V: Evict, P: Port>(&mut self, core: &mut Core<V>, port: &mut P) -> RecvTurn
-        requires peers { are_peers (P.sight port.old).seat.setup (P.sight port.old).seat.rank self.old.from ≡ true }
+        requires peers { IsPeer (P.sight port.old) self.old.from }
         requires empty { core.old.out ≡ None }
         requires seen { (header : Notes) × ((record_in (P.sight port.old)).notes self.old.from ≡ Some header) }
-        ensures reads { (words : List ℕ) × ReadsLine (P.sight port.old) (cleared core.old) (line_at (P.sight port.old).seat self.old.from 0) words (P.sight port.new) core.new
+        ensures reads { (words : List ℕ) × ReadsLine (P.sight port.old) (cleared core.old) (header_line (P.sight port.old) self.old.from) words (P.sight port.new) core.new
             × HeadRead words self.old self.new result }
         ensures sound { IsSoundPort (P.sight port.new) }
-        ensures keeps { KeepsSteps (P.stepped port.old) (P.stepped port.new) }
     {
         known(port);
         core.cl1invmb();
@@ -119,13 +113,11 @@ impl RecvOp {
 
     // Lowers the `sent` flag, and so takes the chunk.
     fn lower_sent<V: Evict, P: Port>(&mut self, core: &mut Core<V>, port: &mut P) -> RecvTurn
-        requires may { MayChange (P.sight port.old) core.old (own_core (P.sight port.old).seat) (sent_flag (P.sight port.old).seat self.old.from) false }
-        ensures changes { Changes (P.sight port.old) core.old (own_core (P.sight port.old).seat) (sent_flag (P.sight port.old).seat self.old.from) false
-            (goes_on result) (P.sight port.new) core.new }
-        ensures next { self.new ≡ after_lower (chunk_of (P.sight port.old).seat.setup) (goes_on result) self.old }
-        ensures answers { result ≡ recv_or_waits (goes_on result) (Register (own_core (P.sight port.old).seat)) }
-        ensures steps { goes_on result ≡ false → MadeSteps (P.stepped port.new) (P.sight port.old) (P.sight port.new) }
-        ensures keeps { KeepsSteps (P.stepped port.old) (P.stepped port.new) }
+        requires may { MayLowerSent (P.sight port.old) core.old self.old.from }
+        ensures changes { LowersSent (P.sight port.old) core.old self.old.from (goes_on result) (P.sight port.new) core.new }
+        ensures next { self.new ≡ after_lower (chunk_at (P.sight port.old)) (goes_on result) self.old }
+        ensures answers { result ≡ recv_or_waits (goes_on result) (own_register (P.sight port.old)) }
+        ensures steps { goes_on result ≡ false → MadeSteps P.stepped (P.sight port.old) (P.sight port.new) }
     {
         let own = own_core(port);
         let layout = layout_of(port);
@@ -148,18 +140,17 @@ impl RecvOp {
         bytes: &mut [u8],
         line: u8,
     ) -> RecvTurn
-        requires peers { are_peers (P.sight port.old).seat.setup (P.sight port.old).seat.rank self.old.from ≡ true }
+        requires peers { IsPeer (P.sight port.old) self.old.from }
         requires empty { core.old.out ≡ None }
-        requires in_chunk { line < chunk_lines_of (chunk_of (P.sight port.old).seat.setup) self.old.head.len self.old.chunk }
+        requires in_chunk { line < chunk_lines_of (chunk_at (P.sight port.old)) self.old.head.len self.old.chunk }
         ensures reads { (words : List ℕ) × ReadsLine (P.sight port.old) (before_line line core.old)
-            (line_at (P.sight port.old).seat self.old.from (first_chunk (P.sight port.old).seat.setup.layout + line)) words (P.sight port.new) core.new
-            × ((k : ℕ) → k < 32 → chunk_start (chunk_of (P.sight port.old).seat.setup) self.old.chunk + 32 * line + k < length bytes.old
-            → slice_index bytes.new (chunk_start (chunk_of (P.sight port.old).seat.setup) self.old.chunk + 32 * line + k) ≡ byte_of_line words k) }
-        ensures before { (k : ℕ) → k < chunk_start (chunk_of (P.sight port.old).seat.setup) self.old.chunk + 32 * line → slice_index bytes.new k ≡ slice_index bytes.old k }
-        ensures behind { (k : ℕ) → chunk_start (chunk_of (P.sight port.old).seat.setup) self.old.chunk + 32 * line + 32 ≤ k → slice_index bytes.new k ≡ slice_index bytes.old k }
-        ensures next { self.new ≡ after_line (chunk_of (P.sight port.old).seat.setup) line self.old }
+            (chunk_line (P.sight port.old) self.old.from line) words (P.sight port.new) core.new
+            × ((k : ℕ) → k < 32 → first_byte (P.sight port.old) self.old.chunk line + k < length bytes.old
+            → slice_index bytes.new (first_byte (P.sight port.old) self.old.chunk line + k) ≡ byte_of_line words k) }
+        ensures before { (k : ℕ) → k < first_byte (P.sight port.old) self.old.chunk line → slice_index bytes.new k ≡ slice_index bytes.old k }
+        ensures behind { (k : ℕ) → first_byte (P.sight port.old) self.old.chunk line + 32 ≤ k → slice_index bytes.new k ≡ slice_index bytes.old k }
+        ensures next { self.new ≡ after_line (chunk_at (P.sight port.old)) line self.old }
         ensures answers { result ≡ recv_or_waits true (Register 0) }
-        ensures keeps { KeepsSteps (P.stepped port.old) (P.stepped port.new) }
     {
         let layout = layout_of(port);
         if line == 0 {
@@ -179,15 +170,13 @@ impl RecvOp {
 
     // Raises the `ready` flag at the sender.
     fn raise_ready<V: Evict, P: Port>(&mut self, core: &mut Core<V>, port: &mut P) -> RecvTurn
-        requires peers { are_peers (P.sight port.old).seat.setup (P.sight port.old).seat.rank self.old.from ≡ true }
-        requires may { MayChange (P.sight port.old) core.old (core_of (P.sight port.old).seat self.old.from) (ready_flag (P.sight port.old).seat (P.sight port.old).seat.rank) true }
+        requires peers { IsPeer (P.sight port.old) self.old.from }
+        requires may { MayRaiseReady (P.sight port.old) core.old self.old.from }
         requires some_left { self.old.chunk < 255 }
-        ensures changes { Changes (P.sight port.old) core.old (core_of (P.sight port.old).seat self.old.from) (ready_flag (P.sight port.old).seat (P.sight port.old).seat.rank) true
-            (goes_on result) (P.sight port.new) core.new }
-        ensures next { self.new ≡ after_raise (chunk_of (P.sight port.old).seat.setup) (goes_on result) self.old }
-        ensures answers { result ≡ raise_answer (chunk_of (P.sight port.old).seat.setup) (goes_on result) (Register (core_of (P.sight port.old).seat self.old.from)) self.old }
-        ensures steps { goes_on result ≡ false → MadeSteps (P.stepped port.new) (P.sight port.old) (P.sight port.new) }
-        ensures keeps { KeepsSteps (P.stepped port.old) (P.stepped port.new) }
+        ensures changes { RaisesReady (P.sight port.old) core.old self.old.from (goes_on result) (P.sight port.new) core.new }
+        ensures next { self.new ≡ after_raise (chunk_at (P.sight port.old)) (goes_on result) self.old }
+        ensures answers { result ≡ raise_answer (chunk_at (P.sight port.old)) (goes_on result) (register_of (P.sight port.old) self.old.from) self.old }
+        ensures steps { goes_on result ≡ false → MadeSteps P.stepped (P.sight port.old) (P.sight port.new) }
     {
         let other = core_of(port, self.from);
         let layout = layout_of(port);
@@ -214,8 +203,7 @@ impl RecvOp {
         requires stands { RecvStands (P.sight port.old) core.old self.old bytes.old }
         ensures stands { RecvStands (P.sight port.new) core.new self.new bytes.new }
         ensures turned { RecvTurned (P.sight port.old) core.old self.old bytes.old (P.sight port.new) core.new self.new bytes.new result }
-        ensures steps { (spot : Spot) → recv_waits result ≡ Some spot → MadeSteps (P.stepped port.new) (P.sight port.old) (P.sight port.new) }
-        ensures keeps { KeepsSteps (P.stepped port.old) (P.stepped port.new) }
+        ensures steps { (spot : Spot) → recv_waits result ≡ Some spot → MadeSteps P.stepped (P.sight port.old) (P.sight port.new) }
     {
         known(port);
         match self.stage {

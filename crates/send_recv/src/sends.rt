@@ -48,24 +48,18 @@ fn after_lines(layout: Layout) -> SendStage
 }
 
 impl SendOp {
-    ghost use Rattle.std.specs.Prelude.{◌≡◌, ◌+◌, ◌*◌, ◌<◌, None, Some, true, false};
-    ghost use Rattle.scc_base.specs.Heads.{IsPostHead};
-    ghost use Rattle.scc_base.specs.Layouts.{first_chunk};
+    ghost use Rattle.std.specs.Prelude.{◌≡◌, ◌<◌, None, Some, true, false};
     ghost use Rattle.scc_base.specs.declared.events.Spot.{Spot};
-    ghost use Rattle.scc_base.specs.declared.events.Spot.TheVariants.{Register};
     ghost use Rattle.scc_base.specs.declared.events.Turn.TheVariants.{Moved};
     ghost use Rattle.scc_proto.specs.Ports.{MayMakeAll, record_in};
-    ghost use Rattle.scc_proto.specs.Records.{chunk_of};
-    ghost use Rattle.scc_proto.specs.Words.{are_peers};
     ghost use Rattle.write_combine.specs.Combining.{handed_out};
     ghost use Rattle.put_get.specs.Accesses.{stores_of};
-    ghost use Rattle.put_get.specs.Cores.{WritesLine, Flushes, MadeSteps, KeepsSteps};
-    ghost use Rattle.send_recv.specs.Bytes.{words_at};
-    ghost use Rattle.send_recv.specs.Chunks.{chunk_start, chunk_lines_of};
-    ghost use Rattle.send_recv.specs.Flags.{Looks, Changes, MayChange};
+    ghost use Rattle.put_get.specs.Cores.{WritesLine, Flushes, MadeSteps};
+    ghost use Rattle.send_recv.specs.Chunks.{chunk_lines_of};
     ghost use Rattle.send_recv.specs.Ops.{new_send};
     ghost use Rattle.send_recv.specs.Sending.{SendStands, SendTurned, header_words};
-    ghost use Rattle.send_recv.specs.Steps.{own_core, core_of, sent_flag, ready_flag, flag_spot, line_at, moves_on, moved_or_waits, after_header, after_written, after_flush, after_sent, sent_answer, slot_sent, after_seen, after_through, through_answer};
+    ghost use Rattle.send_recv.specs.Sights.{chunk_at, IsPeer, own_header_line, own_chunk_line, words_of_line, LooksForReady, RaisesSent, LowersReady, MayRaiseSent, MayLowerReady, ready_spot, own_register, register_of};
+    ghost use Rattle.send_recv.specs.Steps.{moves_on, moved_or_waits, after_header, after_written, after_flush, after_sent, sent_answer, slot_sent, after_seen, after_through, through_answer};
     ghost use Rattle.send_recv.specs.Turns.{waits_at};
 
     /// A send at the start of a message with this head.
@@ -97,10 +91,9 @@ impl SendOp {
     // Writes the header line.
     fn write_header<V: Evict, P: Port>(&mut self, core: &mut Core<V>, port: &mut P) -> Turn
         requires empty { core.old.out ≡ None }
-        ensures writes { WritesLine (P.sight port.old) core.old (line_at (P.sight port.old).seat (P.sight port.old).seat.rank 0) (header_words self.old.head self.old.posted) (P.sight port.new) core.new }
+        ensures writes { WritesLine (P.sight port.old) core.old (own_header_line (P.sight port.old)) (header_words self.old.head self.old.posted) (P.sight port.new) core.new }
         ensures next { self.new ≡ after_header (P.sight port.old).seat.setup.layout self.old }
         ensures answers { result ≡ Moved }
-        ensures keeps { KeepsSteps (P.stepped port.old) (P.stepped port.new) }
     {
         let line = Line::new(own_core(port), 0);
         core.line_write(port, line, &header_line(&self.head, self.posted));
@@ -121,14 +114,13 @@ impl SendOp {
         bytes: &[u8],
         line: u8,
     ) -> Turn
-        requires in_chunk { line < chunk_lines_of (chunk_of (P.sight port.old).seat.setup) self.old.head.len self.old.chunk }
-        requires other { handed_out core.old.out (line_at (P.sight port.old).seat (P.sight port.old).seat.rank (first_chunk (P.sight port.old).seat.setup.layout + line)) ≡ core.old.out }
+        requires in_chunk { line < chunk_lines_of (chunk_at (P.sight port.old)) self.old.head.len self.old.chunk }
+        requires other { handed_out core.old.out (own_chunk_line (P.sight port.old) line) ≡ core.old.out }
         requires permitted { MayMakeAll (P.sight port.old).seat (record_in (P.sight port.old)) (stores_of core.old.out) }
-        ensures writes { WritesLine (P.sight port.old) core.old (line_at (P.sight port.old).seat (P.sight port.old).seat.rank (first_chunk (P.sight port.old).seat.setup.layout + line))
-            (words_at bytes.now (chunk_start (chunk_of (P.sight port.old).seat.setup) self.old.chunk + 32 * line)) (P.sight port.new) core.new }
+        ensures writes { WritesLine (P.sight port.old) core.old (own_chunk_line (P.sight port.old) line)
+            (words_of_line bytes.now (P.sight port.old) self.old.chunk line) (P.sight port.new) core.new }
         ensures next { self.new ≡ after_written (P.sight port.old).seat.setup.layout line self.old }
         ensures answers { result ≡ Moved }
-        ensures keeps { KeepsSteps (P.stepped port.old) (P.stepped port.new) }
     {
         let layout = layout_of(port);
         let at = Line::new(own_core(port), layout.first_chunk_line() + line);
@@ -148,7 +140,6 @@ impl SendOp {
         ensures flushes { Flushes (P.sight port.old) core.old (P.sight port.new) core.new }
         ensures next { self.new ≡ after_flush self.old }
         ensures answers { result ≡ Moved }
-        ensures keeps { KeepsSteps (P.stepped port.old) (P.stepped port.new) }
     {
         core.flush(port);
         self.stage = SendStage::Raise;
@@ -162,14 +153,13 @@ impl SendOp {
         port: &mut P,
         slot: &mut Slot,
     ) -> Turn
-        requires peers { are_peers (P.sight port.old).seat.setup (P.sight port.old).seat.rank self.old.to ≡ true }
-        requires may { MayChange (P.sight port.old) core.old (core_of (P.sight port.old).seat self.old.to) (sent_flag (P.sight port.old).seat (P.sight port.old).seat.rank) true }
-        ensures changes { Changes (P.sight port.old) core.old (core_of (P.sight port.old).seat self.old.to) (sent_flag (P.sight port.old).seat (P.sight port.old).seat.rank) true (moves_on result) (P.sight port.new) core.new }
+        requires peers { IsPeer (P.sight port.old) self.old.to }
+        requires may { MayRaiseSent (P.sight port.old) core.old self.old.to }
+        ensures changes { RaisesSent (P.sight port.old) core.old self.old.to (moves_on result) (P.sight port.new) core.new }
         ensures next { self.new ≡ after_sent (moves_on result) self.old }
         ensures fills { slot.new ≡ slot_sent (moves_on result) self.old slot.old }
-        ensures answers { result ≡ sent_answer (moves_on result) (Register (core_of (P.sight port.old).seat self.old.to)) self.old }
-        ensures steps { moves_on result ≡ false → MadeSteps (P.stepped port.new) (P.sight port.old) (P.sight port.new) }
-        ensures keeps { KeepsSteps (P.stepped port.old) (P.stepped port.new) }
+        ensures answers { result ≡ sent_answer (moves_on result) (register_of (P.sight port.old) self.old.to) self.old }
+        ensures steps { moves_on result ≡ false → MadeSteps P.stepped (P.sight port.old) (P.sight port.new) }
     {
         let other = core_of(port, self.to);
         let flag = layout_of(port).sent(port.rank());
@@ -188,11 +178,10 @@ impl SendOp {
     // Looks whether the chunk was taken.
     fn look_ready<V: Evict, P: Port>(&mut self, core: &mut Core<V>, port: &mut P) -> Turn
         requires empty { core.old.out ≡ None }
-        ensures looks { Looks (P.sight port.old) core.old (own_core (P.sight port.old).seat) (ready_flag (P.sight port.old).seat self.old.to) (moves_on result) (P.sight port.new) core.new }
+        ensures looks { LooksForReady (P.sight port.old) core.old self.old.to (moves_on result) (P.sight port.new) core.new }
         ensures next { self.new ≡ after_seen (moves_on result) self.old }
-        ensures answers { result ≡ moved_or_waits (moves_on result) (flag_spot (own_core (P.sight port.old).seat) (ready_flag (P.sight port.old).seat self.old.to)) }
-        ensures steps { MadeSteps (P.stepped port.new) (P.sight port.old) (P.sight port.new) }
-        ensures keeps { KeepsSteps (P.stepped port.old) (P.stepped port.new) }
+        ensures answers { result ≡ moved_or_waits (moves_on result) (ready_spot (P.sight port.old) self.old.to) }
+        ensures steps { MadeSteps P.stepped (P.sight port.old) (P.sight port.new) }
     {
         let own = own_core(port);
         let flag = layout_of(port).ready(self.to);
@@ -208,13 +197,12 @@ impl SendOp {
 
     // Lowers the `ready` flag, after which the next chunk may be written.
     fn lower_ready<V: Evict, P: Port>(&mut self, core: &mut Core<V>, port: &mut P) -> Turn
-        requires may { MayChange (P.sight port.old) core.old (own_core (P.sight port.old).seat) (ready_flag (P.sight port.old).seat self.old.to) false }
+        requires may { MayLowerReady (P.sight port.old) core.old self.old.to }
         requires some_left { self.old.chunk < 255 }
-        ensures changes { Changes (P.sight port.old) core.old (own_core (P.sight port.old).seat) (ready_flag (P.sight port.old).seat self.old.to) false (moves_on result) (P.sight port.new) core.new }
-        ensures next { self.new ≡ after_through (chunk_of (P.sight port.old).seat.setup) (moves_on result) self.old }
-        ensures answers { result ≡ through_answer (chunk_of (P.sight port.old).seat.setup) (moves_on result) (Register (own_core (P.sight port.old).seat)) self.old }
-        ensures steps { moves_on result ≡ false → MadeSteps (P.stepped port.new) (P.sight port.old) (P.sight port.new) }
-        ensures keeps { KeepsSteps (P.stepped port.old) (P.stepped port.new) }
+        ensures changes { LowersReady (P.sight port.old) core.old self.old.to (moves_on result) (P.sight port.new) core.new }
+        ensures next { self.new ≡ after_through (chunk_at (P.sight port.old)) (moves_on result) self.old }
+        ensures answers { result ≡ through_answer (chunk_at (P.sight port.old)) (moves_on result) (own_register (P.sight port.old)) self.old }
+        ensures steps { moves_on result ≡ false → MadeSteps P.stepped (P.sight port.old) (P.sight port.new) }
     {
         let own = own_core(port);
         let layout = layout_of(port);
@@ -242,8 +230,7 @@ impl SendOp {
         requires stands { SendStands (P.sight port.old) core.old self.old slot.old bytes.now }
         ensures stands { SendStands (P.sight port.new) core.new self.new slot.new bytes.now }
         ensures turned { SendTurned (P.sight port.old) core.old self.old slot.old bytes.now (P.sight port.new) core.new self.new slot.new result }
-        ensures steps { (spot : Spot) → waits_at result ≡ Some spot → MadeSteps (P.stepped port.new) (P.sight port.old) (P.sight port.new) }
-        ensures keeps { KeepsSteps (P.stepped port.old) (P.stepped port.new) }
+        ensures steps { (spot : Spot) → waits_at result ≡ Some spot → MadeSteps P.stepped (P.sight port.old) (P.sight port.new) }
     {
         known(port);
         known_bytes(bytes);

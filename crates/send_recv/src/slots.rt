@@ -27,13 +27,12 @@ impl Model for Slot {
 impl Slot {
     ghost use Rattle.std.specs.Prelude.{◌≡◌, None, Some, true, false};
     ghost use Rattle.scc_base.specs.declared.events.Spot.{Spot};
-    ghost use Rattle.scc_base.specs.declared.events.Spot.TheVariants.{Register};
     ghost use Rattle.scc_proto.specs.Ports.{record_in};
-    ghost use Rattle.put_get.specs.Cores.{MadeSteps, KeepsSteps};
-    ghost use Rattle.send_recv.specs.Flags.{Looks, Changes, MayChange};
+    ghost use Rattle.put_get.specs.Cores.{MadeSteps};
     ghost use Rattle.send_recv.specs.Ops.{empty_slot};
     ghost use Rattle.send_recv.specs.Sending.{SlotStands, SlotTurned};
-    ghost use Rattle.send_recv.specs.Steps.{own_core, ready_flag, flag_spot, moves_on, moved_or_waits, slot_seen, slot_lowered};
+    ghost use Rattle.send_recv.specs.Sights.{LooksForReady, LowersReady, MayLowerReady, ready_spot, own_register};
+    ghost use Rattle.send_recv.specs.Steps.{moves_on, moved_or_waits, slot_seen, slot_lowered};
     ghost use Rattle.send_recv.specs.Turns.{HoldsNone, waits_at};
 
     /// No message is on its way.
@@ -64,12 +63,10 @@ impl Slot {
     // Looks whether the message was taken.
     fn look_ready<V: Evict, P: Port>(&mut self, core: &mut Core<V>, port: &mut P, to: Rank) -> Turn
         requires empty { core.old.out ≡ None }
-        ensures looks { Looks (P.sight port.old) core.old (own_core (P.sight port.old).seat) (ready_flag (P.sight port.old).seat to)
-            (moves_on result) (P.sight port.new) core.new }
+        ensures looks { LooksForReady (P.sight port.old) core.old to (moves_on result) (P.sight port.new) core.new }
         ensures next { self.new ≡ slot_seen (moves_on result) self.old }
-        ensures answers { result ≡ moved_or_waits (moves_on result) (flag_spot (own_core (P.sight port.old).seat) (ready_flag (P.sight port.old).seat to)) }
-        ensures steps { MadeSteps (P.stepped port.new) (P.sight port.old) (P.sight port.new) }
-        ensures keeps { KeepsSteps (P.stepped port.old) (P.stepped port.new) }
+        ensures answers { result ≡ moved_or_waits (moves_on result) (ready_spot (P.sight port.old) to) }
+        ensures steps { MadeSteps P.stepped (P.sight port.old) (P.sight port.new) }
     {
         let own = own_core(port);
         let flag = layout_of(port).ready(to);
@@ -85,13 +82,11 @@ impl Slot {
 
     // Lowers the flag by which the message was answered.
     fn lower_ready<V: Evict, P: Port>(&mut self, core: &mut Core<V>, port: &mut P, to: Rank) -> Turn
-        requires may { MayChange (P.sight port.old) core.old (own_core (P.sight port.old).seat) (ready_flag (P.sight port.old).seat to) false }
-        ensures changes { Changes (P.sight port.old) core.old (own_core (P.sight port.old).seat) (ready_flag (P.sight port.old).seat to) false
-            (moves_on result) (P.sight port.new) core.new }
+        requires may { MayLowerReady (P.sight port.old) core.old to }
+        ensures changes { LowersReady (P.sight port.old) core.old to (moves_on result) (P.sight port.new) core.new }
         ensures next { self.new ≡ slot_lowered (moves_on result) self.old }
-        ensures answers { result ≡ moved_or_waits (moves_on result) (Register (own_core (P.sight port.old).seat)) }
-        ensures steps { moves_on result ≡ false → MadeSteps (P.stepped port.new) (P.sight port.old) (P.sight port.new) }
-        ensures keeps { KeepsSteps (P.stepped port.old) (P.stepped port.new) }
+        ensures answers { result ≡ moved_or_waits (moves_on result) (own_register (P.sight port.old)) }
+        ensures steps { moves_on result ≡ false → MadeSteps P.stepped (P.sight port.old) (P.sight port.new) }
     {
         let own = own_core(port);
         let flag = layout_of(port).ready(to);
@@ -110,8 +105,7 @@ impl Slot {
         requires hands { HoldsNone (P.sight port.old).seat.setup.layout (record_in (P.sight port.old)) }
         ensures stands { SlotStands (P.sight port.new).seat (record_in (P.sight port.new)) self.new }
         ensures turned { SlotTurned (P.sight port.old) core.old self.old (P.sight port.new) core.new self.new result }
-        ensures steps { (spot : Spot) → waits_at result ≡ Some spot → MadeSteps (P.stepped port.new) (P.sight port.old) (P.sight port.new) }
-        ensures keeps { KeepsSteps (P.stepped port.old) (P.stepped port.new) }
+        ensures steps { (spot : Spot) → waits_at result ≡ Some spot → MadeSteps P.stepped (P.sight port.old) (P.sight port.new) }
     {
         known(port);
         match self.to {

@@ -1,60 +1,78 @@
--- A flag in the heap may be written by a rank that has only locked and accessed the heap so far.
-use Rattle.std.proofs.Common.{◌≡◌, ℕ, ◌<◌, ◌≤◌, Bool, true, false, ◌&&◌, nat_le, List, [], ◌∷◌, ◌++◌, Option, Some, None, slice_index, refl, sym, ap, subst}
-use Rattle.scc_base.specs.Places.{line_of_word}
-use Rattle.scc_base.specs.Setups.{IsSetup}
-use Rattle.scc_base.specs.Events.{store_of, take_of}
-use Rattle.scc_base.specs.declared.events.Event.{Event}
-use Rattle.scc_proto.specs.Stages.{Idle, Record}
+-- A flag in the heap may be written by a rank that has drafted nothing, takes no chunk and is in no barrier.
+use Rattle.std.proofs.Common.{◌≡◌, ℕ, ◌<◌, ◌≤◌, Bool, true, [], ◌∷◌, Option, Some, None, IfSome, slice_index, sym, ◌∙◌, ap, subst}
+use Rattle.scc_base.specs.Places.{line_of_word, word_of_line}
+use Rattle.scc_base.specs.Setups.{IsSetup, host_of}
+use Rattle.scc_base.specs.Events.{load_of, store_of, take_of}
+use Rattle.scc_proto.specs.Stages.{Record}
 use Rattle.scc_proto.specs.Permission.{leaves_heap}
-use Rattle.scc_proto.specs.Ports.{Sight, MayMake, record_in, record_on, and_then}
-use Rattle.scc_proto.proofs.PortLaws.{record_in-and_then}
-use Rattle.scc_proto.proofs.PlaceMoves.{heap_stored}
-use Rattle.scc_proto.proofs.Roles.{le_yes}
+use Rattle.scc_proto.specs.Ports.{Seat, Sight, MayMake, record_in, record_on, record_next}
+use Rattle.scc_proto.proofs.PlaceMoves.{heap_loaded, heap_stored}
 use Rattle.put_get.specs.Accesses.{loads_of}
-use Rattle.tas_lock.specs.Quiet.{is_quiet, are_quiet}
-use Rattle.tas_lock.proofs.QuietLemmas.{quiet_record, nothing_held}
+use Rattle.tas_lock.specs.Holds.{IsNotHolding, after_try}
+use Rattle.tas_lock.specs.Quiet.{are_quiet}
+use Rattle.tas_lock.proofs.HoldLemmas.{next_tried}
+use Rattle.tas_lock.proofs.QuietLemmas.{quiet_record}
 use Rattle.sync_flags.specs.Flags.{FlagView, flag_of, flag_value, with_bit}
 use Rattle.sync_flags.specs.Writes.{MayWrite}
+use Rattle.sync_flags.proofs.WriteLemmas.{of_bit}
 
-both : (a b : Bool) → (a && b) ≡ true → (a ≡ true) × (b ≡ true)
-both true b t = (refl, t)
-both false b t = absurd (cc)
+pub heap_store_may : (seat : Seat) (rec : Record) (r : ℕ) (f : FlagView) (value : ℕ) → IsSetup seat.setup → r < seat.setup.nue → 225 ≤ f.line
+    → leaves_heap rec.stage ≡ true → MayMake seat rec (store_of (flag_of seat.setup r f) value)
+heap_store_may seat rec r f value valid lt high leaves = (heap_stored seat rec valid r f.line f.word value lt high leaves).may
 
-quiet-append : (a b : List Event) → are_quiet a ≡ true → are_quiet b ≡ true → are_quiet (a ++ b) ≡ true
-quiet-append [] b x y = y
-quiet-append (e ∷ a) b x y =
-    let each = both (is_quiet e.access e.place) (are_quiet a) x in
-    let rest = quiet-append a b each.1 y in
-    λ i. each.0 i && rest i
+-- the loads of a heap line change nothing of a record
+loads_nothing : (seat : Seat) (rec : Record) (r : ℕ) (f : FlagView) → IsSetup seat.setup → r < seat.setup.nue → 225 ≤ f.line → (k0 k1 k2 k3 : ℕ)
+    → record_on seat rec (load_of (word_of_line (line_of_word (flag_of seat.setup r f)) 0) k0 ∷ load_of (word_of_line (line_of_word (flag_of seat.setup r f)) 1) k1
+    ∷ load_of (word_of_line (line_of_word (flag_of seat.setup r f)) 2) k2 ∷ load_of (word_of_line (line_of_word (flag_of seat.setup r f)) 3) k3 ∷ []) ≡ rec
+loads_nothing seat rec r f valid lt high k0 k1 k2 k3 =
+    let line = line_of_word (flag_of seat.setup r f) in
+    let e1 = load_of (word_of_line line 1) k1 in
+    let e2 = load_of (word_of_line line 2) k2 in
+    let e3 = load_of (word_of_line line 3) k3 in
+    ap (λ (x : Record). record_next seat (record_next seat (record_next seat x e1) e2) e3) (heap_loaded seat rec valid r f.line 0 k0 lt high).becomes
+    ∙ ap (λ (x : Record). record_next seat (record_next seat x e2) e3) (heap_loaded seat rec valid r f.line 1 k1 lt high).becomes
+    ∙ ap (λ (x : Record). record_next seat x e3) (heap_loaded seat rec valid r f.line 2 k2 lt high).becomes
+    ∙ (heap_loaded seat rec valid r f.line 3 k3 lt high).becomes
 
-pub heap_word_may : (sight : Sight) (r : ℕ) (f : FlagView) (value : ℕ) → are_quiet sight.events ≡ true → IsSetup sight.seat.setup
-    → r < sight.seat.setup.nue → 225 ≤ f.line → MayMake sight.seat (record_in sight) (store_of (flag_of sight.seat.setup r f) value)
-heap_word_may sight r f value quiet valid lt high =
-    (heap_stored sight.seat (record_in sight) valid r f.line f.word value lt high (ap leaves_heap (quiet_record sight quiet).stage)).may
-
-pub heap_bit_may : (sight : Sight) (r : ℕ) (f : FlagView) (b : ℕ) (set : Bool) → sight.events ≡ [] → IsSetup sight.seat.setup
-    → r < sight.seat.setup.nue → 225 ≤ f.line → MayWrite sight.seat (record_in sight) (flag_of sight.seat.setup r f) (Some b) set
-heap_bit_may sight r f b set none valid lt high =
-    let place = flag_of sight.seat.setup r f in
-    let heap : nat_le 225 f.line ≡ true = le_yes 225 f.line high in (
-      nothing_held sight none place.core,
-      (λ words loaded.
-          let es = take_of place.core true ∷ loads_of (line_of_word place) words in
-          let quiet : are_quiet es ≡ true = (λ i. heap i && (heap i && (heap i && (heap i && true)))) in
-          let before : are_quiet sight.events ≡ true = ap are_quiet none in
-          let stage : (record_on sight.seat (record_in sight) es).stage ≡ Idle
-          = subst (λ (rec : Record). rec.stage ≡ Idle) (record_in-and_then sight es) (quiet_record (and_then sight es) (quiet-append sight.events es before quiet)).stage in
-          (heap_stored sight.seat (record_on sight.seat (record_in sight) es) valid r f.line f.word (with_bit b set (slice_index words f.word)) lt high (ap leaves_heap stage)).may),
+pub heap_bit_may : (seat : Seat) (rec : Record) (r : ℕ) (f : FlagView) (b : ℕ) (set : Bool) → IsSetup seat.setup → r < seat.setup.nue → 225 ≤ f.line
+    → leaves_heap rec.stage ≡ true → IsNotHolding rec (host_of seat.setup.hosts r) → MayWrite seat rec (flag_of seat.setup r f) (Some b) set
+heap_bit_may seat rec r f b set valid lt high leaves free =
+    let place = flag_of seat.setup r f in
+    let m = after_try place.core true rec in (
+      free,
+      λ words loaded.
+          let loads = loads_of (line_of_word place) words in
+          let is : record_on seat rec (take_of place.core true ∷ loads) ≡ m
+          = ap (λ (x : Record). record_on seat x loads) (next_tried seat rec place.core true free)
+          ∙ loads_nothing seat m r f valid lt high (slice_index words 0) (slice_index words 1) (slice_index words 2) (slice_index words 3) in
+          subst (λ (x : Record). MayMake seat x (store_of place (with_bit b set (slice_index words place.word)))) (sym is)
+          (heap_store_may seat m r f (with_bit b set (slice_index words place.word)) valid lt high leaves),
     )
+
+-- ---- the same of a rank that has only locked and accessed the heap so far
+
+quiet_leaves : (sight : Sight) → are_quiet sight.events ≡ true → leaves_heap (record_in sight).stage ≡ true
+quiet_leaves sight quiet = ap leaves_heap (quiet_record sight quiet).stage
 
 pub heap_word_writes : (sight : Sight) (r : ℕ) (f : FlagView) (set : Bool) → f.bit ≡ None → are_quiet sight.events ≡ true → IsSetup sight.seat.setup
     → r < sight.seat.setup.nue → 225 ≤ f.line → MayWrite sight.seat (record_in sight) (flag_of sight.seat.setup r f) f.bit set
 heap_word_writes sight r f set word quiet valid lt high =
     subst (λ (bit : Option ℕ). MayWrite sight.seat (record_in sight) (flag_of sight.seat.setup r f) bit set) (sym word)
-    (heap_word_may sight r f (flag_value set) quiet valid lt high)
+    (heap_store_may sight.seat (record_in sight) r f (flag_value set) valid lt high (quiet_leaves sight quiet))
 
-pub heap_bit_writes : (sight : Sight) (r : ℕ) (f : FlagView) (b : ℕ) (set : Bool) → f.bit ≡ Some b → sight.events ≡ [] → IsSetup sight.seat.setup
-    → r < sight.seat.setup.nue → 225 ≤ f.line → MayWrite sight.seat (record_in sight) (flag_of sight.seat.setup r f) f.bit set
-heap_bit_writes sight r f b set is none valid lt high =
+pub heap_bit_writes : (sight : Sight) (r : ℕ) (f : FlagView) (b : ℕ) (set : Bool) → f.bit ≡ Some b → are_quiet sight.events ≡ true
+    → IsNotHolding (record_in sight) (host_of sight.seat.setup.hosts r) → IsSetup sight.seat.setup → r < sight.seat.setup.nue → 225 ≤ f.line
+    → MayWrite sight.seat (record_in sight) (flag_of sight.seat.setup r f) f.bit set
+heap_bit_writes sight r f b set is quiet free valid lt high =
     subst (λ (bit : Option ℕ). MayWrite sight.seat (record_in sight) (flag_of sight.seat.setup r f) bit set) (sym is)
-    (heap_bit_may sight r f b set none valid lt high)
+    (heap_bit_may sight.seat (record_in sight) r f b set valid lt high (quiet_leaves sight quiet) free)
+
+-- after a bit's write another bit may be written, of the same word or another
+pub second_bit_writes : (s t : Sight) (r : ℕ) (f k : FlagView) (b e : ℕ) (set : Bool) → t.seat ≡ s.seat → f.bit ≡ Some b
+    → IfSome f.bit (λ x. IsNotHolding (record_in t) (host_of s.seat.setup.hosts r)) → k.bit ≡ Some e → are_quiet t.events ≡ true → IsSetup s.seat.setup
+    → r < s.seat.setup.nue → 225 ≤ k.line → MayWrite t.seat (record_in t) (flag_of t.seat.setup r k) k.bit set
+second_bit_writes s t r f k b e set seat is_f freed is_k quiet valid lt high =
+    let free : IsNotHolding (record_in t) (host_of t.seat.setup.hosts r)
+    = subst (λ (x : Seat). IsNotHolding (record_in t) (host_of x.setup.hosts r)) (sym seat) (of_bit _ f.bit b is_f freed) in
+    heap_bit_writes t r k e set is_k quiet free (subst (λ (x : Seat). IsSetup x.setup) (sym seat) valid)
+    (subst (λ (x : Seat). r < x.setup.nue) (sym seat) lt) high

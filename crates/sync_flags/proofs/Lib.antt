@@ -8,3 +8,4 @@ pub mod TryLemmas
 pub mod VainLemmas
 pub mod WaitLemmas
 pub mod WriteLemmas
+pub mod TurnLemmas

@@ -1,5 +1,5 @@
 -- Writes of flags: one store, and a bit's change under its register.
-use Rattle.std.proofs.Common.{◌≡◌, ℕ, zero, suc, ◌+◌, ◌<◌, ◌≤◌, ◌↔◌, Bool, true, false, if◌then◌else◌, List, [], ◌∷◌, ◌++◌, Option, None, Some, Result, Ok, Err, IsErr, is_some, slice_index, refl, sym, ◌∙◌, ap, subst, append_assoc, append-nil, arith}
+use Rattle.std.proofs.Common.{◌≡◌, ℕ, zero, suc, ◌+◌, ◌<◌, ◌≤◌, ◌↔◌, Bool, true, false, if◌then◌else◌, List, [], ◌∷◌, ◌++◌, Option, None, Some, Result, Ok, Err, IsErr, IfSome, is_some, slice_index, refl, sym, ◌∙◌, ap, subst, append_assoc, append-nil, arith}
 use Rattle.scc_base.specs.Places.{WordAt, line_of_word}
 use Rattle.scc_base.specs.Events.{store_of, take_of, free_of}
 use Rattle.scc_base.specs.declared.events.Event.{Event}
@@ -115,6 +115,34 @@ may_under s t p b set seat holds may =
 pub held_here : (rec : Record) (core held : ℕ) → held ≡ core → IsHolding (after_try core true rec) held
 held_here rec core held same = subst (λ (k : ℕ). IsHolding (after_try core true rec) k) (sym same)
     (ap (λ (o : Option FlagWords). is_some o) (put_here rec.held core (Some (record { sent = None; ready = None }))))
+
+-- a register that was not held, and was found taken, is not held
+pub still_free : (rec new : Record) (core at : ℕ) → new ≡ after_try at false rec → IsNotHolding rec core → IsNotHolding new core
+still_free rec new core at same free = subst (λ (x : Record). IsNotHolding x core) (sym same) free
+
+-- the register that was held is freed
+pub freed_at : (rec : Record) (core at held : ℕ) → held ≡ at → at ≡ core → IsNotHolding rec held → IsNotHolding rec core
+freed_at rec core at held names is free = subst (λ (k : ℕ). IsNotHolding rec k) (names ∙ is) free
+
+-- a fact of a flag that is a bit
+pub no_bit : (P : Type 0) (bit : Option ℕ) → bit ≡ None → IfSome bit (λ b. P)
+no_bit P None e = tt
+no_bit P (Some b) e = absurd (cc)
+
+pub each_bit : (P : Type 0) (bit : Option ℕ) → P → IfSome bit (λ b. P)
+each_bit P None x = tt
+each_bit P (Some b) x = x
+
+pub of_bit : (P : Type 0) (bit : Option ℕ) (b : ℕ) → bit ≡ Some b → IfSome bit (λ b. P) → P
+of_bit P None b e x = absurd (cc)
+of_bit P (Some k) b e x = x
+
+-- a write of a flag leaves the seat
+pub written_seat : (s t : Sight) (c d : Private) (p : WordAt) (bit : Option ℕ) (set : Bool) (polls : ℕ) (result : Result Unit Stalled) → WritesFlag s c p bit set polls t d result → t.seat ≡ s.seat
+written_seat s t c d p None set polls (Ok done) w = seat_kept s _ t w.did
+written_seat s t c d p None set polls (Err stalled) w = absurd w
+written_seat s t c d p (Some b) set polls (Ok done) w = seat_kept s _ t w.did
+written_seat s t c d p (Some b) set polls (Err stalled) w = seat_kept s _ t w.0.did
 
 -- one vain take more
 takes_more : (core k : ℕ) → vain_takes core (suc k) ≡ vain_takes core k ++ take_of core false ∷ []

@@ -62,7 +62,7 @@ impl Flag {
     }
 
     /// The bit of its word that the flag is, where it is one.
-    pub(crate) fn bit_of(self) -> Option<u8>
+    pub fn bit_of(self) -> Option<u8>
         ensures gives { result ≡ self.bit }
         ensures below { IfSome result (λ b. b < 64) }
     {
@@ -70,7 +70,7 @@ impl Flag {
     }
 
     /// The flag's word at a core.
-    pub(crate) fn place(self, core: CoreId) -> Place
+    pub fn place(self, core: CoreId) -> Place
         ensures gives { result ≡ flag_at core self }
         ensures below { self.word < 4 }
     {
@@ -78,7 +78,7 @@ impl Flag {
     }
 
     /// Whether the flag is set in this word.
-    pub(crate) fn is_set(self, word: u64) -> bool
+    pub fn is_set(self, word: u64) -> bool
         ensures tells { result ≡ is_set_in self.bit word }
     {
         is_set_in(self.bit, word)

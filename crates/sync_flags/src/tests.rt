@@ -39,7 +39,7 @@ impl<R: Abort> Port for HeapPort<'_, R> {
       events = p.events.items;
     } };
 
-    ghost stepped = { λ p es e. Unit {0} };
+    ghost stepped = { λ seat es e. Unit {0} };
 
     fn setup(&self) -> &Setup {
         &self.setup
@@ -122,6 +122,26 @@ fn write_bit<R: Abort>(
     flag_write(core, port, Rank::of(0), Flag::bit(buffer, bit), true, 2)
 }
 
+// One bit after the other, both of one word.
+fn write_two_bits<R: Abort>(
+    core: &mut Core<Never>,
+    port: &mut HeapPort<'_, R>,
+    buffer: &Buf,
+    first: u8,
+    second: u8,
+) -> bool
+    requires empty { core.old.out ≡ None }
+    requires fresh { port.old.events.items ≡ [] }
+    requires below { first < 64 }
+    requires second_below { second < 64 }
+{
+    let _ = port.setup.nue();
+    let me = Rank::of(0);
+    let one = flag_write(core, port, me, Flag::bit(buffer, first), true, 2);
+    let other = flag_write(core, port, me, Flag::bit(buffer, second), true, 2);
+    one.is_ok() && other.is_ok()
+}
+
 #[test]
 fn a_heap_flag_is_written_and_waited_for(rt: HostRuntime) {
     let mut port = port(&rt, rt.alloc());
@@ -171,6 +191,18 @@ fn a_bit_is_changed_alone(rt: HostRuntime) {
     let _ = port.setup.nue();
     assert!(rt; flag_read(&mut core, &mut port, Rank::of(0), Flag::bit(&buffer, 5)));
     assert_eq!(rt; port.events.len(), 11);
+}
+
+#[test]
+fn a_second_bit_is_changed_on_the_same_port(rt: HostRuntime) {
+    let mut port = port(&rt, rt.alloc());
+    let mut core = Core::new(Never);
+    let buffer = Buf::new(230, 1).expect(&rt, "a line");
+    assert!(rt; write_two_bits(&mut core, &mut port, &buffer, 5, 7));
+    let word = port.words[20];
+    assert_eq!(rt; word, 0b1010_0000);
+    assert_eq!(rt; port.events.len(), 14);
+    assert!(rt; !port.taken);
 }
 
 #[test]

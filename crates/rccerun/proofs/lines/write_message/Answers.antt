@@ -1,5 +1,5 @@
 use Rattle.rccerun.proofs.lines.write_message.Goals as goal
 
-pub returns-clause-sends : goal.returns-clause-sends
-returns-clause-sends g c =
-    rw (c.number.ensures.gives, c.number-2.ensures.gives, c.kind_text.ensures, c.comm.ensures.gives, c.len.ensures.gives) at c.write_line.ensures.sends
+pub returns : goal.returns
+returns g c =
+    rw (c.number.ensures.gives, c.number-2.ensures.gives, c.kind_text.ensures, c.comm.ensures.gives, c.len.ensures.gives) at c.write_texts.ensures

@@ -1,7 +1,17 @@
-use Rattle.std.proofs.Common.{◌≡◌, ◌≤◌, ◌∙◌, arith, length}
-use Rattle.script_plain.specs.Program.{prims_of}
+use Rattle.std.proofs.Common.{◌≡◌, ◌≤◌, ◌∙◌, arith, length, subst, sym, ℕ}
+use Rattle.std.specs.VecDeque.{deque_capacity}
+use Rattle.script_plain.specs.Program.{nesting_at, prims_of}
+use Rattle.script_plain.specs.Walk.{opened}
+use Rattle.script_plain.proofs.DepthLaws.{deep_entered, deep_past, room_entered}
 use Rattle.script_plain.proofs.WalkLaws.{none_there, open-past, over_open, over_same, past_same, some_there}
 use Rattle.script_plain.proofs.walk.settled.Goals as goal
+
+pub enter-requires-clause-room : goal.enter-requires-clause-room
+enter-requires-clause-room c =
+    let item = c.item-item.result.now in
+    let none : length (prims_of c.args.setup.now c.args.rank item) ≡ 0 = omega (arith, c.count_at.ensures, c.if-count_at-gt0.false) in
+    let room = room_entered c.args.rank c.args.setup.now c.args.scripts.now.items c.loop-at.at (deque_capacity c.args.repeats.now) item c.loop-at.repeats.items c.item-item.ensures.found none c.loop-at.invariant.deep c.requires.room in
+    omega (arith, room, c.loop-at.invariant.room)
 
 pub loop-at-preserved : goal.loop-at-preserved
 loop-at-preserved c =
@@ -9,26 +19,37 @@ loop-at-preserved c =
     let none : length (prims_of c.args.setup.now c.args.rank item) ≡ 0 = omega (arith, c.count_at.ensures, c.if-count_at-gt0.false) in
     record {
       same = over_same c.args.setup.now c.args.rank c.args.scripts.now.items c.loop-at.at item c.loop-at.repeats.items c.enter.new.repeats.items
-          c.item-item.ensures.found none c.in_ok-enter.ensures ∙ c.loop-at.invariant.same;
+          c.item-item.ensures.found none c.enter.ensures.same ∙ c.loop-at.invariant.same;
       opens = over_open c.args.setup.now c.args.rank c.args.scripts.now.items c.loop-at.at item c.loop-at.repeats.items c.enter.new.repeats.items
-          c.item-item.ensures.found none c.in_ok-enter.ensures c.loop-at.invariant.opens;
+          c.item-item.ensures.found none c.enter.ensures.same c.loop-at.invariant.opens;
+      deep = deep_entered c.args.rank c.args.setup.now c.args.scripts.now.items c.loop-at.at item c.loop-at.repeats.items c.enter.new.repeats.items
+          c.item-item.ensures.found none c.enter.ensures.same c.loop-at.invariant.deep;
+      room = c.enter.ensures.room ∙ c.loop-at.invariant.room;
     }
 
-pub returns-then-count_at-gt0 : goal.returns-then-count_at-gt0
-returns-then-count_at-gt0 c =
-    record {
-      same = c.loop-at.invariant.same;
-      opens = c.loop-at.invariant.opens;
-      stands = some_there c.args.setup.now c.args.rank c.args.scripts.now.items c.loop-at.at 0 c.item-item.result.now c.item-item.ensures.found
-          (omega (arith, c.count_at.ensures, c.if-count_at-gt0.true));
-    }
+pub returns-then-count_at-gt0-clause-stands : goal.returns-then-count_at-gt0-clause-stands
+returns-then-count_at-gt0-clause-stands c =
+    some_there c.args.setup.now c.args.rank c.args.scripts.now.items c.loop-at.at 0 c.item-item.result.now c.item-item.ensures.found
+    (omega (arith, c.count_at.ensures, c.if-count_at-gt0.true))
 
-pub returns : goal.returns
-returns c =
+pub returns-clause-same : goal.returns-clause-same
+returns-clause-same c =
     let end : length c.args.scripts.now.items ≤ c.len.result = omega (arith, c.len.ensures) in
     let past : length c.args.scripts.now.items ≤ c.loop-at.at = omega (arith, c.loop-at-test.false, c.len-at-end.ensures) in
-    record {
-      same = past_same c.args.setup.now c.args.rank c.args.scripts.now.items c.loop-at.at c.len.result c.loop-at.repeats.items past end ∙ c.loop-at.invariant.same;
-      opens = open-past c.args.setup.now c.args.rank c.args.scripts.now.items c.len.result c.loop-at.repeats.items end;
-      stands = none_there c.args.setup.now c.args.rank c.args.scripts.now.items c.len.result 0 end;
-    }
+    past_same c.args.setup.now c.args.rank c.args.scripts.now.items c.loop-at.at c.len.result c.loop-at.repeats.items past end ∙ c.loop-at.invariant.same
+
+pub returns-clause-opens : goal.returns-clause-opens
+returns-clause-opens c =
+    let end : length c.args.scripts.now.items ≤ c.len.result = omega (arith, c.len.ensures) in
+    open-past c.args.setup.now c.args.rank c.args.scripts.now.items c.len.result c.loop-at.repeats.items end
+
+pub returns-clause-stands : goal.returns-clause-stands
+returns-clause-stands c =
+    let end : length c.args.scripts.now.items ≤ c.len.result = omega (arith, c.len.ensures) in
+    none_there c.args.setup.now c.args.rank c.args.scripts.now.items c.len.result 0 end
+
+pub returns-clause-deep : goal.returns-clause-deep
+returns-clause-deep c =
+    let end : length c.args.scripts.now.items ≤ c.len.result = omega (arith, c.len.ensures) in
+    let past : length c.args.scripts.now.items ≤ c.loop-at.at = omega (arith, c.loop-at-test.false, c.len-at-end.ensures) in
+    deep_past c.args.rank c.args.scripts.now.items c.loop-at.at c.len.result c.loop-at.repeats.items past end c.loop-at.invariant.deep

@@ -1,4 +1,6 @@
 use Rattle.std.proofs.Common.{◌≡◌}
+use Rattle.std.specs.VecDeque.{deque_capacity}
+use Rattle.script_plain.specs.Depths.{IsDeep}
 use Rattle.script_plain.specs.Walk.{AreOpenAt, left_at}
 use Rattle.script_plain.proofs.walk.settled.Given as goal
 
@@ -6,4 +8,6 @@ abbrev pub invariant-loop-at : goal.invariant-loop-at
 invariant-loop-at l = record {
   same : left_at l.setup l.rank l.scripts.items l.at l.repeats.items ≡ left_at l.setup l.rank l.scripts.items l.place l.initial.repeats.items;
   opens : AreOpenAt l.setup l.rank l.scripts.items l.at l.repeats.items;
+  deep : IsDeep l.rank l.scripts.items l.at l.repeats.items;
+  room : deque_capacity l.repeats ≡ deque_capacity l.initial.repeats;
 }

@@ -1,4 +1,6 @@
 use Rattle.std.proofs.Common.{◌<◌, true, ap, arith}
+use Rattle.tas_lock.specs.Quiet.{are_quiet}
+use Rattle.tas_lock.proofs.QuietLemmas.{nothing_held}
 use Rattle.sync_flags.specs.Flags.{FlagView}
 use Rattle.sync_flags.proofs.HeapStores.{heap_bit_writes}
 use Rattle.sync_flags.proofs.tests.write_bit.Goals as goal
@@ -6,4 +8,5 @@ use Rattle.sync_flags.proofs.tests.write_bit.Goals as goal
 pub flag_write-requires-clause-permitted : goal.flag_write-requires-clause-permitted
 flag_write-requires-clause-permitted g c =
     let below : c.of.result < c.args.port.now.setup.nue = omega (arith, c.of.ensures.gives, c.nue.ensures.valid.some_ranks) in
-    heap_bit_writes _ c.of.result c.bit.result c.args.bit true (ap (λ (f : FlagView). f.bit) c.bit.ensures.gives) c.requires.fresh c.nue.ensures.valid below c.bit.ensures.heap
+    heap_bit_writes _ c.of.result c.bit.result c.args.bit true (ap (λ (f : FlagView). f.bit) c.bit.ensures.gives) c.args.port.now.quiet
+    (nothing_held _ c.requires.fresh _) c.nue.ensures.valid below c.bit.ensures.heap

@@ -4,7 +4,7 @@ use Rattle.scc_proto.specs.Ports.{record_in}
 use Rattle.scc_proto.proofs.PortLaws.{seat_kept}
 use Rattle.put_get.proofs.StepLemmas.{steps_one}
 use Rattle.tas_lock.specs.Holds.{after_try}
-use Rattle.sync_flags.proofs.WriteLemmas.{may_under, bit_missed, bit_tried}
+use Rattle.sync_flags.proofs.WriteLemmas.{may_under, bit_missed, bit_tried, still_free, freed_at}
 use Rattle.sync_flags.proofs.writes.try_change_bit.Goals as goal
 
 pub change_bit-requires-clause-permitted : goal.change_bit-requires-clause-permitted
@@ -21,6 +21,12 @@ returns-in-Some-clause-tries g c =
 pub returns-in-None-clause-tries : goal.returns-in-None-clause-tries
 returns-in-None-clause-tries g c = bit_missed c.core-at.result c.core-at.ensures.gives c.in-None.ensures.takes
 
+pub returns-in-Some-clause-freed : goal.returns-in-Some-clause-freed
+returns-in-Some-clause-freed g c = freed_at (record_in (g.P.Port.sight c.release.new.port)) c.args.place.core c.core-at.result c.in-Some.held c.in-Some.ensures.names c.core-at.ensures.gives c.release.ensures.freed
+
+pub returns-in-None-clause-freed : goal.returns-in-None-clause-freed
+returns-in-None-clause-freed g c = still_free (record_in (g.P.Port.sight c.args.port.now)) (record_in (g.P.Port.sight c.try_acquire.new.port)) c.args.place.core c.core-at.result c.in-None.ensures.holds c.requires.permitted.0
+
 pub returns-in-None-clause-steps : goal.returns-in-None-clause-steps
-returns-in-None-clause-steps g c = λ e. steps_one (g.P.Port.stepped c.try_acquire.new.port) (g.P.Port.sight c.args.port.now) (g.P.Port.sight c.try_acquire.new.port)
+returns-in-None-clause-steps g c = λ e. steps_one g.P.Port.stepped (g.P.Port.sight c.args.port.now) (g.P.Port.sight c.try_acquire.new.port)
     (take_of c.core-at.result false) c.in-None.ensures.takes c.in-None.ensures.step

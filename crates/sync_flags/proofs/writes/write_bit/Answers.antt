@@ -2,7 +2,7 @@ use Rattle.std.proofs.Common.{ℕ, true, sym, ◌∙◌, ap, subst}
 use Rattle.scc_proto.specs.Stages.{Record}
 use Rattle.scc_proto.specs.Ports.{record_in}
 use Rattle.tas_lock.specs.Holds.{IsHolding, after_try}
-use Rattle.sync_flags.proofs.WriteLemmas.{may_under, held_here, takes_seat, bit_written}
+use Rattle.sync_flags.proofs.WriteLemmas.{may_under, held_here, takes_seat, bit_written, still_free, freed_at}
 use Rattle.sync_flags.proofs.writes.write_bit.Goals as goal
 
 pub change_bit-requires-clause-permitted : goal.change_bit-requires-clause-permitted
@@ -15,6 +15,12 @@ change_bit-requires-clause-permitted g c =
 pub returns-in-Some-clause-writes : goal.returns-in-Some-clause-writes
 returns-in-Some-clause-writes g c =
     bit_written c.change_bit.ensures.changes c.args.polls c.core-register.result c.in-Some.held c.core-register.ensures.gives c.in-Some.ensures.takes c.release.ensures.frees
+
+pub returns-in-Some-clause-freed : goal.returns-in-Some-clause-freed
+returns-in-Some-clause-freed g c = freed_at (record_in (g.P.Port.sight c.release.new.port)) c.args.place.core c.core-register.result c.in-Some.held c.in-Some.ensures.takes.0 c.core-register.ensures.gives c.release.ensures.freed
+
+pub returns-in-None-clause-freed : goal.returns-in-None-clause-freed
+returns-in-None-clause-freed g c = still_free (record_in (g.P.Port.sight c.args.port.now)) (record_in (g.P.Port.sight c.acquire_within.new.port)) c.args.place.core c.core-register.result c.in-None.ensures.holds c.requires.permitted.0
 
 pub release-requires : goal.release-requires
 release-requires g c = record {

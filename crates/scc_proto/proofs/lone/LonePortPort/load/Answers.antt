@@ -27,7 +27,7 @@ returns-clause-step c =
     let n = c.number_of_word in
     let w = went_load port.setup port.rank port.words.items port.history.items c.self.invariant c.load.result c.and-self-inside.result.items c.and-self-inside.ensures
     n.result c.args.p n.ensures.place n.ensures.gives c.index-value.result.now c.index-value.ensures (search rules) c.load.ensures.gives in
-    subst (λ (old : Sight). IsStep (memory_since port.rank old.events) (load_of c.args.p c.index-value.result.now)) c.self.view_is w.step
+    subst (λ (old : Sight). IsStep (memory_since old.seat.rank old.events) (load_of c.args.p c.index-value.result.now)) c.self.view_is w.step
 
 pub returns-clause-sound : goal.returns-clause-sound
 returns-clause-sound c =

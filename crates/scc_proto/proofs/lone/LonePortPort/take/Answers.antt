@@ -21,7 +21,7 @@ returns-clause-step c =
     let w = went_take port.setup port.rank port.words.items port.history.items c.self.invariant c.take.result c.and-self-inside.result.items c.and-self-inside.ensures
     n.result c.args.c n.ensures.core n.ensures.gives c.index.result.now c.index.ensures (c.index.result.now == 0) refl
     (subst (λ (old : Sight). MayMake old.seat (record_in old) (take_of c.args.c false)) (sym c.self.view_is) c.requires.permitted) c.take.ensures.gives in
-    subst (λ (old : Sight). IsStep (memory_since port.rank old.events) (take_of c.args.c (c.index.result.now == 0))) c.self.view_is w.step
+    subst (λ (old : Sight). IsStep (memory_since old.seat.rank old.events) (take_of c.args.c (c.index.result.now == 0))) c.self.view_is w.step
 
 pub returns-clause-sound : goal.returns-clause-sound
 returns-clause-sound c =

@@ -1,0 +1,86 @@
+-- Sums of the values of a table whose places pass a test.
+use Rattle.std.proofs.Common.{◌≡◌, ℕ, zero, suc, ◌+◌, ◌<◌, ◌≤◌, Bool, true, false, cond, List, [], ◌∷◌, length, get_or, set, take, replicate, refl, sym, ap, ◌∙◌, arith, add-one, add-zero}
+use Rattle.mesh_load.specs.Tables.{chosen, total}
+
+part-le : (b : Bool) (v : ℕ) → cond b v 0 ≤ v
+part-le true v = omega arith
+part-le false v = omega arith
+
+-- no part is more than the whole
+pub chosen-le : (test : ℕ → Bool) (values : List ℕ) → chosen test values ≤ total values
+chosen-le test [] = omega arith
+chosen-le test (v ∷ values) =
+    omega (arith, part-le (test 0) v, chosen-le (λ place. test (suc place)) values)
+
+pub get_or-le : (values : List ℕ) (i : ℕ) → get_or values i 0 ≤ total values
+get_or-le [] i = omega arith
+get_or-le (v ∷ values) zero = omega arith
+get_or-le (v ∷ values) (suc i) = omega (arith, get_or-le values i)
+
+split : (b : Bool) (x v r : ℕ) → cond b (x + v) 0 + r ≡ cond b x 0 + r + cond b v 0
+split true x v r = omega arith
+split false x v r = omega arith
+
+-- a value to which more was added
+pub chosen-set : (test : ℕ → Bool) (values : List ℕ) (i v : ℕ) → i < length values → chosen test (set values i (get_or values i 0 + v)) ≡ chosen test values + cond (test i) v 0
+chosen-set test [] i v within = absurd (omega (arith, within))
+chosen-set test (x ∷ values) zero v within = split (test 0) x v (chosen (λ place. test (suc place)) values)
+chosen-set test (x ∷ values) (suc i) v within =
+    omega (arith, chosen-set (λ place. test (suc place)) values i v (omega (arith, within)))
+
+-- one value more
+pub chosen-more : (test : ℕ → Bool) (values : List ℕ) (i : ℕ) → i < length values → chosen test (take (i + 1) values) ≡ chosen test (take i values) + cond (test i) (get_or values i 0) 0
+chosen-more test values i within =
+    ap (λ (n : ℕ). chosen test (take n values)) (add-one i) ∙ more test values i within
+  where
+    more : (test : ℕ → Bool) (values : List ℕ) (i : ℕ) → i < length values → chosen test (take (suc i) values) ≡ chosen test (take i values) + cond (test i) (get_or values i 0) 0
+    more test [] i within = absurd (omega (arith, within))
+    more test (x ∷ values) zero within = omega arith
+    more test (x ∷ values) (suc i) within =
+        omega (arith, more (λ place. test (suc place)) values i (omega (arith, within)))
+
+-- the sum so far and the next value are within the whole
+pub chosen_more_le : (test : ℕ → Bool) (values : List ℕ) (i : ℕ) → chosen test (take i values) + get_or values i 0 ≤ total values
+chosen_more_le test [] zero = omega arith
+chosen_more_le test [] (suc i) = omega arith
+chosen_more_le test (x ∷ values) zero = omega arith
+chosen_more_le test (x ∷ values) (suc i) =
+    omega (arith, part-le (test 0) x, chosen_more_le (λ place. test (suc place)) values i)
+
+-- a table of zeros
+pub chosen-zeros : (test : ℕ → Bool) (n : ℕ) → chosen test (replicate n 0) ≡ 0
+chosen-zeros test zero = refl
+chosen-zeros test (suc n) = by (test 0) (chosen-zeros (λ place. test (suc place)) n)
+  where
+    by : (b : Bool) {r : ℕ} → r ≡ 0 → cond b 0 0 + r ≡ 0
+    by true none = omega (arith, none)
+    by false none = omega (arith, none)
+
+pub chosen-whole : (test : ℕ → Bool) (values : List ℕ) (n : ℕ) → length values ≤ n → chosen test (take n values) ≡ chosen test values
+chosen-whole test [] zero all = refl
+chosen-whole test [] (suc n) all = refl
+chosen-whole test (x ∷ values) zero all = absurd (omega (arith, all))
+chosen-whole test (x ∷ values) (suc n) all =
+    ap (λ (r : ℕ). cond (test 0) x 0 + r) (chosen-whole (λ place. test (suc place)) values n (omega (arith, all)))
+
+-- what is added to one table as another is read: sums of the one are sums of the other
+pub added : (place : ℕ → ℕ) (values table : List ℕ) (i : ℕ) → i < length values → place i < length table
+    → ((test : ℕ → Bool) → chosen test table ≡ chosen (λ k. test (place k)) (take i values))
+    → (test : ℕ → Bool) → chosen test (set table (place i) (get_or table (place i) 0 + get_or values i 0)) ≡ chosen (λ k. test (place k)) (take (i + 1) values)
+added place values table i within there so_far test =
+    chosen-set test table (place i) (get_or values i 0) there
+    ∙ ap (λ (n : ℕ). n + cond (test (place i)) (get_or values i 0) 0) (so_far test)
+    ∙ sym (chosen-more (λ (k : ℕ). test (place k)) values i within)
+
+-- a sum so far, and a value that is added to it or left out
+pub taken_in : (test : ℕ → Bool) (values : List ℕ) (i : ℕ) (b : Bool) (before sum : ℕ) → i < length values → b ≡ true → b ≡ test i → sum ≡ before + get_or values i 0 → before ≡ chosen test (take i values) → sum ≡ chosen test (take (i + 1) values)
+taken_in test values i b before sum within holds is now was =
+    now ∙ ap (λ (n : ℕ). n + get_or values i 0) was
+    ∙ ap (λ (p : Bool). chosen test (take i values) + cond p (get_or values i 0) 0) (sym holds ∙ is)
+    ∙ sym (chosen-more test values i within)
+
+pub left_out : (test : ℕ → Bool) (values : List ℕ) (i : ℕ) (b : Bool) (before sum : ℕ) → i < length values → b ≡ false → b ≡ test i → sum ≡ before → before ≡ chosen test (take i values) → sum ≡ chosen test (take (i + 1) values)
+left_out test values i b before sum within fails is now was =
+    now ∙ was ∙ sym (add-zero (chosen test (take i values)))
+    ∙ ap (λ (p : Bool). chosen test (take i values) + cond p (get_or values i 0) 0) (sym fails ∙ is)
+    ∙ sym (chosen-more test values i within)

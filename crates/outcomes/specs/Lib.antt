@@ -1,0 +1,10 @@
+pub mod Coming
+pub mod Complaints
+pub mod Delivery
+pub mod LineCount
+pub mod Numbers
+pub mod Outcomes
+pub mod Pieces
+pub mod Plans
+pub mod Promises
+pub mod Statuses

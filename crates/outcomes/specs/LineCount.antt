@@ -1,0 +1,25 @@
+-- A program of the tests: it reads one file, and prints how many lines end in it.
+use Rattle.std.specs.Prelude.{ℕ, ◌==◌, true, if◌then◌else◌, List, [], ◌∷◌, ◌++◌, codes, decimal, filter, length, Result, Ok, Err}
+use Rattle.outcomes.specs.Numbers.{is_option}
+use Rattle.outcomes.specs.Outcomes.{Ran}
+use Rattle.outcomes.specs.Plans.{Plan, Program}
+use Rattle.outcomes.specs.Plans.Plan.{Runs, Reads}
+
+-- how many line feeds stand among the bytes
+abbrev pub lines_in : List ℕ → ℕ
+lines_in bytes = length (filter (λ b. b == 10) bytes)
+
+-- what a count of lines comes to: one line on out
+abbrev pub count_ran : ℕ → Ran
+count_ran lines = record { finished = true; out = decimal lines ++ (codes "\n" ++ []); err = [] }
+
+abbrev pub file_plan : List ℕ → Plan
+file_plan file = Reads file 5000 (λ bytes. Runs (count_ran (lines_in bytes)))
+
+-- the words are one file's name
+abbrev pub words_plan : List (List ℕ) → Result Plan (List ℕ)
+words_plan (file ∷ []) = if is_option file then Err (codes "words refused") else Ok (file_plan file)
+words_plan _ = Err (codes "words refused")
+
+abbrev pub lines : Program
+lines = record { name = codes "lines"; plan = words_plan }

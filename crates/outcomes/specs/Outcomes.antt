@@ -1,0 +1,45 @@
+-- How a program is to end: its status and its two texts (this project's profile).
+use Rattle.std.specs.Prelude.{ℕ, Bool, if◌then◌else◌, List, [], ◌∷◌, codes, decimal}
+use Rattle.rcce_io.specs.Sending.{joined}
+use Rattle.outcomes.specs.declared.status.Status.{Status}
+use Rattle.outcomes.specs.declared.status.Status.TheVariants as status
+
+-- how a program is to end: a status, the text for out and the text for err
+pub record Outcome : Type 0 where
+  pub status : Status
+  pub out : List ℕ
+  pub err : List ℕ
+
+-- what a run came to: whether it finished, the text for out and the text for err
+pub record Ran : Type 0 where
+  pub finished : Bool
+  pub out : List ℕ
+  pub err : List ℕ
+
+-- what has run
+abbrev pub run_outcome : Ran → Outcome
+run_outcome ran = record { status = if ran.finished then status.Finished else status.Stuck; out = ran.out; err = ran.err }
+
+-- one line on err
+abbrev pub complains : Status → List (List ℕ) → Outcome
+complains status texts = record { status = status; out = []; err = joined texts }
+
+abbrev pub words_refused : List ℕ → List ℕ → Outcome
+words_refused program text = complains status.Words (program ∷ codes ": " ∷ text ∷ codes "\n" ∷ [])
+
+-- a file that is refused, for a line and a kind of fault
+abbrev pub file_refused : List ℕ → List ℕ → ℕ → List ℕ → Outcome
+file_refused program file line kind = complains status.Script (program ∷ codes ": " ∷ file ∷ codes " line " ∷ decimal line ∷ codes ": " ∷ kind ∷ codes "\n" ∷ [])
+
+-- a file that is longer than its limit
+abbrev pub too_long : List ℕ → List ℕ → Outcome
+too_long program file = file_refused program file 0 (codes "TooLong")
+
+abbrev pub no_memory : List ℕ → Outcome
+no_memory program = complains status.Memory (program ∷ codes ": no memory\n" ∷ [])
+
+abbrev pub absent : List ℕ → List ℕ → Outcome
+absent program file = complains status.Files (program ∷ codes ": " ∷ file ∷ codes ": absent\n" ∷ [])
+
+abbrev pub read_fault : List ℕ → List ℕ → Outcome
+read_fault program file = complains status.Files (program ∷ codes ": " ∷ file ∷ codes ": read fault\n" ∷ [])

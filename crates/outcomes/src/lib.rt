@@ -1,0 +1,23 @@
+//! How a program ends: its status and the texts on its two sinks, from its words, its files and what it ran.
+#![tactic(auto)]
+
+mod complaint;
+mod delivery;
+mod piece;
+mod reading;
+mod report;
+mod status;
+mod words;
+
+pub use complaint::Complaint;
+pub use delivery::deliver;
+pub use piece::Piece;
+pub use reading::read_file;
+pub use report::Report;
+pub use status::Status;
+pub use words::{is_option, number_in, ue_count};
+
+#[cfg(test)]
+mod line_count;
+#[cfg(test)]
+mod tests;

@@ -1,0 +1,35 @@
+ghost use Rattle.std.specs.Prelude.{◌<◌, ◌≤◌, length, IfOk};
+ghost use Rattle.outcomes.specs.Complaints.{ReadsFile};
+
+use crate::Complaint;
+use rcce_io::{Bytes, Files, ReadEnd, read_all};
+use std::alloc::Global;
+
+/// Reads a file of at most so many bytes. A longer one is refused.
+pub fn read_file<'a, F: Files>(
+    alloc: Global,
+    files: &mut F,
+    file: &'a str,
+    limit: usize,
+) -> Result<Bytes, Complaint<'a>>
+    requires { limit < usize.MAX }
+    ensures reads { ReadsFile file.now limit (F.seen files.old) (F.seen files.new) result }
+    ensures within { IfOk result (λ bytes. length bytes ≤ limit) }
+{
+    match read_all(alloc, files, file, limit) {
+        Ok(bytes) => {
+            if limit < bytes.as_slice().len() {
+                Err(Complaint::Refused {
+                    file,
+                    line: 0,
+                    kind: "TooLong",
+                })
+            } else {
+                Ok(bytes)
+            }
+        }
+        Err(ReadEnd::Absent) => Err(Complaint::Absent(file)),
+        Err(ReadEnd::Failed) => Err(Complaint::ReadFault(file)),
+        Err(ReadEnd::Memory) => Err(Complaint::Memory),
+    }
+}

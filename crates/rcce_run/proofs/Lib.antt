@@ -1,0 +1,9 @@
+pub mod Holding
+pub mod Reach
+pub mod Still
+pub mod Stuck
+pub mod Refusals
+pub mod SweepLaw
+pub mod ScriptSweep
+pub mod OpenCalls
+pub mod VainLike

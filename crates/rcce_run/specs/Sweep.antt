@@ -1,0 +1,114 @@
+-- A sweep in which no rank moves: how the rank's program and its record fit together, and what every rank waits for
+-- (this project's profile). All is said of any program: `next` tells what stands next at a state.
+use Rattle.std.specs.Prelude.{◌≡◌, ◌≢◌, ℕ, suc, ◌%◌, ◌<◌, ◌⊎◌, true, nat_lt, if◌then◌else◌, List, Option, Some, None, slice_get}
+use Rattle.scc_base.specs.Heads.{MessageHead}
+use Rattle.scc_base.specs.Setups.{SetupView, setup_key, place_of}
+use Rattle.scc_proto.specs.Agreement.{Agrees}
+use Rattle.scc_proto.specs.Legality.{Outgoing}
+use Rattle.scc_proto.specs.Messages.{Notes, Progress, has_all, head_of}
+use Rattle.scc_proto.specs.Passed.{slot_of}
+use Rattle.scc_proto.specs.Records.{last_of}
+use Rattle.scc_proto.specs.Stages.{Raised, Stage, Idle, Sending, Between, Barrier, OnItsWay, Record}
+use Rattle.scc_proto.specs.Views.{View, view_of}
+use Rattle.scc_proto.specs.Words.{Memory, are_peers, is_present}
+use Rattle.script_plain.specs.declared.posts.Posted.{Posted}
+use Rattle.script_plain.specs.Next.{Next}
+use Rattle.script_plain.specs.Next.Next.{Ends, Goes, Posts, Sends, Recvs, Bars}
+use Rattle.script_plain.specs.Paths.{Did}
+use Rattle.script_plain.specs.Step.{Configuration}
+
+-- a rank that a message with another head stopped: it saw the message's `sent`, its noted header words say the head
+pub record Refused {U : Type 0} (next : U → Next U) (s : SetupView) (me : ℕ) (rec : Record) (before now : U) : Type 0 where
+  pub from : ℕ
+  pub asked : MessageHead
+  pub take : List ℕ → U
+  pub refuse : MessageHead → U
+  pub header : Notes
+  pub peers : are_peers s from me ≡ true
+  pub stands : next before ≡ Recvs from asked take refuse
+  pub seen : rec.notes from ≡ Some header
+  pub noted : has_all header 3 ≡ true
+  pub another : head_of header ≢ asked
+  pub stopped : now ≡ refuse (head_of header)
+  pub ends : next now ≡ Ends
+
+-- a rank's state against its record: from its start the rank has done of its program the finished calls of its record,
+-- with their bytes; or it has come so to a receive, and a message with another head stopped it there
+pub data Stood {U : Type 0} (next : U → Next U) (s : SetupView) (me : ℕ) (start : U) (rec : Record) (u : U) (last : Option Posted) : Type 0 where
+  Running : Did next u last start None rec.calls → Stood next s me start rec u last
+  Stopped : (before : U) → Did next before last start None rec.calls → Refused next s me rec before u → Stood next s me start rec u last
+
+-- a rank waits until the message that it posted is taken: its `ready` is not set
+pub record SlotWaits (view : View) (me : ℕ) (rec : Record) : Type 0 where
+  pub stage : rec.stage ≡ Idle
+  pub post : OnItsWay
+  pub is_posted : rec.post ≡ Some post
+  pub vain : view.ready me post.to ≢ 1
+
+-- a rank waits in a send, with a chunk raised: its `ready` is not set
+pub record RaiseWaits (s : SetupView) (view : View) (me to : ℕ) (head : MessageHead) (rec : Record) : Type 0 where
+  pub peers : are_peers s me to ≡ true
+  pub message : Progress
+  pub chunk : Notes
+  pub stage : rec.stage ≡ Sending to Raised message chunk
+  pub head_is : message.head ≡ head
+  pub vain : view.ready me to ≢ 1
+
+-- no chunk is taken: before the message, or between its chunks
+abbrev pub IsLooking : ℕ → Stage → Type 0
+IsLooking from Idle = Unit {0}
+IsLooking from (Between i message) = i ≡ from
+IsLooking from stage = ⊥
+
+-- a rank waits in a receive: the `sent` that it looks at is not set
+pub record TakeWaits (s : SetupView) (view : View) (me from : ℕ) (rec : Record) : Type 0 where
+  pub peers : are_peers s from me ≡ true
+  pub stage : IsLooking from rec.stage
+  pub vain : view.sent from me ≢ 1
+
+-- a rank waits in a barrier: member 0 for the flip of the first member that it has not seen, any other member for its
+-- release
+pub data BarWaits (s : SetupView) (view : View) (me comm : ℕ) (rec : Record) : Type 0 where
+  AtRoot : (seen member : ℕ) → is_present s comm ≡ true → place_of s comm me ≡ 0 → rec.stage ≡ Barrier comm seen 0 → seen < last_of s comm me
+      → member < s.nue → setup_key s comm member ≡ setup_key s comm me → place_of s comm member ≡ suc seen
+      → view.gather comm member ≢ rec.flips comm % 2 → BarWaits s view me comm rec
+  AtMember : is_present s comm ≡ true → place_of s comm me ≢ 0 → rec.stage ≡ Barrier comm 0 0 → view.release comm me ≢ rec.flips comm % 2 → BarWaits s view me comm rec
+
+-- what a rank waits for, by what stands next there. At its end nothing is open; a statement of its own does not wait; a
+-- post, and a send before its first chunk, wait for the rank's own slot
+abbrev pub Vain : {U : Type 0} → SetupView → View → ℕ → Record → Next U → Type 0
+Vain s view me rec Ends = rec.stage ≡ Idle
+Vain s view me rec (Goes after) = ⊥
+Vain s view me rec (Posts message after) = SlotWaits view me rec
+Vain s view me rec (Sends to head bytes after) = SlotWaits view me rec ⊎ RaiseWaits s view me to head rec
+Vain s view me rec (Recvs from head take refuse) = TakeWaits s view me from rec
+Vain s view me rec (Bars comm after) = BarWaits s view me comm rec
+
+-- a sweep has found every rank waiting: words and records agree, each rank's state fits its record, and each look that a
+-- rank waits at is vain
+pub record Swept {U : Type 0} (next : U → Next U) (s : SetupView) (memory : Memory) (records : ℕ → Record) (starts states : ℕ → U) (lasts : ℕ → Option Posted) : Type 0 where
+  pub agrees : Agrees s memory records
+  pub stands : (k : ℕ) → k < s.nue → Stood next s k (starts k) (records k) (states k) (lasts k)
+  pub vain : (k : ℕ) → k < s.nue → Vain s (view_of s memory) k (records k) (next (states k))
+
+-- the message posted last, where the slot is full
+abbrev pub keep : Option Outgoing → Option Posted → Option Posted
+keep None last = None
+keep (Some message) last = last
+
+-- the messages that stand in the slots, each with the line of its post
+abbrev pub slots_by : SetupView → (ℕ → Record) → (ℕ → Option Posted) → ℕ → Option Posted
+slots_by s records lasts k = keep (slot_of s records k) (lasts k)
+
+-- a message without its line
+abbrev pub outgoing : Posted → Outgoing
+outgoing message = record { to = message.to; head = message.head; bytes = message.bytes }
+
+-- an entry of a list with one entry a rank
+abbrev pub at_rank : {A : Type 0} → ℕ → ℕ → A → Option A
+at_rank nue k x = if nat_lt k nue then Some x else None
+
+-- a configuration of so many ranks, with these states and slots
+pub record Holds {U : Type 0} (nue : ℕ) (c : Configuration U) (cells : ℕ → U) (slots : ℕ → Option Posted) : Type 0 where
+  pub cells_at : (k : ℕ) → slice_get c.cells k ≡ at_rank nue k (cells k)
+  pub slots_at : (k : ℕ) → slice_get c.slots k ≡ at_rank nue k (slots k)

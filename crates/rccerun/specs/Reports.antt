@@ -1,0 +1,53 @@
+-- What a run of `rccerun` writes (this project's profile).
+use Rattle.std.specs.Prelude.{ℕ, ◌+◌, Bool, List, [], ◌∷◌, ◌++◌, map, slice_index_or, true, false}
+use Rattle.std.specs.List.{list_all}
+use Rattle.script_plain.specs.declared.ends.UeEnd.{UeEnd}
+use Rattle.script_plain.specs.declared.ends.UeEnd.TheVariants as ue_end
+use Rattle.script_plain.specs.declared.prims.Printed.{Printed}
+use Rattle.script_plain.specs.Ends.{Ended}
+use Rattle.rcce_io.specs.Sending.{joined}
+use Rattle.outcomes.specs.Outcomes.{Ran}
+use Rattle.rccerun.specs.declared.report.Report.{Report}
+use Rattle.rccerun.specs.Texts.{item_line, call_pieces, waiting_line, mismatch_line}
+
+-- the lines of each unit of execution, by rank from `rank` on
+abbrev pub by_rank : (ℕ → Ended → List ℕ) → ℕ → List Ended → List ℕ
+by_rank text rank [] = []
+by_rank text rank (ue ∷ ues) = text rank ue ++ by_rank text (rank + 1) ues
+
+-- a register that a unit of execution printed
+abbrev pub printed_line : List (List ℕ) → ℕ → Printed → List ℕ
+printed_line names rank item = item_line rank (slice_index_or names item.reg []) item.form item.bytes
+
+-- what a unit of execution printed, a line each, in the order of printing
+abbrev pub printed_text : List (List ℕ) → ℕ → Ended → List ℕ
+printed_text names rank ue = joined (map (printed_line names rank) ue.printed)
+
+-- where a unit of execution stands that has not finished
+abbrev pub end_text : ℕ → UeEnd → List ℕ
+end_text rank ue_end.Finished = []
+end_text rank (ue_end.Waits line call) = waiting_line rank line (call_pieces call)
+end_text rank (ue_end.Mismatch line from sent asked) = mismatch_line rank line from sent asked
+
+abbrev pub unfinished_text : ℕ → Ended → List ℕ
+unfinished_text rank ue = end_text rank ue.end
+
+abbrev pub is_finished : UeEnd → Bool
+is_finished ue_end.Finished = true
+is_finished (ue_end.Waits line call) = false
+is_finished (ue_end.Mismatch line from sent asked) = false
+
+abbrev pub all_finished : List Ended → Bool
+all_finished ues = list_all (λ ue. is_finished ue.end) ues
+
+-- what the run of a script came to: whether each unit of execution finished, what they printed, and where those stand
+-- that have not finished
+abbrev pub ran_of : List (List ℕ) → List Ended → Ran
+ran_of names ues = record {
+  finished = all_finished ues;
+  out = by_rank (printed_text names) 0 ues;
+  err = by_rank unfinished_text 0 ues;
+}
+
+abbrev pub report_ran : Report → Ran
+report_ran report = ran_of report.script.names report.end

@@ -1,0 +1,11 @@
+use Rattle.std.proofs.Common.{◌≡◌, ◌∙◌, ℕ, ap, arith, refl, sym}
+use Rattle.script_plain.specs.Lengths.{Lengths, length_at, with_register}
+use Rattle.script_plain.specs.Rooms.{ReckoningView, greater}
+use Rattle.script_plain.proofs.RoomLaws.{greater_old, wider_by, within_same}
+use Rattle.script_plain.proofs.reckoning.Reckoning.copy.Goals as goal
+
+pub returns-clause-wider : goal.returns-clause-wider
+returns-clause-wider c =
+    let most = c.self.inside.most in
+    wider_by c.args.self.now.most (record { lengths = most; spare = c.self.inside.spare }) most c.greater-self-inside.result
+    (ap (λ (r : ReckoningView). r.most) (sym c.self.view_is)) (omega (arith, greater_old c.self.inside.spare c.args.len, c.greater-self-inside.ensures)) (within_same most)

@@ -1,0 +1,35 @@
+-- How many repeats of a rank are open at a place of a script.
+use Rattle.std.specs.Prelude.{ℕ, zero, suc, ◌+◌, ◌-◌, ◌<◌, ◌≤◌, List, [], ◌∷◌, length}
+use Rattle.script_plain.specs.Program.{nesting_at}
+use Rattle.script_plain.specs.declared.prims.Nesting.{Nesting}
+use Rattle.script_plain.specs.declared.prims.Nesting.TheVariants as nesting
+use Rattle.script_plain.specs.declared.walk.Open.{Open}
+use Rattle.script_reader.specs.declared.script.Item.{Item}
+
+abbrev pub depth_after : Nesting → ℕ → ℕ
+depth_after (nesting.Opens times) depth = depth + 1
+depth_after nesting.Closes depth = depth - 1
+depth_after nesting.Stays depth = depth
+
+-- before the item at a place, where `depth` are open before the first one
+abbrev pub depth_from : ℕ → ℕ → ℕ → List Item → ℕ
+depth_from rank depth zero items = depth
+depth_from rank depth (suc place) [] = depth
+depth_from rank depth (suc place) (item ∷ items) = depth_from rank (depth_after (nesting_at rank item) depth) place items
+
+abbrev pub depth_at : ℕ → List Item → ℕ → ℕ
+depth_at rank items place = depth_from rank 0 place items
+
+-- a further pass of an open repeat begins where at least as many are open as then
+abbrev pub AreHeld : ℕ → List Item → List Open → Type 0
+AreHeld rank items [] = Unit {0}
+AreHeld rank items (o ∷ repeats) = (length repeats < depth_at rank items o.start) × AreHeld rank items repeats
+
+-- at a place no more repeats are open than the items before it leave open
+pub record IsDeep (rank : ℕ) (items : List Item) (place : ℕ) (repeats : List Open) : Type 0 where
+  pub here : length repeats ≤ depth_at rank items place
+  pub held : AreHeld rank items repeats
+
+-- room for the repeats that are open at each place
+abbrev pub HasRoom : ℕ → List Item → ℕ → Type 0
+HasRoom rank items room = (place : ℕ) → depth_at rank items place ≤ room

@@ -1,0 +1,427 @@
+//! The machine that runs the program of a rank. It takes all its memory at the start.
+#![tactic(auto, unfolding(crate::specs::Local::local_next))]
+
+ghost use Rattle.std.specs.Prelude.{◌≡◌, ◌≤◌, Option};
+ghost use Rattle.std.specs.Option.{option_map};
+ghost use Rattle.script_plain.specs.Code.{is_own};
+ghost use Rattle.script_plain.specs.Local.{end_by_slot, with_length};
+ghost use Rattle.script_plain.specs.Machine.{on_its_way};
+ghost use Rattle.script_plain.specs.declared.posts.Posted.{Posted};
+
+use crate::ends::UeEnd;
+use crate::posts::OnItsWay;
+use crate::prims::{Action, Primitive, Source, Standing};
+use crate::prints::{PrintedItem, Prints};
+use crate::reckoning::reckon;
+use crate::rooms::{Registers, Room};
+use crate::walk::Walk;
+use scc_base::{Call, Head, PostHead, Rank, Setup};
+use script_reader::Scripts;
+use std::alloc::{AllocError, Global};
+use std::marker::Model;
+
+/// The machine that runs the program of a rank: what stands next there, and what the rank comes to. All its memory is taken
+/// in `new`: room for the repeats that are open, for each register and each work buffer at its greatest length, and for
+/// all that the rank prints.
+#[derive(Drop)]
+pub struct Machine<'s> {
+    walk: Walk<'s>,
+    registers: Registers,
+    folded: Room,
+    taken: Room,
+    spare: Room,
+    prints: Prints,
+    state: Standing,
+}
+
+impl<'s> Model for Machine<'s> {
+    ghost use Rattle.script_plain.specs.Lengths.{lengths_of};
+    ghost use Rattle.script_plain.specs.Machine.{MachineView};
+    ghost use Rattle.script_plain.specs.Rooms.{AreWithin, local_by, rooms_by};
+
+    ghost Value = { MachineView };
+
+    ghost view = { λ m. record {
+      script = m.walk.script;
+      setup = m.walk.setup;
+      rank = m.walk.rank;
+      local = local_by m.registers m.folded m.taken m.walk m.prints m.state;
+    } };
+
+    ghost invariant = { λ m.
+        AreWithin (rooms_by m.registers m.folded m.taken m.spare m.prints) (lengths_of (local_by m.registers m.folded m.taken m.walk m.prints m.state)) m.walk.left };
+}
+
+impl<'s> Machine<'s> {
+    ghost use Rattle.std.specs.Prelude.{◌≡◌, ◌<◌, ◌≤◌, false, length, min, slice_get, IfOk, IfSome, IsTrue, Option, Some};
+    ghost use Rattle.std.specs.Option.{option_map};
+    ghost use Rattle.scc_base.specs.Heads.{plain_head};
+    ghost use Rattle.script_reader.specs.Script.{rules_of};
+    ghost use Rattle.script_plain.specs.Local.{asked_head, end_of, local_next, local_start, next_prim, register_at, source_bytes, stopped_at};
+    ghost use Rattle.script_plain.specs.Machine.{on_its_way};
+    ghost use Rattle.script_plain.specs.Moves.{bytes_out, is_passable, is_receiving, is_stopped, length_in, line_out, passed, refused, taken, went};
+    ghost use Rattle.script_plain.specs.Next.{call_of, is_going};
+    ghost use Rattle.script_plain.specs.Walk.{IsShort, prim_meant};
+    ghost use Rattle.script_plain.specs.declared.posts.Posted.{Posted};
+
+    /// The machine of a rank before its first statement.
+    pub fn new(
+        alloc: Global,
+        scripts: &'s Scripts,
+        setup: Setup,
+        rank: Rank,
+    ) -> Result<Machine<'s>, AllocError>
+        requires within { rank < setup.nue }
+        requires ranks { setup.nue ≡ scripts.now.nue }
+        requires communicators { setup.comms ≡ rules_of scripts.now.items }
+        ensures { IfOk result (λ m. m ≡ record { script = scripts.now; setup = setup; rank = rank; local = local_start scripts.now rank }) }
+    {
+        let trial = Walk::new(alloc, scripts, setup.copy(), rank)?;
+        let need = reckon(alloc, scripts.registers(), trial)?;
+        Ok(Machine {
+            walk: Walk::new(alloc, scripts, setup, rank)?,
+            registers: Registers::new(alloc, need.registers.as_slice())?,
+            folded: Room::new(alloc, need.accumulator)?,
+            taken: Room::new(alloc, need.received)?,
+            spare: Room::new(alloc, need.spare)?,
+            prints: Prints::new(alloc, need.items, need.printed)?,
+            state: Standing::Running,
+        })
+    }
+
+    /// The primitive at which the rank stands.
+    fn prim(&self) -> Option<Primitive<'s>>
+        ensures same { option_map prim_meant result ≡ next_prim self.now.local }
+        ensures short { IfSome result (λ p. IsShort p.action) }
+    {
+        match &self.state {
+            Standing::Running => self.walk.front(),
+            Standing::Mismatched { .. } => None,
+        }
+    }
+
+    /// How many bytes a register has.
+    fn len(&self, reg: u8) -> u32
+        ensures same { result ≡ length (register_at self.now.local reg) }
+        ensures within { result ≤ 65536 }
+    {
+        self.registers.bytes(reg).len() as u32
+    }
+
+    /// The bytes that a send takes.
+    fn source(&self, source: Source) -> &[u8]
+        ensures same { result.now ≡ source_bytes self.now.local source }
+        ensures within { length (source_bytes self.now.local source) ≤ 65536 }
+    {
+        match source {
+            Source::Own { reg } => self.registers.bytes(reg),
+            Source::Accumulator => self.folded.bytes(),
+        }
+    }
+
+    /// The head that a receive of a collective call asks for.
+    fn asked_head(&self, head: Head, sized: Option<u8>) -> Head
+        ensures { result ≡ asked_head self.now.local head sized }
+    {
+        match sized {
+            Some(reg) => with_length(head, self.len(reg)),
+            None => head,
+        }
+    }
+
+    /// The head of the message that a post of a register leaves behind.
+    fn post_head(&self, reg: u8) -> PostHead
+        ensures { result ≡ plain_head (min (length (register_at self.now.local reg)) 3584) }
+    {
+        match PostHead::plain(self.len(reg).min(PostHead::MOST)) {
+            Some(head) => head,
+            None => unreachable!(),
+        }
+    }
+
+    /// Whether a statement of the rank alone stands next.
+    pub fn is_going(&self) -> bool
+        ensures { result ≡ is_going (local_next self.now.local) }
+    {
+        match self.prim() {
+            Some(prim) => is_own(&prim.action),
+            None => false,
+        }
+    }
+
+    /// Whether the rank was stopped by a mismatch.
+    pub fn is_stopped(&self) -> bool
+        ensures { result ≡ is_stopped self.now.local }
+    {
+        match &self.state {
+            Standing::Running => false,
+            Standing::Mismatched { .. } => true,
+        }
+    }
+
+    /// The call that stands next.
+    pub fn call(&self) -> Option<Call>
+        ensures { result ≡ call_of (local_next self.now.local) }
+    {
+        let Some(prim) = self.prim() else {
+            return None;
+        };
+        match &prim.action {
+            Action::Send { to, head, source } => Some(Call::Send {
+                to: *to,
+                head: with_length(*head, self.source(*source).len() as u32),
+            }),
+            Action::Post { to, reg } => Some(Call::Post {
+                to: *to,
+                head: self.post_head(*reg),
+            }),
+            Action::Recv { from, head, .. } => Some(Call::Recv {
+                from: *from,
+                head: *head,
+            }),
+            Action::Gather { from, head, sized } => Some(Call::Recv {
+                from: *from,
+                head: self.asked_head(*head, *sized),
+            }),
+            Action::Bar { comm } => Some(Call::Bar { comm: *comm }),
+            Action::Set { .. }
+            | Action::Apply { .. }
+            | Action::Print { .. }
+            | Action::Begin { .. }
+            | Action::Fold { .. }
+            | Action::Accept { .. }
+            | Action::Finish { .. }
+            | Action::Pass => None,
+        }
+    }
+
+    /// The bytes of the send or post that stands next; none where something else does.
+    pub fn bytes(&self) -> &[u8]
+        ensures { result.now ≡ bytes_out (local_next self.now.local) }
+    {
+        match self.prim() {
+            Some(
+                Primitive {
+                    action: Action::Send { source, .. },
+                    ..
+                },
+            ) => self.source(source),
+            Some(
+                Primitive {
+                    action: Action::Post { reg, .. },
+                    ..
+                },
+            ) => self.registers.bytes(reg),
+            _ => &[],
+        }
+    }
+
+    /// The line of the post that stands next; 0 where something else does.
+    pub fn line(&self) -> u32
+        ensures { result ≡ line_out (local_next self.now.local) }
+    {
+        match self.prim() {
+            Some(
+                Primitive {
+                    line,
+                    action: Action::Post { .. },
+                },
+            ) => line,
+            _ => 0,
+        }
+    }
+
+    /// How many bytes the receive that stands next asks for; 0 where something else stands.
+    pub fn asked(&self) -> usize
+        ensures { result ≡ length_in (local_next self.now.local) }
+    {
+        let Some(prim) = self.prim() else {
+            return 0;
+        };
+        match &prim.action {
+            Action::Recv { head, .. } => head.len() as usize,
+            Action::Gather { head, sized, .. } => self.asked_head(*head, *sized).len() as usize,
+            _ => 0,
+        }
+    }
+
+    /// Does the statement of the rank alone that stands next.
+    pub fn go(&mut self)
+        requires { IsTrue (is_going (local_next self.old.local)) }
+        ensures { self.new ≡ record self.old { local = went (local_next self.old.local) self.old.local } }
+    {
+        let Some(prim) = self.prim() else {
+            unreachable!()
+        };
+        self.walk.advance();
+        match prim.action {
+            Action::Set { reg, content } => self.registers.set(reg, &content),
+            Action::Apply { op, ty, dst, src } => {
+                self.spare.write(self.registers.bytes(src));
+                self.registers.fold(op, ty, dst, self.spare.bytes());
+            }
+            Action::Print { reg, form } => {
+                self.prints.print(reg, form, self.registers.bytes(reg));
+            }
+            Action::Begin { reg } => self.folded.write(self.registers.bytes(reg)),
+            Action::Fold { op, ty } => self.folded.fold(op, ty, self.taken.bytes()),
+            Action::Accept { reg } => self.registers.write(reg, self.taken.bytes()),
+            Action::Finish { reg } => self.registers.write(reg, self.folded.bytes()),
+            Action::Pass => {}
+            Action::Send { .. }
+            | Action::Post { .. }
+            | Action::Recv { .. }
+            | Action::Gather { .. }
+            | Action::Bar { .. } => unreachable!(),
+        }
+    }
+
+    /// Goes past the send, the post or the barrier that stands next.
+    pub fn pass(&mut self)
+        requires { IsTrue (is_passable (local_next self.old.local)) }
+        ensures { self.new ≡ record self.old { local = passed (local_next self.old.local) self.old.local } }
+    {
+        self.walk.advance();
+    }
+
+    /// Goes past the receive that stands next, with the message's bytes.
+    pub fn receive(&mut self, bytes: &[u8])
+        requires at_receive { IsTrue (is_receiving (local_next self.old.local)) }
+        requires long { length bytes.now ≡ length_in (local_next self.old.local) }
+        ensures { self.new ≡ record self.old { local = taken (local_next self.old.local) bytes.now self.old.local } }
+    {
+        let Some(prim) = self.prim() else {
+            unreachable!()
+        };
+        self.walk.advance();
+        match prim.action {
+            Action::Recv { reg, .. } => self.registers.write(reg, bytes),
+            Action::Gather { .. } => self.taken.write(bytes),
+            _ => unreachable!(),
+        }
+    }
+
+    /// Stops at the receive that stands next: the message has another head.
+    pub fn refuse(&mut self, sent: Head)
+        requires { IsTrue (is_receiving (local_next self.old.local)) }
+        ensures { self.new ≡ record self.old { local = refused (local_next self.old.local) sent self.old.local } }
+    {
+        let Some(prim) = self.prim() else {
+            unreachable!()
+        };
+        let line = prim.line;
+        match &prim.action {
+            Action::Recv { from, head, .. } => self.stop(line, *from, sent, *head),
+            Action::Gather { from, head, sized } => {
+                let asked = self.asked_head(*head, *sized);
+                self.stop(line, *from, sent, asked);
+            }
+            _ => unreachable!(),
+        }
+    }
+
+    fn stop(&mut self, line: u32, from: Rank, sent: Head, asked: Head)
+        ensures { self.new ≡ record self.old { local = stopped_at self.old.local line from asked sent } }
+    {
+        self.state = Standing::Mismatched {
+            line,
+            from,
+            sent,
+            asked,
+        };
+    }
+
+    /// How the rank's run ended, with this message on its way.
+    pub fn end(&self, post: Option<OnItsWay>) -> UeEnd
+        requires { is_going (local_next self.now.local) ≡ false }
+        ensures { (slot : Option Posted) → option_map on_its_way slot ≡ post → result ≡ end_of slot self.now.local }
+    {
+        if let Standing::Mismatched {
+            line,
+            from,
+            sent,
+            asked,
+        } = &self.state
+        {
+            return UeEnd::Mismatch {
+                line: *line,
+                from: *from,
+                sent: *sent,
+                asked: *asked,
+            };
+        }
+        match self.walk.front() {
+            None => end_by_slot(post),
+            Some(next) => match self.call() {
+                Some(call) => UeEnd::Waits {
+                    line: next.line,
+                    call,
+                },
+                None => unreachable!(),
+            },
+        }
+    }
+
+    /// How many items the rank has printed.
+    pub fn items(&self) -> usize
+        ensures { result ≡ length self.now.local.printed }
+    {
+        self.prints.len()
+    }
+
+    /// An item that the rank printed, in the order of printing.
+    pub fn item(&self, i: usize) -> PrintedItem<'_>
+        requires { i < length self.now.local.printed }
+        ensures { slice_get self.now.local.printed i ≡ Some result }
+    {
+        self.prints.item(i)
+    }
+}
+
+/// A head with another length.
+fn with_length(head: Head, len: u32) -> Head
+    requires { len ≤ 65536 }
+    ensures { result ≡ with_length head len }
+{
+    match Head::new(head.kind(), head.comm(), len) {
+        Some(head) => head,
+        None => unreachable!(),
+    }
+}
+
+/// How the run of a rank ended that has nothing left.
+fn end_by_slot(post: Option<OnItsWay>) -> UeEnd
+    ensures { (slot : Option Posted) → option_map on_its_way slot ≡ post → result ≡ end_by_slot slot }
+{
+    match post {
+        None => UeEnd::Finished,
+        Some(message) => UeEnd::Waits {
+            line: message.line,
+            call: Call::Post {
+                to: message.to,
+                head: message.head,
+            },
+        },
+    }
+}
+
+/// Whether a primitive is one of the rank alone.
+fn is_own(action: &Action) -> bool
+    ensures { result ≡ is_own action.now }
+{
+    match action {
+        Action::Set { .. }
+        | Action::Apply { .. }
+        | Action::Print { .. }
+        | Action::Begin { .. }
+        | Action::Fold { .. }
+        | Action::Accept { .. }
+        | Action::Finish { .. }
+        | Action::Pass => true,
+        Action::Send { .. }
+        | Action::Post { .. }
+        | Action::Recv { .. }
+        | Action::Gather { .. }
+        | Action::Bar { .. } => false,
+    }
+}

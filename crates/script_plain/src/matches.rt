@@ -1,0 +1,220 @@
+//! The messages of the plain meaning, in its order: the enabled step with the lowest owner is taken, again and again.
+
+ghost use Rattle.std.specs.Prelude.{◌≡◌, ◌≢◌, ◌<◌, ◌∷◌, ◌++◌, [], IfOk, OnOk, sum_by};
+ghost use Rattle.scc_base.specs.Setups.{setup_key};
+ghost use Rattle.script_plain.specs.Code.{BringsAt, BringsLowest, IsRun, config, decision};
+ghost use Rattle.script_plain.specs.Local.{cost_of, local_next};
+ghost use Rattle.script_plain.specs.Matches.{brought, line_at, line_of, matches_on, plain_matches};
+ghost use Rattle.script_plain.specs.declared.steps.Step.TheVariants as variant;
+
+use crate::barriers::setup_of;
+use crate::posts::Posted;
+use crate::steps::{Step, call_at, decide, empty_slots, start, take_step};
+use crate::ues::Ue;
+use scc_base::{Call, Head, Rank, Setup};
+use script_reader::Scripts;
+use std::alloc::{AllocError, Global};
+use std::marker::Model;
+
+/// A message that came to its receiver: from which rank to which, its head, and the lines of the statements that sent and
+/// received it.
+#[derive(Clone, Copy, Debug, PartialEq, Eq)]
+pub struct Match {
+    pub from: Rank,
+    pub to: Rank,
+    pub head: Head,
+    pub send_line: u32,
+    pub recv_line: u32,
+}
+
+/// The messages of a run, in the order in which they came. There is room for 2^40.
+#[derive(Debug, Drop)]
+pub struct Matches {
+    list: Vec<Match>,
+}
+
+impl Model for Matches {
+    ghost use Rattle.std.specs.Prelude.{◌^◌, ◌≤◌, List, vec_len};
+    ghost use Rattle.script_plain.specs.declared.matches.Match.{Match};
+
+    ghost Value = { List Match };
+
+    ghost view = { λ m. m.list.items };
+
+    ghost invariant = { λ m. vec_len m.list ≤ 2 ^ 40 };
+}
+
+impl Matches {
+    ghost use Rattle.std.specs.Prelude.{◌≡◌, ◌<◌, ◌≤◌, ◌^◌, ◌++◌, ◌∷◌, [], length, slice_get, OnOk, Some};
+
+    /// How many entries there is room for.
+    const MOST: usize = 1 << 40;
+
+    fn new(alloc: Global) -> Matches
+        ensures { result ≡ [] }
+    {
+        Matches {
+            list: Vec::new(alloc),
+        }
+    }
+
+    /// How many messages came.
+    pub fn len(&self) -> usize
+        ensures same { result ≡ length self.now }
+        ensures most { result ≤ 2 ^ 40 }
+    {
+        self.list.len()
+    }
+
+    /// A message, in their order.
+    pub fn get(&self, i: usize) -> &Match
+        requires { i < length self.now }
+        ensures { slice_get self.now i ≡ Some result.now }
+    {
+        &self.list[i]
+    }
+
+    /// Puts a message behind the others.
+    fn push(&mut self, found: Match) -> Result<(), AllocError>
+        ensures { OnOk result (self.new ≡ self.old ++ found ∷ []) }
+    {
+        if self.list.len() >= Matches::MOST {
+            return Err(AllocError);
+        }
+        self.list.push(found)?;
+        Ok(())
+    }
+}
+
+/// The matches and takes of the plain meaning of scripts, in its order: the enabled step with the lowest owner is taken
+/// until no step is enabled. A step looks at each rank up to its owner once.
+pub fn plain_matches(alloc: Global, scripts: &Scripts) -> Result<Matches, AllocError>
+    ensures { IfOk result (λ matches. matches ≡ plain_matches scripts.now) }
+{
+    let setup = setup_of(scripts);
+    let mut ues = start(alloc, scripts, &setup)?;
+    let mut slots = empty_slots(alloc, scripts.nue() as usize)?;
+    let matches = match_on(alloc, &setup, &mut ues, &mut slots)?;
+    Ok(matches)
+}
+
+/// Takes the enabled step with the lowest owner until no step is enabled, and gives what the steps bring.
+fn match_on(
+    alloc: Global,
+    setup: &Setup,
+    ues: &mut [Ue],
+    slots: &mut [Option<Posted>],
+) -> Result<Matches, AllocError>
+    requires run { IsRun setup.now ues.old slots.old }
+    ensures { IfOk result (λ matches. matches ≡ matches_on (setup_key setup.now) local_next line_of (sum_by cost_of ues.old) (config ues.old slots.old)) }
+{
+    let mut matches = Matches::new(alloc);
+    while step_lowest(alloc, setup, ues, slots, &mut matches)? {}
+    Ok(matches)
+}
+
+/// Takes the enabled step with the lowest owner, if there is one, and puts what it brings behind the others.
+fn step_lowest(
+    alloc: Global,
+    setup: &Setup,
+    ues: &mut [Ue],
+    slots: &mut [Option<Posted>],
+    matches: &mut Matches,
+) -> Result<bool, AllocError>
+    requires run { IsRun setup.now ues.old slots.old }
+    ensures { IfOk result (λ moved. BringsLowest (setup_key setup.now) moved (config ues.old slots.old) (config ues.new slots.new) matches.old matches.new) }
+{
+    for number in 0..setup.nue() {
+        if step_by(alloc, setup, ues, slots, Rank::of(number), matches)? {
+            return Ok(true);
+        }
+    }
+    Ok(false)
+}
+
+/// Takes the step that a rank owns, if it is enabled, and puts what it brings behind the others.
+fn step_by(
+    alloc: Global,
+    setup: &Setup,
+    ues: &mut [Ue],
+    slots: &mut [Option<Posted>],
+    rank: Rank,
+    matches: &mut Matches,
+) -> Result<bool, AllocError>
+    requires rank { rank < setup.now.nue }
+    requires run { IsRun setup.now ues.old slots.old }
+    ensures { IfOk result (λ moved. BringsAt (setup_key setup.now) moved rank (config ues.old slots.old) (config ues.new slots.new) matches.old matches.new) }
+{
+    match decide(setup, ues, slots, rank) {
+        Step::Stays => Ok(false),
+        step => {
+            note(setup, ues, slots, rank, &step, matches)?;
+            take_step(alloc, setup, ues, slots, rank, step)?;
+            Ok(true)
+        }
+    }
+}
+
+/// Puts what the step of a rank brings behind the others.
+fn note(
+    setup: &Setup,
+    ues: &[Ue],
+    slots: &[Option<Posted>],
+    rank: Rank,
+    step: &Step,
+    matches: &mut Matches,
+) -> Result<(), AllocError>
+    requires step { step.now ≡ decision (setup_key setup.now) ues.now slots.now rank }
+    requires moves { step.now ≢ variant.Stays }
+    ensures { OnOk result (matches.new ≡ matches.old ++ brought local_next line_of (config ues.now slots.now) rank) }
+{
+    match step {
+        Step::Matches { to } => matches.push(match_to(setup, ues, slots, rank, *to)),
+        Step::Takes { from } => matches.push(take_from(setup, ues, slots, rank, *from)),
+        _ => Ok(()),
+    }
+}
+
+/// The message of a rank that stands at a send, which the rank `to` receives.
+fn match_to(setup: &Setup, ues: &[Ue], slots: &[Option<Posted>], rank: Rank, to: Rank) -> Match
+    requires { decision (setup_key setup.now) ues.now slots.now rank ≡ variant.Matches to }
+    ensures { brought local_next line_of (config ues.now slots.now) rank ≡ result ∷ [] }
+{
+    match &call_at(ues, rank) {
+        Some(Call::Send { head, .. }) => Match {
+            from: rank,
+            to,
+            head: *head,
+            send_line: line_at(ues, rank),
+            recv_line: line_at(ues, to),
+        },
+        _ => unreachable!(),
+    }
+}
+
+/// The message in the slot of the rank `from`, which a rank takes that stands at a receive.
+fn take_from(setup: &Setup, ues: &[Ue], slots: &[Option<Posted>], rank: Rank, from: Rank) -> Match
+    requires { decision (setup_key setup.now) ues.now slots.now rank ≡ variant.Takes from }
+    ensures { brought local_next line_of (config ues.now slots.now) rank ≡ result ∷ [] }
+{
+    match slots.get(from.number() as usize) {
+        Some(Some(message)) => Match {
+            from,
+            to: rank,
+            head: message.head.head(),
+            send_line: message.line,
+            recv_line: line_at(ues, rank),
+        },
+        _ => unreachable!(),
+    }
+}
+
+/// The line of the statement at which a rank stands.
+fn line_at(ues: &[Ue], rank: Rank) -> u32
+    ensures { result ≡ line_at line_of (config ues.now []) rank }
+{
+    match ues.get(rank.number() as usize) {
+        Some(ue) => ue.line(),
+        None => 0,
+    }
+}
