@@ -1,0 +1,9 @@
+pub mod HexTextLemmas
+pub mod LineLemmas
+pub mod ListLemmas
+pub mod ReadingLemmas
+pub mod StandingLemmas
+pub mod StepLemmas
+pub mod VerdictLemmas
+pub mod WordLemmas
+pub mod WritingLemmas

@@ -1,0 +1,176 @@
+-- Words of a log's lines: a word says what it is the text of, and no word of a text has a blank.
+use Rattle.std.proofs.Common.{◌≡◌, ◌≢◌, ◌⊎◌, ℕ, zero, suc, ◌+◌, ◌-◌, ◌*◌, ◌/◌, ◌%◌, ◌^◌, ◌<◌, ◌≤◌, Bool, true, false, cond, eqb, ◌&&◌, ◌||◌, not, List, [], ◌∷◌, ◌++◌, length, Option, Some, None, Result, Ok, Err, option_and_then, decimal, codes, inl, inr, ⊎_elim, refl, sym, ◌∙◌, ap, subst, arith, rules}
+use Rattle.std.specs.Prelude.{◌==◌, nat_le, slice_index, All}
+use Rattle.std.specs.List.{list_all}
+use Rattle.std.specs.Result.{result_ok}
+use Rattle.std.specs.Str.{bytes_eq}
+use Rattle.std.proofs.lemmas.Bool.{and_parts, cases_Bool, leb-true, le-leb, eqb-false, not-true, cond-true, cond-false, false_from_ne_true}
+use Rattle.std.proofs.lemmas.Bool.Decides.{nat_tests}
+use Rattle.std.proofs.lemmas.Fmt.{decimal_by_steps, decimal_nonempty, length-decimal-le}
+use Rattle.std.proofs.lemmas.Option.{cond_some, option_and_then_some}
+use Rattle.std.proofs.lemmas.Slice.Eq.{bytes_eq-Decides}
+use Rattle.hex.specs.Hex.{IsBytes, decode_of, encode_lower, encode_with, lower_digits}
+use Rattle.hex.proofs.HexLemmas.{decode_of-encode_lower, decode_of-ok, length-encode_with}
+use Rattle.rcce_audit.proofs.HexTextLemmas.{lower_byte, lower_text, text_lower}
+use Rattle.scc_base.specs.declared.kinds.Kind.{Kind}
+use Rattle.scc_base.specs.declared.kinds.Kind.TheVariants.{Plain, Bcast, Reduce, AllUp, AllDown}
+use Rattle.script_reader.specs.Words.{number_of, decimal_of, digits_value, is_digit}
+use Rattle.rcce_audit.specs.Texts.{hex_text, kind_text}
+use Rattle.rcce_audit.specs.Words.{◌>>=◌, only_if, spelled, number_said, range_said, kind_said, is_lower, hex_said}
+
+-- equal texts
+pub same_text : (xs ys : List ℕ) → bytes_eq xs ys ≡ true → xs ≡ ys
+same_text xs ys is = (bytes_eq-Decides xs ys).0 is
+
+pub text_same : (xs ys : List ℕ) → xs ≡ ys → bytes_eq xs ys ≡ true
+text_same xs ys is = (bytes_eq-Decides xs ys).1 is
+
+pub text_other : (xs ys : List ℕ) → (xs ≡ ys → ⊥) → bytes_eq xs ys ≡ false
+text_other xs ys other = false_from_ne_true (bytes_eq xs ys) (λ is. other (same_text xs ys is))
+
+-- what a chain of steps that gives a value shows
+pub then_some : {A B : Type 0} (o : Option A) (next : A → Option B) (y : B) → (o >>= next) ≡ Some y → (x : A) × (o ≡ Some x) × (next x ≡ Some y)
+then_some (Some x) next y is = (x, refl, is)
+then_some None next y is = absurd cc
+
+pub only_some : {A : Type 0} (test : Bool) (x y : A) → only_if test x ≡ Some y → (test ≡ true) × (x ≡ y)
+only_some test x y is = cond_some test x y is
+
+-- a choice of a value
+pub chosen : {A : Type 0} (test : Bool) (x y : A) (rest : Option A) → cond test (Some x) rest ≡ Some y → ((test ≡ true) × (x ≡ y)) ⊎ (rest ≡ Some y)
+chosen true x y rest is = inl (refl, cc)
+chosen false x y rest is = inr is
+
+-- a number's word is its decimal text
+pub number_word : (word : List ℕ) (n : ℕ) → number_said word ≡ Some n → decimal n ≡ word
+number_word word n said =
+    let (m, is, gives) = then_some (number_of word) (spelled word) n said in
+    let (same, value) = only_some (bytes_eq (decimal m) word) m n gives in
+    ap decimal (sym value) ∙ same_text (decimal m) word same
+
+-- and so is that of a number from a range
+pub record IsNumberWord (low high n : ℕ) (word : List ℕ) : Type 0 where
+  pub text : decimal n ≡ word
+  pub least : low ≤ n
+  pub most : n ≤ high
+
+pub range_word : (low high : ℕ) (word : List ℕ) (n : ℕ) → range_said low high word ≡ Some n → IsNumberWord low high n word
+range_word low high word n said =
+    let (m, is, gives) = then_some (number_said word) (λ k. only_if (nat_le low k && nat_le k high) k) n said in
+    let (within, value) = only_some (nat_le low m && nat_le m high) m n gives in
+    let bounds = and_parts (nat_le low m) (nat_le m high) within in
+    record {
+      text = ap decimal (sym value) ∙ number_word word m is;
+      least = omega (arith, leb-true low m bounds.0, value);
+      most = omega (arith, leb-true m high bounds.1, value);
+    }
+
+passed : (t : Bool) (a b c : Option ℕ) (n : ℕ) → (a ≡ Some n → b ≡ c) → cond t a None ≡ Some n → cond t b None ≡ c
+passed true a b c n more is = more is
+passed false a b c n more is = absurd cc
+
+-- the decimal text of a number has the number's value
+digits-append : (limit front : ℕ) (xs ys : List ℕ) (n : ℕ) → digits_value limit front xs ≡ Some n → digits_value limit front (xs ++ ys) ≡ digits_value limit n ys
+digits-append limit front [] ys n is = ap (λ (m : ℕ). digits_value limit m ys) cc
+digits-append limit front (b ∷ xs) ys n is =
+    passed (is_digit b && nat_le (front * 10 + (b - 48)) limit) (digits_value limit (front * 10 + (b - 48)) xs) (digits_value limit (front * 10 + (b - 48)) (xs ++ ys)) (digits_value limit n ys) n
+    (λ e. digits-append limit (front * 10 + (b - 48)) xs ys n e) is
+
+digit_passes : (limit front b : ℕ) → 48 ≤ b → b ≤ 57 → front * 10 + (b - 48) ≤ limit → digits_value limit front (b ∷ []) ≡ Some (front * 10 + (b - 48))
+digit_passes limit front b low high within = grind (arith, nat_tests)
+
+abbrev Reads : ℕ → ℕ → List ℕ → Type 0
+Reads limit n ds = n ≤ limit → digits_value limit 0 ds ≡ Some n
+
+reads_one : (limit n : ℕ) → n < 10 → Reads limit n ((48 + n) ∷ [])
+reads_one limit n small within =
+    digit_passes limit 0 (48 + n) (omega arith) (omega arith) (omega arith) ∙ ap Some (omega arith)
+
+reads_more : (limit n : ℕ) (ds : List ℕ) → 10 ≤ n → Reads limit (n / 10) ds → Reads limit n (ds ++ (48 + n % 10) ∷ [])
+reads_more limit n ds large front within =
+    digits-append limit 0 ds ((48 + n % 10) ∷ []) (n / 10) (front (omega arith))
+    ∙ digit_passes limit (n / 10) (48 + n % 10) (omega arith) (omega arith) (omega arith) ∙ ap Some (omega arith)
+
+number_of-decimal : (n : ℕ) → n ≤ 4294967295 → number_of (decimal n) ≡ Some n
+unfolding number_of
+number_of-decimal n within =
+    let nonempty : 1 ≤ length (decimal n) = decimal_nonempty n (omega arith) in
+    let short : length (decimal n) ≤ 10 = length-decimal-le 10 n (omega arith) (omega arith) (omega arith) in
+    cond-true _ _ _ (both _ _ (le-leb 1 (length (decimal n)) nonempty) (le-leb (length (decimal n)) 10 short))
+    ∙ decimal_by_steps (Reads 4294967295) (reads_one 4294967295) (reads_more 4294967295) n (omega arith) within
+  where
+    both : (a b : Bool) → a ≡ true → b ≡ true → (a && b) ≡ true
+    both true b is also = also
+    both false b is also = absurd cc
+
+pub number_said-decimal : (n : ℕ) → n ≤ 4294967295 → number_said (decimal n) ≡ Some n
+number_said-decimal n within =
+    ap (λ (o : Option ℕ). o >>= spelled (decimal n)) (number_of-decimal n within)
+    ∙ cond-true _ _ _ (text_same (decimal n) (decimal n) refl)
+
+pub range_said-decimal : (low high n : ℕ) → low ≤ n → n ≤ high → n ≤ 4294967295 → range_said low high (decimal n) ≡ Some n
+range_said-decimal low high n least most within =
+    ap (λ (o : Option ℕ). o >>= λ k. only_if (nat_le low k && nat_le k high) k) (number_said-decimal n within)
+    ∙ cond-true (nat_le low n && nat_le n high) (Some n) None (grind (arith, nat_tests))
+
+-- a kind's word is its name
+pub kind_word : (word : List ℕ) (k : Kind) → kind_said word ≡ Some k → kind_text k ≡ word
+kind_word word k said =
+    ⊎_elim (named word Plain k) (λ r1. ⊎_elim (named word Bcast k) (λ r2. ⊎_elim (named word Reduce k) (λ r3. ⊎_elim (named word AllUp k) (λ r4. ⊎_elim (named word AllDown k) (λ (r5 : None ≡ Some k). absurd cc)
+    (chosen (bytes_eq word (codes "alldown")) AllDown k _ r4))
+    (chosen (bytes_eq word (codes "allup")) AllUp k _ r3))
+    (chosen (bytes_eq word (codes "reduce")) Reduce k _ r2))
+    (chosen (bytes_eq word (codes "bcast")) Bcast k _ r1))
+    (chosen (bytes_eq word (codes "plain")) Plain k _ said)
+  where
+    named : (w : List ℕ) (x y : Kind) → (bytes_eq w (kind_text x) ≡ true) × (x ≡ y) → kind_text y ≡ w
+    named w x y (same, is) = ap kind_text (sym is) ∙ sym (same_text w (kind_text x) same)
+
+pub kind_said-kind_text : (k : Kind) → kind_said (kind_text k) ≡ Some k
+kind_said-kind_text Plain = refl
+kind_said-kind_text Bcast = refl
+kind_said-kind_text Reduce = refl
+kind_said-kind_text AllUp = refl
+kind_said-kind_text AllDown = refl
+
+some_ok : {A E : Type 0} (r : Result A E) (x : A) → result_ok r ≡ Some x → r ≡ Ok x
+some_ok (Ok y) x is = cc
+some_ok (Err e) x is = absurd cc
+
+-- a word of digits says the bytes of which it is the text
+pub record IsHexWord (bytes word : List ℕ) : Type 0 where
+  pub text : hex_text bytes ≡ word
+  pub are_bytes : IsBytes bytes
+
+no_bytes : IsBytes []
+no_bytes zero = omega arith
+no_bytes (suc i) = omega arith
+
+text_nonempty : (bytes word : List ℕ) → encode_lower bytes ≡ word → (length word ≡ 0 → ⊥) → hex_text bytes ≡ word
+unfolding encode_with
+text_nonempty [] word is some = absurd (some (sym (ap length is)))
+text_nonempty (b ∷ bytes) word is some = is
+
+pub hex_word : (word bytes : List ℕ) → hex_said word ≡ Some bytes → IsHexWord bytes word
+hex_word word bytes said =
+    ⊎_elim
+    (λ (none : (bytes_eq word (codes "-") ≡ true) × ([] ≡ bytes)). record { text = ap hex_text (sym none.1) ∙ sym (same_text word (codes "-") none.0); are_bytes = subst IsBytes none.1 no_bytes })
+    (λ (r : cond (not (length word == 0) && is_lower word) (result_ok (decode_of word)) None ≡ Some bytes). digits (not (length word == 0) && is_lower word) refl r)
+    (chosen (bytes_eq word (codes "-")) [] bytes _ said)
+  where
+    digits : (t : Bool) → (not (length word == 0) && is_lower word) ≡ t → cond t (result_ok (decode_of word)) None ≡ Some bytes → IsHexWord bytes word
+    digits true is r =
+        let parts = and_parts (not (length word == 0)) (is_lower word) is in
+        let ok = some_ok (decode_of word) bytes r in
+        let back = lower_text word bytes ok parts.1 in
+        let some : length word ≡ 0 → ⊥ = eqb-false (length word) 0 (not-true (length word == 0) parts.0) in
+        record { text = text_nonempty bytes word back.0 some; are_bytes = back.1 }
+    digits false is r = absurd cc
+
+pub hex_said-hex_text : (bytes : List ℕ) → IsBytes bytes → hex_said (hex_text bytes) ≡ Some bytes
+unfolding encode_with
+hex_said-hex_text [] are = refl
+hex_said-hex_text (b ∷ bytes) are =
+    let len = length-encode_with lower_digits (b ∷ bytes) in
+    let other : bytes_eq (encode_lower (b ∷ bytes)) (codes "-") ≡ false = text_other (encode_lower (b ∷ bytes)) (codes "-") (λ is. let two = ap length is in absurd (omega (arith, len, two))) in
+    cond-false _ _ _ other ∙ cond-true _ _ _ (text_lower b bytes are) ∙ ap result_ok (decode_of-encode_lower (b ∷ bytes) are)

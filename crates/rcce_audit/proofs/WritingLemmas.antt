@@ -1,0 +1,502 @@
+-- The text of a log says the log.
+use Rattle.std.proofs.Common.{◌≡◌, ◌≢◌, ◌⊎◌, ℕ, zero, suc, ◌+◌, ◌-◌, ◌*◌, ◌/◌, ◌%◌, ◌^◌, ◌<◌, ◌≤◌, Bool, true, false, cond, eqb, ◌&&◌, ◌||◌, not, List, [], ◌∷◌, ◌++◌, length, get_or, set, map, take, replicate, Option, Some, None, option_map, Result, Ok, Err, codes, decimal, inl, inr, ⊎_elim, refl, sym, ◌∙◌, ap, subst, append_assoc, length-append, arith}
+use Rattle.std.specs.Prelude.{◌==◌, All, nat_le, nat_lt, slice_index}
+use Rattle.std.specs.List.{list_all, slice_split}
+use Rattle.std.specs.Option.{ok_or}
+use Rattle.std.specs.Str.{bytes_eq}
+use Rattle.std.proofs.lemmas.Bool.{and_parts, and_from, cases_eq, cases_lt, cond-true, cond-false, false_from_ne_true, le-leb, le-ltb, leb-true, ne_eqb, eq-eqb}
+use Rattle.std.proofs.lemmas.Bool.Decides.{nat_tests}
+use Rattle.std.proofs.lemmas.Fmt.{decimal_by_steps}
+use Rattle.std.proofs.lemmas.List.{append-nil}
+use Rattle.std.proofs.lemmas.List.Elements.{All-nil, All-cons, All-head, All-tail}
+use Rattle.std.proofs.lemmas.List.Splits.{slice_split_none, slice_split_at}
+use Rattle.hex.specs.Hex.{IsBytes, encode_with, lower_digits}
+use Rattle.scc_base.specs.Calls.{DataCall, Send, Recv, Post, Bar}
+use Rattle.scc_base.specs.Communicators.{AreRules, IsRule, rule_of}
+use Rattle.scc_base.specs.Heads.{MessageHead, IsHead, IsPostHead, kind_at, kind_number}
+use Rattle.scc_base.specs.declared.communicators.CommRule.{CommRule}
+use Rattle.scc_base.specs.declared.communicators.CommRule.TheVariants.{Absent, World, Mod, Div}
+use Rattle.scc_base.specs.declared.kinds.Kind.{Kind}
+use Rattle.scc_base.specs.declared.kinds.Kind.TheVariants.{Plain, Bcast, Reduce, AllUp, AllDown}
+use Rattle.rcce_audit.specs.declared.faults.LogFault.{LogFault}
+use Rattle.rcce_audit.specs.declared.faults.LogKind.TheVariants as kind
+use Rattle.rcce_audit.specs.declared.lines.CommSplit.{CommSplit}
+use Rattle.rcce_audit.specs.declared.lines.EndRanks.{EndRanks}
+use Rattle.rcce_audit.specs.Grammar.{Reading, RankedCall, rank_said, end_ranks, ends_said, head_of, head_said, bytes_said, is_post, call_named, message_said, is_present, barrier_said, long_said, short_said, call_said, rule_named, split_said, comm_said, nue_of, with_comm, with_call, is_in_order, add_call, begins_comm, take_comm, take_call, line_said, kind_of, lines_said, end_said, world_alone, no_calls, start_of, first_said, all_said, parts_said, log_of, ◌>=>◌}
+use Rattle.rcce_audit.specs.Logs.{LogView, calls_of, IsMessage, IsLogCall, IsLog}
+use Rattle.rcce_audit.specs.Texts.{hex_text, kind_text, head_words, split_words, message_words, call_words, line_of, rule_lines, call_lines, table_lines, log_lines, text_of, log_text, IsFileLog}
+use Rattle.rcce_audit.specs.Words.{◌>>=◌, only_if, parts_of, words_of, range_said, kind_said, hex_said}
+use Rattle.rcce_audit.proofs.HexTextLemmas.{digit_at}
+use Rattle.rcce_audit.proofs.WordLemmas.{text_other, range_said-decimal, kind_said-kind_text, hex_said-hex_text}
+
+-- a byte that is neither a blank nor a line feed, and a word of such bytes
+abbrev ink : ℕ → Bool
+ink b = nat_le 33 b
+
+abbrev IsWord : List ℕ → Type 0
+IsWord w = list_all ink w ≡ true
+
+list_all-append : (p : ℕ → Bool) (xs ys : List ℕ) → list_all p xs ≡ true → list_all p ys ≡ true → list_all p (xs ++ ys) ≡ true
+list_all-append p [] ys all more = more
+list_all-append p (x ∷ xs) ys all more =
+    let parts = and_parts (p x) (list_all p xs) all in
+    and_from (p x) (list_all p (xs ++ ys)) parts.0 (list_all-append p xs ys parts.1 more)
+
+one_ink : (n : ℕ) → 33 ≤ n → IsWord (n ∷ [])
+one_ink n above = and_from (ink n) true (le-leb 33 n above) refl
+
+decimal_word : (n : ℕ) → n < 2 ^ 64 → IsWord (decimal n)
+decimal_word n small =
+    decimal_by_steps (λ m ds. IsWord ds) (λ m low. one_ink (48 + m) (omega arith)) (λ m ds high all. list_all-append ink ds ((48 + m % 10) ∷ []) all (one_ink (48 + m % 10) (omega arith))) n small
+
+kind_is_word : (k : Kind) → IsWord (kind_text k)
+kind_is_word Plain = refl
+kind_is_word Bcast = refl
+kind_is_word Reduce = refl
+kind_is_word AllUp = refl
+kind_is_word AllDown = refl
+
+digit_ink : (v : ℕ) → v < 16 → ink (slice_index lower_digits v) ≡ true
+digit_ink v small = ap ink (digit_at v small) ∙ high v small
+  where
+    high : (n : ℕ) → n < 16 → ink (cond (nat_le n 9) (n + 48) (n + 87)) ≡ true
+    high n h = grind (arith, nat_tests)
+
+digits_word : (bytes : List ℕ) → IsBytes bytes → IsWord (encode_with lower_digits bytes)
+unfolding encode_with
+digits_word [] are = refl
+digits_word (b ∷ bytes) are =
+    let small : b < 256 = are 0 in
+    and_from _ _ (digit_ink (b / 16) (omega arith)) (and_from _ _ (digit_ink (b % 16) (omega arith)) (digits_word bytes (λ i. are (suc i))))
+
+hex_is_word : (bytes : List ℕ) → IsBytes bytes → IsWord (hex_text bytes)
+hex_is_word [] are = refl
+hex_is_word (b ∷ bytes) are = digits_word (b ∷ bytes) are
+
+-- words
+abbrev AreWords : List (List ℕ) → Type 0
+AreWords [] = Unit {0}
+AreWords (w ∷ ws) = IsWord w × AreWords ws
+
+none_pass : (p : ℕ → Bool) (w : List ℕ) → ((b : ℕ) → ink b ≡ true → p b ≡ false) → IsWord w → All (λ b. p b ≡ false) w
+none_pass p [] other is = All-nil (λ b. p b ≡ false)
+none_pass p (b ∷ w) other is =
+    let parts = and_parts (ink b) (list_all ink w) is in
+    All-cons (λ b. p b ≡ false) b w (other b parts.0) (none_pass p w other parts.1)
+
+no_blank : (b : ℕ) → ink b ≡ true → (b == 32) ≡ false
+no_blank b is = grind (arith, nat_tests)
+
+no_feed : (b : ℕ) → ink b ≡ true → (b == 10) ≡ false
+no_feed b is = grind (arith, nat_tests)
+
+-- the words of a line of words
+words_of-line_of : (w : List ℕ) (ws : List (List ℕ)) → AreWords (w ∷ ws) → words_of (line_of (w ∷ ws)) ≡ w ∷ ws
+words_of-line_of w [] (is, rest) = slice_split_none (λ b. b == 32) w (none_pass (λ b. b == 32) w no_blank is)
+words_of-line_of w (v ∷ vs) (is, rest) =
+    slice_split_at (λ b. b == 32) w 32 (line_of (v ∷ vs)) (none_pass (λ b. b == 32) w no_blank is) refl
+    ∙ ap (λ (t : List (List ℕ)). w ∷ t) (words_of-line_of v vs rest)
+
+-- a line of words has no line feed
+abbrev IsLine : List ℕ → Type 0
+IsLine line = All (λ b. (b == 10) ≡ false) line
+
+All-appended : (P : ℕ → Type 0) (xs ys : List ℕ) → All P xs → All P ys → All P (xs ++ ys)
+All-appended P [] ys all more = more
+All-appended P (x ∷ xs) ys all more = All-cons P x (xs ++ ys) (All-head P x xs all) (All-appended P xs ys (All-tail P x xs all) more)
+
+line_is : (ws : List (List ℕ)) → AreWords ws → IsLine (line_of ws)
+line_is [] are = All-nil (λ b. (b == 10) ≡ false)
+line_is (w ∷ []) (is, rest) = none_pass (λ b. b == 10) w no_feed is
+line_is (w ∷ v ∷ vs) (is, rest) =
+    All-appended (λ b. (b == 10) ≡ false) w (32 ∷ line_of (v ∷ vs)) (none_pass (λ b. b == 10) w no_feed is)
+    (All-cons (λ b. (b == 10) ≡ false) 32 (line_of (v ∷ vs)) refl (line_is (v ∷ vs) rest))
+
+abbrev AreLines : List (List ℕ) → Type 0
+AreLines [] = Unit {0}
+AreLines (line ∷ lines) = IsLine line × AreLines lines
+
+are_lines-append : (xs ys : List (List ℕ)) → AreLines xs → AreLines ys → AreLines (xs ++ ys)
+are_lines-append [] ys are more = more
+are_lines-append (x ∷ xs) ys (is, rest) more = (is, are_lines-append xs ys rest more)
+
+-- the parts of lines with their line feeds
+parts_of-text_of : (lines : List (List ℕ)) → AreLines lines → parts_of (text_of lines) ≡ lines ++ [] ∷ []
+parts_of-text_of [] are = refl
+parts_of-text_of (line ∷ lines) (is, rest) =
+    ap parts_of (append_assoc line (10 ∷ []) (text_of lines))
+    ∙ slice_split_at (λ b. b == 10) line 10 (text_of lines) is refl ∙ ap (λ (t : List (List ℕ)). line ∷ t) (parts_of-text_of lines rest)
+
+-- the words of a call
+small_word : (n : ℕ) → n ≤ 65536 → IsWord (decimal n)
+small_word n small = decimal_word n (omega arith)
+
+message_are : (r peer : ℕ) (verb : List ℕ) (head : MessageHead) (bytes : List ℕ) → r < 48 → peer < 48 → IsWord verb → IsHead head → IsBytes bytes → AreWords (message_words r verb peer head bytes)
+message_are r peer verb head bytes below peer_below is valid are =
+    let comm_below = valid.comm_below in
+    (small_word r (omega arith), (is, (small_word peer (omega arith), (kind_is_word (kind_at head.kind), (small_word head.comm (omega arith), (small_word head.len valid.len_within, (hex_is_word bytes are, tt)))))))
+
+call_are : (nue : ℕ) (comms : List CommRule) (r : ℕ) (call : DataCall) → nue ≤ 48 → r < nue → IsLogCall nue comms r call → AreWords (call_words r call)
+call_are nue comms r (Send to head bytes) ranks below valid = message_are r to (codes "send") head bytes (omega arith) (omega (arith, valid.peer_below)) refl valid.valid valid.are_bytes
+call_are nue comms r (Recv from head bytes) ranks below valid = message_are r from (codes "recv") head bytes (omega arith) (omega (arith, valid.peer_below)) refl valid.valid valid.are_bytes
+call_are nue comms r (Post to head bytes) ranks below (valid, post) = message_are r to (codes "post") head bytes (omega arith) (omega (arith, valid.peer_below)) refl valid.valid valid.are_bytes
+call_are nue comms r (Bar comm) ranks below (within, stands) = (small_word r (omega arith), (refl, (small_word comm (omega arith), tt)))
+
+-- what the words of a message say
+rank_told : (nue r : ℕ) → nue ≤ 48 → r < nue → rank_said nue (decimal r) ≡ Some r
+rank_told nue r ranks below = range_said-decimal 0 (nue - 1) r (omega arith) (omega arith) (omega arith)
+
+ends_told : (nue r peer : ℕ) → nue ≤ 48 → r < nue → peer < nue → peer ≢ r → ends_said nue (decimal r) (decimal peer) ≡ Some (record { rank = r; peer = peer })
+ends_told nue r peer ranks below peer_below other =
+    ap (λ (o : Option ℕ). o >>= λ x. rank_said nue (decimal peer) >>= end_ranks x) (rank_told nue r ranks below)
+    ∙ ap (λ (o : Option ℕ). o >>= end_ranks r) (rank_told nue peer ranks peer_below)
+    ∙ cond-true (not (r == peer)) (Some (record { rank = r; peer = peer })) None (ap not (ne_eqb r peer (λ is. other (sym is))))
+
+kind_back : (n : ℕ) → n < 5 → kind_number (kind_at n) ≡ n
+kind_back zero below = refl
+kind_back (suc zero) below = refl
+kind_back (suc (suc zero)) below = refl
+kind_back (suc (suc (suc zero))) below = refl
+kind_back (suc (suc (suc (suc zero)))) below = refl
+kind_back (suc (suc (suc (suc (suc n))))) below = absurd (omega arith)
+
+in_world : (a b : ℕ) → (a ≡ 0 → b ≡ 0) → not (a == 0 && not (b == 0)) ≡ true
+in_world a b world = by_cases (cases_eq a 0)
+  where
+    by_cases : (a ≡ 0) ⊎ (a ≡ 0 → ⊥) → not (a == 0 && not (b == 0)) ≡ true
+    by_cases (inl plain) = let in_it : b ≡ 0 = world plain in grind (arith, nat_tests)
+    by_cases (inr other) = grind (arith, nat_tests)
+
+head_told : (head : MessageHead) → IsHead head → head_said (kind_text (kind_at head.kind)) (decimal head.comm) (decimal head.len) ≡ Some head
+head_told head valid =
+    let comm_below = valid.comm_below in
+    let len_within = valid.len_within in
+    ap (λ (o : Option Kind). o >>= λ k. range_said 0 15 (decimal head.comm) >>= λ c. range_said 0 65536 (decimal head.len) >>= head_of k c) (kind_said-kind_text (kind_at head.kind))
+    ∙ ap (λ (o : Option ℕ). o >>= λ c. range_said 0 65536 (decimal head.len) >>= head_of (kind_at head.kind) c) (range_said-decimal 0 15 head.comm (omega arith) (omega arith) (omega arith))
+    ∙ ap (λ (o : Option ℕ). o >>= head_of (kind_at head.kind) head.comm) (range_said-decimal 0 65536 head.len (omega arith) len_within (omega arith))
+    ∙ ap (λ (n : ℕ). only_if (not (n == 0 && not (head.comm == 0))) (record { kind = n; comm = head.comm; len = head.len })) (kind_back head.kind valid.kind_below)
+    ∙ cond-true (not (head.kind == 0 && not (head.comm == 0))) (Some head) None (in_world head.kind head.comm valid.plain_in_world)
+
+bytes_told : (len : ℕ) (bytes : List ℕ) → IsBytes bytes → length bytes ≡ len → bytes_said len (hex_text bytes) ≡ Some bytes
+bytes_told len bytes are counted =
+    ap (λ (o : Option (List ℕ)). o >>= λ b. only_if (length b == len) b) (hex_said-hex_text bytes are)
+    ∙ cond-true (length bytes == len) (Some bytes) None (eq-eqb (length bytes) len counted)
+
+message_told : (nue : ℕ) (comms : List CommRule) (r peer : ℕ) (verb : List ℕ) (head : MessageHead) (bytes : List ℕ) (call : DataCall) → nue ≤ 48 → r < nue → IsMessage nue r peer head bytes
+    → call_named verb peer head bytes ≡ Some call → call_said nue comms (message_words r verb peer head bytes) ≡ Some (record { rank = r; call = call })
+message_told nue comms r peer verb head bytes call ranks below valid named =
+    ap (λ (o : Option EndRanks). o >>= λ e. head_said (kind_text (kind_at head.kind)) (decimal head.comm) (decimal head.len) >>= λ h. message_said e h verb (hex_text bytes)) (ends_told nue r peer ranks below valid.peer_below valid.other)
+    ∙ ap (λ (o : Option MessageHead). o >>= λ h. message_said (record { rank = r; peer = peer }) h verb (hex_text bytes)) (head_told head valid.valid)
+    ∙ ap (λ (o : Option (List ℕ)). o >>= λ b. call_named verb peer head b >>= λ c. Some (record { rank = r; call = c })) (bytes_told head.len bytes valid.are_bytes valid.counted)
+    ∙ ap (λ (o : Option DataCall). o >>= λ c. Some (record { rank = r; call = c })) named
+
+post_is : (head : MessageHead) → IsPostHead head → is_post head ≡ true
+post_is head valid = and_from (head.kind == 0) (head.comm == 0 && nat_le head.len 3584) (eq-eqb head.kind 0 valid.plain) (and_from (head.comm == 0) (nat_le head.len 3584) (eq-eqb head.comm 0 valid.in_world) (le-leb head.len 3584 valid.len_within))
+
+present_is : (rule : CommRule) → rule ≢ Absent → is_present rule ≡ true
+present_is Absent stands = absurd (stands refl)
+present_is World stands = refl
+present_is (Mod parent k) stands = refl
+present_is (Div parent k) stands = refl
+
+call_told : (nue : ℕ) (comms : List CommRule) (r : ℕ) (call : DataCall) → nue ≤ 48 → r < nue → IsLogCall nue comms r call → call_said nue comms (call_words r call) ≡ Some (record { rank = r; call = call })
+call_told nue comms r (Send to head bytes) ranks below valid = message_told nue comms r to (codes "send") head bytes (Send to head bytes) ranks below valid refl
+call_told nue comms r (Recv from head bytes) ranks below valid = message_told nue comms r from (codes "recv") head bytes (Recv from head bytes) ranks below valid refl
+call_told nue comms r (Post to head bytes) ranks below (valid, post) =
+    message_told nue comms r to (codes "post") head bytes (Post to head bytes) ranks below valid (cond-true (is_post head) (Some (Post to head bytes)) None (post_is head post))
+call_told nue comms r (Bar comm) ranks below (within, stands) =
+    ap (λ (o : Option ℕ). o >>= λ x. range_said 0 15 (decimal comm) >>= λ c. only_if (bytes_eq (codes "bar") (codes "bar") && is_present (rule_of comms c)) (record { rank = x; call = Bar c })) (rank_told nue r ranks below)
+    ∙ ap (λ (o : Option ℕ). o >>= λ c. only_if (bytes_eq (codes "bar") (codes "bar") && is_present (rule_of comms c)) (record { rank = r; call = Bar c })) (range_said-decimal 0 15 comm (omega arith) (omega arith) (omega arith))
+    ∙ cond-true (is_present (rule_of comms comm)) (Some (record { rank = r; call = Bar comm })) None (present_is (rule_of comms comm) stands)
+
+-- a call's line does not begin as one of a communicator
+abbrev BeginsLow : List ℕ → Type 0
+BeginsLow text = (b : ℕ) × (rest : List ℕ) × (text ≡ b ∷ rest) × (b ≤ 57)
+
+decimal_low : (n : ℕ) → n < 2 ^ 64 → BeginsLow (decimal n)
+decimal_low n small = decimal_by_steps (λ m ds. BeginsLow ds) (λ m low. (48 + m, [], refl, omega arith)) (λ m ds high begins. (begins.0, begins.1 ++ (48 + m % 10) ∷ [], ap (λ (t : List ℕ). t ++ (48 + m % 10) ∷ []) begins.2, begins.3)) n small
+
+not_comm : (text : List ℕ) → BeginsLow text → begins_comm text ≡ false
+not_comm text (b, rest, is, low) =
+    ap begins_comm is ∙ cond_false_at (b == 99) _ (ne_eqb b 99 (λ at. omega (arith, low, at)))
+  where
+    cond_false_at : (t r : Bool) → t ≡ false → (t && r) ≡ false
+    cond_false_at true r never = absurd cc
+    cond_false_at false r never = refl
+
+line_low : (w v : List ℕ) (ws : List (List ℕ)) → BeginsLow w → BeginsLow (line_of (w ∷ v ∷ ws))
+line_low w v ws (b, rest, is, low) = (b, rest ++ (32 ∷ line_of (v ∷ ws)), ap (λ (t : List ℕ). t ++ (32 ∷ line_of (v ∷ ws))) is, low)
+
+call_low : (r : ℕ) (call : DataCall) → r < 48 → BeginsLow (line_of (call_words r call))
+call_low r (Send to head bytes) below = line_low (decimal r) (codes "send") (decimal to ∷ kind_text (kind_at head.kind) ∷ decimal head.comm ∷ decimal head.len ∷ hex_text bytes ∷ []) (decimal_low r (omega arith))
+call_low r (Recv from head bytes) below = line_low (decimal r) (codes "recv") (decimal from ∷ kind_text (kind_at head.kind) ∷ decimal head.comm ∷ decimal head.len ∷ hex_text bytes ∷ []) (decimal_low r (omega arith))
+call_low r (Post to head bytes) below = line_low (decimal r) (codes "post") (decimal to ∷ kind_text (kind_at head.kind) ∷ decimal head.comm ∷ decimal head.len ∷ hex_text bytes ∷ []) (decimal_low r (omega arith))
+call_low r (Bar comm) below = line_low (decimal r) (codes "bar") (decimal comm ∷ []) (decimal_low r (omega arith))
+
+call_words_of : (r : ℕ) (call : DataCall) → AreWords (call_words r call) → words_of (line_of (call_words r call)) ≡ call_words r call
+call_words_of r (Send to head bytes) are = words_of-line_of _ _ are
+call_words_of r (Recv from head bytes) are = words_of-line_of _ _ are
+call_words_of r (Post to head bytes) are = words_of-line_of _ _ are
+call_words_of r (Bar comm) are = words_of-line_of _ _ are
+
+-- the line of a call says the call
+line_told : (r : Reading) (rank : ℕ) (call : DataCall) → r.log.nue ≤ 48 → rank < r.log.nue → IsLogCall r.log.nue r.log.comms rank call → is_in_order r.rank rank ≡ true
+    → line_said r (line_of (call_words rank call)) ≡ Some (record r { log = record r.log { lists = with_call r.log.lists (record { rank = rank; call = call }) }; rank = Some rank })
+line_told r rank call ranks below valid ordered =
+    cond-false (begins_comm (line_of (call_words rank call))) _ _ (not_comm (line_of (call_words rank call)) (call_low rank call (omega arith)))
+    ∙ ap (λ (words : List (List ℕ)). call_said r.log.nue r.log.comms words >>= add_call r) (call_words_of rank call (call_are r.log.nue r.log.comms rank call ranks below valid))
+    ∙ ap (λ (o : Option RankedCall). o >>= add_call r) (call_told r.log.nue r.log.comms rank call ranks below valid)
+    ∙ cond-true (is_in_order r.rank rank) _ _ ordered
+
+-- lines that lead from one reading to another
+abbrev LeadsTo : Reading → List (List ℕ) → Reading → Type 0
+LeadsTo r [] next = r ≡ next
+LeadsTo r (line ∷ lines) next = (m : Reading) × (line_said r line ≡ Some m) × LeadsTo m lines next
+
+leads_append : (r middle next : Reading) (xs ys : List (List ℕ)) → LeadsTo r xs middle → LeadsTo middle ys next → LeadsTo r (xs ++ ys) next
+leads_append r middle next [] ys is second = subst (λ (x : Reading). LeadsTo x ys next) (sym is) second
+leads_append r middle next (x ∷ xs) ys (m, is, rest) second = (m, is, leads_append m middle next xs ys rest second)
+
+leads_said : (n : ℕ) (r next : Reading) (lines : List (List ℕ)) → LeadsTo r lines next → lines_said n r lines ≡ Ok next
+leads_said n r next [] is = ap Ok is
+leads_said n r next (line ∷ lines) (m, is, rest) =
+    ap (λ (o : Option Reading). ok_or {E = LogFault} o (record { line = n; kind = kind_of line }) >=> λ x. lines_said (n + 1) x lines) is ∙ leads_said (n + 1) m next lines rest
+
+-- a list in the middle of a table
+get_or-middle : {X : Type 0} (front : List X) (x : X) (back : List X) (d : X) → get_or (front ++ x ∷ back) (length front) d ≡ x
+get_or-middle [] x back d = refl
+get_or-middle (y ∷ front) x back d = get_or-middle front x back d
+
+set-middle : {X : Type 0} (front : List X) (x y : X) (back : List X) → set (front ++ x ∷ back) (length front) y ≡ front ++ y ∷ back
+set-middle [] x y back = refl
+set-middle {X} (z ∷ front) x y back = ap (λ (l : List X). z ∷ l) (set-middle front x y back)
+
+get_or-front : {X : Type 0} (front back : List X) (k : ℕ) (d : X) → k < length front → get_or (front ++ back) k d ≡ get_or front k d
+get_or-front [] back k d below = absurd (omega arith)
+get_or-front (x ∷ front) back zero d below = refl
+get_or-front (x ∷ front) back (suc k) d below = let within : k < length front = omega arith in get_or-front front back k d within
+
+get_or-back : {X : Type 0} (front back : List X) (k : ℕ) (d : X) → get_or (front ++ back) (length front + k) d ≡ get_or back k d
+get_or-back {X} front back k d = past front (length front + k) refl
+  where
+    past : (f : List X) (n : ℕ) → n ≡ length f + k → get_or (f ++ back) n d ≡ get_or back k d
+    past [] n is = ap (λ (m : ℕ). get_or back m d) (is ∙ omega arith)
+    past (x ∷ f) zero is = absurd (omega arith)
+    past (x ∷ f) (suc n) is = past f n (omega arith)
+
+-- a reading with other lists and another last rank
+abbrev at_lists : Reading → List (List DataCall) → Option ℕ → Reading
+at_lists r lists rank = record r { log = record r.log { lists = lists }; rank = rank }
+
+in_order_now : (n : ℕ) → is_in_order (Some n) n ≡ true
+in_order_now n = le-leb n n (omega arith)
+
+in_order_next : (o : Option ℕ) (n : ℕ) → is_in_order o n ≡ true → is_in_order o (n + 1) ≡ true
+in_order_next None n is = refl
+in_order_next (Some last) n is = le-leb last (n + 1) (omega (arith, leb-true last n is))
+
+-- the lines of a rank's calls lead to the list with these calls
+list_leads : (r : Reading) (front : List (List DataCall)) (p l : List DataCall) (back : List (List DataCall)) (n : ℕ) (o : Option ℕ) → r.log.nue ≤ 48 → n ≡ length front → is_in_order o n ≡ true → All (IsLogCall r.log.nue r.log.comms n) l → (n < r.log.nue) ⊎ (l ≡ [])
+    → (next : Option ℕ) × (is_in_order next n ≡ true) × LeadsTo (at_lists r (front ++ p ∷ back) o) (call_lines n l) (at_lists r (front ++ (p ++ l) ∷ back) next)
+list_leads r front p [] back n o ranks at ordered valid below =
+    (o, ordered, ap (λ (x : List DataCall). at_lists r (front ++ x ∷ back) o) (sym (append-nil p)))
+list_leads r front p (c ∷ l) back n o ranks at ordered valid below =
+    let within : n < r.log.nue = ⊎_elim (λ (yes : n < r.log.nue). yes) (λ (no : c ∷ l ≡ []). absurd cc) below in
+    let here : get_or (front ++ p ∷ back) n [] ≡ p = ap (λ (k : ℕ). get_or (front ++ p ∷ back) k []) at ∙ get_or-middle front p back [] in
+    let grown : with_call (front ++ p ∷ back) (record { rank = n; call = c }) ≡ front ++ (p ++ c ∷ []) ∷ back =
+    ap (λ (k : ℕ). set (front ++ p ∷ back) k (get_or (front ++ p ∷ back) n [] ++ c ∷ [])) at
+    ∙ set-middle front p (get_or (front ++ p ∷ back) n [] ++ c ∷ []) back ∙ ap (λ (x : List DataCall). front ++ (x ++ c ∷ []) ∷ back) here in
+    let told = line_told (at_lists r (front ++ p ∷ back) o) n c ranks within (All-head (IsLogCall r.log.nue r.log.comms n) c l valid) ordered in
+    let rest = list_leads r front (p ++ c ∷ []) l back n (Some n) ranks at (in_order_now n) (All-tail (IsLogCall r.log.nue r.log.comms n) c l valid) (inl within) in
+    let whole : LeadsTo (at_lists r (front ++ (p ++ c ∷ []) ∷ back) (Some n)) (call_lines n l) (at_lists r (front ++ (p ++ c ∷ l) ∷ back) rest.0) =
+    subst (λ (x : List DataCall). LeadsTo (at_lists r (front ++ (p ++ c ∷ []) ∷ back) (Some n)) (call_lines n l) (at_lists r (front ++ x ∷ back) rest.0)) (append_assoc p (c ∷ []) l) rest.2 in
+    (rest.0, rest.1, (at_lists r (front ++ (p ++ c ∷ []) ∷ back) (Some n), told ∙ ap (λ (x : List (List DataCall)). Some (at_lists r x (Some n))) grown, whole))
+
+-- and the lines of all ranks to all lists
+lists_lead : (r : Reading) (front ls : List (List DataCall)) (n : ℕ) (o : Option ℕ) → r.log.nue ≤ 48 → n ≡ length front → is_in_order o n ≡ true
+    → ((k : ℕ) → All (IsLogCall r.log.nue r.log.comms (n + k)) (get_or ls k [])) → ((k : ℕ) → r.log.nue ≤ n + k → get_or ls k [] ≡ [])
+    → (next : Option ℕ) × LeadsTo (at_lists r (front ++ replicate (length ls) []) o) (table_lines call_lines n ls) (at_lists r (front ++ ls) next)
+lists_lead r front [] n o ranks at ordered valid none = (o, refl)
+lists_lead r front (l ∷ ls) n o ranks at ordered valid none =
+    let valid_here : All (IsLogCall r.log.nue r.log.comms n) l = subst (λ (m : ℕ). All (IsLogCall r.log.nue r.log.comms m) l) (omega arith) (valid 0) in
+    let below : (n < r.log.nue) ⊎ (l ≡ []) = ⊎_elim (λ (yes : n < r.log.nue). inl yes) (λ (no : r.log.nue ≤ n). inr (none 0 (omega (arith, no)))) (cases_lt n r.log.nue) in
+    let first = list_leads r front [] l (replicate (length ls) []) n o ranks at ordered valid_here below in
+    let count : n + 1 ≡ length (front ++ l ∷ []) = omega (arith, at, length-append front (l ∷ [])) in
+    let rest = lists_lead r (front ++ l ∷ []) ls (n + 1) first.0 ranks count (in_order_next first.0 n first.1)
+    (λ k. subst (λ (m : ℕ). All (IsLogCall r.log.nue r.log.comms m) (get_or ls k [])) (omega arith) (valid (suc k)))
+    (λ k above. none (suc k) (omega arith)) in
+    let joined : LeadsTo (at_lists r (front ++ l ∷ replicate (length ls) []) first.0) (table_lines call_lines (n + 1) ls) (at_lists r (front ++ l ∷ ls) rest.0) =
+    subst (λ (x : List (List DataCall)). LeadsTo (at_lists r (front ++ l ∷ replicate (length ls) []) first.0) (table_lines call_lines (n + 1) ls) (at_lists r x rest.0)) (append_assoc front (l ∷ []) ls)
+    (subst (λ (x : List (List DataCall)). LeadsTo (at_lists r x first.0) (table_lines call_lines (n + 1) ls) (at_lists r ((front ++ l ∷ []) ++ ls) rest.0)) (append_assoc front (l ∷ []) (replicate (length ls) [])) rest.1) in
+    (rest.0, leads_append (at_lists r (front ++ [] ∷ replicate (length ls) []) o) (at_lists r (front ++ l ∷ replicate (length ls) []) first.0) (at_lists r (front ++ l ∷ ls) rest.0) (call_lines n l) (table_lines call_lines (n + 1) ls) first.2 joined)
+
+-- the line of a communicator says it
+split_told : (last : ℕ) (comms : List CommRule) (c p k : ℕ) (how : List ℕ) (rule : CommRule) → last < c → c < 16 → p < c → is_present (rule_of comms p) ≡ true → 1 ≤ k → k ≤ 48 → rule_named how p k ≡ Some rule
+    → comm_said last comms (split_words c p how k) ≡ Some (record { comm = c; rule = rule })
+split_told last comms c p k how rule above below low stands some most named =
+    ap (λ (o : Option ℕ). o >>= λ x. range_said 0 15 (decimal p) >>= λ y. range_said 1 48 (decimal k) >>= λ z. rule_named how y z >>= λ w. only_if (bytes_eq (codes "comm") (codes "comm") && is_present (rule_of comms y)) (record { comm = x; rule = w }))
+    (range_said-decimal (last + 1) 15 c (omega arith) (omega arith) (omega arith))
+    ∙ ap (λ (o : Option ℕ). o >>= λ y. range_said 1 48 (decimal k) >>= λ z. rule_named how y z >>= λ w. only_if (bytes_eq (codes "comm") (codes "comm") && is_present (rule_of comms y)) (record { comm = c; rule = w }))
+    (range_said-decimal 0 15 p (omega arith) (omega arith) (omega arith))
+    ∙ ap (λ (o : Option ℕ). o >>= λ z. rule_named how p z >>= λ w. only_if (bytes_eq (codes "comm") (codes "comm") && is_present (rule_of comms p)) (record { comm = c; rule = w }))
+    (range_said-decimal 1 48 k some most (omega arith))
+    ∙ ap (λ (o : Option CommRule). o >>= λ w. only_if (bytes_eq (codes "comm") (codes "comm") && is_present (rule_of comms p)) (record { comm = c; rule = w })) named
+    ∙ cond-true (is_present (rule_of comms p)) (Some (record { comm = c; rule = rule })) None stands
+
+split_are : (c p k : ℕ) (how : List ℕ) → c < 16 → p < c → k ≤ 48 → IsWord how → AreWords (split_words c p how k)
+split_are c p k how below low most is = (refl, (small_word c (omega arith), (small_word p (omega arith), (is, (small_word k (omega arith), tt)))))
+
+-- a reading with other rules and another last communicator
+abbrev at_comms : Reading → List CommRule → ℕ → Reading
+at_comms r comms last = record r { log = record r.log { comms = comms }; comm = last }
+
+split_leads : (r : Reading) (front back : List CommRule) (c p k : ℕ) (how : List ℕ) (rule : CommRule) (last : ℕ) → r.rank ≡ None → c ≡ length front → last < c → c < 16 → p < c → is_present (rule_of (front ++ Absent ∷ back) p) ≡ true → 1 ≤ k → k ≤ 48 → rule_named how p k ≡ Some rule → IsWord how
+    → LeadsTo (at_comms r (front ++ Absent ∷ back) last) (line_of (split_words c p how k) ∷ []) (at_comms r (front ++ rule ∷ back) c)
+split_leads r front back c p k how rule last none at above below low stands some most named is =
+    let comms = front ++ Absent ∷ back in
+    let words : words_of (line_of (split_words c p how k)) ≡ split_words c p how k = words_of-line_of _ _ (split_are c p k how below low most is) in
+    let placed : set comms c rule ≡ front ++ rule ∷ back = ap (λ (x : ℕ). set comms x rule) at ∙ set-middle front Absent rule back in (
+      at_comms r (front ++ rule ∷ back) c,
+      ap (λ (w : List (List ℕ)). comm_said last comms w >>= with_comm (at_comms r comms last) r.rank) words
+          ∙ ap (λ (o : Option CommSplit). o >>= with_comm (at_comms r comms last) r.rank) (split_told last comms c p k how rule above below low stands some most named)
+          ∙ ap (λ (o : Option ℕ). with_comm (at_comms r comms last) o (record { comm = c; rule = rule })) none
+          ∙ ap (λ (x : List CommRule). Some (at_comms r x c)) placed,
+      refl,
+    )
+
+present_before : (front back rs : List CommRule) (p : ℕ) → p < length front → rule_of (front ++ rs) p ≢ Absent → is_present (rule_of (front ++ back) p) ≡ true
+present_before front back rs p below stands =
+    present_is (rule_of (front ++ back) p) (λ is. stands (get_or-front front rs p Absent below ∙ sym (get_or-front front back p Absent below) ∙ is))
+
+-- the lines of the rules lead to the rules
+rules_lead : (r : Reading) (front rs : List CommRule) (c last : ℕ) → r.rank ≡ None → c ≡ length front → 1 ≤ c → last < c → c + length rs ≡ 16 → ((k : ℕ) → k < length rs → IsRule (front ++ rs) (c + k) (get_or rs k Absent))
+    → (next : ℕ) × LeadsTo (at_comms r (front ++ replicate (length rs) Absent) last) (table_lines rule_lines c rs) (at_comms r (front ++ rs) next)
+rules_lead r front [] c last none at some above full rules = (last, refl)
+rules_lead r front (rule ∷ rs) c last none at some above full rules =
+    let here : IsRule (front ++ rule ∷ rs) c rule = subst (λ (m : ℕ). IsRule (front ++ rule ∷ rs) m rule) (omega arith) (rules 0 (omega arith)) in
+    let first = by_rule rule here in
+    let count : c + 1 ≡ length (front ++ rule ∷ []) = omega (arith, at, length-append front (rule ∷ [])) in
+    let rest = rules_lead r (front ++ rule ∷ []) rs (c + 1) first.0 none count (omega arith) (omega (arith, first.1)) (omega (arith, full))
+    (λ k below. subst (λ (m : ℕ). IsRule ((front ++ rule ∷ []) ++ rs) m (get_or rs k Absent)) (omega arith) (subst (λ (x : List CommRule). IsRule x (c + suc k) (get_or rs k Absent)) (sym (append_assoc front (rule ∷ []) rs)) (rules (suc k) (omega arith)))) in
+    let joined : LeadsTo (at_comms r (front ++ rule ∷ replicate (length rs) Absent) first.0) (table_lines rule_lines (c + 1) rs) (at_comms r (front ++ rule ∷ rs) rest.0) =
+    subst (λ (x : List CommRule). LeadsTo (at_comms r (front ++ rule ∷ replicate (length rs) Absent) first.0) (table_lines rule_lines (c + 1) rs) (at_comms r x rest.0)) (append_assoc front (rule ∷ []) rs)
+    (subst (λ (x : List CommRule). LeadsTo (at_comms r x first.0) (table_lines rule_lines (c + 1) rs) (at_comms r ((front ++ rule ∷ []) ++ rs) rest.0)) (append_assoc front (rule ∷ []) (replicate (length rs) Absent)) rest.1) in
+    (rest.0, leads_append (at_comms r (front ++ Absent ∷ replicate (length rs) Absent) last) (at_comms r (front ++ rule ∷ replicate (length rs) Absent) first.0) (at_comms r (front ++ rule ∷ rs) rest.0) (rule_lines c rule) (table_lines rule_lines (c + 1) rs) first.2 joined)
+  where
+    by_rule : (x : CommRule) → IsRule (front ++ rule ∷ rs) c x → (next : ℕ) × (next ≤ c) × LeadsTo (at_comms r (front ++ Absent ∷ replicate (length rs) Absent) last) (rule_lines c x) (at_comms r (front ++ x ∷ replicate (length rs) Absent) next)
+    by_rule Absent is = (last, omega (arith, above), refl)
+    by_rule World is = absurd (omega (arith, is, some))
+    by_rule (Mod p k) (low, stands, least, most) =
+        (c, omega arith, split_leads r front (replicate (length rs) Absent) c p k (codes "mod") (Mod p k) last none at above (omega (arith, full)) low (present_before front (Absent ∷ replicate (length rs) Absent) (rule ∷ rs) p (omega (arith, at, low)) stands) least most refl refl)
+    by_rule (Div p k) (low, stands, least, most) =
+        (c, omega arith, split_leads r front (replicate (length rs) Absent) c p k (codes "div") (Div p k) last none at above (omega (arith, full)) low (present_before front (Absent ∷ replicate (length rs) Absent) (rule ∷ rs) p (omega (arith, at, low)) stands) least most refl refl)
+
+-- the first line
+head_told_nue : (nue : ℕ) → 1 ≤ nue → nue ≤ 48 → nue_of (head_words nue) ≡ Some nue
+head_told_nue nue some most =
+    ap (λ (o : Option ℕ). o >>= λ n. only_if (bytes_eq (codes "rcce") (codes "rcce") && bytes_eq (codes "log") (codes "log")) n) (range_said-decimal 1 48 nue some most (omega arith))
+
+first_told : (nue : ℕ) → 1 ≤ nue → nue ≤ 48 → first_said (line_of (head_words nue)) ≡ Ok (start_of nue)
+first_told nue some most =
+    ap (λ (w : List (List ℕ)). ok_or {E = LogFault} (option_map start_of (nue_of w)) (record { line = 1; kind = kind.BadHead }))
+    (words_of-line_of (codes "rcce") (codes "log" ∷ decimal nue ∷ []) (refl, (refl, (small_word nue (omega arith), tt))))
+    ∙ ap (λ (o : Option ℕ). ok_or {E = LogFault} (option_map start_of o) (record { line = 1; kind = kind.BadHead })) (head_told_nue nue some most)
+
+-- the lines of a log have no line feeds
+rule_are_lines : (comms : List CommRule) (c : ℕ) (rule : CommRule) → c < 16 → IsRule comms c rule → AreLines (rule_lines c rule)
+rule_are_lines comms c Absent below is = tt
+rule_are_lines comms c World below is = tt
+rule_are_lines comms c (Mod p k) below (low, stands, some, most) = (line_is (split_words c p (codes "mod") k) (split_are c p k (codes "mod") below low most refl), tt)
+rule_are_lines comms c (Div p k) below (low, stands, some, most) = (line_is (split_words c p (codes "div") k) (split_are c p k (codes "div") below low most refl), tt)
+
+rules_are_lines : (comms rs : List CommRule) (c : ℕ) → c + length rs ≡ 16 → ((k : ℕ) → k < length rs → IsRule comms (c + k) (get_or rs k Absent)) → AreLines (table_lines rule_lines c rs)
+rules_are_lines comms [] c full rules = tt
+rules_are_lines comms (rule ∷ rs) c full rules =
+    let here : IsRule comms c rule = subst (λ (m : ℕ). IsRule comms m rule) (omega arith) (rules 0 (omega arith)) in
+    are_lines-append (rule_lines c rule) (table_lines rule_lines (c + 1) rs) (rule_are_lines comms c rule (omega (arith, full)) here)
+    (rules_are_lines comms rs (c + 1) (omega (arith, full)) (λ k below. subst (λ (m : ℕ). IsRule comms m (get_or rs k Absent)) (omega arith) (rules (suc k) (omega arith))))
+
+calls_are_lines : (nue : ℕ) (comms : List CommRule) (r : ℕ) (calls : List DataCall) → nue ≤ 48 → (r < nue) ⊎ (calls ≡ []) → All (IsLogCall nue comms r) calls → AreLines (call_lines r calls)
+calls_are_lines nue comms r [] ranks below valid = tt
+calls_are_lines nue comms r (c ∷ calls) ranks below valid =
+    let within : r < nue = ⊎_elim (λ (yes : r < nue). yes) (λ (no : c ∷ calls ≡ []). absurd cc) below in
+    (line_is (call_words r c) (call_are nue comms r c ranks within (All-head (IsLogCall nue comms r) c calls valid)), calls_are_lines nue comms r calls ranks (inl within) (All-tail (IsLogCall nue comms r) c calls valid))
+
+lists_are_lines : (nue : ℕ) (comms : List CommRule) (ls : List (List DataCall)) (n : ℕ) → nue ≤ 48 → ((k : ℕ) → All (IsLogCall nue comms (n + k)) (get_or ls k [])) → ((k : ℕ) → nue ≤ n + k → get_or ls k [] ≡ []) → AreLines (table_lines call_lines n ls)
+lists_are_lines nue comms [] n ranks valid none = tt
+lists_are_lines nue comms (l ∷ ls) n ranks valid none =
+    let valid_here : All (IsLogCall nue comms n) l = subst (λ (m : ℕ). All (IsLogCall nue comms m) l) (omega arith) (valid 0) in
+    let below : (n < nue) ⊎ (l ≡ []) = ⊎_elim (λ (yes : n < nue). inl yes) (λ (no : nue ≤ n). inr (none 0 (omega (arith, no)))) (cases_lt n nue) in
+    are_lines-append (call_lines n l) (table_lines call_lines (n + 1) ls) (calls_are_lines nue comms n l ranks below valid_here)
+    (lists_are_lines nue comms ls (n + 1) ranks (λ k. subst (λ (m : ℕ). All (IsLogCall nue comms m) (get_or ls k [])) (omega arith) (valid (suc k))) (λ k above. none (suc k) (omega arith)))
+
+-- no rank has a call yet
+no_lists_yet : (m : Reading) (n : ℕ) → n ≡ 48 → m.log.lists ≡ no_calls → at_lists m ([] ++ replicate n []) None ≡ at_lists m m.log.lists None
+unfolding no_calls
+no_lists_yet m n is none_yet = ap (λ (k : ℕ). at_lists m (replicate k []) None) is ∙ ap (λ (l : List (List DataCall)). at_lists m l None) (sym none_yet)
+
+-- the text of a log says the log
+at_zero : (n : ℕ) → n ≡ 0 + n
+at_zero n = omega arith
+
+pub text_told : (log : LogView) → IsFileLog log → log_of (log_text log) ≡ Ok log
+text_told log is =
+    cond-false (nat_lt 67108864 (length (log_text log))) _ _ (le-ltb 67108864 (length (log_text log)) is.fits)
+    ∙ ap parts_said (parts_of-text_of (log_lines log) lines_are) ∙ parts_told (log_lines log) ∙ all_told log.comms refl
+  where
+    written : IsLog log
+    written = is.written
+
+    valid : (k : ℕ) → All (IsLogCall log.nue log.comms (0 + k)) (get_or log.lists k [])
+    valid k = subst (λ (m : ℕ). All (IsLogCall log.nue log.comms m) (get_or log.lists k [])) (at_zero k) (written.calls k)
+
+    none : (k : ℕ) → log.nue ≤ 0 + k → get_or log.lists k [] ≡ []
+    none k above = written.no_others k (omega arith)
+
+    rule_at : (k : ℕ) → k < length log.comms → IsRule log.comms (0 + k) (get_or log.comms k Absent)
+    rule_at k below = subst (λ (m : ℕ). IsRule log.comms m (get_or log.comms k Absent)) (at_zero k) (written.rules k (omega (arith, below, written.sixteen)))
+
+    lines_are : AreLines (log_lines log)
+    lines_are = (
+      line_is (head_words log.nue) (refl, (refl, (small_word log.nue (omega (arith, written.ranks_within)), tt))),
+      are_lines-append (table_lines rule_lines 0 log.comms) (table_lines call_lines 0 log.lists) (rules_are_lines log.comms log.comms 0 (omega (arith, written.sixteen)) rule_at)
+          (lists_are_lines log.nue log.comms log.lists 0 written.ranks_within valid none),
+    )
+
+    parts_told : (lines : List (List ℕ)) → parts_said (lines ++ [] ∷ []) ≡ all_said lines []
+    parts_told lines =
+        let count : length (lines ++ [] ∷ []) - 1 ≡ length lines = omega (arith, length-append lines ([] ∷ [])) in
+        ap (λ (n : ℕ). all_said (take n (lines ++ [] ∷ [])) (get_or (lines ++ [] ∷ []) n [])) count
+        ∙ ap (λ (front : List (List ℕ)). all_said front (get_or (lines ++ [] ∷ []) (length lines) [])) (take-front lines)
+        ∙ ap (all_said lines) (get_or-middle lines [] [] [])
+      where
+        take-front : (xs : List (List ℕ)) → take (length xs) (xs ++ [] ∷ []) ≡ xs
+        take-front [] = refl
+        take-front (x ∷ xs) = ap (λ (l : List (List ℕ)). x ∷ l) (take-front xs)
+
+    all_told : (comms : List CommRule) → log.comms ≡ comms → all_said (log_lines log) [] ≡ Ok log
+    all_told [] same = absurd (omega (arith, ap length same, written.sixteen))
+    all_told (World ∷ rs) same =
+        let r = start_of log.nue in
+        let count : 1 + length rs ≡ 16 = omega (arith, ap length same, written.sixteen) in
+        let fifteen : length rs ≡ 15 = omega (arith, count) in
+        let rules : (k : ℕ) → k < length rs → IsRule ((World ∷ []) ++ rs) (1 + k) (get_or rs k Absent) =
+        λ k below. subst (λ (m : ℕ). IsRule (World ∷ rs) m (get_or rs k Absent)) (omega arith) (subst (λ (x : List CommRule). IsRule x (suc k) (get_or x (suc k) Absent)) same (written.rules (suc k) (omega (arith, below, count)))) in
+        let splits = rules_lead r (World ∷ []) rs 1 0 refl refl (omega arith) (omega arith) count rules in
+        let middle : Reading = at_comms r (World ∷ rs) splits.0 in
+        let calls = lists_lead middle [] log.lists 0 None written.ranks_within refl refl
+        (λ k. subst (λ (x : List CommRule). All (IsLogCall log.nue x (0 + k)) (get_or log.lists k [])) same (valid k)) none in
+        let begin : at_comms r ((World ∷ []) ++ replicate (length rs) Absent) 0 ≡ r = ap (λ (n : ℕ). at_comms r (World ∷ replicate n Absent) 0) fifteen in
+        let begin_calls : at_lists middle ([] ++ replicate (length log.lists) []) None ≡ middle = no_lists_yet middle (length log.lists) written.ranks refl in
+        let lead : LeadsTo r (table_lines rule_lines 0 (World ∷ rs) ++ table_lines call_lines 0 log.lists) (at_lists middle log.lists calls.0) =
+        leads_append r middle (at_lists middle log.lists calls.0) (table_lines rule_lines 1 rs) (table_lines call_lines 0 log.lists)
+        (subst (λ (x : Reading). LeadsTo x (table_lines rule_lines 1 rs) middle) begin splits.1)
+        (subst (λ (x : Reading). LeadsTo x (table_lines call_lines 0 log.lists) (at_lists middle log.lists calls.0)) begin_calls calls.1) in
+        let lines = table_lines rule_lines 0 (World ∷ rs) ++ table_lines call_lines 0 log.lists in
+        ap (λ (x : List CommRule). all_said (line_of (head_words log.nue) ∷ (table_lines rule_lines 0 x ++ table_lines call_lines 0 log.lists)) []) same
+        ∙ ap (λ (o : Result Reading LogFault). o >=> λ x. lines_said 2 x lines >=> end_said (length lines + 2) []) (first_told log.nue written.some_ranks written.ranks_within)
+        ∙ ap (λ (o : Result Reading LogFault). o >=> end_said (length lines + 2) []) (leads_said 2 r (at_lists middle log.lists calls.0) lines lead)
+        ∙ ap (λ (x : List CommRule). Ok (record log { comms = x })) (sym same)
+    all_told (Absent ∷ rs) same = absurd (subst (λ (x : List CommRule). IsRule x 0 (rule_of x 0)) same (written.rules 0 (omega arith)) refl)
+    all_told (Mod p k ∷ rs) same = let is = subst (λ (x : List CommRule). IsRule x 0 (rule_of x 0)) same (written.rules 0 (omega arith)) in absurd (omega (arith, is.0))
+    all_told (Div p k ∷ rs) same = let is = subst (λ (x : List CommRule). IsRule x 0 (rule_of x 0)) same (written.rules 0 (omega arith)) in absurd (omega (arith, is.0))

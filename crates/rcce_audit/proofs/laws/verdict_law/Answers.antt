@@ -1,0 +1,8 @@
+use Rattle.rcce_audit.proofs.VerdictLemmas.{verdict_found, verdict_once}
+use Rattle.rcce_audit.proofs.laws.verdict_law.Goals as goal
+
+pub returns-clause-once : goal.returns-clause-once
+returns-clause-once c = verdict_once
+
+pub returns-clause-found : goal.returns-clause-found
+returns-clause-found c = verdict_found

@@ -1,0 +1,9 @@
+pub mod Grammar
+pub mod Kinds
+pub mod Logs
+pub mod Reading
+pub mod Standings
+pub mod Texts
+pub mod Verdicts
+pub mod Views
+pub mod Words

@@ -1,0 +1,78 @@
+-- The text of a log: lines of words with single blanks between, a line feed after each line, decimals without leading
+-- zeros, bytes as hex digits in lower case and `-` for none (this project's profile).
+use Rattle.std.specs.Prelude.{ℕ, ◌+◌, ◌≤◌, List, [], ◌∷◌, ◌++◌, codes, decimal, flat_map, length, map}
+use Rattle.std.specs.List.{join_with_byte}
+use Rattle.hex.specs.Hex.{encode_lower}
+use Rattle.scc_base.specs.declared.communicators.CommRule.{CommRule}
+use Rattle.scc_base.specs.declared.communicators.CommRule.TheVariants.{Absent, World, Mod, Div}
+use Rattle.scc_base.specs.declared.kinds.Kind.{Kind}
+use Rattle.scc_base.specs.declared.kinds.Kind.TheVariants.{Plain, Bcast, Reduce, AllUp, AllDown}
+use Rattle.scc_base.specs.Heads.{MessageHead, kind_at}
+use Rattle.scc_base.specs.Calls.{DataCall, Send, Recv, Post, Bar}
+use Rattle.rcce_audit.specs.Logs.{LogView, IsLog}
+
+-- bytes as hex digits, and `-` for none
+abbrev pub hex_text : List ℕ → List ℕ
+hex_text [] = codes "-"
+hex_text (byte ∷ bytes) = encode_lower (byte ∷ bytes)
+
+-- the name of a kind of message
+abbrev pub kind_text : Kind → List ℕ
+kind_text Plain = codes "plain"
+kind_text Bcast = codes "bcast"
+kind_text Reduce = codes "reduce"
+kind_text AllUp = codes "allup"
+kind_text AllDown = codes "alldown"
+
+-- the words of the first line, of the line of a communicator and of the line of a call
+abbrev pub head_words : ℕ → List (List ℕ)
+head_words nue = codes "rcce" ∷ codes "log" ∷ decimal nue ∷ []
+
+abbrev pub split_words : ℕ → ℕ → List ℕ → ℕ → List (List ℕ)
+split_words comm parent how k = codes "comm" ∷ decimal comm ∷ decimal parent ∷ how ∷ decimal k ∷ []
+
+abbrev pub message_words : ℕ → List ℕ → ℕ → MessageHead → List ℕ → List (List ℕ)
+message_words r verb peer head bytes = decimal r ∷ verb ∷ decimal peer ∷ kind_text (kind_at head.kind) ∷ decimal head.comm ∷ decimal head.len ∷ hex_text bytes ∷ []
+
+abbrev pub call_words : ℕ → DataCall → List (List ℕ)
+call_words r (Send to head bytes) = message_words r (codes "send") to head bytes
+call_words r (Recv from head bytes) = message_words r (codes "recv") from head bytes
+call_words r (Post to head bytes) = message_words r (codes "post") to head bytes
+call_words r (Bar comm) = decimal r ∷ codes "bar" ∷ decimal comm ∷ []
+
+-- a line of words, without its line feed
+abbrev pub line_of : List (List ℕ) → List ℕ
+line_of words = join_with_byte 32 words
+
+-- the line of a communicator, where it is a split
+abbrev pub rule_lines : ℕ → CommRule → List (List ℕ)
+rule_lines comm Absent = []
+rule_lines comm World = []
+rule_lines comm (Mod parent k) = line_of (split_words comm parent (codes "mod") k) ∷ []
+rule_lines comm (Div parent k) = line_of (split_words comm parent (codes "div") k) ∷ []
+
+-- the lines of a rank's calls
+abbrev pub call_lines : ℕ → List DataCall → List (List ℕ)
+call_lines r calls = map (λ call. line_of (call_words r call)) calls
+
+-- the lines of the things in a table, the first of which has this number
+abbrev pub table_lines : {X : Type 0} → (ℕ → X → List (List ℕ)) → ℕ → List X → List (List ℕ)
+table_lines lines n [] = []
+table_lines lines n (x ∷ rest) = lines n x ++ table_lines lines (n + 1) rest
+
+-- the lines of a log: its first line, the lines of its communicators, and the calls by rank, each rank's in order
+abbrev pub log_lines : LogView → List (List ℕ)
+log_lines log = line_of (head_words log.nue) ∷ (table_lines rule_lines 0 log.comms ++ table_lines call_lines 0 log.lists)
+
+-- lines, each with its line feed
+abbrev pub text_of : List (List ℕ) → List ℕ
+text_of lines = flat_map (λ line. line ++ 10 ∷ []) lines
+
+-- the text of a log
+abbrev pub log_text : LogView → List ℕ
+log_text log = text_of (log_lines log)
+
+-- a log that a file may have: one whose text has at most 67,108,864 bytes
+pub record IsFileLog (log : LogView) : Type 0 where
+  pub written : IsLog log
+  pub fits : length (log_text log) ≤ 67108864

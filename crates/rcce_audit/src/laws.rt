@@ -1,0 +1,23 @@
+//! Laws of logs, each a function whose contract is the law.
+
+ghost use Rattle.std.specs.Prelude.{◌≡◌, ◌≤◌, ℕ, List, Ok, []};
+ghost use Rattle.rcce_audit.specs.Grammar.{log_of};
+ghost use Rattle.rcce_audit.specs.Logs.{LogView, calls_of};
+ghost use Rattle.rcce_audit.specs.Texts.{IsFileLog, log_text};
+ghost use Rattle.rcce_audit.specs.declared.verdicts.Verdict.{Verdict};
+ghost use Rattle.rcce_audit.specs.Verdicts.{IsVerdict};
+
+/// The text of a log and its reading are inverse to each other: a text that says a log is the text of that log, and the
+/// text of a log says the log.
+pub fn text_law()
+    ensures read { (bytes : List ℕ) (log : LogView) → log_of bytes ≡ Ok log → log_text log ≡ bytes }
+    ensures written { (log : LogView) → IsFileLog log → log_of (log_text log) ≡ Ok log }
+    // What a text says is a log that a file may have.
+    ensures valid { (bytes : List ℕ) (log : LogView) → log_of bytes ≡ Ok log → IsFileLog log }
+{}
+
+/// A log has one verdict.
+pub fn verdict_law()
+    ensures once { (log : LogView) (v w : Verdict) → IsVerdict log v → IsVerdict log w → v ≡ w }
+    ensures found { (log : LogView) → ((k : ℕ) → 48 ≤ k → calls_of log k ≡ []) → (v : Verdict) × IsVerdict log v }
+{}

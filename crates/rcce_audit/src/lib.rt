@@ -1,0 +1,24 @@
+//! Logs of calls: their text, how it is read, and whether the calls of a log are legal.
+#![tactic(auto)]
+
+mod faults;
+mod judging;
+mod laws;
+mod lines;
+mod lists;
+mod logs;
+mod progress;
+mod reader;
+mod reading;
+mod steps;
+#[cfg(test)]
+mod tests;
+mod verdicts;
+mod words;
+
+pub use faults::{LogFault, LogKind, LogStop};
+pub use judging::audit;
+pub use laws::{text_law, verdict_law};
+pub use logs::{Log, LogCall};
+pub use reading::read_log;
+pub use verdicts::Verdict;
