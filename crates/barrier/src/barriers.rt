@@ -1,7 +1,6 @@
 //! A whole barrier, with a bound on the looks that find nothing.
 
 ghost use Rattle.std.specs.Prelude.{◌≤◌};
-ghost use Rattle.put_get.specs.Cores.{KeepsSteps};
 ghost use Rattle.barrier.specs.Stages.{BarStands};
 ghost use Rattle.barrier.specs.Calls.{Ends};
 
@@ -30,7 +29,6 @@ pub fn barrier<V: Evict, P: Port>(
     requires some { 1 ≤ polls }
     requires stands { BarStands (P.sight port.old) core.old op parity.old }
     ensures ends { Ends (P.sight port.old) op polls (P.sight port.new) core.new parity.new result }
-    ensures keeps { KeepsSteps (P.stepped port.old) (P.stepped port.new) }
 {
     let mut op = op;
     let mut vain: u32 = 0;

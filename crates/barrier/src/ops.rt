@@ -37,7 +37,7 @@ impl BarOp {
     ghost use Rattle.scc_base.specs.declared.events.Spot.TheVariants.{Flag};
     ghost use Rattle.scc_base.specs.declared.events.Turn.TheVariants as turn;
     ghost use Rattle.scc_proto.specs.Ports.{MayMake, record_in};
-    ghost use Rattle.put_get.specs.Cores.{MadeSteps, KeepsSteps};
+    ghost use Rattle.put_get.specs.Cores.{MadeSteps};
     ghost use Rattle.barrier.specs.declared.stages.BarStage.TheVariants.{Flip, Gather, Release, Await, Finished};
     ghost use Rattle.sync_flags.specs.Flags.{flag_value};
     ghost use Rattle.barrier.specs.Flags.{value_at, gather_word, release_word, member_at};
@@ -66,7 +66,6 @@ impl BarOp {
         ensures stands { BarStands (P.sight port.new) core.new self.new parity.new }
         ensures turned { BarTurned (P.sight port.old) core.old self.old (P.sight port.new) core.new self.new parity.new result }
         ensures goes_on { waits_at result ≡ None }
-        ensures keeps { KeepsSteps (P.stepped port.old) (P.stepped port.new) }
     {
         let own = port.rank();
         let size = port.setup().group_size(self.comm, own);
@@ -95,8 +94,7 @@ impl BarOp {
         requires stands { BarStands (P.sight port.old) core.old self.old parity.now }
         ensures stands { BarStands (P.sight port.new) core.new self.new parity.now }
         ensures turned { BarTurned (P.sight port.old) core.old self.old (P.sight port.new) core.new self.new parity.now result }
-        ensures steps { MadeSteps (P.stepped port.new) (P.sight port.old) (P.sight port.new) }
-        ensures keeps { KeepsSteps (P.stepped port.old) (P.stepped port.new) }
+        ensures steps { MadeSteps P.stepped (P.sight port.old) (P.sight port.new) }
     {
         let own = port.rank();
         let size = port.setup().group_size(self.comm, own);
@@ -127,7 +125,6 @@ impl BarOp {
         ensures stands { BarStands (P.sight port.new) core.new self.new parity.now }
         ensures turned { BarTurned (P.sight port.old) core.old self.old (P.sight port.new) core.new self.new parity.now result }
         ensures goes_on { waits_at result ≡ None }
-        ensures keeps { KeepsSteps (P.stepped port.old) (P.stepped port.new) }
     {
         let own = port.rank();
         let size = port.setup().group_size(self.comm, own);
@@ -154,8 +151,7 @@ impl BarOp {
         requires stands { BarStands (P.sight port.old) core.old self.old parity.now }
         ensures stands { BarStands (P.sight port.new) core.new self.new parity.now }
         ensures turned { BarTurned (P.sight port.old) core.old self.old (P.sight port.new) core.new self.new parity.now result }
-        ensures steps { MadeSteps (P.stepped port.new) (P.sight port.old) (P.sight port.new) }
-        ensures keeps { KeepsSteps (P.stepped port.old) (P.stepped port.new) }
+        ensures steps { MadeSteps P.stepped (P.sight port.old) (P.sight port.new) }
     {
         let own = port.rank();
         let flag = release_flag(port, self.comm, own);
@@ -181,8 +177,7 @@ impl BarOp {
         requires stands { BarStands (P.sight port.old) core.old self.old parity.old }
         ensures stands { BarStands (P.sight port.new) core.new self.new parity.new }
         ensures turned { BarTurned (P.sight port.old) core.old self.old (P.sight port.new) core.new self.new parity.new result }
-        ensures steps { (spot : Spot) → waits_at result ≡ Some spot → MadeSteps (P.stepped port.new) (P.sight port.old) (P.sight port.new) }
-        ensures keeps { KeepsSteps (P.stepped port.old) (P.stepped port.new) }
+        ensures steps { (spot : Spot) → waits_at result ≡ Some spot → MadeSteps P.stepped (P.sight port.old) (P.sight port.new) }
     {
         match self.stage {
             BarStage::Flip => self.flip(core, port, parity),

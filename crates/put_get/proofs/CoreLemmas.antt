@@ -2,14 +2,14 @@
 use Rattle.std.proofs.Common.{◌≡◌, ℕ, suc, ◌+◌, ◌<◌, Some, List, [], ◌++◌, Option, length, remove, sym, subst, arith}
 use Rattle.scc_base.specs.Places.{LineAt, WordAt}
 use Rattle.scc_base.specs.declared.events.Event.{Event}
-use Rattle.scc_proto.specs.Ports.{Sight, Did}
+use Rattle.scc_proto.specs.Ports.{Seat, Sight, Did}
 use Rattle.scc_proto.proofs.PortLaws.{did_nothing, did_both}
 use Rattle.line_cache.specs.declared.cache.Entry.{Entry}
 use Rattle.line_cache.specs.Lines.{filled}
 use Rattle.line_cache.specs.Eviction.{MayAnswer}
 use Rattle.write_combine.specs.declared.combiner.Out.{Out}
 use Rattle.put_get.specs.Accesses.{loads_of}
-use Rattle.put_get.specs.Cores.{Private, Fills, Dropped, Fetch, Held, Loaded, ReadsWord, MadeSteps, KeepsSteps}
+use Rattle.put_get.specs.Cores.{Private, Fills, Dropped, Fetch, Held, Loaded, ReadsWord, MadeSteps}
 use Rattle.put_get.proofs.StepLemmas.{steps_both}
 
 -- a line came in, and the evictor named an entry
@@ -35,13 +35,12 @@ pub word_made : {s t : Sight} {c d : Private} {p : WordAt} {v : ℕ} → ReadsWo
 word_made r = fetch_made r.fetch
 
 -- four reads were steps, where each was
-pub steps_four : (st1 st2 st3 st4 : List Event → Event → Type 0) (s s1 s2 s3 t : Sight) → Made s s1 → Made s1 s2 → Made s2 s3 → Made s3 t
-    → MadeSteps st1 s s1 → KeepsSteps st1 st2 → MadeSteps st2 s1 s2 → KeepsSteps st2 st3 → MadeSteps st3 s2 s3 → KeepsSteps st3 st4 → MadeSteps st4 s3 t
-    → MadeSteps st4 s t
-steps_four st1 st2 st3 st4 s s1 s2 s3 t a b c d x1 k2 x2 k3 x3 k4 x4 =
+pub steps_four : (stepped : Seat → List Event → Event → Type 0) (s s1 s2 s3 t : Sight) → Made s s1 → Made s1 s2 → Made s2 s3 → Made s3 t
+    → MadeSteps stepped s s1 → MadeSteps stepped s1 s2 → MadeSteps stepped s2 s3 → MadeSteps stepped s3 t → MadeSteps stepped s t
+steps_four stepped s s1 s2 s3 t a b c d x1 x2 x3 x4 =
     let ab = did_both s a.events s1 b.events s2 a.did b.did in
     let abc = did_both s (a.events ++ b.events) s2 c.events s3 ab c.did in
-    steps_both st3 st4 s s3 t ((a.events ++ b.events) ++ c.events) d.events abc d.did
-    (steps_both st2 st3 s s2 s3 (a.events ++ b.events) c.events ab c.did
-    (steps_both st1 st2 s s1 s2 a.events b.events a.did b.did x1 k2 x2) k3 x3)
-    k4 x4
+    steps_both stepped s s3 t ((a.events ++ b.events) ++ c.events) d.events abc d.did
+    (steps_both stepped s s2 s3 (a.events ++ b.events) c.events ab c.did
+    (steps_both stepped s s1 s2 a.events b.events a.did b.did x1 x2) x3)
+    x4

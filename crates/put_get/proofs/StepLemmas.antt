@@ -1,30 +1,26 @@
 -- Events of a port that were steps of the chip's memory, one run of events after another.
-use Rattle.std.proofs.Common.{◌≡◌, List, [], ◌∷◌, ◌++◌, refl, sym, ◌∙◌, subst, append_assoc, append-nil}
+use Rattle.std.proofs.Common.{◌≡◌, List, [], ◌∷◌, ◌++◌, refl, sym, ◌∙◌, ap, subst, append_assoc, append-nil}
 use Rattle.std.proofs.lemmas.List.{append_cancel_left}
 use Rattle.scc_base.specs.declared.events.Event.{Event}
 use Rattle.scc_proto.specs.Stages.{Record}
-use Rattle.scc_proto.specs.Ports.{Sight, Did, WereMade, and_then, record_in}
+use Rattle.scc_proto.specs.Ports.{Seat, Sight, Did, WereMade, and_then, record_in}
 use Rattle.scc_proto.proofs.PortLaws.{did_nothing, did_both, events_did, made_front, made_left, record_did}
 use Rattle.put_get.specs.Accesses.{WereSteps}
-use Rattle.put_get.specs.Cores.{MadeSteps, KeepsSteps}
+use Rattle.put_get.specs.Cores.{MadeSteps}
 
 -- the events between two sights are the only ones
 pub events_once : (s t : Sight) (a b : List Event) → Did s a t → Did s b t → a ≡ b
 events_once s t a b x y = append_cancel_left s.events a b (sym (events_did s a t x) ∙ events_did s b t y)
 
-pub made_steps : (stepped : List Event → Event → Type 0) (s t : Sight) (a : List Event) → Did s a t
-    → WereSteps stepped s.events a → MadeSteps stepped s t
-made_steps stepped s t a did steps = λ es x. subst (WereSteps stepped s.events) (events_once s t a es did x) steps
+pub made_steps : (stepped : Seat → List Event → Event → Type 0) (s t : Sight) (a : List Event) → Did s a t
+    → WereSteps (stepped s.seat) s.events a → MadeSteps stepped s t
+made_steps stepped s t a did steps = λ es x. subst (WereSteps (stepped s.seat) s.events) (events_once s t a es did x) steps
 
-pub steps_none : (stepped : List Event → Event → Type 0) (s : Sight) → MadeSteps stepped s s
+pub steps_none : (stepped : Seat → List Event → Event → Type 0) (s : Sight) → MadeSteps stepped s s
 steps_none stepped s = made_steps stepped s s [] (did_nothing s) tt
 
-pub steps_one : (stepped : List Event → Event → Type 0) (s t : Sight) (e : Event) → Did s (e ∷ []) t → stepped s.events e → MadeSteps stepped s t
+pub steps_one : (stepped : Seat → List Event → Event → Type 0) (s t : Sight) (e : Event) → Did s (e ∷ []) t → stepped s.seat s.events e → MadeSteps stepped s t
 steps_one stepped s t e did step = made_steps stepped s t (e ∷ []) did (step, tt)
-
-were_kept : (old new : List Event → Event → Type 0) (before es : List Event) → KeepsSteps old new → WereSteps old before es → WereSteps new before es
-were_kept old new before [] keeps steps = tt
-were_kept old new before (e ∷ es) keeps steps = (keeps before e steps.0, were_kept old new (before ++ e ∷ []) es keeps steps.1)
 
 were-append : (stepped : List Event → Event → Type 0) (before a b : List Event) → WereSteps stepped before a
     → WereSteps stepped (before ++ a) b → WereSteps stepped before (a ++ b)
@@ -32,13 +28,18 @@ were-append stepped before [] b x y = subst (λ es. WereSteps stepped es b) (app
 were-append stepped before (e ∷ a) b x y =
     (x.0, were-append stepped (before ++ e ∷ []) a b x.1 (subst (λ es. WereSteps stepped es b) (sym (append_assoc before (e ∷ []) a)) y))
 
--- what was a step stays one, and more steps come behind
-pub steps_both : (old new : List Event → Event → Type 0) (s m t : Sight) (a b : List Event) → Did s a m → Did m b t
-    → MadeSteps old s m → KeepsSteps old new → MadeSteps new m t → MadeSteps new s t
-steps_both old new s m t a b x y first keeps then =
-    made_steps new s t (a ++ b) (did_both s a m b t x y)
-    (were-append new s.events a b (were_kept old new s.events a keeps (first a x))
-    (subst (λ es. WereSteps new es b) (events_did s a m x) (then b y)))
+-- the seat after what a port did
+seat_did : (s t : Sight) (a : List Event) → Did s a t → t.seat ≡ s.seat
+seat_did s t a did = ap (λ (x : Sight). x.seat) did.continues
+
+-- steps, and more steps behind them
+pub steps_both : (stepped : Seat → List Event → Event → Type 0) (s m t : Sight) (a b : List Event) → Did s a m → Did m b t
+    → MadeSteps stepped s m → MadeSteps stepped m t → MadeSteps stepped s t
+steps_both stepped s m t a b x y first then =
+    made_steps stepped s t (a ++ b) (did_both s a m b t x y)
+    (were-append (stepped s.seat) s.events a b (first a x)
+    (subst (λ (seat : Seat). WereSteps (stepped seat) (s.events ++ a) b) (seat_did s m a x)
+    (subst (λ es. WereSteps (stepped m.seat) es b) (events_did s a m x) (then b y))))
 
 -- the first part of what a port did, and the rest of it
 pub did_front : (s : Sight) (a b : List Event) (t : Sight) → Did s (a ++ b) t → Did s a (and_then s a)

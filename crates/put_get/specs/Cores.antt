@@ -3,7 +3,7 @@
 use Rattle.std.specs.Prelude.{◌≡◌, ℕ, suc, ◌<◌, List, Option, None, Some, length, remove, slice_index}
 use Rattle.scc_base.specs.Places.{LineAt, WordAt, line_of_word, word_of_line}
 use Rattle.scc_base.specs.declared.events.Event.{Event}
-use Rattle.scc_proto.specs.Ports.{Sight, Did}
+use Rattle.scc_proto.specs.Ports.{Seat, Sight, Did}
 use Rattle.line_cache.specs.declared.cache.Entry.{Entry}
 use Rattle.line_cache.specs.Lines.{held, filled, noted}
 use Rattle.line_cache.specs.Eviction.{MayAnswer}
@@ -76,9 +76,5 @@ pub record WritesLine (s : Sight) (c : Private) (line : LineAt) (words : List �
   pub is : d ≡ record c { lines = line_noted c.lines line words; out = Some (whole_line line words) }
 
 -- each event between two sights of a port was a step of the chip's memory
-abbrev pub MadeSteps : (List Event → Event → Type 0) → Sight → Sight → Type 0
-MadeSteps stepped s t = (es : List Event) → Did s es t → WereSteps stepped s.events es
-
--- what was a step is one still
-abbrev pub KeepsSteps : (List Event → Event → Type 0) → (List Event → Event → Type 0) → Type 0
-KeepsSteps old new = (es : List Event) (e : Event) → old es e → new es e
+abbrev pub MadeSteps : (Seat → List Event → Event → Type 0) → Sight → Sight → Type 0
+MadeSteps stepped s t = (es : List Event) → Did s es t → WereSteps (stepped s.seat) s.events es

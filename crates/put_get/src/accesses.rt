@@ -4,7 +4,7 @@ ghost use Rattle.std.specs.Prelude.{◌≡◌, ◌<◌, List};
 ghost use Rattle.scc_base.specs.declared.events.Event.{Event};
 ghost use Rattle.scc_proto.specs.Ports.{Did, MayMakeAll, record_in};
 ghost use Rattle.put_get.specs.Accesses.{loads_of, store_of_word, stores_of_line, stores_of};
-ghost use Rattle.put_get.specs.Cores.{MadeSteps, KeepsSteps};
+ghost use Rattle.put_get.specs.Cores.{MadeSteps};
 
 use scc_base::Line;
 use scc_proto::Port;
@@ -13,8 +13,7 @@ use write_combine::Out;
 /// Loads the four words of a line, in order.
 pub(crate) fn load_line<P: Port>(port: &mut P, line: Line) -> [u64; 4]
     ensures did { Did (P.sight port.old) (loads_of line result) (P.sight port.new) }
-    ensures steps { MadeSteps (P.stepped port.new) (P.sight port.old) (P.sight port.new) }
-    ensures keeps { KeepsSteps (P.stepped port.old) (P.stepped port.new) }
+    ensures steps { MadeSteps P.stepped (P.sight port.old) (P.sight port.new) }
 {
     let first = port.load(line.word(0));
     let second = port.load(line.word(1));
@@ -28,7 +27,6 @@ fn store_word<P: Port>(port: &mut P, out: &Out, word: u8)
     requires below { word < 4 }
     requires permitted { MayMakeAll (P.sight port.old).seat (record_in (P.sight port.old)) (store_of_word out.now word) }
     ensures did { Did (P.sight port.old) (store_of_word out.now word) (P.sight port.new) }
-    ensures keeps { KeepsSteps (P.stepped port.old) (P.stepped port.new) }
 {
     let at = usize::from(word);
     if out.mask[at] {
@@ -40,7 +38,6 @@ fn store_word<P: Port>(port: &mut P, out: &Out, word: u8)
 fn store_line<P: Port>(port: &mut P, out: &Out)
     requires permitted { MayMakeAll (P.sight port.old).seat (record_in (P.sight port.old)) (stores_of_line out.now) }
     ensures did { Did (P.sight port.old) (stores_of_line out.now) (P.sight port.new) }
-    ensures keeps { KeepsSteps (P.stepped port.old) (P.stepped port.new) }
 {
     store_word(port, out, 3);
     store_word(port, out, 2);
@@ -52,7 +49,6 @@ fn store_line<P: Port>(port: &mut P, out: &Out)
 pub(crate) fn store_out<P: Port>(port: &mut P, out: &Option<Out>)
     requires permitted { MayMakeAll (P.sight port.old).seat (record_in (P.sight port.old)) (stores_of out.now) }
     ensures did { Did (P.sight port.old) (stores_of out.now) (P.sight port.new) }
-    ensures keeps { KeepsSteps (P.stepped port.old) (P.stepped port.new) }
 {
     if let Some(out) = out {
         store_line(port, out);

@@ -40,7 +40,7 @@ impl<V: Evict> Core<V> {
     ghost use Rattle.line_cache.specs.Lines.{held};
     ghost use Rattle.write_combine.specs.Combining.{handed_out};
     ghost use Rattle.put_get.specs.Accesses.{stores_of};
-    ghost use Rattle.put_get.specs.Cores.{Private, Fills, Fetch, ReadsWord, ReadsLine, Writes, WritesLine, Flushes, MadeSteps, KeepsSteps};
+    ghost use Rattle.put_get.specs.Cores.{Private, Fills, Fetch, ReadsWord, ReadsLine, Writes, WritesLine, Flushes, MadeSteps};
 
     /// A core that holds nothing.
     pub fn new(evict: V) -> Core<V>
@@ -87,8 +87,7 @@ impl<V: Evict> Core<V> {
     /// The words of a line, from the cache where it is held there.
     fn fetch<P: Port>(&mut self, port: &mut P, line: Line) -> [u64; 4]
         ensures fetch { Fetch (P.sight port.old) self.old line result (P.sight port.new) self.new }
-        ensures steps { MadeSteps (P.stepped port.new) (P.sight port.old) (P.sight port.new) }
-        ensures keeps { KeepsSteps (P.stepped port.old) (P.stepped port.new) }
+        ensures steps { MadeSteps P.stepped (P.sight port.old) (P.sight port.new) }
     {
         if let Some(words) = self.cache.look(line) {
             return words;
@@ -102,8 +101,7 @@ impl<V: Evict> Core<V> {
     pub fn word_read<P: Port>(&mut self, port: &mut P, place: Place) -> u64
         requires empty { self.old.out ≡ None }
         ensures reads { ReadsWord (P.sight port.old) self.old place result (P.sight port.new) self.new }
-        ensures steps { MadeSteps (P.stepped port.new) (P.sight port.old) (P.sight port.new) }
-        ensures keeps { KeepsSteps (P.stepped port.old) (P.stepped port.new) }
+        ensures steps { MadeSteps P.stepped (P.sight port.old) (P.sight port.new) }
     {
         let words = self.fetch(port, place.line_at());
         words[usize::from(place.word())]
@@ -113,8 +111,7 @@ impl<V: Evict> Core<V> {
     pub fn line_read<P: Port>(&mut self, port: &mut P, line: Line) -> [u64; 4]
         requires empty { self.old.out ≡ None }
         ensures reads { ReadsLine (P.sight port.old) self.old line result (P.sight port.new) self.new }
-        ensures steps { MadeSteps (P.stepped port.new) (P.sight port.old) (P.sight port.new) }
-        ensures keeps { KeepsSteps (P.stepped port.old) (P.stepped port.new) }
+        ensures steps { MadeSteps P.stepped (P.sight port.old) (P.sight port.new) }
     {
         let first = self.word_read(port, line.word(0));
         let second = self.word_read(port, line.word(1));
@@ -128,7 +125,6 @@ impl<V: Evict> Core<V> {
         requires permitted { MayMakeAll (P.sight port.old).seat (record_in (P.sight port.old))
             (stores_of (handed_out self.old.out (line_of_word place))) }
         ensures writes { Writes (P.sight port.old) self.old place value (P.sight port.new) self.new }
-        ensures keeps { KeepsSteps (P.stepped port.old) (P.stepped port.new) }
     {
         self.cache.note_write(place, value);
         let out = self.combiner.write(place, value);
@@ -140,7 +136,6 @@ impl<V: Evict> Core<V> {
         requires other { handed_out self.old.out line ≡ self.old.out }
         requires permitted { MayMakeAll (P.sight port.old).seat (record_in (P.sight port.old)) (stores_of self.old.out) }
         ensures writes { WritesLine (P.sight port.old) self.old line words.now (P.sight port.new) self.new }
-        ensures keeps { KeepsSteps (P.stepped port.old) (P.stepped port.new) }
     {
         self.word_write(port, line.word(0), words[0]);
         self.word_write(port, line.word(1), words[1]);
@@ -152,7 +147,6 @@ impl<V: Evict> Core<V> {
     pub fn flush<P: Port>(&mut self, port: &mut P)
         requires permitted { MayMakeAll (P.sight port.old).seat (record_in (P.sight port.old)) (stores_of self.old.out) }
         ensures flushes { Flushes (P.sight port.old) self.old (P.sight port.new) self.new }
-        ensures keeps { KeepsSteps (P.stepped port.old) (P.stepped port.new) }
     {
         let out = self.combiner.flush();
         store_out(port, &out);

@@ -18,7 +18,7 @@ impl<V: Evict> Core<V> {
     ghost use Rattle.std.specs.Prelude.{◌≡◌, ◌<◌, ◌≤◌, ◌↔◌, None, length, IsOk, IfErr, OnErr, OnOk};
     ghost use Rattle.scc_base.specs.Setups.{host_of};
     ghost use Rattle.scc_proto.specs.Ports.{MayMakeAll, record_in};
-    ghost use Rattle.put_get.specs.Cores.{KeepsSteps, MadeSteps};
+    ghost use Rattle.put_get.specs.Cores.{MadeSteps};
     ghost use Rattle.put_get.specs.Transfers.{Puts, Gets, put_stores};
 
     /// Writes lines into a buffer at a rank's core, from the buffer's first line on, and stores them.
@@ -44,7 +44,6 @@ impl<V: Evict> Core<V> {
         ensures core_unchanged { OnErr result (self.new ≡ self.old) }
         ensures puts { OnOk result
             (Puts (P.sight port.old) self.old (host_of (P.sight port.old).seat.setup.hosts to) at.first src.now (P.sight port.new) self.new) }
-        ensures keeps { KeepsSteps (P.stepped port.old) (P.stepped port.new) }
     {
         let len = usize::from(at.lines());
         if src.len() > len {
@@ -82,8 +81,7 @@ impl<V: Evict> Core<V> {
         ensures dst_unchanged { OnErr result (dst.new ≡ dst.old) }
         ensures gets { OnOk result
             (Gets (P.sight port.old) self.old (host_of (P.sight port.old).seat.setup.hosts from) at.first dst.new (P.sight port.new) self.new) }
-        ensures steps { MadeSteps (P.stepped port.new) (P.sight port.old) (P.sight port.new) }
-        ensures keeps { KeepsSteps (P.stepped port.old) (P.stepped port.new) }
+        ensures steps { MadeSteps P.stepped (P.sight port.old) (P.sight port.new) }
     {
         let len = usize::from(at.lines());
         if dst.len() > len {

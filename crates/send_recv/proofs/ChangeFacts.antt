@@ -21,7 +21,7 @@ use Rattle.send_recv.specs.Flags.{ChangesBy, WritesFlag, TriesBit, Missed, Chang
 use Rattle.send_recv.specs.Receiving.{flag_lines}
 use Rattle.sync_flags.specs.Tries.{Aim, AtFlag, AtWord, AtRegister, tries_at, vain_from, all_vain, changing_after}
 use Rattle.send_recv.specs.Tries.{aim_of}
-use Rattle.send_recv.specs.Turns.{LastHeld, NoLoad, Last, is_resting, stored_since}
+use Rattle.send_recv.specs.Turns.{LastHeld, NoLoad, Last, is_resting, IsOneTry, stored_since}
 use Rattle.put_get.proofs.FillLemmas.{fills_out, fills_evictions}
 
 -- a line that is alone in the cache, with one word written
@@ -52,6 +52,7 @@ pub record ChangeFacts (layout : Layout) (s : Sight) (c : Private) (core : ℕ) 
   pub ends : done ≡ true → (aim : Aim) (n : ℕ) → vain_from aim false n events ≡ 0
   pub lines : layout ≡ LineFlags → done ≡ true
   pub rests : done ≡ false → list_all is_resting events ≡ true
+  pub only : done ≡ false → IsOneTry (AtRegister core) events
 
 -- a line flag's store is no try
 store_elsewhere : (p : WordAt) (v : ℕ) (at : Spot) → tries_at (aim_of LineFlags at) (store_of p v ∷ []) ≡ 0
@@ -98,6 +99,7 @@ flag_facts s t c d core flag set empty w =
       ends = λ made aim n. store_ends (flag_word core flag) (if set then 1 else 0) aim false n;
       lines = λ e. refl;
       rests = λ e. absurd (cc);
+      only = λ e. absurd (cc);
     }
 
 missed_tries : (core : ℕ) → tries_at (AtRegister core) (take_of core false ∷ []) ≡ 1
@@ -143,6 +145,7 @@ bit_facts s t c d core flag set done empty (Missed missed did e) =
       ends = λ made. absurd (let e : false ≡ true = sym missed ∙ made in cc);
       lines = λ b. absurd (cc);
       rests = λ b. refl;
+      only = λ b. refl;
     }
 bit_facts s t c d core flag set done empty (Changed made words turns did m fills e) =
     let line = line_of_word (flag_word core flag) in
@@ -163,6 +166,7 @@ bit_facts s t c d core flag set done empty (Changed made words turns did m fills
       ends = λ done aim n. changed_ends core flag set words aim n;
       lines = λ b. absurd (cc);
       rests = λ b. absurd (cc);
+      only = λ b. absurd (let e : true ≡ false = sym made ∙ b in cc);
     }
 
 pub change_facts : (layout : Layout) (s t : Sight) (c d : Private) (core : ℕ) (flag : FlagPlace) (set done : Bool) → c.out ≡ None → ChangesBy layout s c core flag set done t d → ChangeFacts layout s c core done t d

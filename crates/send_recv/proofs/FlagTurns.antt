@@ -12,7 +12,7 @@ use Rattle.scc_proto.specs.Moves.{LowerSent, lower_sent, after}
 use Rattle.scc_proto.specs.Permission.{permits, may_take, says_head}
 use Rattle.scc_proto.specs.Records.{chunk_of}
 use Rattle.scc_proto.specs.Ports.{Seat, Sight, record_in}
-use Rattle.scc_proto.proofs.Tests.{eqb_same}
+use Rattle.scc_proto.proofs.Tests.{eqb_same, peers_swap}
 use Rattle.scc_proto.proofs.PortLaws.{seat_kept}
 use Rattle.scc_proto.proofs.Roles.{eq_is, eq_not}
 use Rattle.put_get.specs.Cores.{Private}
@@ -32,6 +32,7 @@ use Rattle.send_recv.proofs.LookTurn.{Turns, stands_after}
 use Rattle.send_recv.proofs.HeadTurn.{post_kept}
 use Rattle.send_recv.proofs.FlagMoves.{may_lower, sent_is_lowered}
 use Rattle.send_recv.proofs.ChangeFacts.{change_facts}
+use Rattle.send_recv.proofs.DraftNone.{sent_is_flag, change_drafts_none}
 
 -- ---- taking the chunk
 
@@ -200,6 +201,8 @@ lower_goes b s t c d op bytes lines valid r lower changes =
         fuller = taken_fuller b size op lines lower;
         fewer = taken_fewer b layout size op lower;
         rests = λ spot w. absurd (cc);
+        only = tt;
+        no_drafts = change_drafts_none s t c d (own_core s.seat) (sent_flag s.seat op.from) false true r.empty (sent_is_flag s.seat valid op.from s.seat.rank (peers_swap s.seat.setup s.seat.rank op.from r.peers)) changes facts.events facts.did;
         same = (refl, refl);
         means = (taken_left b size op lines lower r.in_hand, ap (λ (x : Record). x.calls) is, ap is_received lower, open_taken b);
         rest = rest;

@@ -189,6 +189,8 @@ head_turn s t c d op now bytes words answer valid r header sound reads (Same e n
         fuller = head_fuller size op header;
         fewer = head_fewer s.seat.setup.layout size op header;
         rests = λ spot w. absurd (cc);
+        only = tt;
+        no_drafts = ev.no_drafts s.seat.setup;
         same = (refl, refl);
         means = (head_left size op header r.in_hand, ap (λ (x : Record). x.calls) h.record_is, ap is_received header, refl);
         rest = rest;
@@ -230,6 +232,8 @@ head_turn s t c d op now bytes words answer valid r header sound reads (Differs 
         fuller = le_self _;
         fewer = le_self _;
         rests = λ spot w. absurd (cc);
+        only = tt;
+        no_drafts = ev.no_drafts s.seat.setup;
         same = (refl, refl);
         means = (refl, refl, header, record { stage = same; post = post; rest = rest; calls = calls }, ne, h.header, notes, says);
         rest = rest;

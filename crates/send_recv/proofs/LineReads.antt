@@ -1,6 +1,8 @@
 -- The events of one line that is read: its loads, what they leave in the cache, and how many they are.
-use Rattle.std.proofs.Common.{◌≡◌, ◌≢◌, ◌⊎◌, inl, inr, ℕ, suc, ◌+◌, ◌*◌, ◌<◌, ◌≤◌, Bool, true, false, ◌==◌, ◌&&◌, if◌then◌else◌, List, [], ◌++◌, None, refl, sym, ◌∙◌, ap, subst, arith, append-nil, append_assoc}
+use Rattle.std.proofs.Common.{◌≡◌, ◌≢◌, ◌⊎◌, inl, inr, ℕ, suc, ◌+◌, ◌*◌, ◌<◌, ◌≤◌, Bool, true, false, ◌==◌, ◌&&◌, if◌then◌else◌, List, [], ◌∷◌, ◌++◌, None, refl, sym, ◌∙◌, ap, subst, arith, append-nil, append_assoc}
 use Rattle.scc_base.specs.Places.{LineAt, word_of_line}
+use Rattle.std.specs.List.{list_all}
+use Rattle.scc_base.specs.Setups.{SetupView}
 use Rattle.scc_base.specs.declared.events.Event.{Event}
 use Rattle.scc_proto.specs.Ports.{Sight, Did}
 use Rattle.scc_proto.proofs.PortLaws.{did_nothing, did_both}
@@ -23,7 +25,7 @@ use Rattle.send_recv.specs.Ops.{RecvAt}
 use Rattle.send_recv.specs.Receiving.{IsRecvSpot}
 use Rattle.send_recv.specs.Steps.{own_core, core_of, flag_spot}
 use Rattle.send_recv.specs.Tries.{aim_of}
-use Rattle.send_recv.specs.Turns.{LastHeld, NoLoad, Last, LoadsLines}
+use Rattle.send_recv.specs.Turns.{is_no_draft, LastHeld, NoLoad, Last, LoadsLines}
 use Rattle.send_recv.proofs.TryLemmas.{spot_cases}
 
 -- these events are no try for what lies on another line, and for no register
@@ -65,6 +67,15 @@ none_both line a b x y = record {
   freed = changing-append false a b ∙ ap (λ (ch : Bool). changing_after ch b) x.freed ∙ y.freed;
 }
 
+-- what holds of each of two parts of a list holds of each of the whole
+all_both : (p : Event → Bool) (a b : List Event) → list_all p a ≡ true → list_all p b ≡ true → list_all p (a ++ b) ≡ true
+all_both p [] b x y = y
+all_both p (e ∷ es) b x y = all_next (p e) (list_all p es) (list_all p (es ++ b)) x (λ rest. all_both p es b rest y)
+  where
+    all_next : (h rest all : Bool) → (h && rest) ≡ true → (rest ≡ true → all ≡ true) → (h && all) ≡ true
+    all_next true rest all x go = go x
+    all_next false rest all x go = absurd (cc)
+
 -- after these events, which began at a count of evictions, more were made by fetches of one line
 pub record Fetched (s : Sight) (line : LineAt) (es : List Event) (before : ℕ) (t : Sight) (d : Private) : Type 0 where
   pub events : List Event
@@ -72,6 +83,7 @@ pub record Fetched (s : Sight) (line : LineAt) (es : List Event) (before : ℕ) 
   pub tries : NoTries line events
   pub held : LastHeld (es ++ events) before d
   pub grown : before ≤ d.evictions
+  pub no_drafts : (s : SetupView) → list_all (is_no_draft s) events ≡ true
 
 loaded_held : (es : List Event) (before : ℕ) (c d : Private) (line : LineAt) (words : List ℕ) → before ≤ c.evictions → held c.lines line ≡ None → Fills c line words d → LastHeld (es ++ loads_of line words) before d
 loaded_held es before c d line words le none fills =
@@ -85,6 +97,7 @@ fetched s t c d line words es before le h (Held has e f) = record {
   tries = none_made line;
   held = subst (λ (x : Private). LastHeld (es ++ []) before x) (sym f) (subst (λ l. LastHeld l before c) (sym (append-nil es)) h);
   grown = subst (λ (x : Private). before ≤ x.evictions) (sym f) le;
+  no_drafts = λ setup. refl;
 }
 fetched s t c d line words es before le h (Loaded none len did fills) = record {
   events = loads_of line words;
@@ -92,6 +105,7 @@ fetched s t c d line words es before le h (Loaded none len did fills) = record {
   tries = none_loaded line words;
   held = loaded_held es before c d line words le none fills;
   grown = let more = fills_evictions fills in omega (arith, more, le);
+  no_drafts = λ setup. refl;
 }
 
 fetched_then : (s m t : Sight) (e d : Private) (line : LineAt) (es : List Event) (before : ℕ) (a : Fetched s line es before m e) → Fetched m line (es ++ a.events) before t d → Fetched s line es before t d
@@ -101,6 +115,7 @@ fetched_then s m t e d line es before a b = record {
   tries = none_both line a.events b.events a.tries b.tries;
   held = subst (λ l. LastHeld l before d) (append_assoc es a.events b.events) b.held;
   grown = b.grown;
+  no_drafts = λ setup. all_both (is_no_draft setup) a.events b.events (a.no_drafts setup) (b.no_drafts setup);
 }
 
 -- a line was read: its loads, the line that they leave, and their number
@@ -111,6 +126,7 @@ pub record ReadsWhole (s : Sight) (c : Private) (line : LineAt) (t : Sight) (d :
   pub held : LastHeld events c.evictions d
   pub work : LoadsLines events c d 1
   pub out : d.out ≡ c.out
+  pub no_drafts : (s : SetupView) → list_all (is_no_draft s) events ≡ true
 
 pub reads_whole : (s t : Sight) (c d : Private) (line : LineAt) (words : List ℕ) → ReadsLine s c line words t d → ReadsWhole s c line t d
 reads_whole s t c d line words r =
@@ -136,6 +152,7 @@ reads_whole s t c d line words r =
       held = all.held;
       work = subst (λ l. load_count l + 4 * c.evictions ≤ 4 * d.evictions + 4 * 1) same few;
       out = sp.out;
+      no_drafts = all.no_drafts;
     }
 
 -- the flags at which a receive looks lie on other lines than the header and the chunks

@@ -185,6 +185,8 @@ lines_by b s t c d op i bytes after words next valid r stage reads same put befo
         fuller = line_fuller b size op i stage;
         fewer = line_fewer b layout size op i next stage low;
         rests = λ spot w. absurd (cc);
+        only = tt;
+        no_drafts = ev.no_drafts s.seat.setup;
         same = (refl, refl);
         means = (line_left b size op i next stage low r.in_hand, ap (λ (x : Record). x.calls) is, ap is_received stage, open_next b i);
         rest = rest;

@@ -132,6 +132,8 @@ look_waits s t c d op bytes valid r look looks =
         fuller = le_self _;
         fewer = le_self _;
         rests = λ spot e. refl;
+        only = (looks.words, refl);
+        no_drafts = refl;
         same = (refl, refl);
         means = (refl, refl, record { stage = stage ∙ sym at; post = post; rest = rest; calls = calls });
         rest = rest;
@@ -212,6 +214,8 @@ look_finds s t c d op bytes b first valid r look looks =
         fuller = seen_fuller size op b look;
         fewer = seen_fewer s.seat.setup.layout size op b first look;
         rests = λ spot e. absurd (cc);
+        only = tt;
+        no_drafts = refl;
         same = (refl, refl);
         means = (seen_left size op b first look r.in_hand, calls, not_finished op.stage look, seen_open b);
         rest = rest;

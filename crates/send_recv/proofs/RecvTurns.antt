@@ -13,7 +13,7 @@ use Rattle.scc_base.specs.declared.layouts.Layout.TheVariants.{LineFlags, BitFla
 use Rattle.scc_proto.specs.Stages.{Record}
 use Rattle.scc_proto.specs.Records.{chunk_of}
 use Rattle.scc_proto.specs.Ports.{Seat, Sight, record_in}
-use Rattle.scc_proto.proofs.Tests.{eqb_other}
+use Rattle.scc_proto.proofs.Tests.{eqb_other, peers_swap}
 use Rattle.scc_proto.proofs.PortLaws.{seat_kept, record_did_one}
 use Rattle.scc_proto.proofs.PlaceMoves.{register_missed}
 use Rattle.scc_proto.proofs.Roles.{le_not}
@@ -35,6 +35,7 @@ use Rattle.send_recv.proofs.HeadTurn.{post_kept}
 use Rattle.send_recv.proofs.TryLemmas.{le_self}
 use Rattle.send_recv.proofs.FlagMoves.{ready_is_raised}
 use Rattle.send_recv.proofs.ChangeFacts.{change_facts}
+use Rattle.send_recv.proofs.DraftNone.{IsFlagWord, sent_is_flag, ready_is_flag, change_drafts_none}
 use Rattle.send_recv.proofs.FlagTurns.{went_on, gain_work, lower_goes, change_elsewhere, at_lower}
 use Rattle.send_recv.proofs.RaiseTurn.{is_raising, raise_permitted, raised_calls, raised_stage, started, next_start, next_few, next_below, next_left, next_gain, last_gain}
 
@@ -60,9 +61,9 @@ waits_tried BitFlags spot core events some tries vain lines = Vain (AtRegister c
 still_work : (events a b x z : ℕ) → events + 4 * a ≤ 4 * b + 4 * 0 → events + 4 * a ≤ 4 * b + 4 * ((x - x) + z)
 still_work events a b x z le = omega (arith, le)
 
-register_waits : (s t : Sight) (c d : Private) (op : RecvAt) (bytes : List ℕ) (core : ℕ) (flag : FlagPlace) (set : Bool) → IsSetup s.seat.setup → RecvStands s c op bytes
+register_waits : (s t : Sight) (c d : Private) (op : RecvAt) (bytes : List ℕ) (core : ℕ) (flag : FlagPlace) (set : Bool) → IsSetup s.seat.setup → RecvStands s c op bytes → IsFlagWord s.seat.setup core flag
     → (s.seat.setup.layout ≡ BitFlags → recv_spot s.seat op ≡ Some (Register core)) → Changes s c core flag set false t d → Turns s c op bytes t d op bytes (Waiting (Register core))
-register_waits s t c d op bytes core flag set valid r spot changes =
+register_waits s t c d op bytes core flag set valid r plain spot changes =
     let layout = s.seat.setup.layout in
     let m = missed_by layout s t c d core flag set valid r.hands changes in
     let facts = change_facts layout s t c d core flag set false r.empty changes in
@@ -84,6 +85,8 @@ register_waits s t c d op bytes core flag set valid r spot changes =
         fuller = le_self _;
         fewer = le_self _;
         rests = λ w e. facts.rests refl;
+        only = facts.only refl;
+        no_drafts = change_drafts_none s t c d core flag set false r.empty plain changes facts.events facts.did;
         same = (refl, refl);
         means = (refl, refl, record { stage = ap (λ (x : Record). x.stage) m.same; post = post; rest = rest; calls = ap (λ (x : Record). x.calls) m.same });
         rest = rest;
@@ -102,6 +105,7 @@ pub lower_turn : (gone : Bool) (s t : Sight) (c d : Private) (op : RecvAt) (byte
     → Turns s c op bytes t d (after_lower (chunk_of s.seat.setup) gone op) bytes (recv_or_waits gone (Register (own_core s.seat)))
 lower_turn true s t c d op bytes valid r lower changes = lower_goes (lines_now (chunk_of s.seat.setup) op == 0) s t c d op bytes refl valid r lower changes
 lower_turn false s t c d op bytes valid r lower changes = register_waits s t c d op bytes (own_core s.seat) (sent_flag s.seat op.from) false valid r
+    (sent_is_flag s.seat valid op.from s.seat.rank (peers_swap s.seat.setup s.seat.rank op.from r.peers))
     (at_lower s.seat op lower) changes
 
 -- ---- raising `ready`
@@ -187,6 +191,9 @@ raise_last s t c d op bytes last valid r raise changes =
         fuller = last_fuller layout op raise r.in_hand;
         fewer = no_lines (lines_left layout size op);
         rests = λ spot w. absurd (cc);
+        only = tt;
+        no_drafts = change_drafts_none s t c d (core_of s.seat op.from) (ready_flag s.seat s.seat.rank) true true r.empty
+            (ready_is_flag s.seat valid op.from s.seat.rank (peers_swap s.seat.setup s.seat.rank op.from r.peers)) changes facts.events facts.did;
         same = (refl, refl);
         means = (refl, refl, ends.1 ∙ ap (λ st. (record_in s).calls ++ (if is_received st then [] else Recv op.from op.head bytes ∷ [])) (sym raise));
         rest = rest;
@@ -238,6 +245,9 @@ raise_next s t c d op bytes more valid r raise changes =
         fuller = next_fuller layout op raise;
         fewer = next_fewer layout op raise low;
         rests = λ spot w. absurd (cc);
+        only = tt;
+        no_drafts = change_drafts_none s t c d (core_of s.seat op.from) (ready_flag s.seat s.seat.rank) true true r.empty
+            (ready_is_flag s.seat valid op.from s.seat.rank (peers_swap s.seat.setup s.seat.rank op.from r.peers)) changes facts.events facts.did;
         same = (refl, refl);
         means = (
           left_raise size op raise ∙ next_left layout op.head.len op.chunk low
@@ -273,4 +283,5 @@ pub raise_turn : (gone : Bool) (s t : Sight) (c d : Private) (op : RecvAt) (byte
     → Turns s c op bytes t d (after_raise (chunk_of s.seat.setup) gone op) bytes (raise_answer (chunk_of s.seat.setup) gone (Register (core_of s.seat op.from)) op)
 raise_turn true s t c d op bytes valid r raise changes = raise_by (is_last_chunk (chunk_of s.seat.setup) op.head.len op.chunk) s t c d op bytes refl valid r raise changes
 raise_turn false s t c d op bytes valid r raise changes = register_waits s t c d op bytes (core_of s.seat op.from) (ready_flag s.seat s.seat.rank) true valid r
+    (ready_is_flag s.seat valid op.from s.seat.rank (peers_swap s.seat.setup s.seat.rank op.from r.peers))
     (at_raise s.seat op raise) changes

@@ -34,10 +34,11 @@ slot_means : (layout : Layout) (size : ℕ) (rec new : Record) (op : SendAt) (sl
     → (now.to ≡ slot.to → IsSamePost rec.post new.post) → KeepsRest rec new → SendMeans layout size rec op slot bytes new op now answer
 slot_means layout size rec new op slot now bytes Moved header full means stage calls post rest = (
   left_at layout size op slot Header header
-      ∙ left_by (slot_left slot) (slot_left now) (lines_from size op.head.len op.chunk) (of_chunk layout op.posted * (chunk_count size op.head.len - op.chunk)) _ means (left_at layout size op now Header header),
+      ∙ left_by (slot_left slot) (slot_left now) (lines_from size op.head.len op.chunk) (of_chunk layout op.posted * (chunk_count size op.head.len - op.chunk)) _ means.0 (left_at layout size op now Header header),
   calls,
   ap is_sent header,
   ap is_sent header,
+  means.1,
 )
 slot_means layout size rec new op slot now bytes (Waiting spot) header full means stage calls post rest =
     (refl, means, record { stage = stage; post = post (ap (λ (x : SlotAt). x.to) means); rest = rest; calls = calls })
@@ -68,6 +69,7 @@ slot_turn s t c d op slot now bytes answer r header full stands turned =
         freed = turned.freed;
         ends = λ done open_before aim n. absurd (full (subst (λ (a : Turn). SlotMeans slot now a) done turned.means).0);
         rests = turned.rests;
+        only = turned.only;
         same = (refl, refl, refl);
         means = slot_means layout (chunk_of s.seat.setup) (record_in s) (record_in t) op slot now bytes answer header full turned.means turned.stage turned.calls turned.post turned.rest;
         rest = turned.rest;
@@ -92,12 +94,14 @@ finished_turn s c op slot bytes finished =
       freed = refl;
       ends = λ done unsent aim n. absurd (cc (sym sent ∙ unsent));
       rests = λ spot e. refl;
+      only = tt;
       same = (refl, refl, refl);
       means = (
         finished,
         sym (if_yes (is_sent op.stage) slot (if op.posted then record { to = Some op.to; seen = false } else slot) sent),
         sym (append-nil (record_in s).calls)
             ∙ ap (λ cs. (record_in s).calls ++ cs) (sym (if_yes (is_sent op.stage) [] (if op.posted then Post op.to op.head bytes ∷ [] else Send op.to op.head bytes ∷ []) sent)),
+        λ plain open_before. absurd (cc (sym sent ∙ open_before)),
       );
       rest = record { flips = refl; hold = refl; heap = refl };
       drafts = no_stores s.seat.setup c [] refl;

@@ -1,5 +1,5 @@
 -- The turns of a send that write a line of a chunk, and that store the last one with bit flags.
-use Rattle.std.proofs.Common.{◌≡◌, ℕ, suc, ◌+◌, ◌-◌, ◌*◌, ◌<◌, ◌≤◌, Bool, true, false, if◌then◌else◌, nat_lt, List, Option, None, refl, sym, ◌∙◌, ap, subst, arith}
+use Rattle.std.proofs.Common.{◌≡◌, inr, ℕ, suc, ◌+◌, ◌-◌, ◌*◌, ◌<◌, ◌≤◌, Bool, true, false, if◌then◌else◌, nat_lt, List, Option, None, refl, sym, ◌∙◌, ap, subst, arith}
 use Rattle.scc_base.specs.Layouts.{first_chunk}
 use Rattle.scc_base.specs.Setups.{IsSetup}
 use Rattle.scc_base.specs.declared.events.Spot.{Spot}
@@ -110,8 +110,9 @@ line_by b s t c d op slot bytes i next valid r stage w =
         tried = NoTry (ap (λ (o : Option Spot). aim_at layout o) (spot_at s.seat op slot (Lines i) stage ∙ spot_lines layout (own_core s.seat) (core_of s.seat op.to) op.to i (slot_spot s.seat slot))) refl;
         freed = waiting_freed s.seat op bytes i;
         rests = λ spot e. absurd (cc);
+        only = tt;
         same = (refl, refl, refl);
-        means = (line_left_by b layout size op slot i next stage low r.in_hand, ap (λ (x : Record). x.calls) l.is, ap is_sent stage, line_open b layout i);
+        means = (line_left_by b layout size op slot i next stage low r.in_hand, ap (λ (x : Record). x.calls) l.is, ap is_sent stage, line_open b layout i, inr refl);
         rest = record { flips = ap (λ (x : Record). x.flips) l.is; hold = ap (λ (x : Record). x.held) l.is; heap = ap (λ (x : Record). x.heap) l.is };
         ends = λ e. absurd (cc);
         drafts = only_drafts s.seat.setup c (waiting s.seat op bytes i) at.2;
@@ -158,12 +159,14 @@ flush_turn s t c d op slot bytes valid r flush w =
         tried = NoTry (ap (λ (o : Option Spot). aim_at layout o) (spot_at s.seat op slot Flush flush ∙ spot_flush layout (own_core s.seat) (core_of s.seat op.to) op.to (slot_spot s.seat slot))) refl;
         freed = waiting_freed s.seat op bytes lines;
         rests = λ spot e. absurd (cc);
+        only = tt;
         same = (refl, refl, refl);
         means = (
           left_at layout size op slot Flush flush ∙ left_flush layout op.posted (lines_from size op.head.len op.chunk - lines) (chunk_count size op.head.len - op.chunk) at.0 (omega (arith, below)),
           ap (λ (x : Record). x.calls) l.is,
           ap is_sent flush,
           refl,
+          inr refl,
         );
         rest = record { flips = ap (λ (x : Record). x.flips) l.is; hold = ap (λ (x : Record). x.held) l.is; heap = ap (λ (x : Record). x.heap) l.is };
         ends = λ e. absurd (cc);

@@ -32,7 +32,7 @@ use Rattle.send_recv.proofs.LookTurn.{holds_kept, looked_post, looked_rest, look
 use Rattle.send_recv.proofs.TryLemmas.{look_tried, ready_spot, ready_word, look_held}
 use Rattle.put_get.proofs.FillLemmas.{fills_out}
 use Rattle.send_recv.proofs.DraftNone.{look_drafts_none}
-use Rattle.send_recv.proofs.SlotTurns.{tried_by}
+use Rattle.send_recv.proofs.SlotTurns.{tried_by, look_only}
 use Rattle.send_recv.proofs.SendFacts.{SendTurns, slot_kept, stands_at, at_stage, left_at, spot_at}
 use Rattle.send_recv.proofs.SendWaits.{no_stores}
 
@@ -88,6 +88,7 @@ look_means true layout size rec new op slot bytes spot look calls rest = (
   calls,
   ap is_sent look,
   refl,
+  inr refl,
 )
 look_means false layout size rec new op slot bytes spot look calls rest = (refl, refl, rest refl)
 
@@ -130,6 +131,7 @@ look_turn found s t c d op slot bytes valid r look looks =
         freed = refl;
         ends = λ e. never_done found (flag_spot own flag) e;
         rests = λ spot e. refl;
+        only = look_only found layout (flag_word own flag) flag.bit looks.words;
         same = same_op found op;
         means = look_means found layout size (record_in s) (record_in t) op slot bytes (flag_spot own flag) look calls
             (λ missed. record { stage = stage ∙ ap (λ b. Sending op.to (part_seen b at.3) message up.chunk) missed ∙ sym up.stage_is; post = post; rest = rest; calls = calls });

@@ -121,6 +121,7 @@ way_ends {s} {m} {t} {b} {d} {op} {cur} {now} {slot} {after} {bytes} u st v =
       slot_stands = st.slot_stands;
       posted = λ p f. slot_by (is_sent cur.stage) cur.posted cur.to slot after v.means.1 (u.same.2 ∙ p) (u.finished ∙ f)
           ∙ ap (λ (k : ℕ). record { to = Some k; seen = false }) u.same.0;
+      plain = λ p f. v.means.3 (u.same.2 ∙ p) (u.finished ∙ f);
       rest = rest_both (record_in s) (record_in m) (record_in t) u.rest v.rest;
       no_row = λ f aim. row_on aim u.events v.events u.freed ∙ v.ends refl (u.finished ∙ f) aim (vain_tries aim u.events);
     }

@@ -1,5 +1,5 @@
 -- The turn of a send that lowers `ready`: the chunk is through, and after the last one the message is sent.
-use Rattle.std.proofs.Common.{◌≡◌, ◌≢◌, ℕ, suc, ◌+◌, ◌-◌, ◌*◌, ◌<◌, ◌≤◌, Bool, true, false, ◌==◌, if◌then◌else◌, List, [], ◌∷◌, ◌++◌, Option, Some, None, length, take, refl, sym, ◌∙◌, ap, subst, arith}
+use Rattle.std.proofs.Common.{◌≡◌, ◌≢◌, inr, ℕ, suc, ◌+◌, ◌-◌, ◌*◌, ◌<◌, ◌≤◌, Bool, true, false, ◌==◌, if◌then◌else◌, List, [], ◌∷◌, ◌++◌, Option, Some, None, option_map, length, take, refl, sym, ◌∙◌, ap, subst, arith}
 use Rattle.scc_base.specs.Calls.{Send, Post}
 use Rattle.scc_base.specs.Layouts.{chunk_size}
 use Rattle.scc_base.specs.Setups.{IsSetup}
@@ -10,7 +10,7 @@ use Rattle.scc_base.specs.declared.events.Turn.TheVariants.{Moved, Waiting, Done
 use Rattle.scc_base.specs.declared.layouts.Layout.{Layout}
 use Rattle.scc_base.specs.declared.layouts.Layout.TheVariants.{LineFlags, BitFlags}
 use Rattle.scc_proto.specs.Messages.{bytes_from, is_last, with_chunk}
-use Rattle.scc_proto.specs.Stages.{Filling, Answered, Stage, Idle, Sending, Record}
+use Rattle.scc_proto.specs.Stages.{Filling, Answered, Stage, Idle, Sending, OnItsWay, Record}
 use Rattle.scc_proto.specs.Moves.{LowerReady, lower_ready, calls_sent, finished_if, after}
 use Rattle.scc_proto.specs.Permission.{permits, may_go_on}
 use Rattle.scc_proto.specs.Soundness.{is_answered}
@@ -30,7 +30,7 @@ use Rattle.send_recv.specs.Sending.{IsSending, SendStands, SendMeans, HasDrafted
 use Rattle.send_recv.specs.Steps.{own_core, core_of, ready_flag, after_through, through_answer}
 use Rattle.sync_flags.specs.Tries.{Tried}
 use Rattle.send_recv.specs.Tries.{aim_at}
-use Rattle.send_recv.specs.Turns.{waits_at}
+use Rattle.send_recv.specs.Turns.{OnlyTries, waits_at}
 use Rattle.send_recv.proofs.LookTurn.{holds_kept}
 use Rattle.send_recv.proofs.ChangeFacts.{change_facts}
 use Rattle.send_recv.proofs.FlagTurns.{went_on}
@@ -153,17 +153,18 @@ lower_stands false seat rec new c d op slot bytes small more r lower is out =
     }
 
 lower_means : (b : Bool) (layout : Layout) (rec new : Record) (op : SendAt) (slot : SlotAt) (bytes : List ℕ) → AreBytes bytes → is_last_chunk (chunk_size layout) op.head.len op.chunk ≡ b → IsUp (chunk_size layout) rec.stage op bytes Answered
-    → length bytes ≡ op.head.len → op.chunk < chunk_count (chunk_size layout) op.head.len → op.stage ≡ Lower → op.posted ≡ false → new ≡ after (chunk_size layout) (LowerReady op.to) rec
+    → length bytes ≡ op.head.len → op.chunk < chunk_count (chunk_size layout) op.head.len → op.stage ≡ Lower → op.posted ≡ false → slot.to ≡ None → new ≡ after (chunk_size layout) (LowerReady op.to) rec
     → SendMeans layout (chunk_size layout) rec op slot bytes new (next_op b op) slot (next_answer b)
-lower_means true layout rec new op slot bytes small last up long below lower plain is =
+lower_means true layout rec new op slot bytes small last up long below lower plain none is =
     let ends = through_last layout rec new op bytes small up long below last is in
     let sent : is_sent op.stage ≡ false = ap is_sent lower in (
       refl,
       sym (if_no (is_sent op.stage) slot (if op.posted then record { to = Some op.to; seen = false } else slot) sent ∙ if_no op.posted (record { to = Some op.to; seen = false }) slot plain),
       ends.1 ∙ ap (λ cs. rec.calls ++ cs) (sym (if_no (is_sent op.stage) [] (if op.posted then Post op.to op.head bytes ∷ [] else Send op.to op.head bytes ∷ []) sent
           ∙ if_no op.posted (Post op.to op.head bytes ∷ []) (Send op.to op.head bytes ∷ []) plain)),
+      λ plain open_before. none,
     )
-lower_means false layout rec new op slot bytes small more up long below lower plain is =
+lower_means false layout rec new op slot bytes small more up long below lower plain none is =
     let size = chunk_size layout in
     let goes = through_next layout rec new op bytes small up long below more is in
     let low = le_not op.head.len (size * (op.chunk + 1)) more in (
@@ -173,6 +174,7 @@ lower_means false layout rec new op slot bytes small more up long below lower pl
       goes.1,
       ap is_sent lower,
       refl,
+      inr refl,
     )
 
 same_op : (b : Bool) (op : SendAt) → ((next_op b op).to ≡ op.to) × ((next_op b op).head ≡ op.head) × ((next_op b op).posted ≡ op.posted)
@@ -209,8 +211,10 @@ lower_goes b s t c d op slot bytes last valid small r lower changes =
         freed = facts.freed;
         ends = λ done open_before aim n. facts.ends refl aim n;
         rests = λ spot e. never_waits b spot _ e;
+        only = subst (λ (w : Option Spot). OnlyTries (aim_at layout w) facts.events) (sym (no_wait b)) tt;
         same = same_op b op;
-        means = lower_means b layout (record_in s) (record_in t) op slot bytes small last at.3 r.long r.in_hand lower at.0 is;
+        means = lower_means b layout (record_in s) (record_in t) op slot bytes small last at.3 r.long r.in_hand lower at.0
+            (r.slot_stands.to ∙ ap (λ (o : Option OnItsWay). option_map (λ (p : OnItsWay). p.to) o) at.1) is;
         rest = record { flips = ap (λ (x : Record). x.flips) is; hold = ap (λ (x : Record). x.held) is; heap = ap (λ (x : Record). x.heap) is };
         drafts = no_stores s.seat.setup c facts.events (change_drafts_none s t c d own (ready_flag s.seat op.to) false true at.2 (ready_is_flag s.seat valid s.seat.rank op.to r.peers) changes facts.events facts.did);
         held = facts.held;

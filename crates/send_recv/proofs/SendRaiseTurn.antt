@@ -30,7 +30,7 @@ use Rattle.sync_flags.specs.Tries.{Aim, AtFlag, AtWord, AtRegister, tries_at, al
 use Rattle.sync_flags.proofs.VainLemmas.{vain-append}
 use Rattle.sync_flags.proofs.RowLemmas.{changing-append}
 use Rattle.send_recv.specs.Tries.{aim_at}
-use Rattle.send_recv.specs.Turns.{KeepsRest, LastHeld, NoLoad, StoresFromBuffer, waits_at}
+use Rattle.send_recv.specs.Turns.{KeepsRest, OnlyTries, LastHeld, NoLoad, StoresFromBuffer, waits_at}
 use Rattle.send_recv.proofs.ChangeFacts.{change_facts}
 use Rattle.send_recv.proofs.FlagTurns.{went_on}
 use Rattle.send_recv.proofs.DraftNone.{IsFlagWord, sent_is_flag, store_drafts_none, drafts_none_by}
@@ -139,6 +139,7 @@ after_raise true s t c d op slot bytes posts small r raise up out =
         sym (if_no (is_sent op.stage) slot (if op.posted then record { to = Some op.to; seen = false } else slot) sent ∙ if_yes op.posted (record { to = Some op.to; seen = false }) slot posts),
         p.calls ∙ ap (λ cs. (record_in s).calls ++ cs) (sym (if_no (is_sent op.stage) [] (if op.posted then Post op.to op.head bytes ∷ [] else Send op.to op.head bytes ∷ []) sent
             ∙ if_yes op.posted (Post op.to op.head bytes ∷ []) (Send op.to op.head bytes ∷ []) posts)),
+        λ plain open_before. absurd (cc (sym posts ∙ plain)),
       );
     }
 after_raise false s t c d op slot bytes plain small r raise up out =
@@ -156,6 +157,7 @@ after_raise false s t c d op slot bytes plain small r raise up out =
         o.calls,
         ap is_sent raise,
         refl,
+        inr refl,
       );
     }
 
@@ -202,6 +204,7 @@ raise_goes b s t c d op slot bytes posts valid small r raise changes =
         freed = facts.freed;
         ends = λ done open_before aim n. facts.ends aim n;
         rests = λ spot e. never_waits b spot _ e;
+        only = subst (λ (w : Option Spot). OnlyTries (aim_at layout w) facts.events) (sym (no_wait b)) tt;
         same = (refl, refl, refl);
         means = a.means;
         rest = raised_rest s t op bytes up;

@@ -46,6 +46,7 @@ register_waits s t c d op slot bytes core flag set valid r empty plain spot chan
         freed = facts.freed;
         ends = λ e. absurd (cc);
         rests = λ w e. facts.rests refl;
+        only = facts.only refl;
         same = (refl, refl, refl);
         means = (
           refl,

@@ -155,8 +155,9 @@ header_by b s t c d op slot bytes lines r header empty w =
         tried = NoTry (ap (λ (o : Option Spot). aim_at layout o) (spot_at s.seat op slot Header header ∙ spot_empty layout (own_core s.seat) (core_of s.seat op.to) op.to slot empty)) refl;
         freed = refl;
         rests = λ spot e. refl;
+        only = tt;
         same = (refl, refl, refl);
-        means = (header_left_by b layout size op slot lines header none r.in_hand, ap (λ (x : Record). x.calls) same, ap is_sent header, header_open b layout);
+        means = (header_left_by b layout size op slot lines header none r.in_hand, ap (λ (x : Record). x.calls) same, ap is_sent header, header_open b layout, inr refl);
         rest = record { flips = ap (λ (x : Record). x.flips) same; hold = ap (λ (x : Record). x.held) same; heap = ap (λ (x : Record). x.heap) same };
         ends = λ e. absurd (cc);
         drafts = only_drafts s.seat.setup c None at.2;

@@ -1,15 +1,15 @@
 -- The turns of a slot: it looks whether its message was taken, or lowers the flag that said so.
-use Rattle.std.proofs.Common.{◌≡◌, ℕ, Bool, true, false, ◌==◌, ◌&&◌, if◌then◌else◌, List, Option, Some, None, IfSome, option_map, refl, sym, ◌∙◌, ap, subst, arith}
+use Rattle.std.proofs.Common.{◌≡◌, inl, inr, ℕ, Bool, true, false, ◌==◌, ◌&&◌, if◌then◌else◌, List, [], Option, Some, None, IfSome, option_map, refl, sym, ◌∙◌, ap, subst, arith}
 use Rattle.std.specs.List.{list_all}
 use Rattle.scc_base.specs.Calls.{DataCall}
-use Rattle.scc_base.specs.Places.{LineAt, flag_word, line_of_word}
+use Rattle.scc_base.specs.Places.{WordAt, LineAt, flag_word, line_of_word}
 use Rattle.scc_base.specs.Layouts.{ready_at}
 use Rattle.scc_base.specs.Setups.{IsSetup}
 use Rattle.scc_base.specs.declared.events.Event.{Event}
 use Rattle.scc_base.specs.declared.events.Spot.{Spot}
-use Rattle.scc_base.specs.declared.events.Spot.TheVariants.{Register}
+use Rattle.scc_base.specs.declared.events.Spot.TheVariants.{Flag, Register}
 use Rattle.scc_base.specs.declared.events.Turn.{Turn}
-use Rattle.scc_base.specs.declared.events.Turn.TheVariants.{Moved, Waiting}
+use Rattle.scc_base.specs.declared.events.Turn.TheVariants.{Moved, Waiting, Done}
 use Rattle.scc_base.specs.declared.layouts.Layout.{Layout}
 use Rattle.scc_base.specs.declared.layouts.Layout.TheVariants.{LineFlags, BitFlags}
 use Rattle.scc_proto.specs.Stages.{Stage, Idle, Drafting, Sending, Between, Taking, Barrier, OnItsWay, Record}
@@ -21,7 +21,7 @@ use Rattle.scc_proto.specs.Words.{are_peers}
 use Rattle.scc_proto.specs.Records.{chunk_of}
 use Rattle.scc_proto.specs.Ports.{Seat, Sight, record_in}
 use Rattle.scc_proto.proofs.Tests.{eqb_same}
-use Rattle.scc_proto.proofs.PortLaws.{seat_kept}
+use Rattle.scc_proto.proofs.PortLaws.{did_nothing, seat_kept}
 use Rattle.scc_proto.proofs.Roles.{if_yes}
 use Rattle.put_get.specs.Accesses.{loads_of}
 use Rattle.put_get.specs.Cores.{Private}
@@ -29,15 +29,15 @@ use Rattle.send_recv.specs.Flags.{Looks, Changes, MayChange}
 use Rattle.send_recv.specs.Ops.{SlotAt, slot_left, slot_left_by}
 use Rattle.send_recv.specs.Sending.{SlotStands, SlotTurned, SlotMeans, slot_spot, slot_spot_by, was_answered}
 use Rattle.send_recv.specs.Steps.{own_core, ready_flag, flag_spot, slot_seen, slot_lowered, moved_or_waits}
-use Rattle.sync_flags.specs.Tries.{Aim, Tried}
+use Rattle.sync_flags.specs.Tries.{Aim, Tried, NoTry}
 use Rattle.send_recv.specs.Tries.{aim_at}
-use Rattle.send_recv.specs.Turns.{HoldsNone, is_resting, waits_at}
+use Rattle.send_recv.specs.Turns.{HoldsNone, is_resting, OnlyTries, NoLoad, waits_at}
 use Rattle.send_recv.proofs.SlotApart.{is_apart, apart_in}
 use Rattle.send_recv.proofs.SlotMoves.{may_lower_ready, ready_is_lowered}
 use Rattle.send_recv.proofs.DraftNone.{ready_is_flag, look_drafts_none, change_drafts_none}
 use Rattle.send_recv.proofs.LookLemmas.{looks_at_ready}
 use Rattle.send_recv.proofs.LookTurn.{looked_post, looked_rest, looked_calls}
-use Rattle.send_recv.proofs.HeadTurn.{post_kept}
+use Rattle.send_recv.proofs.HeadTurn.{post_kept, post_itself}
 use Rattle.send_recv.proofs.TryLemmas.{look_tried, ready_spot, ready_word, look_held}
 use Rattle.put_get.proofs.FillLemmas.{fills_out}
 use Rattle.send_recv.proofs.ChangeFacts.{change_facts}
@@ -103,6 +103,36 @@ same_to : (q : ℕ → Bool) (post : Option OnItsWay) → option_map (λ (p : On
 same_to q None = refl
 same_to q (Some p) = refl
 
+-- ---- no message on its way
+
+spot_none : (layout : Layout) (own : ℕ) (seen : Bool) → slot_spot_by layout own None seen ≡ None
+spot_none LineFlags own true = refl
+spot_none LineFlags own false = refl
+spot_none BitFlags own true = refl
+spot_none BitFlags own false = refl
+
+-- the turn of an empty slot makes no event
+pub nothing_turn : (s : Sight) (c : Private) (slot : SlotAt) → slot.to ≡ None → c.out ≡ None → SlotTurned s c slot s c slot Done
+nothing_turn s c slot none empty =
+    let layout = s.seat.setup.layout in
+    record {
+      events = [];
+      did = did_nothing s;
+      tried = NoTry (ap (λ (o : Option ℕ). aim_at layout (slot_spot_by layout (own_core s.seat) o slot.seen)) none ∙ ap (λ (o : Option Spot). aim_at layout o) (spot_none layout (own_core s.seat) slot.seen)) refl;
+      freed = refl;
+      rests = λ spot e. refl;
+      only = tt;
+      means = (none, refl);
+      nothing = λ e. (refl, refl);
+      stage = refl;
+      calls = refl;
+      post = λ same. post_itself (record_in s).post;
+      rest = record { flips = refl; hold = refl; heap = refl };
+      no_drafts = refl;
+      held = NoLoad refl;
+      buffer = empty;
+    }
+
 -- ---- the look
 
 spot_unseen : (layout : Layout) (own to : ℕ) → slot_spot_by layout own (Some to) false ≡ Some (flag_spot own (ready_at layout to))
@@ -131,11 +161,20 @@ look_means : (found : Bool) (slot : SlotAt) (spot : Spot) (to : ℕ) → slot.to
 look_means true slot spot to full unseen =
     let before : slot_left slot ≡ 2 = ap (λ (o : Option ℕ). slot_left_by o slot.seen) full ∙ ap (λ b. if b then 1 else 2) unseen in
     let behind : slot_left_by slot.to true ≡ 1 = ap (λ (o : Option ℕ). slot_left_by o true) full in
-    omega (arith, before, behind)
+    (omega (arith, before, behind), inr refl)
 look_means false slot spot to full unseen = refl
 
 look_rests : (found : Bool) (at : Spot) (line : LineAt) (words : List ℕ) (spot : Spot) → moved_or_waits found at ≡ Waiting spot → list_all is_resting (loads_of line words) ≡ true
 look_rests found at line words spot e = refl
+
+pub never_done : {P : Type 0} (found : Bool) (spot : Spot) → moved_or_waits found spot ≡ Done → P
+never_done true spot e = absurd (cc)
+never_done false spot e = absurd (cc)
+
+-- a look that found nothing made the loads of its line alone
+pub look_only : (found : Bool) (layout : Layout) (place : WordAt) (bit : ℕ) (words : List ℕ) → OnlyTries (aim_at layout (waits_at (moved_or_waits found (Flag place bit)))) (loads_of (line_of_word place) words)
+look_only true layout place bit words = tt
+look_only false layout place bit words = (words, refl)
 
 pub slot_look_turn : (found : Bool) (s t : Sight) (c d : Private) (slot : SlotAt) (to : ℕ) → IsSetup s.seat.setup → SlotStands s.seat (record_in s) slot → c.out ≡ None → HoldsNone s.seat.setup.layout (record_in s)
     → slot.to ≡ Some to → slot.seen ≡ false → Looks s c (own_core s.seat) (ready_flag s.seat to) found t d
@@ -163,6 +202,8 @@ slot_look_turn found s t c d slot to valid h empty hands full unseen looks =
             (ap (λ (o : Option ℕ). slot_spot_by layout own o slot.seen) full ∙ ap (λ b. slot_spot_by layout own (Some to) b) unseen ∙ spot_unseen layout own to) (ready_spot layout own to));
         freed = refl;
         rests = λ spot e. refl;
+        only = look_only found layout (flag_word own flag) flag.bit looks.words;
+        nothing = λ e. never_done found (flag_spot own flag) e;
         means = look_means found slot (flag_spot own flag) to full unseen;
         stage = ap (λ (r : Record). r.stage) l.looked.is ∙ looked_free l.looked.ready (record_in s).stage f.free;
         calls = looked_calls (chunk_of s.seat.setup) (record_in s) (record_in t) l.looked;
@@ -223,7 +264,9 @@ lower_goes s t c d slot to valid h empty hands full seen changes =
         tried = went_on layout (slot_spot s.seat slot) own facts.events (λ e. spot_seen s.seat slot to full seen ∙ spot_lines layout own to e) (λ e. spot_seen s.seat slot to full seen ∙ spot_bits layout own to e) facts.tries facts.vain;
         freed = facts.freed;
         rests = λ spot e. absurd (cc);
-        means = before;
+        only = tt;
+        nothing = λ e. absurd (cc);
+        means = (before, inl refl);
         stage = ap (λ (r : Record). r.stage) is ∙ lowered_free size (record_in s).stage f.free;
         calls = ap (λ (r : Record). r.calls) is ∙ calls_free size (record_in s).stage (record_in s).calls f.free;
         post = λ same. absurd (cc (same ∙ full));
@@ -251,6 +294,8 @@ lower_waits s t c d slot to valid h empty hands full seen changes =
         tried = waits_tried layout (slot_spot s.seat slot) own facts.events (λ e. spot_seen s.seat slot to full seen ∙ spot_bits layout own to e) facts.tries facts.vain facts.lines;
         freed = facts.freed;
         rests = λ spot e. facts.rests refl;
+        only = facts.only refl;
+        nothing = λ e. absurd (cc);
         means = refl;
         stage = ap (λ (r : Record). r.stage) m.same;
         calls = ap (λ (r : Record). r.calls) m.same;

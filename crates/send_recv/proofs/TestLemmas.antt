@@ -9,13 +9,14 @@ use Rattle.scc_proto.proofs.PortLaws.{did_nothing, did_both, seat_kept}
 use Rattle.put_get.specs.Cores.{Private}
 use Rattle.put_get.specs.Transfers.{load_count}
 use Rattle.put_get.proofs.WorkLemmas.{load_count-append}
-use Rattle.sync_flags.specs.Tries.{Aim, tries_at, vain_from, vain_tries, all_vain, Tried}
+use Rattle.sync_flags.specs.Tries.{Aim, spot_of, tries_at, vain_from, vain_tries, all_vain, Tried}
 use Rattle.sync_flags.proofs.RowLemmas.{waited, went_on}
 use Rattle.send_recv.specs.declared.answers.RecvTurn.{RecvTurn}
 use Rattle.send_recv.specs.declared.answers.RecvTurn.TheVariants as turn
 use Rattle.send_recv.specs.declared.calls.RecvStop.{RecvStop}
 use Rattle.send_recv.specs.declared.calls.RecvStop.TheVariants.{Stalled, Mismatch}
 use Rattle.send_recv.specs.Ops.{RecvAt, new_receive}
+use Rattle.send_recv.specs.Turns.{IsOneTry}
 use Rattle.send_recv.specs.Receiving.{RecvStands, RecvTurned, IsRecvSpot, recv_spot, recv_waits, lines_left, filled_to}
 use Rattle.send_recv.specs.Calling.{sent_aim, HasNotStalled, Received, RecvStalled, RecvDiffers, RecvStops, FoundFirst, FoundUnset, TestEnds}
 use Rattle.scc_base.specs.Layouts.{sent_at}
@@ -154,6 +155,7 @@ found_unset {s} {m} {op = op} {spot = spot} start st v =
       one = subst (λ (a : Aim). tries_at a v.events ≡ 1) aim w.one;
       unset = subst (λ (a : Aim). all_vain a false v.events ≡ true) aim w.vain;
       nothing = v.rests spot refl;
+      only = subst (λ (x : Spot). IsOneTry (aim_of s.seat.setup.layout x) v.events) (w.spot_is ∙ ap spot_of aim) v.only;
       unchanged = v.means.1;
       at_rest = v.means.2;
       empty = st.empty;

@@ -18,7 +18,7 @@ use Rattle.send_recv.specs.declared.deliveries.SendStop.{SendStop}
 use Rattle.send_recv.specs.declared.deliveries.SendStop.TheVariants as send_stop
 use Rattle.send_recv.specs.Ops.{RecvAt, SendAt, SlotAt, is_sent}
 use Rattle.send_recv.specs.Tries.{aim_of}
-use Rattle.send_recv.specs.Turns.{HoldsNone, IsSamePost, KeepsRest, IsAtRest, is_resting}
+use Rattle.send_recv.specs.Turns.{HoldsNone, IsSamePost, KeepsRest, IsAtRest, is_resting, IsOneTry}
 use Rattle.send_recv.specs.Steps.{own_core, sent_flag, flag_spot}
 use Rattle.send_recv.specs.Receiving.{RecvStands, SaysHead, IsRecvSpot, recv_spot, recv_call, lines_left, filled_to}
 use Rattle.send_recv.specs.Sending.{SlotStands, SendStands, send_spot, send_call}
@@ -101,6 +101,8 @@ pub record FoundUnset (aim : Aim) (s : Sight) (bytes : List ℕ) (t : Sight) (d 
   pub one : tries_at aim events ≡ 1
   pub unset : all_vain aim false events ≡ true
   pub nothing : list_all is_resting events ≡ true
+  -- the four loads of the flag's line, and no other
+  pub only : IsOneTry aim events
   pub unchanged : after ≡ bytes
   pub at_rest : IsAtRest (record_in s) (record_in t)
   pub empty : d.out ≡ None
@@ -122,6 +124,8 @@ pub record Sent (s : Sight) (op : SendAt) (bytes : List ℕ) (t : Sight) (d : Pr
   pub empty : d.out ≡ None
   pub slot_stands : SlotStands t.seat (record_in t) after
   pub posted : op.posted ≡ true → is_sent op.stage ≡ false → after ≡ record { to = Some op.to; seen = false }
+  -- a plain send leaves no message on its way, its own or another
+  pub plain : op.posted ≡ false → is_sent op.stage ≡ false → after.to ≡ None
   pub rest : KeepsRest (record_in s) (record_in t)
   -- no row of vain tries is left, at any spot
   pub no_row : is_sent op.stage ≡ false → (aim : Aim) → vain_tries aim events ≡ 0

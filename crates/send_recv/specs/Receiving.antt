@@ -28,7 +28,7 @@ use Rattle.send_recv.specs.Chunks.{chunk_count, chunk_start, chunk_len, chunk_li
 use Rattle.send_recv.specs.Ops.{RecvAt, is_received}
 use Rattle.sync_flags.specs.Tries.{Tried, tries_at, changing_after}
 use Rattle.send_recv.specs.Tries.{aim_of, aim_at}
-use Rattle.send_recv.specs.Turns.{HoldsNone, IsSamePost, KeepsRest, IsAtRest, is_resting, LastHeld, LoadsLines}
+use Rattle.send_recv.specs.Turns.{HoldsNone, IsSamePost, KeepsRest, IsAtRest, is_resting, OnlyTries, is_no_draft, LastHeld, LoadsLines}
 
 -- a message of which these chunks are through
 abbrev pub progress_at : ℕ → MessageHead → ℕ → List ℕ → Progress
@@ -183,6 +183,10 @@ pub record RecvTurned (s : Sight) (c : Private) (op : RecvAt) (bytes : List ℕ)
   pub elsewhere : (at : Spot) → IsRecvSpot s.seat op at → recv_spot s.seat op ≢ Some at → tries_at (aim_of s.seat.setup.layout at) events ≡ 0
   -- where it waits, each of its events was a load or a vain take
   pub rests : (spot : Spot) → answer ≡ turn.Waiting spot → list_all is_resting events ≡ true
+  -- where it waits, it made that one try and nothing else
+  pub only : OnlyTries (aim_at s.seat.setup.layout (recv_waits answer)) events
+  -- it stores no header or chunk word
+  pub no_drafts : list_all (is_no_draft s.seat.setup) events ≡ true
   pub same : (now.from ≡ op.from) × (now.head ≡ op.head)
   pub means : RecvMeans (chunk_of s.seat.setup) (record_in s) op bytes (record_in t) now after answer
   pub rest : KeepsRest (record_in s) (record_in t)

@@ -30,7 +30,7 @@ use Rattle.send_recv.specs.Ops.{SendAt, SlotAt, is_sent, slot_left}
 use Rattle.send_recv.specs.Receiving.{progress_at}
 use Rattle.sync_flags.specs.Tries.{Aim, Tried, vain_from, changing_after}
 use Rattle.send_recv.specs.Tries.{aim_at}
-use Rattle.send_recv.specs.Turns.{HoldsNone, IsSamePost, KeepsRest, IsAtRest, is_resting, is_no_draft, LastHeld, StoresFromBuffer, waits_at}
+use Rattle.send_recv.specs.Turns.{HoldsNone, IsSamePost, KeepsRest, IsAtRest, is_resting, OnlyTries, is_no_draft, LastHeld, StoresFromBuffer, waits_at}
 
 -- ---- the slot
 
@@ -53,9 +53,13 @@ slot_spot_by layout own to seen = None
 abbrev pub slot_spot : Seat → SlotAt → Option Spot
 slot_spot seat slot = slot_spot_by seat.setup.layout (host_of seat.setup.hosts seat.rank) slot.to slot.seen
 
+-- a slot is emptied, or has the target that it had
+abbrev pub IsSameOrEmpty : SlotAt → SlotAt → Type 0
+IsSameOrEmpty slot now = (now.to ≡ None) ⊎ (now.to ≡ slot.to)
+
 -- what each answer of a slot's turn means
 abbrev pub SlotMeans : SlotAt → SlotAt → Turn → Type 0
-SlotMeans slot now turn.Moved = slot_left slot ≡ slot_left now + 1
+SlotMeans slot now turn.Moved = (slot_left slot ≡ slot_left now + 1) × IsSameOrEmpty slot now
 SlotMeans slot now (turn.Waiting spot) = now ≡ slot
 SlotMeans slot now turn.Done = (slot.to ≡ None) × (now ≡ slot)
 
@@ -67,7 +71,11 @@ pub record SlotTurned (s : Sight) (c : Private) (slot : SlotAt) (t : Sight) (d :
   -- it has freed the register that it took
   pub freed : changing_after false events ≡ false
   pub rests : (spot : Spot) → answer ≡ turn.Waiting spot → list_all is_resting events ≡ true
+  -- where it waits, it made that one try and nothing else
+  pub only : OnlyTries (aim_at s.seat.setup.layout (waits_at answer)) events
   pub means : SlotMeans slot now answer
+  -- where no message is on its way, nothing is done
+  pub nothing : answer ≡ turn.Done → (t ≡ s) × (d ≡ c)
   pub stage : (record_in t).stage ≡ (record_in s).stage
   pub calls : (record_in t).calls ≡ (record_in s).calls
   -- where the slot is still full, the same message is on its way
@@ -203,9 +211,10 @@ slot_after op slot = if is_sent op.stage then slot else (if op.posted then recor
 -- what each answer means for the op, the slot and the record
 abbrev pub SendMeans : Layout → ℕ → Record → SendAt → SlotAt → List ℕ → Record → SendAt → SlotAt → Turn → Type 0
 SendMeans layout size rec op slot bytes new now after turn.Moved = (send_left layout size op slot ≡ send_left layout size now after + 1) × (new.calls ≡ rec.calls)
-    × (is_sent op.stage ≡ false) × (is_sent now.stage ≡ false)
+    × (is_sent op.stage ≡ false) × (is_sent now.stage ≡ false) × IsSameOrEmpty slot after
 SendMeans layout size rec op slot bytes new now after (turn.Waiting spot) = (now ≡ op) × (after ≡ slot) × IsAtRest rec new
 SendMeans layout size rec op slot bytes new now after turn.Done = (now.stage ≡ Finished) × (after ≡ slot_after op slot) × (new.calls ≡ rec.calls ++ send_call op bytes)
+    × (op.posted ≡ false → is_sent op.stage ≡ false → after.to ≡ None)
 
 -- one turn of a send or of a post
 pub record SendTurned (s : Sight) (c : Private) (op : SendAt) (slot : SlotAt) (bytes : List ℕ) (t : Sight) (d : Private) (now : SendAt) (after : SlotAt) (answer : Turn) : Type 0 where
@@ -219,6 +228,8 @@ pub record SendTurned (s : Sight) (c : Private) (op : SendAt) (slot : SlotAt) (b
   pub ends : answer ≡ turn.Done → is_sent op.stage ≡ false → (aim : Aim) (n : ℕ) → vain_from aim false n events ≡ 0
   -- where it waits, each of its events was a load or a vain take
   pub rests : (spot : Spot) → answer ≡ turn.Waiting spot → list_all is_resting events ≡ true
+  -- where it waits, it made that one try and nothing else
+  pub only : OnlyTries (aim_at s.seat.setup.layout (waits_at answer)) events
   pub same : (now.to ≡ op.to) × (now.head ≡ op.head) × (now.posted ≡ op.posted)
   pub means : SendMeans s.seat.setup.layout (chunk_of s.seat.setup) (record_in s) op slot bytes (record_in t) now after answer
   pub rest : KeepsRest (record_in s) (record_in t)

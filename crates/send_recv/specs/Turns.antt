@@ -2,6 +2,7 @@
 use Rattle.std.specs.Prelude.{◌≡◌, ℕ, ◌+◌, ◌*◌, ◌≤◌, ◌⊎◌, Bool, true, false, ◌==◌, not, if◌then◌else◌, List, [], ◌∷◌, ◌++◌, Option, Some, None, slice_set}
 use Rattle.std.specs.List.{list_all}
 use Rattle.scc_base.specs.Places.{LineAt, WordAt, line_of_word, same_line}
+use Rattle.scc_base.specs.Events.{take_of}
 use Rattle.scc_base.specs.declared.layouts.Layout.{Layout}
 use Rattle.scc_base.specs.declared.layouts.Layout.TheVariants.{LineFlags, BitFlags}
 use Rattle.scc_base.specs.declared.events.Access.{Access}
@@ -17,6 +18,7 @@ use Rattle.line_cache.specs.Lines.{held}
 use Rattle.put_get.specs.Accesses.{loads_of, stores_of}
 use Rattle.put_get.specs.Cores.{Private}
 use Rattle.put_get.specs.Transfers.{load_count}
+use Rattle.sync_flags.specs.Tries.{Aim, AtFlag, AtWord, AtRegister}
 
 -- with bit flags a rank that calls holds no register
 abbrev pub HoldsNoneBy : Layout → (ℕ → Option FlagWords) → Type 0
@@ -52,6 +54,17 @@ is_resting_by access value = false
 
 abbrev pub is_resting : Event → Bool
 is_resting e = is_resting_by e.access e.value
+
+-- nothing but one try, and that in vain for a register: the four loads of the flag's line, or one take
+abbrev pub IsOneTry : Aim → List Event → Type 0
+IsOneTry (AtFlag place bit want) events = (words : List ℕ) × (events ≡ loads_of (line_of_word place) words)
+IsOneTry (AtWord place value) events = (words : List ℕ) × (events ≡ loads_of (line_of_word place) words)
+IsOneTry (AtRegister core) events = events ≡ take_of core false ∷ []
+
+-- the events of a turn that waits are those of one try
+abbrev pub OnlyTries : Option Aim → List Event → Type 0
+OnlyTries None events = Unit {0}
+OnlyTries (Some aim) events = IsOneTry aim events
 
 -- the words of a line after these events stored into it
 abbrev pub stored_by : Access → LineAt → WordAt → ℕ → List ℕ → List ℕ

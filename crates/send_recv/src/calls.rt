@@ -1,7 +1,6 @@
 //! Receive and test as whole calls, with a bound on the tries that find nothing.
 
 ghost use Rattle.std.specs.Prelude.{◌≡◌, ◌≤◌};
-ghost use Rattle.put_get.specs.Cores.{KeepsSteps};
 ghost use Rattle.send_recv.specs.Ops.{new_receive};
 ghost use Rattle.send_recv.specs.Receiving.{RecvStands};
 ghost use Rattle.send_recv.specs.Calling.{RecvEnds, TestEnds};
@@ -33,7 +32,6 @@ pub fn recv<V: Evict, P: Port>(
     requires some { 1 ≤ polls }
     requires stands { RecvStands (P.sight port.old) core.old op bytes.old }
     ensures ends { RecvEnds (P.sight port.old) core.old op bytes.old polls (P.sight port.new) core.new bytes.new result }
-    ensures keeps { KeepsSteps (P.stepped port.old) (P.stepped port.new) }
 {
     let asked = op.head();
     let mut op = op;
@@ -65,7 +63,6 @@ pub fn recv_test<V: Evict, P: Port>(
     requires start { op ≡ new_receive op.from op.head }
     requires stands { RecvStands (P.sight port.old) core.old op bytes.old }
     ensures ends { TestEnds (P.sight port.old) core.old op bytes.old polls (P.sight port.new) core.new bytes.new result }
-    ensures keeps { KeepsSteps (P.stepped port.old) (P.stepped port.new) }
 {
     let asked = op.head();
     let mut op = op;

@@ -1,7 +1,6 @@
 //! Sends and posts as whole calls, with a bound on the tries that find nothing.
 
 ghost use Rattle.std.specs.Prelude.{◌≡◌, ◌≤◌};
-ghost use Rattle.put_get.specs.Cores.{KeepsSteps};
 ghost use Rattle.send_recv.specs.Sending.{SendStands};
 ghost use Rattle.send_recv.specs.Calling.{SendEnds};
 
@@ -31,7 +30,6 @@ pub fn send<V: Evict, P: Port>(
     requires some { 1 ≤ polls }
     requires stands { SendStands (P.sight port.old) core.old op slot.old bytes.now }
     ensures ends { SendEnds (P.sight port.old) op bytes.now polls (P.sight port.new) core.new slot.new result }
-    ensures keeps { KeepsSteps (P.stepped port.old) (P.stepped port.new) }
 {
     let mut op = op;
     let mut vain: u32 = 0;

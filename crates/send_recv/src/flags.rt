@@ -1,7 +1,7 @@
 //! Looks at flags and changes of them, in both layouts.
 
 ghost use Rattle.std.specs.Prelude.{◌≡◌, ◌<◌, true, false, if◌then◌else◌, None, IfSome};
-ghost use Rattle.put_get.specs.Cores.{MadeSteps, KeepsSteps};
+ghost use Rattle.put_get.specs.Cores.{MadeSteps};
 ghost use Rattle.send_recv.specs.Flags.{bit_of, Looks, WritesFlag, TriesBit, Changes, MayWriteFlag, MayChangeBit, MayChange};
 
 use line_cache::Evict;
@@ -30,8 +30,7 @@ pub(crate) fn look<V: Evict, P: Port>(
 ) -> bool
     requires empty { core.old.out ≡ None }
     ensures looks { Looks (P.sight port.old) core.old at flag result (P.sight port.new) core.new }
-    ensures steps { MadeSteps (P.stepped port.new) (P.sight port.old) (P.sight port.new) }
-    ensures keeps { KeepsSteps (P.stepped port.old) (P.stepped port.new) }
+    ensures steps { MadeSteps P.stepped (P.sight port.old) (P.sight port.new) }
 {
     let word = look_word(core, port, flag.place(at));
     is_set_in(bit_of(port.setup().layout(), flag), word)
@@ -54,7 +53,6 @@ fn write_flag<V: Evict, P: Port>(
 )
     requires may { MayWriteFlag (P.sight port.old) core.old at flag set }
     ensures writes { WritesFlag (P.sight port.old) core.old at flag set (P.sight port.new) core.new }
-    ensures keeps { KeepsSteps (P.stepped port.old) (P.stepped port.new) }
 {
     let place = flag.place(at);
     let value = flag_value(set);
@@ -72,8 +70,7 @@ fn change_bit<V: Evict, P: Port>(
 ) -> bool
     requires may { MayChangeBit (P.sight port.old) core.old at flag set }
     ensures tries { TriesBit (P.sight port.old) core.old at flag set result (P.sight port.new) core.new }
-    ensures steps { result ≡ false → MadeSteps (P.stepped port.new) (P.sight port.old) (P.sight port.new) }
-    ensures keeps { KeepsSteps (P.stepped port.old) (P.stepped port.new) }
+    ensures steps { result ≡ false → MadeSteps P.stepped (P.sight port.old) (P.sight port.new) }
 {
     let place = flag.place(at);
     let bit = flag.bit();
@@ -90,8 +87,7 @@ pub(crate) fn change<V: Evict, P: Port>(
 ) -> bool
     requires may { MayChange (P.sight port.old) core.old at flag set }
     ensures changes { Changes (P.sight port.old) core.old at flag set result (P.sight port.new) core.new }
-    ensures steps { result ≡ false → MadeSteps (P.stepped port.new) (P.sight port.old) (P.sight port.new) }
-    ensures keeps { KeepsSteps (P.stepped port.old) (P.stepped port.new) }
+    ensures steps { result ≡ false → MadeSteps P.stepped (P.sight port.old) (P.sight port.new) }
 {
     match port.setup().layout() {
         Layout::LineFlags => {

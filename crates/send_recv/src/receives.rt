@@ -39,7 +39,7 @@ impl RecvOp {
     ghost use Rattle.scc_proto.specs.Ports.{IsSoundPort, record_in};
     ghost use Rattle.scc_proto.specs.Records.{chunk_of};
     ghost use Rattle.scc_proto.specs.Words.{are_peers};
-    ghost use Rattle.put_get.specs.Cores.{ReadsLine, MadeSteps, KeepsSteps};
+    ghost use Rattle.put_get.specs.Cores.{ReadsLine, MadeSteps};
     ghost use Rattle.send_recv.specs.Bytes.{byte_of_line};
     ghost use Rattle.send_recv.specs.Chunks.{chunk_start, chunk_lines_of};
     ghost use Rattle.send_recv.specs.Flags.{Looks, Changes, MayChange};
@@ -75,8 +75,7 @@ impl RecvOp {
             (goes_on result) (P.sight port.new) core.new }
         ensures next { self.new ≡ after_look (goes_on result) self.old }
         ensures answers { result ≡ recv_or_waits (goes_on result) (flag_spot (own_core (P.sight port.old).seat) (sent_flag (P.sight port.old).seat self.old.from)) }
-        ensures steps { MadeSteps (P.stepped port.new) (P.sight port.old) (P.sight port.new) }
-        ensures keeps { KeepsSteps (P.stepped port.old) (P.stepped port.new) }
+        ensures steps { MadeSteps P.stepped (P.sight port.old) (P.sight port.new) }
     {
         let own = own_core(port);
         let flag = layout_of(port).sent(self.from);
@@ -102,7 +101,6 @@ impl RecvOp {
         ensures reads { (words : List ℕ) × ReadsLine (P.sight port.old) (cleared core.old) (line_at (P.sight port.old).seat self.old.from 0) words (P.sight port.new) core.new
             × HeadRead words self.old self.new result }
         ensures sound { IsSoundPort (P.sight port.new) }
-        ensures keeps { KeepsSteps (P.stepped port.old) (P.stepped port.new) }
     {
         known(port);
         core.cl1invmb();
@@ -124,8 +122,7 @@ impl RecvOp {
             (goes_on result) (P.sight port.new) core.new }
         ensures next { self.new ≡ after_lower (chunk_of (P.sight port.old).seat.setup) (goes_on result) self.old }
         ensures answers { result ≡ recv_or_waits (goes_on result) (Register (own_core (P.sight port.old).seat)) }
-        ensures steps { goes_on result ≡ false → MadeSteps (P.stepped port.new) (P.sight port.old) (P.sight port.new) }
-        ensures keeps { KeepsSteps (P.stepped port.old) (P.stepped port.new) }
+        ensures steps { goes_on result ≡ false → MadeSteps P.stepped (P.sight port.old) (P.sight port.new) }
     {
         let own = own_core(port);
         let layout = layout_of(port);
@@ -159,7 +156,6 @@ impl RecvOp {
         ensures behind { (k : ℕ) → chunk_start (chunk_of (P.sight port.old).seat.setup) self.old.chunk + 32 * line + 32 ≤ k → slice_index bytes.new k ≡ slice_index bytes.old k }
         ensures next { self.new ≡ after_line (chunk_of (P.sight port.old).seat.setup) line self.old }
         ensures answers { result ≡ recv_or_waits true (Register 0) }
-        ensures keeps { KeepsSteps (P.stepped port.old) (P.stepped port.new) }
     {
         let layout = layout_of(port);
         if line == 0 {
@@ -186,8 +182,7 @@ impl RecvOp {
             (goes_on result) (P.sight port.new) core.new }
         ensures next { self.new ≡ after_raise (chunk_of (P.sight port.old).seat.setup) (goes_on result) self.old }
         ensures answers { result ≡ raise_answer (chunk_of (P.sight port.old).seat.setup) (goes_on result) (Register (core_of (P.sight port.old).seat self.old.from)) self.old }
-        ensures steps { goes_on result ≡ false → MadeSteps (P.stepped port.new) (P.sight port.old) (P.sight port.new) }
-        ensures keeps { KeepsSteps (P.stepped port.old) (P.stepped port.new) }
+        ensures steps { goes_on result ≡ false → MadeSteps P.stepped (P.sight port.old) (P.sight port.new) }
     {
         let other = core_of(port, self.from);
         let layout = layout_of(port);
@@ -214,8 +209,7 @@ impl RecvOp {
         requires stands { RecvStands (P.sight port.old) core.old self.old bytes.old }
         ensures stands { RecvStands (P.sight port.new) core.new self.new bytes.new }
         ensures turned { RecvTurned (P.sight port.old) core.old self.old bytes.old (P.sight port.new) core.new self.new bytes.new result }
-        ensures steps { (spot : Spot) → recv_waits result ≡ Some spot → MadeSteps (P.stepped port.new) (P.sight port.old) (P.sight port.new) }
-        ensures keeps { KeepsSteps (P.stepped port.old) (P.stepped port.new) }
+        ensures steps { (spot : Spot) → recv_waits result ≡ Some spot → MadeSteps P.stepped (P.sight port.old) (P.sight port.new) }
     {
         known(port);
         match self.stage {

@@ -59,7 +59,7 @@ impl SendOp {
     ghost use Rattle.scc_proto.specs.Words.{are_peers};
     ghost use Rattle.write_combine.specs.Combining.{handed_out};
     ghost use Rattle.put_get.specs.Accesses.{stores_of};
-    ghost use Rattle.put_get.specs.Cores.{WritesLine, Flushes, MadeSteps, KeepsSteps};
+    ghost use Rattle.put_get.specs.Cores.{WritesLine, Flushes, MadeSteps};
     ghost use Rattle.send_recv.specs.Bytes.{words_at};
     ghost use Rattle.send_recv.specs.Chunks.{chunk_start, chunk_lines_of};
     ghost use Rattle.send_recv.specs.Flags.{Looks, Changes, MayChange};
@@ -100,7 +100,6 @@ impl SendOp {
         ensures writes { WritesLine (P.sight port.old) core.old (line_at (P.sight port.old).seat (P.sight port.old).seat.rank 0) (header_words self.old.head self.old.posted) (P.sight port.new) core.new }
         ensures next { self.new ≡ after_header (P.sight port.old).seat.setup.layout self.old }
         ensures answers { result ≡ Moved }
-        ensures keeps { KeepsSteps (P.stepped port.old) (P.stepped port.new) }
     {
         let line = Line::new(own_core(port), 0);
         core.line_write(port, line, &header_line(&self.head, self.posted));
@@ -128,7 +127,6 @@ impl SendOp {
             (words_at bytes.now (chunk_start (chunk_of (P.sight port.old).seat.setup) self.old.chunk + 32 * line)) (P.sight port.new) core.new }
         ensures next { self.new ≡ after_written (P.sight port.old).seat.setup.layout line self.old }
         ensures answers { result ≡ Moved }
-        ensures keeps { KeepsSteps (P.stepped port.old) (P.stepped port.new) }
     {
         let layout = layout_of(port);
         let at = Line::new(own_core(port), layout.first_chunk_line() + line);
@@ -148,7 +146,6 @@ impl SendOp {
         ensures flushes { Flushes (P.sight port.old) core.old (P.sight port.new) core.new }
         ensures next { self.new ≡ after_flush self.old }
         ensures answers { result ≡ Moved }
-        ensures keeps { KeepsSteps (P.stepped port.old) (P.stepped port.new) }
     {
         core.flush(port);
         self.stage = SendStage::Raise;
@@ -168,8 +165,7 @@ impl SendOp {
         ensures next { self.new ≡ after_sent (moves_on result) self.old }
         ensures fills { slot.new ≡ slot_sent (moves_on result) self.old slot.old }
         ensures answers { result ≡ sent_answer (moves_on result) (Register (core_of (P.sight port.old).seat self.old.to)) self.old }
-        ensures steps { moves_on result ≡ false → MadeSteps (P.stepped port.new) (P.sight port.old) (P.sight port.new) }
-        ensures keeps { KeepsSteps (P.stepped port.old) (P.stepped port.new) }
+        ensures steps { moves_on result ≡ false → MadeSteps P.stepped (P.sight port.old) (P.sight port.new) }
     {
         let other = core_of(port, self.to);
         let flag = layout_of(port).sent(port.rank());
@@ -191,8 +187,7 @@ impl SendOp {
         ensures looks { Looks (P.sight port.old) core.old (own_core (P.sight port.old).seat) (ready_flag (P.sight port.old).seat self.old.to) (moves_on result) (P.sight port.new) core.new }
         ensures next { self.new ≡ after_seen (moves_on result) self.old }
         ensures answers { result ≡ moved_or_waits (moves_on result) (flag_spot (own_core (P.sight port.old).seat) (ready_flag (P.sight port.old).seat self.old.to)) }
-        ensures steps { MadeSteps (P.stepped port.new) (P.sight port.old) (P.sight port.new) }
-        ensures keeps { KeepsSteps (P.stepped port.old) (P.stepped port.new) }
+        ensures steps { MadeSteps P.stepped (P.sight port.old) (P.sight port.new) }
     {
         let own = own_core(port);
         let flag = layout_of(port).ready(self.to);
@@ -213,8 +208,7 @@ impl SendOp {
         ensures changes { Changes (P.sight port.old) core.old (own_core (P.sight port.old).seat) (ready_flag (P.sight port.old).seat self.old.to) false (moves_on result) (P.sight port.new) core.new }
         ensures next { self.new ≡ after_through (chunk_of (P.sight port.old).seat.setup) (moves_on result) self.old }
         ensures answers { result ≡ through_answer (chunk_of (P.sight port.old).seat.setup) (moves_on result) (Register (own_core (P.sight port.old).seat)) self.old }
-        ensures steps { moves_on result ≡ false → MadeSteps (P.stepped port.new) (P.sight port.old) (P.sight port.new) }
-        ensures keeps { KeepsSteps (P.stepped port.old) (P.stepped port.new) }
+        ensures steps { moves_on result ≡ false → MadeSteps P.stepped (P.sight port.old) (P.sight port.new) }
     {
         let own = own_core(port);
         let layout = layout_of(port);
@@ -242,8 +236,7 @@ impl SendOp {
         requires stands { SendStands (P.sight port.old) core.old self.old slot.old bytes.now }
         ensures stands { SendStands (P.sight port.new) core.new self.new slot.new bytes.now }
         ensures turned { SendTurned (P.sight port.old) core.old self.old slot.old bytes.now (P.sight port.new) core.new self.new slot.new result }
-        ensures steps { (spot : Spot) → waits_at result ≡ Some spot → MadeSteps (P.stepped port.new) (P.sight port.old) (P.sight port.new) }
-        ensures keeps { KeepsSteps (P.stepped port.old) (P.stepped port.new) }
+        ensures steps { (spot : Spot) → waits_at result ≡ Some spot → MadeSteps P.stepped (P.sight port.old) (P.sight port.new) }
     {
         known(port);
         known_bytes(bytes);

@@ -29,7 +29,7 @@ impl Slot {
     ghost use Rattle.scc_base.specs.declared.events.Spot.{Spot};
     ghost use Rattle.scc_base.specs.declared.events.Spot.TheVariants.{Register};
     ghost use Rattle.scc_proto.specs.Ports.{record_in};
-    ghost use Rattle.put_get.specs.Cores.{MadeSteps, KeepsSteps};
+    ghost use Rattle.put_get.specs.Cores.{MadeSteps};
     ghost use Rattle.send_recv.specs.Flags.{Looks, Changes, MayChange};
     ghost use Rattle.send_recv.specs.Ops.{empty_slot};
     ghost use Rattle.send_recv.specs.Sending.{SlotStands, SlotTurned};
@@ -68,8 +68,7 @@ impl Slot {
             (moves_on result) (P.sight port.new) core.new }
         ensures next { self.new ≡ slot_seen (moves_on result) self.old }
         ensures answers { result ≡ moved_or_waits (moves_on result) (flag_spot (own_core (P.sight port.old).seat) (ready_flag (P.sight port.old).seat to)) }
-        ensures steps { MadeSteps (P.stepped port.new) (P.sight port.old) (P.sight port.new) }
-        ensures keeps { KeepsSteps (P.stepped port.old) (P.stepped port.new) }
+        ensures steps { MadeSteps P.stepped (P.sight port.old) (P.sight port.new) }
     {
         let own = own_core(port);
         let flag = layout_of(port).ready(to);
@@ -90,8 +89,7 @@ impl Slot {
             (moves_on result) (P.sight port.new) core.new }
         ensures next { self.new ≡ slot_lowered (moves_on result) self.old }
         ensures answers { result ≡ moved_or_waits (moves_on result) (Register (own_core (P.sight port.old).seat)) }
-        ensures steps { moves_on result ≡ false → MadeSteps (P.stepped port.new) (P.sight port.old) (P.sight port.new) }
-        ensures keeps { KeepsSteps (P.stepped port.old) (P.stepped port.new) }
+        ensures steps { moves_on result ≡ false → MadeSteps P.stepped (P.sight port.old) (P.sight port.new) }
     {
         let own = own_core(port);
         let flag = layout_of(port).ready(to);
@@ -110,8 +108,7 @@ impl Slot {
         requires hands { HoldsNone (P.sight port.old).seat.setup.layout (record_in (P.sight port.old)) }
         ensures stands { SlotStands (P.sight port.new).seat (record_in (P.sight port.new)) self.new }
         ensures turned { SlotTurned (P.sight port.old) core.old self.old (P.sight port.new) core.new self.new result }
-        ensures steps { (spot : Spot) → waits_at result ≡ Some spot → MadeSteps (P.stepped port.new) (P.sight port.old) (P.sight port.new) }
-        ensures keeps { KeepsSteps (P.stepped port.old) (P.stepped port.new) }
+        ensures steps { (spot : Spot) → waits_at result ≡ Some spot → MadeSteps P.stepped (P.sight port.old) (P.sight port.new) }
     {
         known(port);
         match self.to {

@@ -3,7 +3,7 @@
 ghost use Rattle.std.specs.Prelude.{◌≡◌, ◌<◌, ◌≤◌, ◌↔◌, List, None, IsErr};
 ghost use Rattle.scc_base.specs.declared.events.Event.{Event};
 ghost use Rattle.scc_proto.specs.Ports.{Did};
-ghost use Rattle.put_get.specs.Cores.{MadeSteps, KeepsSteps};
+ghost use Rattle.put_get.specs.Cores.{MadeSteps};
 ghost use Rattle.sync_flags.specs.Flags.{flag_of};
 ghost use Rattle.sync_flags.specs.Tries.{AtFlag, TriedInVain};
 ghost use Rattle.sync_flags.specs.Looks.{LooksAt, ReadsFlag, WaitsFor};
@@ -20,8 +20,7 @@ pub fn look_word<V: Evict, P: Port>(core: &mut Core<V>, port: &mut P, place: Pla
     requires empty { core.old.out ≡ None }
     ensures looks { LooksAt (P.sight port.old) core.old place result (P.sight port.new) core.new }
     ensures empty { core.new.out ≡ None }
-    ensures steps { MadeSteps (P.stepped port.new) (P.sight port.old) (P.sight port.new) }
-    ensures keeps { KeepsSteps (P.stepped port.old) (P.stepped port.new) }
+    ensures steps { MadeSteps P.stepped (P.sight port.old) (P.sight port.new) }
 {
     core.cl1invmb();
     core.word_read(port, place)
@@ -33,8 +32,7 @@ pub fn flag_read<V: Evict, P: Port>(core: &mut Core<V>, port: &mut P, at: Rank, 
     requires empty { core.old.out ≡ None }
     ensures reads { ReadsFlag (P.sight port.old) core.old (flag_of (P.sight port.old).seat.setup at f) f.bit result (P.sight port.new) core.new }
     ensures empty { core.new.out ≡ None }
-    ensures steps { MadeSteps (P.stepped port.new) (P.sight port.old) (P.sight port.new) }
-    ensures keeps { KeepsSteps (P.stepped port.old) (P.stepped port.new) }
+    ensures steps { MadeSteps P.stepped (P.sight port.old) (P.sight port.new) }
 {
     let place = f.place(port.setup().core_of(at));
     f.is_set(look_word(core, port, place))
@@ -54,8 +52,7 @@ pub fn wait_until<V: Evict, P: Port>(
     ensures stalls { (events : List Event) → Did (P.sight port.old) events (P.sight port.new) → (IsErr result
         ↔ TriedInVain (AtFlag (flag_of (P.sight port.old).seat.setup (P.sight port.old).seat.rank f) f.bit want) polls events) }
     ensures empty { core.new.out ≡ None }
-    ensures steps { MadeSteps (P.stepped port.new) (P.sight port.old) (P.sight port.new) }
-    ensures keeps { KeepsSteps (P.stepped port.old) (P.stepped port.new) }
+    ensures steps { MadeSteps P.stepped (P.sight port.old) (P.sight port.new) }
 {
     let me = port.rank();
     let place = f.place(port.setup().core_of(me));

@@ -4,7 +4,7 @@ ghost use Rattle.std.specs.Prelude.{◌≡◌, ◌<◌, ◌≤◌, ◌↔◌, �
 ghost use Rattle.scc_base.specs.Events.{store_of, take_of};
 ghost use Rattle.scc_base.specs.declared.events.Event.{Event};
 ghost use Rattle.scc_proto.specs.Ports.{Did, MayMake, record_in};
-ghost use Rattle.put_get.specs.Cores.{MadeSteps, KeepsSteps};
+ghost use Rattle.put_get.specs.Cores.{MadeSteps};
 ghost use Rattle.tas_lock.specs.Holds.{IsHolding, IsNotHolding, after_try};
 ghost use Rattle.sync_flags.specs.Flags.{flag_of, with_bit};
 ghost use Rattle.sync_flags.specs.Tries.{AtRegister, TriedInVain};
@@ -24,7 +24,6 @@ pub fn store_word<V: Evict, P: Port>(core: &mut Core<V>, port: &mut P, place: Pl
     requires permitted { MayMake (P.sight port.old).seat (record_in (P.sight port.old)) (store_of place value) }
     ensures stores { StoresWord (P.sight port.old) core.old place value (P.sight port.new) core.new }
     ensures empty { core.new.out ≡ None }
-    ensures keeps { KeepsSteps (P.stepped port.old) (P.stepped port.new) }
 {
     let _ = place.word();
     core.word_write(port, place, value);
@@ -36,7 +35,6 @@ fn acquire_within<P: Port>(port: &mut P, c: CoreId, polls: u32) -> Option<Held>
     requires not_held { IsNotHolding (record_in (P.sight port.old)) c }
     ensures takes { TakesWithin (P.sight port.old) c polls (P.sight port.new) result }
     ensures holds { record_in (P.sight port.new) ≡ after_try c (is_some result) (record_in (P.sight port.old)) }
-    ensures keeps { KeepsSteps (P.stepped port.old) (P.stepped port.new) }
 {
     for _ in 0..polls {
         if let Some(held) = try_acquire(port, c) {
@@ -66,7 +64,6 @@ fn change_bit<V: Evict, P: Port>(core: &mut Core<V>, port: &mut P, place: Place,
     ensures changes { ChangesBit (P.sight port.old) core.old place bit set (P.sight port.new) core.new }
     ensures holds { (k : ℕ) → IsHolding (record_in (P.sight port.old)) k → IsHolding (record_in (P.sight port.new)) k }
     ensures empty { core.new.out ≡ None }
-    ensures keeps { KeepsSteps (P.stepped port.old) (P.stepped port.new) }
 {
     let word = look_word(core, port, place);
     // The port's contract says here that the record with these loads is sound.
@@ -87,8 +84,7 @@ pub fn try_change_bit<V: Evict, P: Port>(
     requires permitted { MayWrite (P.sight port.old).seat (record_in (P.sight port.old)) place (Some bit) set }
     ensures tries { TriesChange (P.sight port.old) core.old place bit set result (P.sight port.new) core.new }
     ensures empty { core.new.out ≡ None }
-    ensures steps { result ≡ false → MadeSteps (P.stepped port.new) (P.sight port.old) (P.sight port.new) }
-    ensures keeps { KeepsSteps (P.stepped port.old) (P.stepped port.new) }
+    ensures steps { result ≡ false → MadeSteps P.stepped (P.sight port.old) (P.sight port.new) }
 {
     let at = place.core();
     match try_acquire(port, at) {
@@ -116,7 +112,6 @@ fn write_bit<V: Evict, P: Port>(
     requires permitted { MayWrite (P.sight port.old).seat (record_in (P.sight port.old)) place (Some bit) set }
     ensures writes { WritesFlag (P.sight port.old) core.old place (Some bit) set polls (P.sight port.new) core.new result }
     ensures empty { core.new.out ≡ None }
-    ensures keeps { KeepsSteps (P.stepped port.old) (P.stepped port.new) }
 {
     let register = place.core();
     match acquire_within(port, register, polls) {
@@ -150,7 +145,6 @@ pub fn flag_write<V: Evict, P: Port>(
     ensures stalls { (events : List Event) → Did (P.sight port.old) events (P.sight port.new) → (IsErr result
         ↔ TriedInVain (AtRegister (flag_of (P.sight port.old).seat.setup at f).core) polls events) }
     ensures empty { core.new.out ≡ None }
-    ensures keeps { KeepsSteps (P.stepped port.old) (P.stepped port.new) }
 {
     let place = f.place(port.setup().core_of(at));
     match f.bit_of() {

@@ -1,8 +1,7 @@
 //! Taking and freeing a register.
 
-ghost use Rattle.std.specs.Prelude.{◌≡◌, List, [], ◌∷◌, IfSome, is_some};
+ghost use Rattle.std.specs.Prelude.{◌≡◌, [], ◌∷◌, IfSome, is_some};
 ghost use Rattle.scc_base.specs.Events.{take_of, free_of};
-ghost use Rattle.scc_base.specs.declared.events.Event.{Event};
 ghost use Rattle.scc_proto.specs.Ports.{Did, record_in};
 ghost use Rattle.tas_lock.specs.Holds.{IsHolding, IsNotHolding, after_try, after_release};
 
@@ -43,8 +42,7 @@ pub fn try_acquire<P: Port>(port: &mut P, c: CoreId) -> Option<Held>
     ensures takes { Did (P.sight port.old) (take_of c (is_some result) ∷ []) (P.sight port.new) }
     ensures names { IfSome result (λ held. held ≡ c) }
     ensures holds { record_in (P.sight port.new) ≡ after_try c (is_some result) (record_in (P.sight port.old)) }
-    ensures step { P.stepped port.new (P.sight port.old).events (take_of c (is_some result)) }
-    ensures keeps { (es : List Event) (e : Event) → P.stepped port.old es e → P.stepped port.new es e }
+    ensures step { P.stepped (P.sight port.old).seat (P.sight port.old).events (take_of c (is_some result)) }
 {
     if port.take(c) {
         Some(Held { core: c })
@@ -58,7 +56,6 @@ pub fn release<P: Port>(port: &mut P, held: Held)
     requires held { IsHolding (record_in (P.sight port.old)) held }
     ensures frees { Did (P.sight port.old) (free_of held ∷ []) (P.sight port.new) }
     ensures holds { record_in (P.sight port.new) ≡ after_release held (record_in (P.sight port.old)) }
-    ensures keeps { (es : List Event) (e : Event) → P.stepped port.old es e → P.stepped port.new es e }
 {
     let Held { core } = held;
     port.free(core);

@@ -30,7 +30,7 @@ impl<R: Abort> Port for Registers<'_, R> {
       events = p.events.items;
     } };
 
-    ghost stepped = { λ p es e. Unit {0} };
+    ghost stepped = { λ seat es e. Unit {0} };
 
     fn setup(&self) -> &Setup {
         &self.setup

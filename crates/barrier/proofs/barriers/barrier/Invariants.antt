@@ -1,5 +1,4 @@
 use Rattle.std.proofs.Common.{◌-◌, ◌+◌, ◌*◌, ◌<◌}
-use Rattle.put_get.specs.Cores.{KeepsSteps}
 use Rattle.barrier.specs.Stages.{bar_left}
 use Rattle.barrier.proofs.CallLemmas.{Underway}
 use Rattle.barrier.proofs.barriers.barrier.Given as goal
@@ -7,7 +6,6 @@ use Rattle.barrier.proofs.barriers.barrier.Given as goal
 abbrev pub invariant-turns : goal.invariant-turns
 invariant-turns g l =
     Underway (g.P.Port.sight l.fn.port) l.fn.op l.vain (g.P.Port.sight l.port) l.core l.op l.parity
-    × KeepsSteps (g.P.Port.stepped l.fn.port) (g.P.Port.stepped l.port)
     × (l.vain < l.polls)
 
 abbrev pub decreases-turns : goal.decreases-turns

@@ -10,12 +10,19 @@ returns-clause-did g c =
 
 pub returns-clause-steps : goal.returns-clause-steps
 returns-clause-steps g c =
-    let first = steps_one (g.P.Port.stepped c.load-first.new.self) (g.P.Port.sight c.args.port.now) (g.P.Port.sight c.load-first.new.self) _ c.load-first.ensures.did c.load-first.ensures.step in
-    let second = steps_one (g.P.Port.stepped c.load-second.new.self) (g.P.Port.sight c.load-first.new.self) (g.P.Port.sight c.load-second.new.self) _ c.load-second.ensures.did c.load-second.ensures.step in
-    let third = steps_one (g.P.Port.stepped c.load-third.new.self) (g.P.Port.sight c.load-second.new.self) (g.P.Port.sight c.load-third.new.self) _ c.load-third.ensures.did c.load-third.ensures.step in
-    let fourth = steps_one (g.P.Port.stepped c.load-fourth.new.self) (g.P.Port.sight c.load-third.new.self) (g.P.Port.sight c.load-fourth.new.self) _ c.load-fourth.ensures.did c.load-fourth.ensures.step in
-    steps_both _ _ _ _ _ _ _ (did_both _ _ _ _ _ (did_both _ _ _ _ _ c.load-first.ensures.did c.load-second.ensures.did) c.load-third.ensures.did) c.load-fourth.ensures.did
-    (steps_both _ _ _ _ _ _ _ (did_both _ _ _ _ _ c.load-first.ensures.did c.load-second.ensures.did) c.load-third.ensures.did
-    (steps_both _ _ _ _ _ _ _ c.load-first.ensures.did c.load-second.ensures.did first c.load-second.ensures.keeps second)
-    c.load-third.ensures.keeps third)
-    c.load-fourth.ensures.keeps fourth
+    let start = g.P.Port.sight c.args.port.now in
+    let s1 = g.P.Port.sight c.load-first.new.self in
+    let s2 = g.P.Port.sight c.load-second.new.self in
+    let s3 = g.P.Port.sight c.load-third.new.self in
+    let end = g.P.Port.sight c.load-fourth.new.self in
+    let two = did_both start _ s1 _ s2 c.load-first.ensures.did c.load-second.ensures.did in
+    let three = did_both start _ s2 _ s3 two c.load-third.ensures.did in
+    let first = steps_one g.P.Port.stepped start s1 _ c.load-first.ensures.did c.load-first.ensures.step in
+    let second = steps_one g.P.Port.stepped s1 s2 _ c.load-second.ensures.did c.load-second.ensures.step in
+    let third = steps_one g.P.Port.stepped s2 s3 _ c.load-third.ensures.did c.load-third.ensures.step in
+    let fourth = steps_one g.P.Port.stepped s3 end _ c.load-fourth.ensures.did c.load-fourth.ensures.step in
+    steps_both g.P.Port.stepped start s3 end _ _ three c.load-fourth.ensures.did
+    (steps_both g.P.Port.stepped start s2 s3 _ _ two c.load-third.ensures.did
+    (steps_both g.P.Port.stepped start s1 s2 _ _ c.load-first.ensures.did c.load-second.ensures.did first second)
+    third)
+    fourth

@@ -1,5 +1,4 @@
 use Rattle.std.proofs.Common.{◌-◌, ◌+◌, ◌*◌, ◌<◌}
-use Rattle.put_get.specs.Cores.{KeepsSteps}
 use Rattle.scc_proto.specs.Records.{chunk_of}
 use Rattle.send_recv.specs.Receiving.{recv_left}
 use Rattle.send_recv.proofs.RecvLoop.{Underway}
@@ -8,7 +7,6 @@ use Rattle.send_recv.proofs.calls.recv.Given as goal
 abbrev pub invariant-turns : goal.invariant-turns
 invariant-turns g l =
     Underway (g.P.Port.sight l.fn.port) l.fn.core l.fn.op l.fn.bytes l.vain (g.P.Port.sight l.port) l.core l.op l.bytes
-    × KeepsSteps (g.P.Port.stepped l.fn.port) (g.P.Port.stepped l.port)
     × (l.vain < l.polls)
 
 abbrev pub decreases-turns : goal.decreases-turns

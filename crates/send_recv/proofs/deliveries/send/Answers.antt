@@ -4,23 +4,23 @@ use Rattle.send_recv.proofs.SendLoop.{way_none, way_moved, way_waited, way_ends,
 use Rattle.send_recv.proofs.deliveries.send.Goals as goal
 
 pub turns-init : goal.turns-init
-turns-init g c = let some = c.requires.some in (way_none c.requires.stands, λ es e h. h, omega (arith, some))
+turns-init g c = let some = c.requires.some in (way_none c.requires.stands, omega (arith, some))
 
-pub returns-in-Done-clause-ends : goal.returns-in-Done-clause-ends
-returns-in-Done-clause-ends g c = way_ends c.turns.invariant.0 c.in-Done.ensures.stands c.in-Done.ensures.turned
+pub returns-in-Done : goal.returns-in-Done
+returns-in-Done g c = record { ends = way_ends c.turns.invariant.0 c.in-Done.ensures.stands c.in-Done.ensures.turned }
 
 pub turns-smaller-in-Moved : goal.turns-smaller-in-Moved
-turns-smaller-in-Moved g c = measure_falls _ _ _ _ (send_falls c.turns.invariant.0 c.in-Moved.ensures.turned) c.turns.invariant.2
+turns-smaller-in-Moved g c = measure_falls _ _ _ _ (send_falls c.turns.invariant.0 c.in-Moved.ensures.turned) c.turns.invariant.1
 
 pub turns-preserved-in-Moved : goal.turns-preserved-in-Moved
 turns-preserved-in-Moved g c =
     let some = c.requires.some in
-    (way_moved c.turns.invariant.0 c.in-Moved.ensures.stands c.in-Moved.ensures.turned, λ es e h. c.turn.ensures.keeps es e (c.turns.invariant.1 es e h), omega (arith, some))
+    (way_moved c.turns.invariant.0 c.in-Moved.ensures.stands c.in-Moved.ensures.turned, omega (arith, some))
 
-pub returns-then-vain-polls-clause-ends : goal.returns-then-vain-polls-clause-ends
-returns-then-vain-polls-clause-ends g c = (refl, way_stalls c.turns.invariant.0 c.in-Waiting.ensures.stands c.in-Waiting.ensures.turned c.args.polls c.if-vain-polls.true)
+pub returns-then-vain-polls : goal.returns-then-vain-polls
+returns-then-vain-polls g c = record { ends = (refl, way_stalls c.turns.invariant.0 c.in-Waiting.ensures.stands c.in-Waiting.ensures.turned c.args.polls c.if-vain-polls.true) }
 
 pub turns-preserved : goal.turns-preserved
 turns-preserved g c =
     let more = c.if-vain-polls.false in
-    (way_waited c.turns.invariant.0 c.in-Waiting.ensures.stands c.in-Waiting.ensures.turned, λ es e h. c.turn.ensures.keeps es e (c.turns.invariant.1 es e h), omega (arith, more))
+    (way_waited c.turns.invariant.0 c.in-Waiting.ensures.stands c.in-Waiting.ensures.turned, omega (arith, more))

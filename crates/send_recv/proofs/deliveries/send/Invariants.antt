@@ -1,5 +1,4 @@
 use Rattle.std.proofs.Common.{◌-◌, ◌+◌, ◌*◌, ◌<◌}
-use Rattle.put_get.specs.Cores.{KeepsSteps}
 use Rattle.scc_proto.specs.Records.{chunk_of}
 use Rattle.send_recv.specs.Sending.{send_left}
 use Rattle.send_recv.proofs.SendLoop.{SendWay}
@@ -8,7 +7,6 @@ use Rattle.send_recv.proofs.deliveries.send.Given as goal
 abbrev pub invariant-turns : goal.invariant-turns
 invariant-turns g l =
     SendWay (g.P.Port.sight l.fn.port) l.fn.op l.bytes l.vain (g.P.Port.sight l.port) l.core l.op l.slot
-    × KeepsSteps (g.P.Port.stepped l.fn.port) (g.P.Port.stepped l.port)
     × (l.vain < l.polls)
 
 abbrev pub decreases-turns : goal.decreases-turns

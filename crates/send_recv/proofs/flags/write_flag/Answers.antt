@@ -6,6 +6,8 @@ flush-requires g c = record {
   permitted = flag_permitted _ _ _ _ c.args.at c.args.flag c.args.set _ _ c.requires.may c.place-place.ensures.gives c.flag_value-value.ensures.gives c.word_write.ensures.writes;
 }
 
-pub returns-clause-writes : goal.returns-clause-writes
-returns-clause-writes g c = flag_written _ _ _ _ _ _ c.args.at c.args.flag c.args.set _ _ c.requires.may.word_below c.requires.may.other c.place-place.ensures.gives c.flag_value-value.ensures.gives
-    c.word_write.ensures.writes c.flush.ensures.flushes
+pub returns : goal.returns
+returns g c = record {
+  writes = flag_written _ _ _ _ _ _ c.args.at c.args.flag c.args.set _ _ c.requires.may.word_below c.requires.may.other c.place-place.ensures.gives c.flag_value-value.ensures.gives
+      c.word_write.ensures.writes c.flush.ensures.flushes;
+}

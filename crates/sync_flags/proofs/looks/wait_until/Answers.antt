@@ -14,8 +14,7 @@ loop-init g c = record {
   looked = none_yet _ _ _ _ _;
   seat = refl;
   empty = c.requires.empty;
-  steps = steps_none (g.P.Port.stepped c.args.port.now) (g.P.Port.sight c.args.port.now);
-  keeps = λ es e x. x;
+  steps = steps_none g.P.Port.stepped (g.P.Port.sight c.args.port.now);
 }
 
 pub loop-preserved : goal.loop-preserved
@@ -27,14 +26,13 @@ loop-preserved g c =
       looked = one_more i.looked reads c.if-flag_read-want.false;
       seat = seat_kept (g.P.Port.sight c.loop.port) _ (g.P.Port.sight c.flag_read.new.port) reads.looks.did ∙ i.seat;
       empty = c.flag_read.ensures.empty;
-      steps = steps_both (g.P.Port.stepped c.loop.port) (g.P.Port.stepped c.flag_read.new.port) _ _ _ _ _ (vain_did i.looked) reads.looks.did i.steps c.flag_read.ensures.keeps c.flag_read.ensures.steps;
-      keeps = λ es e x. c.flag_read.ensures.keeps es e (i.keeps es e x);
+      steps = steps_both g.P.Port.stepped _ _ _ _ _ (vain_did i.looked) reads.looks.did i.steps c.flag_read.ensures.steps;
     }
 
 pub returns-then-flag_read-want-clause-steps : goal.returns-then-flag_read-want-clause-steps
 returns-then-flag_read-want-clause-steps g c =
     let i = c.loop.invariant in
-    steps_both (g.P.Port.stepped c.loop.port) (g.P.Port.stepped c.flag_read.new.port) _ _ _ _ _ (vain_did i.looked) c.flag_read.ensures.reads.looks.did i.steps c.flag_read.ensures.keeps c.flag_read.ensures.steps
+    steps_both g.P.Port.stepped _ _ _ _ _ (vain_did i.looked) c.flag_read.ensures.reads.looks.did i.steps c.flag_read.ensures.steps
 
 pub returns-then-flag_read-want-clause-stalls : goal.returns-then-flag_read-want-clause-stalls
 returns-then-flag_read-want-clause-stalls g c =

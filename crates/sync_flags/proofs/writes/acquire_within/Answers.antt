@@ -14,5 +14,4 @@ loop-preserved g c = record {
   did = vain_take_more (g.P.Port.sight c.args.port.now) (g.P.Port.sight c.loop.port) (g.P.Port.sight c.try_acquire.new.port) c.args.c c.loop.counter
       c.loop.invariant.did c.in_default.ensures.takes;
   same = c.in_default.ensures.holds ∙ c.loop.invariant.same;
-  keeps = λ es e x. c.in_default.ensures.keeps es e (c.loop.invariant.keeps es e x);
 }

@@ -22,5 +22,5 @@ pub returns-in-None-clause-tries : goal.returns-in-None-clause-tries
 returns-in-None-clause-tries g c = bit_missed c.core-at.result c.core-at.ensures.gives c.in-None.ensures.takes
 
 pub returns-in-None-clause-steps : goal.returns-in-None-clause-steps
-returns-in-None-clause-steps g c = λ e. steps_one (g.P.Port.stepped c.try_acquire.new.port) (g.P.Port.sight c.args.port.now) (g.P.Port.sight c.try_acquire.new.port)
+returns-in-None-clause-steps g c = λ e. steps_one g.P.Port.stepped (g.P.Port.sight c.args.port.now) (g.P.Port.sight c.try_acquire.new.port)
     (take_of c.core-at.result false) c.in-None.ensures.takes c.in-None.ensures.step

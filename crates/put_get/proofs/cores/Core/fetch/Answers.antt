@@ -5,7 +5,7 @@ use Rattle.put_get.proofs.StepLemmas.{steps_none}
 use Rattle.put_get.proofs.cores.Core.fetch.Goals as goal
 
 pub returns-in-Some-clause-steps : goal.returns-in-Some-clause-steps
-returns-in-Some-clause-steps g c = steps_none (g.P.Port.stepped c.args.port.now) (g.P.Port.sight c.args.port.now)
+returns-in-Some-clause-steps g c = steps_none g.P.Port.stepped (g.P.Port.sight c.args.port.now)
 
 pub returns-clause-fetch : goal.returns-clause-fetch
 returns-clause-fetch g c =

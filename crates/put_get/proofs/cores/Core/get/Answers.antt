@@ -8,13 +8,12 @@ use Rattle.put_get.proofs.WorkLemmas.{spends_line, spends_lines, gets_from_reads
 use Rattle.put_get.proofs.cores.Core.get.Goals as goal
 
 pub returns-then-dst-len-clause-steps : goal.returns-then-dst-len-clause-steps
-returns-then-dst-len-clause-steps g c = steps_none (g.P.Port.stepped c.args.port.now) (g.P.Port.sight c.args.port.now)
+returns-then-dst-len-clause-steps g c = steps_none g.P.Port.stepped (g.P.Port.sight c.args.port.now)
 
 pub lines-init : goal.lines-init
 lines-init g c = (
   reading_none _ (record c.args.self.now { lines = [] }) _ _ _ _ (assumption) c.requires.empty,
-  λ es e h. h,
-  steps_none (g.P.Port.stepped c.args.port.now) (g.P.Port.sight c.args.port.now),
+  steps_none g.P.Port.stepped (g.P.Port.sight c.args.port.now),
   refl,
 )
 
@@ -26,10 +25,9 @@ lines-preserved g c =
     let spent = spends_line one in
     let before = spends_lines (take c.lines.i c.lines.dst) (g.P.Port.sight c.args.port.now) (record c.args.self.now { lines = [] }) c.core_of-core.result c.args.at.first (g.P.Port.sight c.lines.port) c.lines.self i.0.reads in (
       reading_next _ _ _ _ c.lines.dst c.lines.i c.line_read.result _ _ _ _ (omega arith) i.0 one spent.spends.out,
-      λ es e h. c.line_read.ensures.keeps es e (i.1 es e h),
-      steps_both (g.P.Port.stepped c.lines.port) (g.P.Port.stepped c.line_read.new.port) _ _ _ before.events spent.spends.events before.did spent.spends.did
-          i.2 c.line_read.ensures.keeps c.line_read.ensures.steps,
-      i.3 ∙ sym (length-set c.lines.dst c.lines.i c.line_read.result),
+      steps_both g.P.Port.stepped _ _ _ before.events spent.spends.events before.did spent.spends.did
+          i.1 c.line_read.ensures.steps,
+      i.2 ∙ sym (length-set c.lines.dst c.lines.i c.line_read.result),
     )
 
 pub returns-clause-gets : goal.returns-clause-gets

@@ -3,9 +3,7 @@ use Rattle.put_get.proofs.cores.Core.line_read.Goals as goal
 
 pub returns-clause-steps : goal.returns-clause-steps
 returns-clause-steps g c =
-    steps_four (g.P.Port.stepped c.word_read-first.new.port) (g.P.Port.stepped c.word_read-second.new.port)
-    (g.P.Port.stepped c.word_read-third.new.port) (g.P.Port.stepped c.word_read-fourth.new.port) _ _ _ _ _
+    steps_four g.P.Port.stepped _ _ _ _ _
     (word_made c.word_read-first.ensures.reads) (word_made c.word_read-second.ensures.reads)
     (word_made c.word_read-third.ensures.reads) (word_made c.word_read-fourth.ensures.reads)
-    c.word_read-first.ensures.steps c.word_read-second.ensures.keeps c.word_read-second.ensures.steps
-    c.word_read-third.ensures.keeps c.word_read-third.ensures.steps c.word_read-fourth.ensures.keeps c.word_read-fourth.ensures.steps
+    c.word_read-first.ensures.steps c.word_read-second.ensures.steps c.word_read-third.ensures.steps c.word_read-fourth.ensures.steps

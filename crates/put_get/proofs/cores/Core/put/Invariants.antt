@@ -1,10 +1,8 @@
 use Rattle.std.proofs.Common.{◌≡◌, length}
-use Rattle.put_get.specs.Cores.{KeepsSteps}
 use Rattle.put_get.proofs.TransferLemmas.{Putting}
 use Rattle.put_get.proofs.cores.Core.put.Given as goal
 
 abbrev pub invariant-lines : goal.invariant-lines
 invariant-lines g l =
     Putting (g.P.Port.sight l.fn.port) l.fn.self l.core l.at.first l.src l.i (g.P.Port.sight l.port) l.self
-    × KeepsSteps (g.P.Port.stepped l.fn.port) (g.P.Port.stepped l.port)
     × (l.i-end ≡ length l.src)

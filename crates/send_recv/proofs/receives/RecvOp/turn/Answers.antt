@@ -60,6 +60,8 @@ finished_turn s c op bytes finished = record {
   fuller = le_self _;
   fewer = le_self _;
   rests = λ spot e. refl;
+  only = tt;
+  no_drafts = refl;
   same = (refl, refl);
   means = (finished, refl, sym (append-nil (record_in s).calls) ∙ ap (λ (st : RecvStage). (record_in s).calls ++ (if is_received st then [] else Recv op.from op.head bytes ∷ [])) (sym finished));
   rest = record { flips = refl; hold = refl; heap = refl };

@@ -4,7 +4,7 @@ use Rattle.scc_proto.specs.Ports.{Sight}
 use Rattle.put_get.specs.Cores.{Private}
 use Rattle.send_recv.specs.Ops.{SlotAt}
 use Rattle.send_recv.specs.Steps.{moves_on}
-use Rattle.send_recv.proofs.SlotTurns.{SlotTurns, may_lower_slot, slot_look_turn, slot_lower_turn}
+use Rattle.send_recv.proofs.SlotTurns.{SlotTurns, nothing_turn, may_lower_slot, slot_look_turn, slot_lower_turn}
 use Rattle.send_recv.proofs.slots.Slot.turn.Goals as goal
 
 -- a turn, where the slot after it and the answer are known by equations
@@ -41,3 +41,7 @@ returns-else-self-clause-turned g c =
     (at_answer (g.P.Port.sight c.args.port.now) (g.P.Port.sight c.look_ready.new.port) c.args.core.now c.look_ready.new.core c.args.self.now _ _ _ _ c.look_ready.ensures.next c.look_ready.ensures.answers
     (slot_look_turn (moves_on c.look_ready.result) (g.P.Port.sight c.args.port.now) (g.P.Port.sight c.look_ready.new.port) c.args.core.now c.look_ready.new.core c.args.self.now c.in-Some.to c.known.ensures.valid c.requires.stands c.requires.empty c.requires.hands
     (ap (λ (x : SlotAt). x.to) (sym c.self.view_is) ∙ c.in-Some.is) (ap (λ (x : SlotAt). x.seen) (sym c.self.view_is) ∙ c.if-self.false) c.look_ready.ensures.looks)).turned
+
+pub returns-in-None-clause-turned : goal.returns-in-None-clause-turned
+returns-in-None-clause-turned g c =
+    nothing_turn (g.P.Port.sight c.args.port.now) c.args.core.now c.args.self.now (ap (λ (x : SlotAt). x.to) (sym c.self.view_is) ∙ c.in-None.is) c.requires.empty
