@@ -39,7 +39,7 @@ fn setup() -> Setup {
     }
 }
 
-fn at_home(chip: &mut Chip, kind: Kind, count: u32)
+fn make_at_home(chip: &mut Chip, kind: Kind, count: u32)
     requires whole { IsWhole chip.old }
     requires empty { (r : ℕ) → events_in chip.old r ≡ [] }
     ensures made { HasMade chip.new kind count }
@@ -55,7 +55,7 @@ pub fn by_port(alloc: Global, kind: Kind, count: u32) -> Result<Chip, AllocError
 {
     let mut chip = Chip::blank();
     chip.open(alloc, setup())?;
-    at_home(&mut chip, kind, count);
+    make_at_home(&mut chip, kind, count);
     Ok(chip)
 }
 
@@ -66,7 +66,7 @@ pub struct Away {
     pub token: Token,
 }
 
-fn away(chip: &mut Chip, kind: Kind, count: u32) -> Token
+fn make_away(chip: &mut Chip, kind: Kind, count: u32) -> Token
     requires whole { IsWhole chip.old }
     requires empty { (r : ℕ) → events_in chip.old r ≡ [] }
     ensures made { HasMadeAway chip.new result kind count }
@@ -84,6 +84,6 @@ pub fn by_seat(alloc: Global, kind: Kind, count: u32) -> Result<Away, AllocError
 {
     let mut chip = Chip::blank();
     chip.open(alloc, setup())?;
-    let token = away(&mut chip, kind, count);
+    let token = make_away(&mut chip, kind, count);
     Ok(Away { chip, token })
 }

@@ -21,7 +21,7 @@ store-requires g c =
     record { permitted = idle_may_store sight sight.seat.rank 240 (c.steps.i % 4) c.steps.i valid below (omega arith) c.steps.invariant.1 c.new.result is }
 
 pub steps-init : goal.steps-init
-steps-init g c = (no_step (g.P.Port.sight c.args.port.now) true, c.requires.idle)
+steps-init g c = (no_step (g.P.Port.sight c.args.port.now) Stores, c.requires.idle)
 
 pub steps-preserved : goal.steps-preserved
 steps-preserved g c =

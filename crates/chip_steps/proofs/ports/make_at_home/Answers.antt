@@ -1,5 +1,5 @@
 use Rattle.chip_steps.proofs.IdleLemmas.{idle_home}
-use Rattle.chip_steps.proofs.ports.at_home.Goals as goal
+use Rattle.chip_steps.proofs.ports.make_at_home.Goals as goal
 
 pub make_many-requires : goal.make_many-requires
 make_many-requires c =

@@ -3,7 +3,7 @@ use Rattle.scc_proto.proofs.IdleLaws.{idle_at_start}
 use Rattle.scc_mesh.specs.AwayRanks.{Ticket, Away}
 use Rattle.scc_mesh.specs.Scenes.{sight_away}
 use Rattle.chip_steps.proofs.IdleLemmas.{away_made}
-use Rattle.chip_steps.proofs.ports.away.Goals as goal
+use Rattle.chip_steps.proofs.ports.make_away.Goals as goal
 
 pub make_many-requires : goal.make_many-requires
 make_many-requires c =
