@@ -82,6 +82,19 @@ impl Setup {
         })
     }
 
+    /// The same setup once more.
+    pub fn copy(&self) -> Setup
+        ensures gives { result ≡ self.now }
+    {
+        Setup {
+            nue: self.nue,
+            layout: self.layout,
+            hosts: self.hosts,
+            comms: self.comms,
+            groups: self.groups,
+        }
+    }
+
     /// The number of ranks.
     pub fn nue(&self) -> u8
         ensures gives { result ≡ self.now.nue }

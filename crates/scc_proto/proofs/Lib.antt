@@ -11,6 +11,7 @@ pub mod GatherFacts
 pub mod GroupLaw
 pub mod Growth
 pub mod HeapLaw
+pub mod WordFacts
 pub mod HistoryWalks
 pub mod HonestLaw
 pub mod IdleLaws
@@ -34,6 +35,7 @@ pub mod PlaceMoves
 pub mod PortLaws
 pub mod QuietMoves
 pub mod RegisterLaw
+pub mod RestLaw
 pub mod Roles
 pub mod SenderLaw
 pub mod SenderMoves

@@ -3,7 +3,7 @@ use Rattle.std.specs.Prelude.{ℕ, zero, suc, true, ◌+◌, ◌/◌, ◌%◌, �
 use Rattle.std.specs.List.{range_with_len}
 use Rattle.scc_base.specs.Events.{load_of, store_of, take_of, free_of}
 use Rattle.scc_base.specs.Setups.{SetupView}
-use Rattle.scc_base.specs.declared.communicators.CommRule.TheVariants.{World}
+use Rattle.scc_base.specs.declared.communicators.CommRule.TheVariants.{Absent, World, Mod, Div}
 use Rattle.scc_base.specs.declared.layouts.Layout.TheVariants.{LineFlags, BitFlags}
 use Rattle.scc_proto.specs.Stages.{Record}
 use Rattle.scc_proto.specs.Moves.{Move, after}
@@ -42,6 +42,10 @@ takes_four = loads 1 1 1 0 1 ∷ loads 1 0 0 0 0 ∷ loads 1 0 0 1 0 ∷ loads 1
 abbrev pub four_bytes : List RankEvent
 four_bytes = sends_four ++ takes_four
 
+-- rank 1 sees it, loads the head and lowers `sent`: the chunk is being taken
+abbrev pub begins_four : List RankEvent
+begins_four = loads 1 1 1 0 1 ∷ loads 1 0 0 0 0 ∷ loads 1 0 0 1 0 ∷ loads 1 0 0 2 4 ∷ stores 1 1 1 0 0 ∷ []
+
 -- a message without bytes is a header alone: rank 1 raises `ready` with no chunk word loaded, and rank 0
 -- sees and lowers it
 abbrev pub no_bytes : List RankEvent
@@ -57,6 +61,15 @@ three_ranks = record { nue = 3; layout = LineFlags; hosts = 7 ∷ 5 ∷ 40 ∷ [
 abbrev pub barrier_of_three : List RankEvent
 barrier_of_three = stores 2 40 97 0 1 ∷ stores 0 7 97 0 1 ∷ stores 1 5 97 0 1
     ∷ loads 0 5 97 0 1 ∷ loads 0 40 97 0 1 ∷ stores 0 5 105 0 1 ∷ loads 1 5 105 0 1 ∷ stores 0 40 105 0 1 ∷ loads 2 40 105 0 1 ∷ []
+
+-- four ranks, each on the core of its number: communicator 9 takes ranks 0 and 2 together, and 1 and 3, inside
+-- communicator 1, which has them all
+abbrev pub nested_ranks : SetupView
+nested_ranks = record { nue = 4; layout = LineFlags; hosts = 0 ∷ 1 ∷ 2 ∷ 3 ∷ []; comms = World ∷ Div 0 4 ∷ Absent ∷ Absent ∷ Absent ∷ Absent ∷ Absent ∷ Absent ∷ Absent ∷ Mod 1 2 ∷ [] }
+
+-- ranks 0 and 2 meet in communicator 9, with this value of their gather flags
+abbrev pub two_meet : ℕ → List RankEvent
+two_meet value = stores 2 2 98 1 value ∷ stores 0 0 98 1 value ∷ loads 0 2 98 1 value ∷ stores 0 2 106 1 value ∷ loads 2 2 106 1 value ∷ []
 
 -- rank 2 sends to rank 0, each on a core that is not of its number
 abbrev pub four_bytes_elsewhere : List RankEvent
@@ -81,9 +94,9 @@ abbrev pub changes : (rank core sent ready word new : ℕ) → List RankEvent
 changes rank core sent ready word new = takes rank core ∷ loads rank core 1 0 sent ∷ loads rank core 1 1 ready ∷ loads rank core 1 2 0 ∷ loads rank core 1 3 0 ∷ stores rank core 1 word new ∷ frees rank core ∷ []
 
 -- rank 1 sends one byte to rank 0: it sets bit 1 of the `sent` flags of rank 0, which lowers it and sets
--- bit 0 of the `ready` flags of rank 1
-abbrev pub one_byte_bits : List RankEvent
-one_byte_bits = stores 1 1 0 3 0 ∷ stores 1 1 0 2 1 ∷ stores 1 1 0 1 0 ∷ stores 1 1 0 0 0
+-- bit 0 of the `ready` flags of rank 1. Word 3 of the header line is 1 in a post
+abbrev pub byte_by_bits : ℕ → List RankEvent
+byte_by_bits posted = stores 1 1 0 3 posted ∷ stores 1 1 0 2 1 ∷ stores 1 1 0 1 0 ∷ stores 1 1 0 0 0
     ∷ stores 1 1 18 3 0 ∷ stores 1 1 18 2 0 ∷ stores 1 1 18 1 0 ∷ stores 1 1 18 0 9
     ∷ changes 1 0 0 0 0 2
     ++ loads 0 0 1 0 2 ∷ loads 0 1 0 0 0 ∷ loads 0 1 0 1 0 ∷ loads 0 1 0 2 1
@@ -91,6 +104,9 @@ one_byte_bits = stores 1 1 0 3 0 ∷ stores 1 1 0 2 1 ∷ stores 1 1 0 1 0 ∷ s
     ++ loads 0 1 18 0 9 ∷ loads 0 1 18 1 0 ∷ loads 0 1 18 2 0 ∷ loads 0 1 18 3 0
     ∷ changes 0 1 0 0 1 1
     ++ loads 1 1 1 1 1 ∷ changes 1 1 0 1 1 0
+
+abbrev pub one_byte_bits : List RankEvent
+one_byte_bits = byte_by_bits 0
 
 -- the record after moves, where a whole chunk has `size` bytes
 abbrev pub moved : ℕ → Record → List Move → Record

@@ -109,7 +109,8 @@ abbrev pub no_slots : ℕ → Option Outgoing
 no_slots k = None
 
 -- the lists of calls are legal, and leave these slots: from empty slots the steps, lowest owner first, use the lists
--- up wholly. A rank from nue on has no calls
+-- up wholly. It is for lists whose ranks and peers are below nue, and whose barriers are of communicators that have a rule:
+-- the records of a run, and logs that were read, give no others
 abbrev pub IsLegal : ℕ → (ℕ → ℕ → ℕ) → (ℕ → List DataCall) → (ℕ → Option Outgoing) → Type 0
 IsLegal nue keys calls slots = (n : ℕ) × RunsLowest (OwnStep nue keys) (IsUsedUp slots) n (record { calls = calls; slots = no_slots })
 

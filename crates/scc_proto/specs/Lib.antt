@@ -6,6 +6,7 @@ pub mod Histories
 pub mod IdlePorts
 pub mod LegalExamples
 pub mod Legality
+pub mod Like
 pub mod Lone
 pub mod Memories
 pub mod Messages
@@ -17,7 +18,9 @@ pub mod Permission
 pub mod Ports
 pub mod Records
 pub mod Refusals
+pub mod Permits
 pub mod Registers
+pub mod Resting
 pub mod Singles
 pub mod Soundness
 pub mod Stages

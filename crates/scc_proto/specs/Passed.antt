@@ -1,6 +1,6 @@
 -- The calls that a rank has passed: the finished ones, and the open one where its other side is through with
 -- it (this project's profile).
-use Rattle.std.specs.Prelude.{ℕ, suc, ◌-◌, Bool, false, ◌&&◌, ◌==◌, nat_lt, nat_le, if◌then◌else◌, List, [], ◌∷◌, ◌++◌, Option, Some, None, length}
+use Rattle.std.specs.Prelude.{◌≡◌, ◌⊎◌, ℕ, suc, ◌-◌, Bool, false, ◌&&◌, ◌==◌, nat_lt, nat_le, if◌then◌else◌, List, [], ◌∷◌, ◌++◌, Option, Some, None, length}
 use Rattle.scc_base.specs.Calls.{DataCall, Bar}
 use Rattle.scc_base.specs.Setups.{SetupView, root_of}
 use Rattle.scc_proto.specs.Messages.{Notes, Progress, begun, with_chunk, message_of, send_to, recv_from, sent_messages, received_messages}
@@ -50,6 +50,10 @@ passed_open s me stage records = []
 
 abbrev pub passed_calls : SetupView → (ℕ → Record) → ℕ → List DataCall
 passed_calls s records me = (records me).calls ++ passed_open s me (records me).stage records
+
+-- these calls are the finished ones, or these and the open one
+abbrev pub IsPassed : List DataCall → Option DataCall → List DataCall → Type 0
+IsPassed finished current passed = (passed ≡ finished) ⊎ ((call : DataCall) × (current ≡ Some call) × (passed ≡ finished ++ call ∷ []))
 
 -- the message that a rank has posted and that is not received
 abbrev pub slot_by : ℕ → ℕ → Option OnItsWay → (ℕ → Record) → Option Outgoing

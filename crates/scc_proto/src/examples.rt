@@ -9,7 +9,7 @@ ghost use Rattle.scc_proto.specs.Words.{IsRun, zeros};
 ghost use Rattle.scc_proto.specs.Histories.{IsPermittedRun, records_of};
 ghost use Rattle.scc_proto.specs.Passed.{open_call, passed_calls, slot_of};
 ghost use Rattle.scc_proto.specs.Ports.{MayMake, Did, record_in};
-ghost use Rattle.scc_proto.specs.Examples.{two_ranks, four_bytes, no_bytes, three_ranks, barrier_of_three, four_bytes_elsewhere, posts_four, takes_four, two_ranks_bits, one_byte_bits, two_chunks, bytes_of};
+ghost use Rattle.scc_proto.specs.Examples.{two_ranks, four_bytes, no_bytes, three_ranks, barrier_of_three, four_bytes_elsewhere, posts_four, takes_four, two_ranks_bits, one_byte_bits, byte_by_bits, two_chunks, bytes_of, sends_four, begins_four, nested_ranks, two_meet, stores};
 
 use crate::ports::Port;
 use scc_base::Place;
@@ -82,4 +82,30 @@ pub fn bits_change()
     ensures permitted { IsPermittedRun two_ranks_bits (λ r. blank) one_byte_bits }
     ensures received { (records_of two_ranks_bits one_byte_bits 0).calls ≡ Recv 1 (plain_head 1) (9 ∷ []) ∷ [] }
     ensures sent { (records_of two_ranks_bits one_byte_bits 1).calls ≡ Send 0 (plain_head 1) (9 ∷ []) ∷ [] }
+{}
+
+/// A posted byte goes between ranks with bit flags, up to the last event of the rank that posted it.
+pub fn post_arrives_by_bits()
+    ensures is_run { IsRun zeros (byte_by_bits 1) }
+    ensures permitted { IsPermittedRun two_ranks_bits (λ r. blank) (byte_by_bits 1) }
+    ensures received { (records_of two_ranks_bits (byte_by_bits 1) 0).calls ≡ Recv 1 (plain_head 1) (9 ∷ []) ∷ [] }
+    ensures posted { (records_of two_ranks_bits (byte_by_bits 1) 1).calls ≡ Post 0 (plain_head 1) (9 ∷ []) ∷ [] }
+    ensures taken { slot_of two_ranks_bits (records_of two_ranks_bits (byte_by_bits 1)) 1 ≡ None }
+{}
+
+/// Two ranks meet twice in a communicator that was split from another one.
+pub fn two_meet_twice()
+    ensures is_run { IsRun zeros (two_meet 1 ++ two_meet 0) }
+    ensures permitted { IsPermittedRun nested_ranks (λ r. blank) (two_meet 1 ++ two_meet 0) }
+    ensures root { (records_of nested_ranks (two_meet 1 ++ two_meet 0) 0).calls ≡ Bar 9 ∷ Bar 9 ∷ [] }
+    ensures member { (records_of nested_ranks (two_meet 1 ++ two_meet 0) 2).calls ≡ Bar 9 ∷ Bar 9 ∷ [] }
+{}
+
+/// A receive whose chunk is being taken is open, and so is a barrier that was entered; neither is passed.
+pub fn calls_are_open()
+    ensures receive { open_call two_ranks (records_of two_ranks (sends_four ++ begins_four) 1) ≡ Some (Recv 0 (plain_head 4) []) }
+    ensures not_received { passed_calls two_ranks (records_of two_ranks (sends_four ++ begins_four)) 1 ≡ [] }
+    ensures not_sent { passed_calls two_ranks (records_of two_ranks (sends_four ++ begins_four)) 0 ≡ [] }
+    ensures barrier { open_call nested_ranks (records_of nested_ranks (stores 2 2 98 1 1 ∷ []) 2) ≡ Some (Bar 9) }
+    ensures not_met { passed_calls nested_ranks (records_of nested_ranks (stores 2 2 98 1 1 ∷ [])) 2 ≡ [] }
 {}

@@ -1,16 +1,21 @@
 //! Laws of legal lists of calls, and of words and records, each a function whose contract is the law.
 
-ghost use Rattle.std.specs.Prelude.{◌≡◌, ◌↔◌, ℕ, ◌<◌, ◌≤◌, List, ◌++◌, Option, ◌⊎◌, Contains};
+ghost use Rattle.std.specs.Prelude.{◌≡◌, ◌↔◌, ℕ, ◌<◌, ◌≤◌, true, false, List, ◌++◌, Option, None, is_some, ◌⊎◌, Contains};
+ghost use Rattle.std.specs.Int.{bit_at};
+ghost use Rattle.std.specs.List.{list_all};
 ghost use Rattle.scc_base.specs.declared.events.Event.{Event};
-ghost use Rattle.scc_base.specs.Events.{IsEvent, load_of, store_of};
-ghost use Rattle.scc_base.specs.Places.{WordAt};
+ghost use Rattle.scc_base.specs.Events.{IsEvent, load_of, store_of, take_of};
+ghost use Rattle.scc_base.specs.Heads.{MessageHead, IsHead, IsPostHead};
+ghost use Rattle.scc_base.specs.Places.{WordAt, IsPlace};
 ghost use Rattle.scc_base.specs.Setups.{SetupView, IsSetup, setup_key};
-ghost use Rattle.scc_proto.specs.Stages.{Record, blank};
-ghost use Rattle.scc_proto.specs.Words.{Memory, zeros, IsStep, memory_after, RankEvent, IsRun, HeapWord, role_of};
-ghost use Rattle.scc_proto.specs.Records.{IsPermitted, IsHonest, record_after, record_of};
+ghost use Rattle.scc_proto.specs.Stages.{Record, Idle, blank};
+ghost use Rattle.scc_proto.specs.Words.{Memory, zeros, IsStep, memory_after, RankEvent, IsRun, HeapWord, IdleWord, SentFlags, ReadyFlags, are_peers, role_of, word_at};
+ghost use Rattle.scc_proto.specs.Records.{IsPermitted, IsHonest, record_after, record_from, record_of};
+ghost use Rattle.scc_proto.specs.Like.{Like};
+ghost use Rattle.scc_proto.specs.Resting.{is_resting};
 ghost use Rattle.scc_proto.specs.Tables.{put};
 ghost use Rattle.scc_proto.specs.Histories.{records_of, memory_from, IsPermittedRun};
-ghost use Rattle.scc_proto.specs.Passed.{passed_calls, slot_of};
+ghost use Rattle.scc_proto.specs.Passed.{IsPassed, open_call, passed_calls, slot_of};
 ghost use Rattle.scc_proto.specs.Views.{view_of, SameFlagWords};
 ghost use Rattle.scc_proto.specs.Soundness.{IsSound};
 ghost use Rattle.scc_proto.specs.PairMessages.{PairMessages};
@@ -18,7 +23,7 @@ ghost use Rattle.scc_proto.specs.Agreement.{Agrees};
 ghost use Rattle.scc_base.specs.Calls.{DataCall};
 ghost use Rattle.scc_base.specs.Runs.{Runs, EndsAt};
 ghost use Rattle.scc_proto.specs.Legality.{Outgoing, Standing, OwnStep, IsUsedUp, IsLegal, UsesUp, Grows, no_slots, slot_message};
-ghost use Rattle.scc_proto.specs.Messages.{sent_messages, received_messages, barriers_of};
+ghost use Rattle.scc_proto.specs.Messages.{is_head, is_post_head, sent_messages, received_messages, barriers_of};
 
 /// Whether lists of calls are legal does not depend on the order in which their steps are taken.
 pub fn order_law()
@@ -99,6 +104,19 @@ pub fn flags_law()
         → Agrees s one records → Agrees s other records → (core : ℕ) → one.register core ≡ other.register core }
 {}
 
+/// Records that are alike tell the same flags.
+pub fn likeness_law()
+    ensures flags { (s : SetupView) (one other : Memory) (records recs : ℕ → Record)
+        → Agrees s one records → Agrees s other recs → ((k : ℕ) → Like (records k) (recs k)) → SameFlagWords s (view_of s one) (view_of s other) }
+{}
+
+/// Looks are never undone: where a list of events that store nothing leaves a record alike, each front of it does.
+pub fn resting_law()
+    ensures law { (s : SetupView) (me : ℕ) (rec : Record) (before rest : List Event)
+        → list_all is_resting before ≡ true → list_all is_resting rest ≡ true
+        → Like rec (record_from s me rec (before ++ rest)) → Like rec (record_from s me rec before) }
+{}
+
 /// The law of agreement. Words and records agree at the start; where they agree, and an event is a step of
 /// the memory and permitted by its rank's record, they agree after it, and the passed calls have grown by
 /// nothing or by the calls of one step at their ends. So they agree after every list of such events.
@@ -122,4 +140,34 @@ pub fn heap_law()
         → Agrees s memory (λ r. record_of s r (lists r))
         → IsEvent (load_of place value) → IsStep memory (load_of place value) → role_of s place ≡ HeapWord
         → (value ≡ 0) ⊎ ((r : ℕ) × (r < s.nue) × Contains (lists r) (store_of place value)) }
+{}
+
+/// The passed calls of a rank are its finished calls, or these and its open call; a rank in no call has none open.
+pub fn open_call_law()
+    ensures passed { (s : SetupView) (records : ℕ → Record) (me : ℕ) → IsPassed (records me).calls (open_call s (records me)) (passed_calls s records me) }
+    ensures idle { (s : SetupView) (rec : Record) → rec.stage ≡ Idle → open_call s rec ≡ None }
+{}
+
+/// The test of a head says what a head is.
+pub fn head_law()
+    ensures head { (head : MessageHead) → (is_head head ≡ true) ↔ (IsHead head) }
+    ensures post { (head : MessageHead) → (is_post_head head ≡ true) ↔ (IsPostHead head) }
+{}
+
+/// Where words and records agree, a take that finds a register taken tells that some rank holds it, one that takes it that nobody does.
+pub fn registers_law()
+    ensures taken { (s : SetupView) (memory : Memory) (records : ℕ → Record) (core : ℕ)
+        → Agrees s memory records → IsStep memory (take_of core false) → (holder : ℕ) × (holder < s.nue) × (is_some ((records holder).held core) ≡ true) }
+    ensures free { (s : SetupView) (memory : Memory) (records : ℕ → Record) (core k : ℕ)
+        → Agrees s memory records → IsStep memory (take_of core true) → k < s.nue → (records k).held core ≡ None }
+{}
+
+/// Where words and records agree, a word that is nobody's is 0, and so is each bit of a word of bit flags that is nobody's.
+pub fn idle_law()
+    ensures word { (s : SetupView) (memory : Memory) (records : ℕ → Record) (place : WordAt)
+        → Agrees s memory records → IsPlace place → role_of s place ≡ IdleWord → word_at memory place ≡ 0 }
+    ensures sent { (s : SetupView) (memory : Memory) (records : ℕ → Record) (place : WordAt) (owner b : ℕ)
+        → Agrees s memory records → IsPlace place → role_of s place ≡ SentFlags owner → are_peers s owner b ≡ false → bit_at (word_at memory place) b ≡ 0 }
+    ensures ready { (s : SetupView) (memory : Memory) (records : ℕ → Record) (place : WordAt) (owner b : ℕ)
+        → Agrees s memory records → IsPlace place → role_of s place ≡ ReadyFlags owner → are_peers s owner b ≡ false → bit_at (word_at memory place) b ≡ 0 }
 {}

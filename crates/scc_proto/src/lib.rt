@@ -11,6 +11,7 @@ mod lone;
 #[cfg(test)]
 mod lone_tests;
 mod numbers;
+pub mod permits;
 mod ports;
 pub mod refusals;
 

@@ -10,3 +10,6 @@ pub mod Code
 pub mod Barriers
 pub mod Messages
 pub mod Collectives
+pub mod Moves
+pub mod Lengths
+pub mod Machine

@@ -25,7 +25,7 @@ pub use laws::{
     barriers_meet, every_order_has_one_end, every_order_is_finite, lowest_owner_steps,
     steps_commute,
 };
-pub use posts::Posted;
+pub use posts::{OnItsWay, Posted};
 pub use prims::{Action, Content, Primitive, Printed, Source, Standing};
 pub use registers::Register;
 pub use steps::plain_run;

@@ -12,3 +12,11 @@ pub struct Posted {
     pub bytes: Register,
     pub line: u32,
 }
+
+/// A message that was posted and not taken yet, without its bytes.
+#[derive(Clone, Copy, Debug)]
+pub struct OnItsWay {
+    pub line: u32,
+    pub to: Rank,
+    pub head: PostHead,
+}

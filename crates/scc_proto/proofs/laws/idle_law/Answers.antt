@@ -1,0 +1,12 @@
+use Rattle.scc_proto.specs.Words.{SentFlags, ReadyFlags, IdleWord}
+use Rattle.scc_proto.proofs.WordFacts.{word_by_role}
+use Rattle.scc_proto.proofs.laws.idle_law.Goals as goal
+
+pub returns-clause-word : goal.returns-clause-word
+returns-clause-word c = λ s memory records place agrees is role. word_by_role s memory records place IdleWord agrees is role
+
+pub returns-clause-sent : goal.returns-clause-sent
+returns-clause-sent c = λ s memory records place owner b agrees is role other. word_by_role s memory records place (SentFlags owner) agrees is role b other
+
+pub returns-clause-ready : goal.returns-clause-ready
+returns-clause-ready c = λ s memory records place owner b agrees is role other. word_by_role s memory records place (ReadyFlags owner) agrees is role b other

@@ -1,0 +1,14 @@
+-- Records that are alike but for what looks note: the flags of other ranks that were seen, and whether the `ready` of a
+-- posted message was (this project's profile).
+use Rattle.std.specs.Prelude.{◌≡◌, ℕ, false, option_map}
+use Rattle.scc_proto.specs.Stages.{OnItsWay, Record}
+
+-- a posted message on its way, as it is before its `ready` is seen
+abbrev pub unanswered : OnItsWay → OnItsWay
+unanswered post = record post { is_answered = false }
+
+pub record Like (rec other : Record) : Type 0 where
+  pub stage : rec.stage ≡ other.stage
+  pub post : option_map unanswered rec.post ≡ option_map unanswered other.post
+  pub flips : (comm : ℕ) → rec.flips comm ≡ other.flips comm
+  pub calls : rec.calls ≡ other.calls

@@ -1,0 +1,73 @@
+-- What a rank comes to by what stands next there, and the bytes that go out or come in with it (this project's profile).
+-- Each is a function of what stands next: where something else stands there, the state is the old one, and nothing goes
+-- out or comes in.
+use Rattle.std.specs.Prelude.{ℕ, Bool, true, false, List, []}
+use Rattle.scc_base.specs.Heads.{MessageHead}
+use Rattle.script_plain.specs.declared.prims.Standing.{Standing}
+use Rattle.script_plain.specs.declared.prims.Standing.TheVariants as standing
+use Rattle.script_plain.specs.Local.{Local}
+use Rattle.script_plain.specs.Next.{Next}
+use Rattle.script_plain.specs.Next.Next.{Ends, Goes, Posts, Sends, Recvs, Bars}
+
+-- whether nothing stands next
+abbrev pub is_ended : {U : Type 0} → Next U → Bool
+is_ended Ends = true
+is_ended _ = false
+
+-- whether a send, a post or a barrier stands next: a call with one state after it
+abbrev pub is_passable : {U : Type 0} → Next U → Bool
+is_passable (Posts message after) = true
+is_passable (Sends to head bytes after) = true
+is_passable (Bars comm after) = true
+is_passable _ = false
+
+-- whether a receive stands next
+abbrev pub is_receiving : {U : Type 0} → Next U → Bool
+is_receiving (Recvs from head take refuse) = true
+is_receiving _ = false
+
+-- the state after the rank's own statement that stands next
+abbrev pub went : {U : Type 0} → Next U → U → U
+went (Goes after) u = after
+went _ u = u
+
+-- the state after the send, the post or the barrier that stands next
+abbrev pub passed : {U : Type 0} → Next U → U → U
+passed (Posts message after) u = after
+passed (Sends to head bytes after) u = after
+passed (Bars comm after) u = after
+passed _ u = u
+
+-- the state after the receive that stands next, with these bytes
+abbrev pub taken : {U : Type 0} → Next U → List ℕ → U → U
+taken (Recvs from head take refuse) bytes u = take bytes
+taken _ bytes u = u
+
+-- the state after the receive that stands next, where a message with this other head came
+abbrev pub refused : {U : Type 0} → Next U → MessageHead → U → U
+refused (Recvs from head take refuse) sent u = refuse sent
+refused _ sent u = u
+
+-- the bytes of the send or post that stands next
+abbrev pub bytes_out : {U : Type 0} → Next U → List ℕ
+bytes_out (Posts message after) = message.bytes
+bytes_out (Sends to head bytes after) = bytes
+bytes_out _ = []
+
+-- the line of the post that stands next
+abbrev pub line_out : {U : Type 0} → Next U → ℕ
+line_out (Posts message after) = message.line
+line_out _ = 0
+
+-- how many bytes the receive that stands next asks for
+abbrev pub length_in : {U : Type 0} → Next U → ℕ
+length_in (Recvs from head take refuse) = head.len
+length_in _ = 0
+
+-- whether a rank was stopped by a mismatch
+abbrev pub is_stopped_by : Standing → Bool
+is_stopped_by standing.Running = false
+is_stopped_by (standing.Mismatched line from sent asked) = true
+
+abbrev pub is_stopped : Local → Bool
+is_stopped u = is_stopped_by u.standing
