@@ -1,2 +1,3 @@
 pub mod IdleLemmas
 pub mod WorldLemmas
+pub mod NumberLemmas

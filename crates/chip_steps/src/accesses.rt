@@ -1,14 +1,22 @@
 //! Many accesses through a port.
 
-ghost use Rattle.std.specs.Prelude.{◌≡◌, true, false};
+ghost use Rattle.std.specs.Prelude.{◌≡◌};
 ghost use Rattle.scc_base.specs.Setups.{IsSetup, host_of};
 ghost use Rattle.scc_proto.specs.IdlePorts.{IsIdle};
+ghost use Rattle.chip_steps.specs.declared.accesses.Kind.TheVariants.{Loads, Stores};
 ghost use Rattle.chip_steps.specs.Steps.{Stepped};
 
 use scc_base::{CoreId, Place};
 use scc_proto::Port;
 
 const LINE: u8 = 240;
+
+/// Which accesses are made.
+#[derive(Clone, Copy)]
+pub enum Kind {
+    Loads,
+    Stores,
+}
 
 fn own_core<P: Port>(port: &P) -> CoreId
     ensures gives { result ≡ host_of (P.sight port.now).seat.setup.hosts (P.sight port.now).seat.rank }
@@ -21,7 +29,7 @@ fn own_core<P: Port>(port: &P) -> CoreId
 
 // Loads the words of one heap line in turn.
 fn load_many<P: Port>(port: &mut P, count: u32)
-    ensures stepped { Stepped (P.sight port.old) false count (P.sight port.new) }
+    ensures stepped { Stepped (P.sight port.old) Loads count (P.sight port.new) }
 {
     let core = own_core(port);
     'steps: for i in 0..count {
@@ -32,7 +40,7 @@ fn load_many<P: Port>(port: &mut P, count: u32)
 // Stores to the words of one heap line in turn.
 fn store_many<P: Port>(port: &mut P, count: u32)
     requires idle { IsIdle (P.sight port.old) }
-    ensures stepped { Stepped (P.sight port.old) true count (P.sight port.new) }
+    ensures stepped { Stepped (P.sight port.old) Stores count (P.sight port.new) }
 {
     let core = own_core(port);
     let _rank = port.rank();
@@ -42,13 +50,12 @@ fn store_many<P: Port>(port: &mut P, count: u32)
 }
 
 /// Makes that many stores, or loads.
-pub fn make_many<P: Port>(port: &mut P, stores: bool, count: u32)
+pub fn make_many<P: Port>(port: &mut P, kind: Kind, count: u32)
     requires idle { IsIdle (P.sight port.old) }
-    ensures stepped { Stepped (P.sight port.old) stores count (P.sight port.new) }
+    ensures stepped { Stepped (P.sight port.old) kind count (P.sight port.new) }
 {
-    if stores {
-        store_many(port, count);
-    } else {
-        load_many(port, count);
+    match kind {
+        Kind::Loads => load_many(port, count),
+        Kind::Stores => store_many(port, count),
     }
 }

@@ -2,6 +2,7 @@
 
 ghost use Rattle.std.specs.Prelude.{◌≡◌};
 
+use crate::accesses::Kind;
 use atomic_table::{Play, Seat, Shared, Table, TableRule};
 use std::alloc::{AllocError, Global};
 
@@ -36,18 +37,17 @@ fn store_many(words: &Shared<(), (), (), Anything>, seat: &mut Seat<(), ()>, cou
     }
 }
 
-/// Makes that many loads, or stores.
-pub fn bare(alloc: Global, stores: bool, count: u32) -> Result<(), AllocError> {
+/// Makes that many loads, or stores, of which nothing is claimed.
+pub fn bare(alloc: Global, kind: Kind, count: u32) -> Result<(), AllocError> {
     let words = vec![in alloc; 0u64; WORDS]?;
     let (table, mut seat) = Table::<(), (), (), Anything, Global>::of_words(
         alloc,
         words.as_slice(),
         &(),
     )?;
-    if stores {
-        store_many(&table.shared, &mut seat, count);
-    } else {
-        load_many(&table.shared, &mut seat, count);
+    match kind {
+        Kind::Loads => load_many(&table.shared, &mut seat, count),
+        Kind::Stores => store_many(&table.shared, &mut seat, count),
     }
     Ok(())
 }

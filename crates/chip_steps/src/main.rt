@@ -2,66 +2,96 @@
 //! table-load, table-store, port-load, port-store, seat-load or seat-store.
 #![tactic(auto)]
 
-ghost use Rattle.std.specs.Prelude.{IfOk};
-ghost use Rattle.chip_steps.specs.Jobs.{HasMadeBy};
+ghost use Rattle.std.specs.Prelude.{◌≡◌, map, string_bytes, IfOk};
+ghost use Rattle.chip_steps.specs.Jobs.{job_of, case_of, number_of, HasMadeBy};
 
 mod accesses;
 mod bare;
 mod ports;
 
-use scc_mesh::Chip;
+use accesses::Kind;
+use scc_mesh::{Chip, Token};
 use std::alloc::{AllocError, Global};
 use std::{env, io};
 
-#[derive(Drop)]
+/// Where the accesses go: to a bare table, to a chip by a rank at home, or by a rank that is away.
+#[derive(Clone, Copy)]
 enum Way {
     Table,
     Port,
     Seat,
 }
 
+#[derive(Clone, Copy)]
+struct Case {
+    way: Way,
+    kind: Kind,
+}
+
 #[derive(Drop)]
 struct Job {
-    way: Way,
-    stores: bool,
+    case: Case,
     count: u32,
 }
 
-fn job_of(words: &[String]) -> Option<Job> {
-    if words.len() != 2 {
-        return None;
-    }
-    let (way, stores) = match words[0].as_str() {
-        "table-load" => (Way::Table, false),
-        "table-store" => (Way::Table, true),
-        "port-load" => (Way::Port, false),
-        "port-store" => (Way::Port, true),
-        "seat-load" => (Way::Seat, false),
-        "seat-store" => (Way::Seat, true),
-        _ => return None,
-    };
-    let Ok(count) = words[1].as_str().parse::<u32>() else {
-        return None;
-    };
-    Some(Job { way, stores, count })
+/// Who has the accesses: nobody, a rank at home on its chip, or a rank that is away from it.
+#[derive(Drop)]
+enum Made {
+    OnTable,
+    AtHome(Chip),
+    Away(Chip, Token),
 }
 
-// The chip on which the accesses were made; a bare table is none.
-fn make(alloc: Global, job: &Job) -> Result<Option<Chip>, AllocError>
-    ensures made { IfOk result (λ chip. HasMadeBy job.now chip) }
+fn case_of(word: &str) -> Option<Case>
+    ensures { result ≡ case_of word.now }
 {
-    match job.way {
+    let (way, kind) = match word {
+        "table-load" => (Way::Table, Kind::Loads),
+        "table-store" => (Way::Table, Kind::Stores),
+        "port-load" => (Way::Port, Kind::Loads),
+        "port-store" => (Way::Port, Kind::Stores),
+        "seat-load" => (Way::Seat, Kind::Loads),
+        "seat-store" => (Way::Seat, Kind::Stores),
+        _ => return None,
+    };
+    Some(Case { way, kind })
+}
+
+fn number_of(word: &str) -> Option<u32>
+    ensures { result ≡ number_of word.now }
+{
+    match word.parse::<u32>() {
+        Ok(number) => Some(number),
+        Err(_) => None,
+    }
+}
+
+fn job_of(words: &[String]) -> Option<Job>
+    ensures { result ≡ job_of (map string_bytes words.now) }
+{
+    let [kind, count] = words else {
+        return None;
+    };
+    let case = case_of(kind.as_str())?;
+    let count = number_of(count.as_str())?;
+    Some(Job { case, count })
+}
+
+fn make(alloc: Global, job: &Job) -> Result<Made, AllocError>
+    ensures made { IfOk result (λ made. HasMadeBy job.now made) }
+{
+    match job.case.way {
         Way::Table => {
-            bare::bare(alloc, job.stores, job.count)?;
-            Ok(None)
+            bare::bare(alloc, job.case.kind, job.count)?;
+            Ok(Made::OnTable)
         }
         Way::Port => {
-            let chip = ports::by_port(alloc, false, job.stores, job.count)?;
-            Ok(Some(chip))
+            let chip = ports::by_port(alloc, job.case.kind, job.count)?;
+            Ok(Made::AtHome(chip))
         }
         Way::Seat => {
-            let chip = ports::by_port(alloc, true, job.stores, job.count)?;
-            Ok(Some(chip))
+            let away = ports::by_seat(alloc, job.case.kind, job.count)?;
+            Ok(Made::Away(away.chip, away.token))
         }
     }
 }

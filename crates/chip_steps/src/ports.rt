@@ -4,11 +4,11 @@ ghost use Rattle.std.specs.Prelude.{◌≡◌, ◌<◌, ℕ, [], IfOk};
 ghost use Rattle.scc_base.specs.Setups.{host_of};
 ghost use Rattle.scc_base.specs.Communicators.{AreRules};
 ghost use Rattle.scc_mesh.specs.Scenes.{IsWhole, IsNew, about_in, events_in};
-ghost use Rattle.chip_steps.specs.Steps.{HasMade};
+ghost use Rattle.chip_steps.specs.Steps.{HasMade, HasMadeAway};
 
-use crate::accesses::make_many;
+use crate::accesses::{Kind, make_many};
 use scc_base::{CommRule, CoreId, Layout, Rank, Setup};
-use scc_mesh::Chip;
+use scc_mesh::{Chip, Token};
 use std::alloc::{AllocError, Global};
 
 // Each rank on the core of its number.
@@ -39,47 +39,51 @@ fn setup() -> Setup {
     }
 }
 
-fn at_home(chip: &mut Chip, stores: bool, count: u32)
+fn make_at_home(chip: &mut Chip, kind: Kind, count: u32)
     requires whole { IsWhole chip.old }
     requires empty { (r : ℕ) → events_in chip.old r ≡ [] }
-    ensures made { HasMade chip.new stores count }
+    ensures made { HasMade chip.new kind count }
 {
     let _nue = chip.setup().nue();
     let mut port = chip.port(Rank::of(0));
-    make_many(&mut port, stores, count);
+    make_many(&mut port, kind, count);
 }
 
-fn away(chip: &mut Chip, stores: bool, count: u32)
+/// Makes that many loads, or stores, by rank 0 of a chip that is at home.
+pub fn by_port(alloc: Global, kind: Kind, count: u32) -> Result<Chip, AllocError>
+    ensures made { IfOk result (λ chip. HasMade chip kind count) }
+{
+    let mut chip = Chip::blank();
+    chip.open(alloc, setup())?;
+    make_at_home(&mut chip, kind, count);
+    Ok(chip)
+}
+
+/// A chip, and the token of a rank that is away from it.
+#[derive(Drop)]
+pub struct Away {
+    pub chip: Chip,
+    pub token: Token,
+}
+
+fn make_away(chip: &mut Chip, kind: Kind, count: u32) -> Token
     requires whole { IsWhole chip.old }
     requires empty { (r : ℕ) → events_in chip.old r ≡ [] }
-    ensures made { HasMade chip.new stores count }
+    ensures made { HasMadeAway chip.new result kind count }
 {
     let _nue = chip.setup().nue();
     let token = chip.spread(Rank::of(0));
     let mut port = chip.words().port(token);
-    make_many(&mut port, stores, count);
-    let token = port.into_token();
-    chip.gather(token);
+    make_many(&mut port, kind, count);
+    port.into_token()
 }
 
-fn make_on(chip: &mut Chip, is_away: bool, stores: bool, count: u32)
-    requires whole { IsWhole chip.old }
-    requires empty { (r : ℕ) → events_in chip.old r ≡ [] }
-    ensures made { HasMade chip.new stores count }
-{
-    if is_away {
-        away(chip, stores, count);
-    } else {
-        at_home(chip, stores, count);
-    }
-}
-
-/// Makes that many loads, or stores, through a port of a rank at home or away, and gives the chip, which has them.
-pub fn by_port(alloc: Global, is_away: bool, stores: bool, count: u32) -> Result<Chip, AllocError>
-    ensures made { IfOk result (λ chip. HasMade chip stores count) }
+/// Makes that many loads, or stores, by rank 0 of a chip that is away.
+pub fn by_seat(alloc: Global, kind: Kind, count: u32) -> Result<Away, AllocError>
+    ensures made { IfOk result (λ made. HasMadeAway made.chip made.token kind count) }
 {
     let mut chip = Chip::blank();
     chip.open(alloc, setup())?;
-    make_on(&mut chip, is_away, stores, count);
-    Ok(chip)
+    let token = make_away(&mut chip, kind, count);
+    Ok(Away { chip, token })
 }

@@ -1,17 +1,19 @@
 -- What a step on the chip's table owes to it.
-use Rattle.std.proofs.Common.{◌≡◌, ◌⊎◌, inl, inr, ℕ, ◌<◌, ◌^◌, Bool, true, false, ◌==◌, if◌then◌else◌, List, length, slice_index, slice_set, refl, sym, ◌∙◌, subst}
+use Rattle.std.proofs.Common.{◌≡◌, ◌⊎◌, inl, inr, ℕ, ◌<◌, ◌^◌, Bool, true, false, ◌==◌, if◌then◌else◌, List, length, slice_index, slice_set, refl, sym, ◌∙◌, ap, subst}
 use Rattle.std.proofs.lemmas.List.{length-set, set-get_or}
 use Rattle.atomic_table.specs.Table.{Me, keeps, Allows}
 use Rattle.scc_base.specs.Places.{WordAt, IsPlace}
 use Rattle.scc_base.specs.Events.{IsEvent, load_of, store_of, take_of, free_of}
 use Rattle.scc_base.specs.Setups.{SetupView}
+use Rattle.scc_base.specs.declared.events.Access.{Access}
+use Rattle.scc_base.specs.declared.events.Access.TheVariants.{Load, Store, Take, Free}
 use Rattle.scc_base.specs.declared.events.Event.{Event}
 use Rattle.scc_proto.specs.Words.{IsStep, memory_after, SameWords}
 use Rattle.scc_proto.specs.Records.{IsPermitted, record_of}
 use Rattle.scc_proto.specs.Registers.{Holder, Nobody, HeldBy}
 use Rattle.scc_proto.specs.Memories.{word_number, register_number, memory_of}
 use Rattle.scc_mesh.specs.SeatViews.{View, list_at, IsKnown, with_event}
-use Rattle.scc_mesh.specs.Keeping.{records_by, Together, Kept, Holds, Made, Looked}
+use Rattle.scc_mesh.specs.Keeping.{records_by, Together, Kept, Holds, Made, Looked, MayAccess, event_found}
 use Rattle.scc_proto.proofs.MemoryLemmas.{word_is, register_is, words_kept, word_stored, register_freed, register_taken}
 use Rattle.scc_mesh.proofs.TableLaws.{step_keeps, step_tells, look_tells, look_keeps}
 
@@ -88,3 +90,36 @@ module _ {S : Type 0} (s : SetupView) (slots id : ℕ) (me : Me S View) where
       let keep : Kept s table.words (slice_set table.views id me.0) = look_keeps s table.words table.views kept id me.0 at_id in
       let kept_now : Kept s (slice_set table.words 0 (slice_index table.words 0)) (slice_set table.views id me.0) = subst (λ (x : List ℕ). Kept s x (slice_set table.views id me.0)) (sym (set-get_or table.words 0 0)) keep in
       (me.0, keeps, tt, kept_now, (subst (λ (x : SetupView). Looked x me.0 me.0) (sym about_is) (record { view = refl; knows = look_tells s table.words table.views kept id me.0 at_id }), refl))
+
+-- ---- an access, by its kind
+
+module _ {S : Type 0} (s now : SetupView) (key : s ≡ now) (slots id : ℕ) (me : Me S View) (about : SetupView) (rank r : ℕ) (picked : ℕ → Event) (access : Access) (place : WordAt) (value : ℕ)
+    (aim : (about ≡ now) × (rank ≡ r) × (picked ≡ (λ n. event_found access place value n))) (here : IsKnown me.0 r) (may : MayAccess now r (list_at me.0 r) access place value) where
+  picks : (kind : Access) → access ≡ kind → (n : ℕ) → picked n ≡ event_found kind place value n
+  picks kind is n = (λ i. aim.2 i n) ∙ ap (λ (a : Access). event_found a place value n) is
+
+  may_as : (kind : Access) → access ≡ kind → MayAccess s r (list_at me.0 r) kind place value
+  may_as kind is = subst (λ (a : Access). MayAccess s r (list_at me.0 r) a place value) is (subst (λ (x : SetupView). MayAccess x r (list_at me.0 r) access place value) (sym key) may)
+
+  about_is : about ≡ s
+  about_is = aim.0 ∙ sym key
+
+  pub allowed_load : access ≡ Load → IsPlace place → (word : ℕ) → word ≡ word_number place.core place.line place.word
+      → Allows (Holds s) slots id me word (λ n. n) (λ n now. Made about rank me.0 (picked n) now.0 × (now.1 ≡ me.1))
+  allowed_load is valid word at = allowed_event s slots id me about rank r picked (load_of place) (λ n. n) (λ n. n) word (word_number place.core place.line place.word)
+      about_is aim.1 (picks Load is) at here (makes_load s r (list_at me.0 r) place valid)
+
+  pub allowed_store : access ≡ Store → IsPlace place → value < 2 ^ 64 → (word : ℕ) → word ≡ word_number place.core place.line place.word
+      → Allows (Holds s) slots id me word (λ n. value) (λ n now. Made about rank me.0 (picked value) now.0 × (now.1 ≡ me.1))
+  allowed_store is valid fits word at = allowed_event s slots id me about rank r picked (λ n. store_of place value) (λ n. value) (λ n. value) word (word_number place.core place.line place.word)
+      about_is aim.1 (λ n. picks Store is value) at here (makes_store s r (list_at me.0 r) place value valid fits (may_as Store is))
+
+  pub allowed_take : access ≡ Take → place.core < 48 → (word : ℕ) → word ≡ register_number place.core
+      → Allows (Holds s) slots id me word (λ n. 1) (λ n now. Made about rank me.0 (picked n) now.0 × (now.1 ≡ me.1))
+  allowed_take is valid word at = allowed_event s slots id me about rank r picked (λ n. take_of place.core (n == 0)) (λ n. n) (λ n. 1) word (register_number place.core)
+      about_is aim.1 (picks Take is) at here (makes_take s r (list_at me.0 r) place.core valid (may_as Take is))
+
+  pub allowed_free : access ≡ Free → place.core < 48 → (word : ℕ) → word ≡ register_number place.core
+      → Allows (Holds s) slots id me word (λ n. 0) (λ n now. Made about rank me.0 (picked 0) now.0 × (now.1 ≡ me.1))
+  allowed_free is valid word at = allowed_event s slots id me about rank r picked (λ n. free_of place.core) (λ n. 0) (λ n. 0) word (register_number place.core)
+      about_is aim.1 (λ n. picks Free is 0) at here (makes_free s r (list_at me.0 r) place.core valid (may_as Free is))

@@ -1,5 +1,5 @@
 -- Seats that stand for one rank alone, and their steps.
-use Rattle.std.proofs.Common.{◌≡◌, ℕ, ◌<◌, List, [], ◌∷◌, ◌++◌, slice_set, Some, length, sym, ◌∙◌, ap, subst, arith}
+use Rattle.std.proofs.Common.{◌≡◌, ℕ, ◌<◌, List, [], ◌∷◌, ◌++◌, slice_set, Some, length, refl, sym, ◌∙◌, ap, subst, arith}
 use Rattle.std.proofs.lemmas.List.{length-set}
 use Rattle.atomic_table.specs.Table.{Me}
 use Rattle.atomic_table.specs.Seated.{TableId}
@@ -9,9 +9,9 @@ use Rattle.scc_proto.specs.Records.{IsPermitted, record_of}
 use Rattle.scc_proto.specs.Soundness.{IsSound}
 use Rattle.scc_proto.specs.Ports.{Did, MayMake, IsSoundPort, record_in, and_then}
 use Rattle.scc_mesh.specs.SeatViews.{View, known, list_or_none, list_at, IsKnown, IsLone, alone, joined}
-use Rattle.scc_mesh.specs.Keeping.{WasStep, Knows, Made}
+use Rattle.scc_mesh.specs.Keeping.{Knows, Made}
 use Rattle.scc_mesh.specs.AwayRanks.{Ticket, Away, IsSoundAway, MadeAway}
-use Rattle.scc_mesh.specs.Scenes.{sight_away}
+use Rattle.scc_mesh.specs.Scenes.{WasSeatStep, sight_away}
 use Rattle.scc_mesh.proofs.ViewLemmas.{alone_here, alone_set, joined_alone, joined_here}
 use Rattle.scc_proto.proofs.SoundLaw.{sound_law}
 use Rattle.scc_mesh.specs.Keeping.{records_by}
@@ -77,14 +77,8 @@ module _ (s : SetupView) (old new : Ticket) (e : Event) (made : MadeAway s old e
   unfolding record_in
   away_sound = made.sound.1
 
-  same_rank : new.rank ≡ old.rank
-  same_rank = ap (λ (t : Ticket). t.rank) made.next
-
-  pub away_keeps : (events : List Event) (x : Event) → WasStep s [] old.rank events x → WasStep s [] new.rank events x
-  away_keeps events x was = subst (λ r. WasStep s [] r events x) (sym same_rank) was
-
-  pub away_step : WasStep s [] new.rank old.events e
-  away_step = away_keeps old.events e made.step
+  pub away_step : WasSeatStep (sight_away s old).seat old.events e
+  away_step = record { resting = []; rest = refl; step = made.step }
 
 pub may_away : (s : SetupView) (ticket : Ticket) (e : Event) → MayMake (sight_away s ticket).seat (record_in (sight_away s ticket)) e → IsPermitted s ticket.rank (record_of s ticket.rank ticket.events) e
 unfolding record_in
@@ -96,30 +90,39 @@ sound_away s ticket sound = sound.1
 
 -- ---- the same for a port over its words
 
-module _ (key about : SetupView) (token : Ticket) (port : Away) (e : Event) (key_is : key ≡ about) (view_is : record { about = about; ticket = token } ≡ port) where
-  pub may_there : MayMake (sight_away port.about port.ticket).seat (record_in (sight_away port.about port.ticket)) e → IsPermitted key token.rank (record_of key token.rank token.events) e
-  may_there may = subst (λ (s : SetupView). IsPermitted s token.rank (record_of s token.rank token.events) e) (sym key_is)
-      (may_away about token e (subst (λ (p : Away). MayMake (sight_away p.about p.ticket).seat (record_in (sight_away p.about p.ticket)) e) (sym view_is) may))
+module _ (token : Ticket) (s : SetupView) (port : Away) (e : Event) (view_is : record { about = s; ticket = token } ≡ port) where
+  pub may_there : MayMake (sight_away port.about port.ticket).seat (record_in (sight_away port.about port.ticket)) e → IsPermitted s token.rank (record_of s token.rank token.events) e
+  may_there may = may_away s token e (subst (λ (p : Away). MayMake (sight_away p.about p.ticket).seat (record_in (sight_away p.about p.ticket)) e) (sym view_is) may)
 
-  pub did_there : (new : Ticket) → MadeAway key token e new → MayMake (sight_away port.about port.ticket).seat (record_in (sight_away port.about port.ticket)) e
-      → Did (sight_away port.about port.ticket) (e ∷ []) (sight_away about new)
-  did_there new made may = subst (λ (p : Away). MayMake (sight_away p.about p.ticket).seat (record_in (sight_away p.about p.ticket)) e → Did (sight_away p.about p.ticket) (e ∷ []) (sight_away about new)) view_is
-      (away_did about token new e (subst (λ (s : SetupView). MadeAway s token e new) key_is made)) may
+  module _ (new : Ticket) (made : MadeAway s token e new) where
+    pub did_there : MayMake (sight_away port.about port.ticket).seat (record_in (sight_away port.about port.ticket)) e
+        → Did (sight_away port.about port.ticket) (e ∷ []) (sight_away s new)
+    did_there may = subst (λ (p : Away). MayMake (sight_away p.about p.ticket).seat (record_in (sight_away p.about p.ticket)) e → Did (sight_away p.about p.ticket) (e ∷ []) (sight_away s new)) view_is
+        (away_did s token new e made) may
 
-  pub sound_there : (new : Ticket) → MadeAway key token e new → IsSoundPort (sight_away about new)
-  sound_there new made = away_sound about token new e (subst (λ (s : SetupView). MadeAway s token e new) key_is made)
+    pub step_there : WasSeatStep (sight_away port.about port.ticket).seat port.ticket.events e
+    step_there = subst (λ (p : Away). WasSeatStep (sight_away p.about p.ticket).seat p.ticket.events e) view_is (away_step s token new e made)
+
+    pub sound_there : IsSoundPort (sight_away s new)
+    sound_there = away_sound s token new e made
 
 -- ---- a rank comes home
 
 module _ (s : SetupView) (home : View) (r : ℕ) (events : List Event) (now : View) (is : now ≡ joined home (alone r (Some events))) (knows : Knows s now) (ranks : length home ≡ s.nue) where
-  gathered_below : r < length home
-  gathered_below =
+  within_home : r < length home
+  within_home =
       let here : known now r ≡ Some events = ap (λ (v : View). known v r) is ∙ joined_here home r events in
       let below = knows.below r events here in
       omega (arith, below, ranks)
 
   pub gathered : now ≡ slice_set home r (Some events)
-  gathered = is ∙ joined_alone home r events gathered_below
+  gathered = is ∙ joined_alone home r events within_home
 
   pub gathered_ranks : length now ≡ s.nue
   gathered_ranks = ap (λ (v : View). length v) gathered ∙ length-set home r (Some events) ∙ ranks
+
+  pub gathered_below : r < s.nue
+  gathered_below = let lt = within_home in omega (arith, lt, ranks)
+
+  pub gathered_known : known now r ≡ Some events
+  gathered_known = ap (λ (v : View). known v r) is ∙ joined_here home r events

@@ -1,13 +1,13 @@
 -- All ranks are handed out in order, and taken home in order: then all are at home.
-use Rattle.std.proofs.Common.{◌≡◌, ◌≢◌, ◌⊎◌, inl, inr, ℕ, zero, suc, ◌+◌, ◌<◌, ◌≤◌, List, [], length, slice_set, Option, Some, None, refl, sym, ◌∙◌, ap, subst, arith}
+use Rattle.std.proofs.Common.{◌≡◌, ◌≢◌, ◌⊎◌, inl, inr, ℕ, zero, suc, ◌+◌, ◌<◌, ◌≤◌, List, length, slice_set, Some, None, refl, sym, ◌∙◌, ap, subst, arith}
 use Rattle.std.proofs.lemmas.Bool.{cases_eq}
 use Rattle.std.proofs.lemmas.List.{length-set}
 use Rattle.atomic_table.specs.Seated.{table_id_coded}
 use Rattle.scc_base.specs.declared.events.Event.{Event}
 use Rattle.scc_proto.specs.Ports.{Seat}
 use Rattle.scc_mesh.specs.AwayRanks.{Away}
-use Rattle.scc_mesh.specs.SeatViews.{View, known, list_or_none, list_at, IsKnown, without}
-use Rattle.scc_mesh.specs.Scenes.{ChipView, Scene, IsOpen, IsHome, IsWhole, IsHomeFrom, IsHomeBelow, about_in, home_in, events_in, with_home, sight_away}
+use Rattle.scc_mesh.specs.SeatViews.{View, list_or_none, list_at, IsKnown, without}
+use Rattle.scc_mesh.specs.Scenes.{ChipView, IsWhole, IsHomeFrom, IsHomeBelow, about_in, home_in, events_in, with_home, sight_away}
 use Rattle.scc_mesh.proofs.ViewLemmas.{is_known, known_within, known_here, known_there}
 
 room_for : (home : View) (nue : ℕ) → ((r : ℕ) → r < nue → IsKnown home r) → nue ≤ length home

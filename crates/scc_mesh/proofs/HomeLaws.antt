@@ -1,5 +1,5 @@
 -- What a chip with its ranks at home knows.
-use Rattle.std.proofs.Common.{◌≡◌, ◌≢◌, length, slice_set, ℕ, ◌<◌, ◌≤◌, Bool, true, false, nat_lt, List, Option, Some, None, refl, sym, ◌∙◌, ap, subst, arith}
+use Rattle.std.proofs.Common.{◌≡◌, ◌≢◌, length, slice_set, ℕ, ◌<◌, ◌≤◌, Bool, true, false, nat_lt, List, [], Option, Some, None, refl, sym, ◌∙◌, ap, subst, arith}
 use Rattle.std.proofs.lemmas.Bool.Decides.{nat_tests}
 use Rattle.scc_base.specs.Setups.{SetupView}
 use Rattle.scc_base.specs.declared.events.Event.{Event}
@@ -10,7 +10,7 @@ use Rattle.scc_proto.proofs.Tests.{both_first, both_second}
 use Rattle.scc_proto.proofs.SoundLaw.{sound_law}
 use Rattle.scc_mesh.specs.SeatViews.{View, known, list_or_none, list_at, IsKnown, newcomer, without}
 use Rattle.scc_mesh.specs.Keeping.{records_by, Together}
-use Rattle.scc_mesh.specs.Scenes.{ChipView, Scene, IsHome, home_in, with_home, IsWhole, IsNew, KnowsHome, AgreesAtHome, is_port_of, sight_in}
+use Rattle.scc_mesh.specs.Scenes.{ChipView, Scene, IsHome, about_in, home_in, events_in, with_home, IsWhole, IsNew, KnowsHome, AgreesAtHome, is_port_of, sight_in}
 use Rattle.scc_mesh.specs.Scenes as scenes
 use Rattle.scc_mesh.proofs.ViewLemmas.{is_known, known_here, known_there, list_past, newcomer_here, newcomer_list}
 
@@ -33,6 +33,11 @@ module _ (scene : Scene) (whole : IsWhole (Some scene)) (knows : KnowsHome (Some
 pub agrees_at_home : (chip : ChipView) → IsWhole chip → KnowsHome chip → AgreesAtHome chip
 agrees_at_home None whole knows = absurd (cc (whole.opened))
 agrees_at_home (Some scene) whole knows = scene_agrees scene whole knows
+
+-- ranks that are not of the run have made no event
+pub none_beyond : (chip : ChipView) → KnowsHome chip → (r : ℕ) → (about_in chip).nue ≤ r → events_in chip r ≡ []
+none_beyond None knows r out = refl
+none_beyond (Some scene) knows r out = list_past scene.home r (omega (arith, out, knows.1))
 
 pub known_if : (x : Option (List Event)) → scenes.is_known x ≡ true → x ≡ Some (list_or_none x)
 known_if None t = absurd (cc (t))

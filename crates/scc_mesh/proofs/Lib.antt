@@ -7,3 +7,5 @@ pub mod SeatLaws
 pub mod AwaySteps
 pub mod PortEnds
 pub mod HandOuts
+pub mod TurnLaws
+pub mod LookLaws

@@ -1,13 +1,13 @@
 -- A step of a port on its chip.
-use Rattle.std.proofs.Common.{◌≡◌, ℕ, List, [], ◌∷◌, ◌++◌, Some, sym, ◌∙◌, ap, subst}
+use Rattle.std.proofs.Common.{◌≡◌, ℕ, [], ◌∷◌, None, refl, sym, ◌∙◌, ap, subst}
 use Rattle.scc_base.specs.Setups.{SetupView}
 use Rattle.scc_base.specs.declared.events.Event.{Event}
 use Rattle.scc_proto.specs.Records.{IsPermitted, record_of}
 use Rattle.scc_proto.specs.Soundness.{IsSound}
 use Rattle.scc_proto.specs.Ports.{Did, MayMake, IsSoundPort, record_in, and_then}
 use Rattle.scc_mesh.specs.SeatViews.{View, list_at, without}
-use Rattle.scc_mesh.specs.Keeping.{WasStep, Made}
-use Rattle.scc_mesh.specs.Scenes.{ChipView, about_in, table_in, home_in, events_in, mark_of, rest_of, view_coded, sight_in}
+use Rattle.scc_mesh.specs.Keeping.{Made}
+use Rattle.scc_mesh.specs.Scenes.{ChipView, about_in, table_in, home_in, events_in, mark_of, rest_of, view_coded, WasSeatStep, sight_in}
 use Rattle.scc_mesh.proofs.ViewLemmas.{known_there, set_twice}
 
 module _ (old new : ChipView) (r hold : ℕ) (e : Event) (made : Made (about_in old) r (home_in old) e (home_in new)) (about_same : about_in new ≡ about_in old) (table_same : table_in new ≡ table_in old) where
@@ -28,20 +28,20 @@ module _ (old new : ChipView) (r hold : ℕ) (e : Event) (made : Made (about_in 
   unfolding record_in
   port_sound = subst (λ (s : SetupView). IsSound s r (record_of s r (list_at (home_in new) r))) (sym about_same) made.sound
 
-  pub port_keeps : (events : List Event) (x : Event) → WasStep (about_in old) (home_in old) r events x → WasStep (about_in new) (home_in new) r events x
-  port_keeps events x was = subst (λ (s : SetupView). WasStep s (home_in new) r events x) (sym about_same)
-      (subst (λ (v : View). WasStep (about_in old) v r events x) (sym made.view) (record {
-        memory = was.memory;
-        lists = was.lists;
-        own = was.own;
-        others = λ q list ne is. was.others q list ne (sym (known_there (home_in old) r (Some (list_at (home_in old) r ++ e ∷ [])) q ne) ∙ is);
-        before = was.before;
-        step = was.step;
-        after = was.after;
-      }))
-
-  pub port_step : WasStep (about_in new) (home_in new) r (events_in old r) e
-  port_step = port_keeps (events_in old r) e made.step
+  pub port_step : WasSeatStep (sight_in old r hold).seat (events_in old r) e
+  port_step = record {
+    resting = without (home_in old) r;
+    rest = refl;
+    step = record {
+      memory = made.step.memory;
+      lists = made.step.lists;
+      own = made.step.own;
+      others = λ q list ne is. made.step.others q list ne (sym (known_there (home_in old) r None q ne) ∙ is);
+      before = made.step.before;
+      step = made.step.step;
+      after = made.step.after;
+    };
+  }
 
 -- what a port's caller may do, as the chip asks it
 pub may_make : (chip : ChipView) (r hold : ℕ) (e : Event) → MayMake (sight_in chip r hold).seat (record_in (sight_in chip r hold)) e

@@ -1,15 +1,15 @@
 -- A rank that is away from its chip.
 use Rattle.std.specs.Prelude.{◌≡◌, ℕ, ◌<◌, List, [], ◌∷◌, ◌++◌}
-use Rattle.atomic_table.specs.Seated.{TableId}
 use Rattle.scc_base.specs.Setups.{SetupView}
 use Rattle.scc_base.specs.declared.events.Event.{Event}
 use Rattle.scc_proto.specs.Records.{IsHonest, record_of}
 use Rattle.scc_proto.specs.Soundness.{IsSound}
 use Rattle.scc_mesh.specs.Keeping.{WasStep}
+use Rattle.scc_mesh.specs.Spaces.{ChipId}
 
 -- a rank's token: which chip, the rank, and the list of its events
 pub record Ticket : Type 0 where
-  pub table : TableId
+  pub table : ChipId
   pub rank : ℕ
   pub events : List Event
 

@@ -1,16 +1,18 @@
 -- The rule of the chip's table, and what a step on it tells.
-use Rattle.std.specs.Prelude.{◌≡◌, ◌≢◌, ℕ, ◌<◌, ◌≤◌, ◌⊎◌, List, [], ◌∷◌, ◌++◌, Some, length, Contains}
+use Rattle.std.specs.Prelude.{◌≡◌, ◌≢◌, ℕ, ◌<◌, ◌≤◌, ◌==◌, ◌⊎◌, List, [], ◌∷◌, ◌++◌, Some, length, Contains}
 use mathlib.Core.Option.{some}
 use lib.ListN.{get_elem?}
 use Rattle.atomic_table.specs.Table.{State}
 use Rattle.scc_base.specs.Places.{WordAt}
-use Rattle.scc_base.specs.Events.{load_of, store_of, free_of}
+use Rattle.scc_base.specs.Events.{load_of, store_of, take_of, free_of}
 use Rattle.scc_base.specs.Setups.{SetupView, IsSetup}
+use Rattle.scc_base.specs.declared.events.Access.{Access}
+use Rattle.scc_base.specs.declared.events.Access.TheVariants.{Load, Store, Take, Free}
 use Rattle.scc_base.specs.declared.events.Event.{Event}
 use Rattle.scc_proto.specs.Tables.{put}
 use Rattle.scc_proto.specs.Stages.{Record}
 use Rattle.scc_proto.specs.Words.{Memory, IsStep, memory_after, HeapWord, role_of}
-use Rattle.scc_proto.specs.Records.{IsHonest, record_of}
+use Rattle.scc_proto.specs.Records.{IsPermitted, IsHonest, record_of}
 use Rattle.scc_proto.specs.Soundness.{IsSound}
 use Rattle.scc_proto.specs.Agreement.{Agrees}
 use Rattle.scc_proto.specs.Memories.{memory_of}
@@ -90,6 +92,17 @@ pub record Made (s : SetupView) (r : ℕ) (old : View) (e : Event) (new : View) 
 pub record Looked (s : SetupView) (old new : View) : Type 0 where
   pub view : new ≡ old
   pub knows : Knows s new
+
+-- the event of an access, by the number that it finds: a take has taken a register that was 0
+abbrev pub event_found : Access → WordAt → ℕ → ℕ → Event
+event_found Load place value found = load_of place found
+event_found Store place value found = store_of place value
+event_found Take place value found = take_of place.core (found == 0)
+event_found Free place value found = free_of place.core
+
+-- the rank may make the access, whatever a load or a take finds
+abbrev pub MayAccess : SetupView → ℕ → List Event → Access → WordAt → ℕ → Type 0
+MayAccess s r events access place value = IsPermitted s r (record_of s r events) (event_found access place value 1)
 
 abbrev pub no_event : ℕ → Event
 no_event n = free_of 0

@@ -1,23 +1,24 @@
 -- What a chip, a token and a port are to a contract.
 use Rattle.std.specs.Prelude.{◌≡◌, ℕ, ◌<◌, ◌≤◌, List, [], Option, Some, None, Bool, true, false, ◌&&◌, nat_lt, length}
 use Rattle.std.specs.Coded.{coded_option}
-use base.Stored.{Gv, gnil, Coded, coded_list}
-use Rattle.atomic_table.specs.Seated.{TableId, table_id_coded}
+use base.Stored.{Gv, Coded, coded_list}
+use Rattle.atomic_table.specs.Seated.{table_id_coded}
 use Rattle.scc_base.specs.Setups.{SetupView}
 use Rattle.scc_base.specs.contracts.events.Event.{the_row}
 use Rattle.scc_base.specs.declared.events.Event.{Event}
 use Rattle.scc_base.specs.declared.layouts.Layout.TheVariants.{LineFlags}
 use Rattle.scc_proto.specs.Stages.{Record}
 use Rattle.scc_proto.specs.Words.{Memory}
-use Rattle.scc_proto.specs.Ports.{Sight}
+use Rattle.scc_proto.specs.Ports.{Seat, Sight}
 use Rattle.scc_mesh.specs.SeatViews.{View, known, list_at, IsKnown, without}
 use Rattle.scc_mesh.specs.AwayRanks.{Ticket}
-use Rattle.scc_mesh.specs.Keeping.{Together, Knows, records_by}
+use Rattle.scc_mesh.specs.Keeping.{WasStep, Together, Knows, records_by}
+use Rattle.scc_mesh.specs.Spaces.{ChipId}
 
 -- an open chip: its setup, which chip it is, and the lists of the ranks that are at home
 pub record Scene : Type 0 where
   pub about : SetupView
-  pub table : TableId
+  pub table : ChipId
   pub home : View
 
 -- a chip is blank, or open
@@ -27,7 +28,7 @@ ChipView = Option Scene
 abbrev pub no_setup : SetupView
 no_setup = record { nue = 0; layout = LineFlags; hosts = []; comms = [] }
 
-abbrev pub no_table : TableId
+abbrev pub no_table : ChipId
 no_table = record { words = 0; slots = 0; views_name = 0; atom = 0; block = 0; offset = 0; slot_names = [] }
 
 -- the chip's setup
@@ -36,7 +37,7 @@ about_in None = no_setup
 about_in (Some scene) = scene.about
 
 -- which chip it is
-abbrev pub table_in : ChipView → TableId
+abbrev pub table_in : ChipView → ChipId
 table_in None = no_table
 table_in (Some scene) = scene.table
 
@@ -110,10 +111,10 @@ abbrev pub view_coded : Coded View
 view_coded = coded_list (coded_option (coded_list the_row.coded))
 
 -- which chip, as a port tells it
-abbrev pub mark_of : TableId → Gv
+abbrev pub mark_of : ChipId → Gv
 mark_of table = table_id_coded.code table
 
--- the lists of all ranks at home but one
+-- the lists of the other ranks, where they rest at home meanwhile
 abbrev pub rest_of : View → ℕ → Gv
 rest_of home r = view_coded.code (without home r)
 
@@ -127,7 +128,7 @@ sight_in chip r hold = record {
 -- a port of a rank that is away
 abbrev pub sight_away : SetupView → Ticket → Sight
 sight_away s ticket = record {
-  seat = record { setup = s; rank = ticket.rank; mark = mark_of ticket.table; rest = gnil; hold = 0 };
+  seat = record { setup = s; rank = ticket.rank; mark = mark_of ticket.table; rest = rest_of [] ticket.rank; hold = 0 };
   events = ticket.events;
 }
 
@@ -135,3 +136,9 @@ sight_away s ticket = record {
 pub record AgreesAtHome (chip : ChipView) : Type 0 where
   pub memory : Memory
   pub together : Together (about_in chip) memory (events_in chip)
+
+-- an event of a port's rank was a step, made while the other ranks that rest had these lists
+pub record WasSeatStep (seat : Seat) (events : List Event) (e : Event) : Type 0 where
+  pub resting : View
+  pub rest : seat.rest ≡ view_coded.code resting
+  pub step : WasStep seat.setup resting seat.rank events e

@@ -4,7 +4,7 @@ use crate::away::Words;
 use crate::board::Board;
 use crate::port::OnePort;
 use crate::tokens::Token;
-use scc_base::{CoreId, Place, Rank, Setup};
+use scc_base::{Access, Place, Rank, Setup};
 use std::alloc::{AllocError, Global};
 use std::marker::Model;
 
@@ -25,19 +25,18 @@ impl Model for Chip {
 }
 
 impl Chip {
-    ghost use Rattle.std.specs.Prelude.{◌≡◌, ◌<◌, ℕ, None, Some, slice_set, false, IfOk, IfErr, Contains, ◌⊎◌, ◌≤◌};
-    ghost use Rattle.scc_base.specs.Events.{load_of, store_of, take_of, free_of};
+    ghost use Rattle.std.specs.Prelude.{◌≡◌, ◌<◌, ℕ, None, Some, [], slice_set, IfOk, IfErr, Contains, ◌⊎◌, ◌≤◌};
+    ghost use Rattle.scc_base.specs.Events.{load_of};
     ghost use Rattle.scc_base.specs.Places.{WordAt};
     ghost use Rattle.scc_base.specs.Setups.{setup_key};
     ghost use Rattle.scc_proto.specs.Messages.{barriers_of};
     ghost use Rattle.scc_proto.specs.Words.{HeapWord, Memory, role_of};
-    ghost use Rattle.scc_proto.specs.Records.{IsPermitted, record_of};
     ghost use Rattle.scc_proto.specs.Passed.{passed_calls, slot_of};
     ghost use Rattle.scc_proto.specs.Legality.{IsLegal};
     ghost use Rattle.scc_proto.specs.PairMessages.{PairMessages};
     ghost use Rattle.scc_proto.specs.Agreement.{Agrees};
     ghost use Rattle.scc_mesh.specs.SeatViews.{without};
-    ghost use Rattle.scc_mesh.specs.Keeping.{Made, IsStoredAt};
+    ghost use Rattle.scc_mesh.specs.Keeping.{Made, MayAccess, IsStoredAt, event_found};
     ghost use Rattle.scc_mesh.specs.Scenes.{IsOpen, IsHome, IsWhole, IsNew, KnowsHome, is_open, about_in, home_in, table_in, events_in, records_in, with_home};
 
     /// A chip with no words yet.
@@ -72,7 +71,7 @@ impl Chip {
         let Some(board) = &self.board else {
             unreachable!()
         };
-        board.about()
+        board.setup()
     }
 
     /// The way of one rank to the shared words, in this thread.
@@ -107,8 +106,8 @@ impl Chip {
     /// The chip's words, for the ports of ranks that are away.
     pub fn words(&self) -> Words<'_>
         requires opened { IsOpen self.now }
-        ensures about { result.about.now ≡ about_in self.now }
-        ensures table { result.shared.now.table_id ≡ table_in self.now }
+        ensures about { result.space.now.about ≡ about_in self.now }
+        ensures table { result.space.now.table ≡ table_in self.now }
     {
         let Some(board) = &self.board else {
             unreachable!()
@@ -121,6 +120,9 @@ impl Chip {
         requires opened { IsOpen self.old }
         requires of_chip { token.table ≡ table_in self.old }
         ensures chip { self.new ≡ with_home self.old (slice_set (home_in self.old) token.rank (Some token.events)) }
+        ensures below { token.rank < (about_in self.old).nue }
+        ensures home { IsHome self.new token.rank }
+        ensures events { events_in self.new token.rank ≡ token.events }
         ensures same { IsOpen self.new × (about_in self.new ≡ about_in self.old) × (table_in self.new ≡ table_in self.old) }
     {
         let Some(board) = &mut self.board else {
@@ -133,6 +135,7 @@ impl Chip {
     pub fn agrees(&self)
         requires whole { IsWhole self.now }
         ensures words { (memory : Memory) × Agrees (about_in self.now) memory (records_in self.now) }
+        ensures beyond { (r : ℕ) → (about_in self.now).nue ≤ r → events_in self.now r ≡ [] }
         ensures messages { (from to : ℕ) → from < (about_in self.now).nue → PairMessages (about_in self.now) from to (records_in self.now) }
         ensures calls { IsLegal (about_in self.now).nue (setup_key (about_in self.now))
             (passed_calls (about_in self.now) (records_in self.now)) (slot_of (about_in self.now) (records_in self.now)) }
@@ -154,54 +157,17 @@ impl Chip {
         }
     }
 
-    pub(crate) fn load(&mut self, rank: Rank, place: Place) -> u64
+    /// The one step that is an event of a rank at home. The answer is the number that a load or a take found.
+    pub(crate) fn make(&mut self, rank: Rank, access: Access, place: Place, value: u64) -> u64
         requires opened { IsOpen self.old }
         requires known { IsHome self.old rank }
-        ensures did { Made (about_in self.old) rank (home_in self.old) (load_of place result) (home_in self.new) }
+        requires permitted { MayAccess (about_in self.old) rank (events_in self.old rank) access place value }
+        ensures did { Made (about_in self.old) rank (home_in self.old) (event_found access place value result) (home_in self.new) }
         ensures same { IsOpen self.new × (about_in self.new ≡ about_in self.old) × (table_in self.new ≡ table_in self.old) }
     {
         let Some(board) = &mut self.board else {
             unreachable!()
         };
-        board.load(rank, place)
-    }
-
-    pub(crate) fn store(&mut self, rank: Rank, place: Place, value: u64)
-        requires opened { IsOpen self.old }
-        requires known { IsHome self.old rank }
-        requires permitted { IsPermitted (about_in self.old) rank (record_of (about_in self.old) rank (events_in self.old rank)) (store_of place value) }
-        ensures did { Made (about_in self.old) rank (home_in self.old) (store_of place value) (home_in self.new) }
-        ensures same { IsOpen self.new × (about_in self.new ≡ about_in self.old) × (table_in self.new ≡ table_in self.old) }
-    {
-        let Some(board) = &mut self.board else {
-            unreachable!()
-        };
-        board.store(rank, place, value);
-    }
-
-    pub(crate) fn take(&mut self, rank: Rank, core: CoreId) -> bool
-        requires opened { IsOpen self.old }
-        requires known { IsHome self.old rank }
-        requires permitted { IsPermitted (about_in self.old) rank (record_of (about_in self.old) rank (events_in self.old rank)) (take_of core false) }
-        ensures did { Made (about_in self.old) rank (home_in self.old) (take_of core result) (home_in self.new) }
-        ensures same { IsOpen self.new × (about_in self.new ≡ about_in self.old) × (table_in self.new ≡ table_in self.old) }
-    {
-        let Some(board) = &mut self.board else {
-            unreachable!()
-        };
-        board.take(rank, core)
-    }
-
-    pub(crate) fn free(&mut self, rank: Rank, core: CoreId)
-        requires opened { IsOpen self.old }
-        requires known { IsHome self.old rank }
-        requires permitted { IsPermitted (about_in self.old) rank (record_of (about_in self.old) rank (events_in self.old rank)) (free_of core) }
-        ensures did { Made (about_in self.old) rank (home_in self.old) (free_of core) (home_in self.new) }
-        ensures same { IsOpen self.new × (about_in self.new ≡ about_in self.old) × (table_in self.new ≡ table_in self.old) }
-    {
-        let Some(board) = &mut self.board else {
-            unreachable!()
-        };
-        board.free(rank, core);
+        board.make(rank, access, place, value)
     }
 }

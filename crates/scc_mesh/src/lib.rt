@@ -4,15 +4,17 @@
 mod away;
 mod board;
 mod chip;
+mod laws;
 mod port;
 mod rule;
-mod steps;
+mod space;
 #[cfg(test)]
 mod tests;
 mod tokens;
 
 pub use away::{SeatPort, Words};
 pub use chip::Chip;
+pub use laws::{look_law, saw_law, turn_law};
 pub use port::OnePort;
-pub use rule::{Agreement, View};
+pub use space::Space;
 pub use tokens::Token;

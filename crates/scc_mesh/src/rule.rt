@@ -14,10 +14,10 @@ use std::marker::{Brand, PhantomData};
 
 /// What a seat of the table knows: by rank, the list of the events of each rank that it stands for. No value
 /// of it is ever made.
-pub type View = LinkedList<Option<LinkedList<Event>>>;
+pub(crate) type View = LinkedList<Option<LinkedList<Event>>>;
 
 /// The words and the lists of all seats agree.
-pub struct Agreement;
+pub(crate) struct Agreement;
 
 impl TableRule<(), View, Setup> for Agreement {
     ghost holds = { Holds };

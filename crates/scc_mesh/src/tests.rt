@@ -57,7 +57,7 @@ fn all_words_are_zero_at_the_start(rt: HostRuntime) -> Result<(), Fail> {
 }
 
 fn load_once(words: Words<'_>, token: Token) -> Token
-    requires of_chip { token.table ≡ words.shared.now.table_id }
+    requires of_chip { token.table ≡ words.space.now.table }
     ensures same { result.table ≡ token.table }
 {
     let mut port = words.port(token);
@@ -98,7 +98,7 @@ fn step_port(port: &mut SeatPort<'_>, value: u64)
 }
 
 fn step_token(words: Words<'_>, token: Token, value: u64) -> Token
-    requires of_chip { token.table ≡ words.shared.now.table_id }
+    requires of_chip { token.table ≡ words.space.now.table }
     requires none { token.events ≡ [] }
     ensures same { (result.table ≡ token.table) × (result.rank ≡ token.rank) }
 {
@@ -108,8 +108,8 @@ fn step_token(words: Words<'_>, token: Token, value: u64) -> Token
 }
 
 fn step_held(words: Words<'_>, token: &mut Option<Token>, rank: Rank, value: u64)
-    requires there { IsSomeAnd token.old (λ t. (t.table ≡ words.shared.now.table_id) × (t.rank ≡ rank) × (t.events ≡ [])) }
-    ensures there { IsSomeAnd token.new (λ t. (t.table ≡ words.entry.shared.now.table_id) × (t.rank ≡ rank)) }
+    requires there { IsSomeAnd token.old (λ t. (t.table ≡ words.space.now.table) × (t.rank ≡ rank) × (t.events ≡ [])) }
+    ensures there { IsSomeAnd token.new (λ t. (t.table ≡ words.entry.space.now.table) × (t.rank ≡ rank)) }
 {
     let Some(held) = token.take() else {
         unreachable!()
@@ -125,9 +125,9 @@ fn both_step<R: Threads + Sync>(
     first: &mut Option<Token>,
     second: &mut SeatPort<'_>,
 )
-    requires first { IsSomeAnd first.old (λ t. (t.table ≡ words.shared.now.table_id) × (t.rank ≡ 0) × (t.events ≡ [])) }
+    requires first { IsSomeAnd first.old (λ t. (t.table ≡ words.space.now.table) × (t.rank ≡ 0) × (t.events ≡ [])) }
     requires second { second.old.ticket.events ≡ [] }
-    ensures first { IsSomeAnd first.new (λ t. (t.table ≡ words.entry.shared.now.table_id) × (t.rank ≡ 0)) }
+    ensures first { IsSomeAnd first.new (λ t. (t.table ≡ words.entry.space.now.table) × (t.rank ≡ 0)) }
     ensures second { (second.new.ticket.table ≡ second.old.ticket.table) × (second.new.ticket.rank ≡ second.old.ticket.rank) }
 {
     let rank = Rank::of(0);

@@ -1,15 +1,14 @@
 //! A rank that is away from its chip.
 
-ghost use Rattle.std.specs.Prelude.{◌≡◌, false, Some, []};
-ghost use Rattle.scc_base.specs.Events.{load_of, store_of, take_of, free_of};
-ghost use Rattle.scc_proto.specs.Records.{IsPermitted, record_of};
+ghost use Rattle.std.specs.Prelude.{◌≡◌, Some, []};
 ghost use Rattle.scc_mesh.specs.SeatViews.{IsLone, alone, list_at};
+ghost use Rattle.scc_mesh.specs.Keeping.{MayAccess, event_found};
 ghost use Rattle.scc_mesh.specs.AwayRanks.{IsSoundAway, MadeAway};
 
 use crate::rule::View;
-use crate::steps;
+use crate::space::Space;
 use atomic_table::Seat;
-use scc_base::{CoreId, Place, Rank};
+use scc_base::{Access, Place, Rank};
 use std::marker::Model;
 
 /// The right to make the events of one rank of a chip. It has no lifetime, and may go to another thread. A
@@ -55,42 +54,20 @@ impl Token {
     }
 
     /// A load that is no event, and tells what the seat knows.
-    pub(crate) fn look(&mut self, words: &steps::Words)
-        requires table { (self.old.table ≡ words.now.table_id) × (words.now.table_id.words ≡ 49200) }
+    pub(crate) fn look(&mut self, space: &Space)
+        requires of_chip { self.old.table ≡ space.now.table }
         ensures same { self.new ≡ self.old }
-        ensures knows { IsSoundAway words.now.key self.new }
+        ensures knows { IsSoundAway space.now.about self.new }
     {
-        steps::look(words, &mut self.seat);
+        space.look(&mut self.seat);
     }
 
-    pub(crate) fn load(&mut self, words: &steps::Words, place: Place) -> u64
-        requires table { (self.old.table ≡ words.now.table_id) × (words.now.table_id.words ≡ 49200) }
-        ensures did { MadeAway words.now.key self.old (load_of place result) self.new }
+    /// The one step that is an event of the rank. The answer is the number that a load or a take found.
+    pub(crate) fn make(&mut self, space: &Space, access: Access, place: Place, value: u64) -> u64
+        requires of_chip { self.old.table ≡ space.now.table }
+        requires permitted { MayAccess space.now.about self.old.rank self.old.events access place value }
+        ensures did { MadeAway space.now.about self.old (event_found access place value result) self.new }
     {
-        steps::load(words, &mut self.seat, self.rank, place)
-    }
-
-    pub(crate) fn store(&mut self, words: &steps::Words, place: Place, value: u64)
-        requires table { (self.old.table ≡ words.now.table_id) × (words.now.table_id.words ≡ 49200) }
-        requires permitted { IsPermitted words.now.key self.old.rank (record_of words.now.key self.old.rank self.old.events) (store_of place value) }
-        ensures did { MadeAway words.now.key self.old (store_of place value) self.new }
-    {
-        steps::store(words, &mut self.seat, self.rank, place, value);
-    }
-
-    pub(crate) fn take(&mut self, words: &steps::Words, core: CoreId) -> bool
-        requires table { (self.old.table ≡ words.now.table_id) × (words.now.table_id.words ≡ 49200) }
-        requires permitted { IsPermitted words.now.key self.old.rank (record_of words.now.key self.old.rank self.old.events) (take_of core false) }
-        ensures did { MadeAway words.now.key self.old (take_of core result) self.new }
-    {
-        steps::take(words, &mut self.seat, self.rank, core)
-    }
-
-    pub(crate) fn free(&mut self, words: &steps::Words, core: CoreId)
-        requires table { (self.old.table ≡ words.now.table_id) × (words.now.table_id.words ≡ 49200) }
-        requires permitted { IsPermitted words.now.key self.old.rank (record_of words.now.key self.old.rank self.old.events) (free_of core) }
-        ensures did { MadeAway words.now.key self.old (free_of core) self.new }
-    {
-        steps::free(words, &mut self.seat, self.rank, core);
+        space.make(&mut self.seat, self.rank, access, place, value)
     }
 }

@@ -4,11 +4,12 @@ use Rattle.scc_base.specs.Setups.{SetupView}
 use Rattle.scc_base.specs.Communicators.{rule_of}
 use Rattle.scc_base.specs.declared.communicators.CommRule.TheVariants.{Absent}
 use Rattle.scc_base.specs.declared.events.Event.{Event}
+use Rattle.scc_base.specs.declared.events.Spot.{Spot}
 use Rattle.scc_base.specs.declared.events.Turn.TheVariants as turn
 use Rattle.scc_proto.specs.Stages.{Record, blank}
 use Rattle.scc_proto.specs.Records.{record_of}
 use Rattle.scc_proto.specs.Ports.{Seat, Sight, record_in}
-use Rattle.scc_proto.proofs.PortLaws.{record_of-nil}
+use Rattle.scc_proto.proofs.PortLaws.{record_of-nil, seat_kept}
 use Rattle.put_get.specs.Cores.{Private}
 use Rattle.sync_flags.specs.Flags.{flag_value}
 use Rattle.barrier.specs.declared.stages.BarStage.{BarStage}
@@ -16,6 +17,10 @@ use Rattle.barrier.specs.declared.stages.BarStage.TheVariants.{Flip, Gather, Rel
 use Rattle.barrier.specs.Flags.{IsParityOf, value_at}
 use Rattle.barrier.specs.Stages.{BarAt, BarStands, IsAtStage}
 use Rattle.barrier.specs.Turns.{BarTurned}
+use Rattle.barrier.specs.Calls.{Finishes, Stalls}
+use Rattle.barrier.specs.declared.barriers.BarStop.{BarStop}
+use Rattle.barrier.specs.declared.barriers.BarStop.TheVariants.{Stalled}
+use Rattle.barrier.proofs.RestLemmas.{barrier_starts, free_after_barrier}
 use Rattle.scc_mesh.specs.Scenes.{ChipView, IsNew, about_in, sight_in}
 use Rattle.scc_rows.specs.Teams.{sight_alone}
 use Rattle.scc_rows.specs.Entrants.{IsReady}
@@ -114,3 +119,29 @@ ready_anew {t = t} {d = d} {now = now} {next = next} {comm = comm} {later = late
       stands = alone (subst (λ (o : BarAt). BarStands t d o later) (sym is) anew);
       same = ap (λ (o : BarAt). o.comm) is;
     }
+
+-- ---- whole barriers
+
+-- after a barrier that was passed a new one of its communicator can be entered
+pub passed_ready : {s t : Sight} {c d : Private} {op next : BarAt} {comm : ℕ} {values later : List Bool} → IsReady (sight_alone s.seat.setup s.seat.rank s.events) c comm op values
+    → Finishes s op t d later → next ≡ record { comm = comm; stage = Flip } → IsReady (sight_alone t.seat.setup t.seat.rank t.events) d comm next later
+passed_ready {s} {t} {c} {d} {op} {next} {comm} {values} {later} ready f is =
+    let seat = seat_kept s f.events t f.did in
+    let small : comm < 16 = subst (λ (k : ℕ). k < 16) ready.same ready.stands.below in
+    let present : rule_of t.seat.setup.comms comm ≢ Absent = subst (λ (x : Seat). rule_of x.setup.comms comm ≢ Absent) (sym seat)
+    (subst (λ (k : ℕ). rule_of s.seat.setup.comms k ≢ Absent) ready.same ready.stands.present) in record {
+      stands = alone (subst (λ (o : BarAt). BarStands t d o later) (sym is) (barrier_starts (free_after_barrier f) comm small present));
+      same = ap (λ (o : BarAt). o.comm) is;
+    }
+
+-- a barrier that gave up can be gone on with
+pub stalled_ready : {s t : Sight} {c d : Private} {op now : BarAt} {comm polls : ℕ} {values later : List Bool} {spot : Spot} → IsReady (sight_alone s.seat.setup s.seat.rank s.events) c comm op values
+    → Stalls s op polls t d later (Stalled now spot polls) → IsReady (sight_alone t.seat.setup t.seat.rank t.events) d comm now later
+stalled_ready {s} {t} {c} {d} {op} {now} {comm} {polls} {values} {later} {spot} ready stalls =
+    let is : now ≡ stalls.now = ap (λ (x : BarStop). op_of x) stalls.is in record {
+      stands = alone (subst (λ (o : BarAt). BarStands t d o later) (sym is) stalls.stands);
+      same = ap (λ (o : BarAt). o.comm) is ∙ stalls.same ∙ ready.same;
+    }
+  where
+    op_of : BarStop → BarAt
+    op_of (Stalled o sp n) = o

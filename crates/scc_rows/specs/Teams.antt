@@ -1,10 +1,10 @@
 -- A team: the ranks of one chip from 0 on, each with what it knows of its own events, while all are at home.
-use Rattle.std.specs.Prelude.{◌≡◌, ℕ, ◌<◌, ◌≤◌, List, [], ◌++◌, Some, length, slice_set, slice_index_or}
+use Rattle.std.specs.Prelude.{◌≡◌, ℕ, ◌<◌, ◌≤◌, List, [], length, slice_index_or}
 use base.Stored.{gnil}
 use Rattle.scc_base.specs.Setups.{SetupView}
 use Rattle.scc_base.specs.declared.events.Event.{Event}
 use Rattle.scc_proto.specs.Ports.{Sight}
-use Rattle.scc_mesh.specs.Scenes.{ChipView, IsWhole, about_in, home_in, events_in, with_home}
+use Rattle.scc_mesh.specs.Scenes.{ChipView, IsWhole, about_in, events_in}
 
 -- what is seen of a team: the setup of its chip, and how many ranks have a player
 pub record TeamView : Type 0 where
@@ -22,9 +22,3 @@ pub record IsTeam {A : Type 0} (stands : A → SetupView → ℕ → List Event 
   pub fits : length players ≤ (about_in chip).nue
   pub each : (r : ℕ) (player : A) → r < length players → player ≡ slice_index_or players r player → stands player (about_in chip) r (events_in chip r)
   pub empty : (r : ℕ) → length players ≤ r → events_in chip r ≡ []
-
--- a rank has made some events more, and stands where they stand
-pub record AfterTurn (stands : SetupView → ℕ → List Event → Type 0) (chip : ChipView) (r : ℕ) (now : ChipView) : Type 0 where
-  pub events : List Event
-  pub is : now ≡ with_home chip (slice_set (home_in chip) r (Some (events_in chip r ++ events)))
-  pub here : stands (about_in now) r (events_in now r)

@@ -17,6 +17,7 @@ pub(crate) const POLLS: u32 = 3;
 /// A call of a rank.
 #[derive(Clone, Copy, Debug, PartialEq, Eq)]
 pub(crate) enum Deed {
+    Send,
     Post,
     Receive,
     Test,
@@ -110,7 +111,7 @@ impl Caller {
         }
     }
 
-    // A post from where it stands.
+    // A send or a post from where it stands.
     fn send_on<P: Port>(&mut self, port: &mut P, op: SendOp)
         requires peers { are_peers (P.sight port.old).seat.setup (P.sight port.old).seat.rank self.old.peer ≡ true }
         requires stands { SendStands (P.sight port.old) self.old.core op self.old.slot self.old.bytes.items }
@@ -157,6 +158,19 @@ impl Caller {
                     }
                 }
             }
+        }
+    }
+
+    // A plain send from its start.
+    fn send<P: Port>(&mut self, port: &mut P)
+        requires talks { IsTalking (P.sight port.old) self.old.core self.old.slot self.old.peer self.old.bytes.items None None }
+        requires not_sending { self.old.sending ≡ None }
+        requires not_receiving { self.old.receiving ≡ None }
+        ensures talks { IsTalking (P.sight port.new) self.new.core self.new.slot self.new.peer self.new.bytes.items self.new.sending self.new.receiving }
+        ensures did { (events : List Event) × Did (P.sight port.old) events (P.sight port.new) }
+    {
+        if let Some(head) = head_of(&self.bytes) {
+            self.send_on(port, SendOp::new(self.peer, head));
         }
     }
 
@@ -244,6 +258,10 @@ impl Player for Caller {
         };
         self.bytes = call.bytes;
         match call.deed {
+            Deed::Send => {
+                self.send(port);
+                Turn::Moved
+            }
             Deed::Post => {
                 self.post(port);
                 Turn::Moved
@@ -265,7 +283,7 @@ fn calls_of(alloc: Global, deeds: &[(Deed, usize)]) -> Result<Vec<Call>, Fail> {
     let mut calls = Vec::new(alloc);
     for (deed, len) in deeds.iter().rev() {
         let bytes = match deed {
-            Deed::Post => bytes_from(alloc, 1, *len)?,
+            Deed::Send | Deed::Post => bytes_from(alloc, 1, *len)?,
             Deed::Receive | Deed::Test => vec![in alloc; 0; *len]?,
         };
         calls.push(Call { deed: *deed, bytes })?;

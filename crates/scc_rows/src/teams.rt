@@ -2,7 +2,7 @@
 
 ghost use Rattle.std.specs.Prelude.{◌<◌, IfOk};
 ghost use Rattle.scc_mesh.specs.Scenes.{IsNew, IsWhole, about_in, events_in};
-ghost use Rattle.scc_rows.specs.Teams.{AfterTurn};
+ghost use Rattle.scc_mesh.specs.Turns.{AfterTurn};
 
 use scc_base::{CommRule, CoreId, Layout, Rank, Setup, Turn};
 use scc_mesh::Chip;

@@ -276,3 +276,58 @@ fn a_post_that_stalled_goes_on(rt: HostRuntime) -> Result<(), Fail> {
     }
     Ok(())
 }
+
+// The flag at which a rank 0 waits for the answer of rank 1.
+fn answer_spot(layout: Layout) -> Spot {
+    let ready = layout.ready(Rank::of(1));
+    Spot::Flag {
+        place: ready.place(CoreId::of(0)),
+        bit: ready.bit(),
+    }
+}
+
+#[test]
+fn a_send_that_stalled_goes_on(rt: HostRuntime) -> Result<(), Fail> {
+    for layout in [Layout::lines(), Layout::bits()] {
+        let mut team = calling(
+            rt.alloc(),
+            layout,
+            &[(Deed::Send, 100)],
+            &[(Deed::Receive, 100)],
+        )?;
+        for _ in 0..2 {
+            let _ = team.turn(0);
+            let spot = answer_spot(layout);
+            assert!(rt; ended(&team, 0, End::Stalled { spot, polls: POLLS }));
+        }
+        for at in [1, 0] {
+            let _ = team.turn(at);
+            assert!(rt; ended(&team, at, End::Done));
+        }
+        assert!(rt; is_arrived(&team));
+    }
+    Ok(())
+}
+
+#[test]
+fn a_send_of_two_chunks_stalls_at_each(rt: HostRuntime) -> Result<(), Fail> {
+    for (layout, len) in [(Layout::lines(), 3_585), (Layout::bits(), 6_625)] {
+        let mut team = calling(
+            rt.alloc(),
+            layout,
+            &[(Deed::Send, len)],
+            &[(Deed::Receive, len)],
+        )?;
+        for _ in 0..2 {
+            let _ = team.turn(0);
+            let spot = answer_spot(layout);
+            assert!(rt; ended(&team, 0, End::Stalled { spot, polls: POLLS }));
+            let _ = team.turn(1);
+        }
+        assert!(rt; ended(&team, 1, End::Done));
+        let _ = team.turn(0);
+        assert!(rt; ended(&team, 0, End::Done));
+        assert!(rt; is_arrived(&team));
+    }
+    Ok(())
+}

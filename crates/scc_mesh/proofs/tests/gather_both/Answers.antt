@@ -1,4 +1,4 @@
-use Rattle.std.proofs.Common.{◌≡◌, ◌<◌, ◌≤◌, ◌∙◌, ap, arith}
+use Rattle.std.proofs.Common.{◌≡◌, ◌∙◌, ap, arith}
 use Rattle.scc_base.specs.Setups.{SetupView}
 use Rattle.scc_mesh.specs.Scenes.{about_in}
 use Rattle.scc_mesh.proofs.HandOuts.{after_gather, all_came_home}

@@ -1,6 +1,5 @@
-use Rattle.std.proofs.Common.{◌≡◌, ◌≢◌, ℕ, sym, ◌∙◌, ap, arith}
+use Rattle.std.proofs.Common.{◌≢◌, sym, ◌∙◌, ap, arith}
 use Rattle.scc_mesh.specs.AwayRanks.{Ticket}
-use Rattle.scc_mesh.specs.Scenes.{table_in}
 use Rattle.scc_mesh.proofs.HandOuts.{all_at_home, none_at_home, after_spread, others_keep}
 use Rattle.scc_mesh.proofs.tests.spread_both.Goals as goal
 

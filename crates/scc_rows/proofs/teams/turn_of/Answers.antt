@@ -1,5 +1,5 @@
 use Rattle.std.proofs.Common.{rules, sym, ◌∙◌}
-use Rattle.scc_rows.proofs.TeamLemmas.{after_turn, name_kept, at_end}
+use Rattle.scc_mesh.proofs.TurnLaws.{after_turn, name_kept, turn_end}
 use Rattle.scc_rows.proofs.teams.turn_of.Goals as goal
 
 pub returns : goal.returns
@@ -10,7 +10,7 @@ returns g c =
     let kept = name_kept lent.chip.now end.chip.now lent.rank end.rank lent.chip.ghost_name end.chip.ghost_name c.turn.ensures.did in
     let n = sym (kept ∙ p.name) in
     record {
-      turned = at_end (g.M.Player.stands c.turn.new.self) c.args.chip.now c.args.rank _ end.chip.now (search (rules, n))
+      turned = turn_end (g.M.Player.stands c.turn.new.self) c.args.chip.now c.args.rank _ end.chip.now (search (rules, n))
           (after_turn (g.M.Player.stands c.turn.new.self) c.args.chip.now lent.chip.now end.chip.now c.args.rank lent.rank end.rank lent.chip.ghost_name end.chip.ghost_name
           p.same p.rank c.requires.whole.opened end.home c.turn.ensures.did c.turn.ensures.stands);
     }

@@ -1,12 +1,21 @@
+use Rattle.std.proofs.Common.{sym, ap, subst}
+use Rattle.scc_base.specs.Places.{WordAt}
 use Rattle.scc_base.specs.Events.{free_of}
-use Rattle.scc_mesh.proofs.AwaySteps.{did_there, sound_there, may_there}
+use Rattle.scc_proto.specs.Records.{IsPermitted, record_of}
+use Rattle.scc_mesh.specs.AwayRanks.{MadeAway}
+use Rattle.scc_mesh.proofs.AwaySteps.{sound_there, may_there}
 use Rattle.scc_mesh.proofs.away.SeatPortPort.free.Goals as goal
 
-pub free-requires-clause-permitted : goal.free-requires-clause-permitted
-free-requires-clause-permitted c = let port = c.self.inside in may_there port.words.shared.now.key port.words.about.now port.token c.args.self.now (free_of c.args.c) port.words.key c.self.view_is c.requires.permitted
-
-pub returns-clause-did : goal.returns-clause-did
-returns-clause-did c = let port = c.self.inside in did_there port.words.shared.now.key port.words.about.now port.token c.args.self.now (free_of c.args.c) port.words.key c.self.view_is c.free.new.self c.free.ensures.did c.requires.permitted
+pub make-requires-clause-permitted : goal.make-requires-clause-permitted
+make-requires-clause-permitted c =
+    let port = c.self.inside in
+    let core = ap (λ (p : WordAt). p.core) c.register.ensures.gives in
+    subst (λ k. IsPermitted port.space.now.about port.token.rank (record_of port.space.now.about port.token.rank port.token.events) (free_of k)) (sym core)
+    (may_there port.token port.space.now.about c.args.self.now (free_of c.args.c) c.self.view_is c.requires.permitted)
 
 pub returns-clause-sound : goal.returns-clause-sound
-returns-clause-sound c = let port = c.self.inside in sound_there port.words.shared.now.key port.words.about.now port.token c.args.self.now (free_of c.args.c) port.words.key c.self.view_is c.free.new.self c.free.ensures.did
+returns-clause-sound c =
+    let port = c.self.inside in
+    let core = ap (λ (p : WordAt). p.core) c.register.ensures.gives in
+    let made = subst (λ k. MadeAway port.space.now.about port.token (free_of k) c.make.new.self) core c.make.ensures.did in
+    sound_there port.token port.space.now.about c.args.self.now (free_of c.args.c) c.self.view_is c.make.new.self made

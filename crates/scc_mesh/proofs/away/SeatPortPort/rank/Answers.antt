@@ -8,4 +8,4 @@ use Rattle.scc_mesh.proofs.away.SeatPortPort.rank.Goals as goal
 pub returns-clause-sound : goal.returns-clause-sound
 returns-clause-sound c =
     let port = c.self.inside in
-    subst (λ (p : Away). IsSoundPort (sight_away p.about p.ticket)) c.self.view_is (sound_away port.words.about.now port.token c.self.invariant.1)
+    subst (λ (p : Away). IsSoundPort (sight_away p.about p.ticket)) c.self.view_is (sound_away port.space.now.about port.token c.self.invariant.1)

@@ -15,6 +15,6 @@ returns-clause-token c =
     let board = c.self.inside in
     let table = c.split-seat.ensures.table.1 ∙ c.self.invariant.0 in
     let list = new_list c.args.rank board.seat.me.0 c.split-seat.result.me c.split-seat.ensures.right in
-    let told : c.new.result ≡ record { table = board.table.shared.table_id; rank = c.args.rank; events = list_at board.seat.me.0 c.args.rank }
+    let told : c.new.result ≡ record { table = board.space.table; rank = c.args.rank; events = list_at board.seat.me.0 c.args.rank }
     = c.new.ensures.gives ∙ (λ i. record { table = table i; rank = c.args.rank; events = list i }) in
     told ∙ ap (λ (b : Scene). record { table = b.table; rank = c.args.rank; events = list_at b.home c.args.rank }) c.self.view_is

@@ -1,11 +1,14 @@
 use Rattle.scc_proto.proofs.BarrierLaw.{barriers_entered}
 use Rattle.scc_proto.proofs.MessageLaw.{pair_messages}
 use Rattle.scc_mesh.specs.Scenes.{about_in, records_in}
-use Rattle.scc_mesh.proofs.HomeLaws.{agrees_at_home}
+use Rattle.scc_mesh.proofs.HomeLaws.{agrees_at_home, none_beyond}
 use Rattle.scc_mesh.proofs.chip.Chip.agrees.Goals as goal
 
 pub returns-clause-words : goal.returns-clause-words
 returns-clause-words c = let home = agrees_at_home c.args.self.now c.requires.whole c.tells.ensures.knows in (home.memory, home.together.agree)
+
+pub returns-clause-beyond : goal.returns-clause-beyond
+returns-clause-beyond c = none_beyond c.args.self.now c.tells.ensures.knows
 
 pub returns-clause-messages : goal.returns-clause-messages
 returns-clause-messages c = λ from to below.

@@ -8,4 +8,4 @@ returns-clause-knows c =
     let token = c.self.inside in
     let looked = c.look.ensures.looked in
     let lone = subst (λ me. IsLone token.rank me) (λ i. (sym looked.view i, sym c.look.ensures.held i)) c.self.invariant in
-    knows_away c.args.words.now.key token.rank c.look.new.seat.me token.seat.table_id lone looked.knows
+    knows_away c.args.space.now.about token.rank c.look.new.seat.me token.seat.table_id lone looked.knows

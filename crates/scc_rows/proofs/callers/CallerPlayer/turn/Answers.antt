@@ -32,6 +32,15 @@ returns-in_default-pop-clause-stands g c =
     let free : c.args.self.now.receiving ≡ None = search rules in
     rw c.take-sending.ensures.after (rw c.take-receiving.ensures.after (talk_alone (is_free {s = g.P.Port.sight c.args.port.now} c.requires.stands none free)))
 
+pub send-requires-clause-talks : goal.send-requires-clause-talks
+send-requires-clause-talks g c =
+    let none : c.args.self.now.sending ≡ None = search rules in
+    let free : c.args.self.now.receiving ≡ None = search rules in
+    other_bytes (is_free {s = g.P.Port.sight c.args.port.now} c.requires.stands none free)
+
+pub returns-in-Send-clause-stands : goal.returns-in-Send-clause-stands
+returns-in-Send-clause-stands g c = talk_alone c.send.ensures.talks
+
 pub post-requires-clause-talks : goal.post-requires-clause-talks
 post-requires-clause-talks g c =
     let none : c.args.self.now.sending ≡ None = search rules in
