@@ -13,7 +13,6 @@ use scc_base::{CommRule, CoreId, Layout, Place, Rank, Setup, Spot, Turn};
 use scc_mesh::Chip;
 use scc_proto::Port;
 use std::alloc::Global;
-use std::mem;
 use std::test::Fail;
 
 /// A rank that enters barriers of a communicator, one after the other.
@@ -183,87 +182,6 @@ fn the_root_alone_is_stalled_at_the_other_gather_flag(rt: HostRuntime) -> Result
         };
         assert!(rt; spot == Spot::Flag { place, bit: 0 });
         assert_eq!(rt; polls, 2);
-    }
-    Ok(())
-}
-
-/// How many vain looks in a row end a whole barrier.
-const POLLS: u32 = 3;
-
-/// A rank that enters one barrier after the other by whole calls. A call that gave up goes on in the next turn.
-#[derive(Drop)]
-struct Passer {
-    core: Core<Never>,
-    comm: u8,
-    op: BarOp,
-    parity: Parity,
-}
-
-impl Passer {
-    ghost use Rattle.std.specs.Prelude.{◌≢◌, ◌<◌, ℕ, []};
-    ghost use Rattle.scc_base.specs.Setups.{SetupView};
-    ghost use Rattle.scc_base.specs.Communicators.{rule_of};
-    ghost use Rattle.scc_base.specs.declared.communicators.CommRule.TheVariants.{Absent};
-    ghost use Rattle.scc_rows.specs.Teams.{sight_alone};
-    ghost use Rattle.scc_rows.specs.Entrants.{IsReady};
-
-    fn new(comm: u8) -> Passer
-        requires below { comm < 16 }
-        ensures ready { (s : SetupView) (r : ℕ) → rule_of s.comms comm ≢ Absent
-            → IsReady (sight_alone s r []) result.core result.comm result.op result.parity }
-    {
-        Passer {
-            core: Core::new(Never),
-            comm,
-            op: BarOp::new(comm),
-            parity: Parity::new(),
-        }
-    }
-}
-
-impl Player for Passer {
-    ghost use Rattle.scc_rows.specs.Teams.{sight_alone};
-    ghost use Rattle.scc_rows.specs.Entrants.{IsReady};
-
-    ghost stands = { λ m s r events. IsReady (sight_alone s r events) m.core m.comm m.op m.parity };
-
-    fn turn<P: Port>(&mut self, port: &mut P) -> Turn {
-        let op = mem::replace(&mut self.op, BarOp::new(self.comm));
-        match barrier(&mut self.core, port, op, &mut self.parity, POLLS) {
-            Ok(()) => Turn::Done,
-            Err(BarStop::Stalled { op, spot, polls: _ }) => {
-                self.op = op;
-                Turn::Waiting(spot)
-            }
-        }
-    }
-}
-
-// The two ranks of a chip, which pass barriers of all by whole calls.
-fn passers(alloc: Global, layout: Layout) -> Result<Team<Passer>, Fail> {
-    let chip = opened(alloc, 2, layout, CommRule::Absent)?;
-    if chip.setup().rule(0) == CommRule::Absent {
-        return Err("a communicator of all ranks".into());
-    }
-    let mut team = Team::new(alloc, chip);
-    team.join(Passer::new(0))?;
-    team.join(Passer::new(0))?;
-    Ok(team)
-}
-
-#[test]
-fn a_barrier_that_stalled_goes_on(rt: HostRuntime) -> Result<(), Fail> {
-    for (layout, gather, release) in [(Layout::lines(), 97, 105), (Layout::bits(), 2, 10)] {
-        let mut team = passers(rt.alloc(), layout)?;
-        // Twice, so that the flags are flipped up and down again.
-        for _ in 0..2 {
-            let place = Place::new(CoreId::of(46), gather, 0);
-            assert!(rt; team.turn(0) == Some(Turn::Waiting(Spot::Flag { place, bit: 0 })));
-            let place = Place::new(CoreId::of(46), release, 0);
-            assert!(rt; team.turn(1) == Some(Turn::Waiting(Spot::Flag { place, bit: 0 })));
-            assert!(rt; team.turn(0) == Some(Turn::Done));
-            assert!(rt; team.turn(1) == Some(Turn::Done));
-        }
     }
     Ok(())
 }
