@@ -13,6 +13,7 @@ abbrev pub width_of : Ty → Width
 width_of Int = w32
 width_of Long = w64
 
+-- how many bytes a value of a type has
 abbrev pub bytes_in : Ty → ℕ
 bytes_in Int = 4
 bytes_in Long = 8

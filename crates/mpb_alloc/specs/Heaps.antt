@@ -116,6 +116,7 @@ abbrev pub answer_by : ℕ → ℕ → Option Run → Result LineRun MallocFault
 answer_by lines longest None = Err (Full lines longest)
 answer_by lines longest (Some r) = Ok (front_of lines r)
 
+-- what is answered to the question for so many lines
 abbrev pub answer_for : ℕ → List Run → Result LineRun MallocFault
 answer_for lines free = answer_by lines (longest_of free) (lowest_fit lines free)
 

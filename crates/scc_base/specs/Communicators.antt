@@ -36,6 +36,7 @@ IsRule comms comm World = comm ≡ 0
 IsRule comms comm (Mod parent k) = (parent < comm) × (rule_of comms parent ≢ Absent) × (1 ≤ k) × (k ≤ 48)
 IsRule comms comm (Div parent k) = (parent < comm) × (rule_of comms parent ≢ Absent) × (1 ≤ k) × (k ≤ 48)
 
+-- each of sixteen communicators has a rule that it may have
 abbrev pub AreRules : List CommRule → Type 0
 AreRules comms = (comm : ℕ) → comm < 16 → IsRule comms comm (rule_of comms comm)
 

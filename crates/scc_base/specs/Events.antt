@@ -29,5 +29,6 @@ IsAccess Store place value = IsPlace place × (value < 2 ^ 64)
 IsAccess Take place value = (place.core < 48) × (place ≡ register_place place.core) × ((value ≡ 0) ⊎ (value ≡ 1))
 IsAccess Free place value = (place.core < 48) × (place ≡ register_place place.core) × (value ≡ 0)
 
+-- an event that a core may make: its place is one that the chip has, and a take or a free has its value
 abbrev pub IsEvent : Event → Type 0
 IsEvent e = IsAccess e.access e.place e.value

@@ -57,5 +57,6 @@ abbrev pub chunk_lines : Layout → ℕ
 chunk_lines LineFlags = 112
 chunk_lines BitFlags = 207
 
+-- how many bytes of a message the chunk buffer holds at once
 abbrev pub chunk_size : Layout → ℕ
 chunk_size layout = 32 * chunk_lines layout

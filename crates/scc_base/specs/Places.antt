@@ -24,11 +24,13 @@ pub record FlagPlace : Type 0 where
   pub word : ℕ
   pub bit : ℕ
 
+-- a word that the chip has
 pub record IsPlace (place : WordAt) : Type 0 where
   pub core_below : place.core < 48
   pub line_below : place.line < 256
   pub word_below : place.word < 4
 
+-- a line that the chip has
 pub record IsLine (line : LineAt) : Type 0 where
   pub core_below : line.core < 48
   pub line_below : line.line < 256
@@ -39,6 +41,7 @@ pub record IsBuf (run : LineRun) : Type 0 where
   pub from_heap : 225 ≤ run.first
   pub to_heap : run.first + run.lines ≤ 256
 
+-- a flag that a line has, below the bits of 48 ranks
 pub record IsFlagPlace (flag : FlagPlace) : Type 0 where
   pub line_below : flag.line < 256
   pub word_below : flag.word < 4

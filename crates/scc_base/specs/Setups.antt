@@ -43,6 +43,7 @@ size_of s comm r = size_in s.nue (setup_key s comm) r
 abbrev pub place_of : SetupView → ℕ → ℕ → ℕ
 place_of s comm r = place_in (setup_key s comm) r
 
+-- the lowest rank of the group of rank r
 abbrev pub root_of : SetupView → ℕ → ℕ → ℕ
 root_of s comm r = root_in (setup_key s comm) r
 

@@ -60,6 +60,8 @@ WordsAgree s memory records = (place : WordAt) → IsPlace place → WordAgrees 
 abbrev pub CallsAgree : SetupView → (ℕ → Record) → Type 0
 CallsAgree s records = IsLegal s.nue (setup_key s) (passed_calls s records) (slot_of s records)
 
+-- the words of the chip and the records of all ranks agree: each record by itself, each pair of ranks, each sender's
+-- buffer, each group, the registers, the heap and idle words, and the passed calls are legal
 pub record Agrees (s : SetupView) (memory : Memory) (records : ℕ → Record) : Type 0 where
   pub singles : RecordsAgree s records
   pub pairs : PairsAgree s (view_of s memory) records

@@ -13,12 +13,15 @@ use Rattle.scc_proto.specs.Words.{RankEvent}
 abbrev pub loads : ℕ → ℕ → ℕ → ℕ → ℕ → RankEvent
 loads rank core line word value = record { rank = rank; event = load_of (record { core = core; line = line; word = word }) value }
 
+-- a rank stores a value in a word
 abbrev pub stores : ℕ → ℕ → ℕ → ℕ → ℕ → RankEvent
 stores rank core line word value = record { rank = rank; event = store_of (record { core = core; line = line; word = word }) value }
 
+-- a rank takes a free register
 abbrev pub takes : ℕ → ℕ → RankEvent
 takes rank core = record { rank = rank; event = take_of core true }
 
+-- a rank frees a register
 abbrev pub frees : ℕ → ℕ → RankEvent
 frees rank core = record { rank = rank; event = free_of core }
 
@@ -39,6 +42,7 @@ takes_four = loads 1 1 1 0 1 ∷ loads 1 0 0 0 0 ∷ loads 1 0 0 1 0 ∷ loads 1
     ∷ loads 1 0 113 0 67305985 ∷ loads 1 0 113 1 0 ∷ loads 1 0 113 2 0 ∷ loads 1 0 113 3 0
     ∷ stores 1 0 50 0 1 ∷ []
 
+-- a message of the bytes 1, 2, 3 and 4 from rank 0 to rank 1, up to the receiver's answer
 abbrev pub four_bytes : List RankEvent
 four_bytes = sends_four ++ takes_four
 
@@ -140,6 +144,7 @@ goes_on = stores 1 0 50 0 1 ∷ loads 0 0 50 0 1 ∷ stores 0 0 50 0 0
     ∷ loads 1 1 1 0 1 ∷ stores 1 1 1 0 0 ∷ loads 1 0 113 0 7 ∷ loads 1 0 113 1 0 ∷ loads 1 0 113 2 0 ∷ loads 1 0 113 3 0 ∷ stores 1 0 50 0 1
     ∷ loads 0 0 50 0 1 ∷ stores 0 0 50 0 0 ∷ []
 
+-- a message of 3,585 bytes from rank 0 to rank 1, of two chunks, whatever its words are
 abbrev pub two_chunks : (ℕ → ℕ) → List RankEvent
 two_chunks word = drafts_head ++ (for_each (drafts_word word) 448 ++ (begins_first ++ (for_each (loads_word word) 448 ++ goes_on)))
 

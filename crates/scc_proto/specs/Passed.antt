@@ -22,6 +22,7 @@ open_of size (Taking from message chunk) = Some (recv_from from (message_of mess
 open_of size (Barrier comm seen released) = Some (Bar comm)
 open_of size stage = None
 
+-- the call that a rank has begun and not finished
 abbrev pub open_call : SetupView → Record → Option DataCall
 open_call s rec = open_of (chunk_of s) rec.stage
 
@@ -48,6 +49,8 @@ passed_open s me (Sending to part message chunk) records = if is_received me to 
 passed_open s me (Barrier comm seen released) records = if is_gathered s comm me records then Bar comm ∷ [] else []
 passed_open s me stage records = []
 
+-- the calls of a rank that have come to pass: the finished ones, and the open one where its partners have done their
+-- part
 abbrev pub passed_calls : SetupView → (ℕ → Record) → ℕ → List DataCall
 passed_calls s records me = (records me).calls ++ passed_open s me (records me).stage records
 
@@ -62,5 +65,6 @@ slot_by size me (Some post) records = if length (received_messages me (records p
     then None
     else Some (record { to = post.to; head = post.head; bytes = (with_chunk size (begun post.head) post.chunk).bytes })
 
+-- the message that a rank has posted and that is not received
 abbrev pub slot_of : SetupView → (ℕ → Record) → ℕ → Option Outgoing
 slot_of s records me = slot_by (chunk_of s) me (records me).post records

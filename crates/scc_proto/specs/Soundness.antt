@@ -33,6 +33,7 @@ abbrev pub is_answered : ℕ → Stage → Option OnItsWay → Bool
 is_answered j (Sending to Answered message chunk) post = to == j
 is_answered j stage post = is_answered_by j post
 
+-- a record whose noted words are what one message and the own flags allow
 pub record IsSound (s : SetupView) (me : ℕ) (rec : Record) : Type 0 where
   -- what was loaded of a header since its `sent` was seen is of one head
   pub heads : (j : ℕ) (header : Notes) → rec.notes j ≡ Some header → AreOfHead header

@@ -44,6 +44,9 @@ pub record FlagWords : Type 0 where
   pub sent : Option ℕ
   pub ready : Option ℕ
 
+-- what the events of one rank amount to: the call that it is in the midst of, the message that it posted, what it has
+-- noted, its gather flags, the registers that it holds, what it stored on the heap, and its finished calls with their
+-- bytes
 pub record Record : Type 0 where
   pub stage : Stage
   pub post : Option OnItsWay

@@ -1,6 +1,7 @@
 -- Tables by number, changed at one place.
 use Rattle.std.specs.Prelude.{ℕ, ◌==◌, ◌&&◌, if◌then◌else◌}
 
+-- a table with another value at one number
 abbrev pub put : {A : Type 0} → (ℕ → A) → ℕ → A → ℕ → A
 put table i x = λ k. if k == i then x else table k
 

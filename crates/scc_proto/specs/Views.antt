@@ -29,6 +29,7 @@ flag_in BitFlags word flag = bit_at word flag.bit
 abbrev pub word_of_flag : Memory → ℕ → FlagPlace → ℕ
 word_of_flag memory core flag = memory.word core flag.line flag.word
 
+-- the words of the chip by what they are for
 abbrev pub view_of : SetupView → Memory → View
 view_of s memory = record {
   sent = λ from to. flag_in s.layout (word_of_flag memory (host_of s.hosts to) (sent_at s.layout from)) (sent_at s.layout from);

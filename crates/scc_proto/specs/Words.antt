@@ -19,6 +19,7 @@ pub record Memory : Type 0 where
   pub word : ℕ → ℕ → ℕ → ℕ
   pub register : ℕ → ℕ
 
+-- the chip at the start: each word and each register is 0
 abbrev pub zeros : Memory
 zeros = record { word = λ core line word. 0; register = λ core. 0 }
 

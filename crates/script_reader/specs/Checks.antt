@@ -201,6 +201,7 @@ opened (stmt.Repeat times end) place repeats = repeats ++ (record { start = plac
 opened (stmt.End start) place repeats = take (length repeats - 1) repeats
 opened _ place repeats = repeats
 
+-- the repeats that are open after these statements, the outermost one first
 abbrev pub open_of : List Item → List Open
 open_of [] = []
 open_of (item ∷ past) = opened item.stmt (length past) (open_of past)
@@ -255,6 +256,7 @@ abbrev pub prints : (ℕ → Option ℕ) → Stmt → ℕ
 prints had (stmt.Print reg form) = unwrap_or (had reg) 0
 prints had _ = 0
 
+-- how many bytes of registers a rank prints in these statements, each as often as its repeats say
 abbrev pub printed : ℕ → List Item → ℕ → ℕ
 printed nue [] rank = 0
 printed nue (item ∷ past) rank = printed nue past rank + (if has_rank item.who rank then turns_in (open_of past) * prints (length_at nue past rank) item.stmt else 0)

@@ -66,6 +66,7 @@ at_end lines p = if length (open_of (past p)) == 0 then Ok (script_of p) else Er
 abbrev pub read_all_lines : Version → List (List ℕ) → ℕ → Result Script ReadFault
 read_all_lines version lines nue = read_lines 0 (start version nue) lines >>= at_end (line_count lines)
 
+-- the script that a file says by the grammar of a version, or its first fault
 abbrev pub read_as : Version → List ℕ → ℕ → Result Script ReadFault
 read_as version bytes nue =
     if nat_lt 4194304 (length bytes) then Err (record { line = 0; kind = kind.TooLong })
