@@ -16,6 +16,7 @@ pub record Link : Type 0 where
   pub tile : Tile
   pub dir : Dir
 
+-- the link that leaves a tile in a direction
 abbrev pub link_at : ℕ → ℕ → Dir → Link
 link_at x y dir = record { tile = record { x = x; y = y }; dir = dir }
 
@@ -79,6 +80,7 @@ links_at number =
     let tile : Tile = record { x = number % 6; y = number / 6 } in
     record { tile = tile; dir = East } ∷ record { tile = tile; dir = West } ∷ record { tile = tile; dir = North } ∷ record { tile = tile; dir = South } ∷ []
 
+-- the links of all tiles, those over the edge of the mesh too
 abbrev pub all_links : List Link
 all_links = flat_map links_at (range_with_len 0 24)
 
@@ -86,5 +88,6 @@ all_links = flat_map links_at (range_with_len 0 24)
 abbrev pub distance : Tile → Tile → ℕ
 distance a b = (b.x - a.x) + (a.x - b.x) + ((b.y - a.y) + (a.y - b.y))
 
+-- how many links lie on the way of a message
 abbrev pub distance_of : List ℕ → Match → ℕ
 distance_of at one = distance (tile_of (core_of at one.from)) (tile_of (core_of at one.to))

@@ -10,6 +10,7 @@ abbrev pub chosen : (ℕ → Bool) → List ℕ → ℕ
 chosen test [] = 0
 chosen test (value ∷ values) = (if test 0 then value else 0) + chosen (λ place. test (suc place)) values
 
+-- the sum of all values
 abbrev pub total : List ℕ → ℕ
 total values = chosen (λ place. true) values
 
@@ -43,6 +44,7 @@ passes_column link x a b South = (link.tile.x == x) && (nat_lt b link.tile.y && 
 abbrev pub in_row : Link → ℕ → Bool
 in_row link cell = passes_row link (cell / 6 / 6) (cell / 6 % 6) (cell % 6) link.dir
 
+-- whether the way between the tiles of a cell uses a link in its column
 abbrev pub in_column : Link → ℕ → Bool
 in_column link cell = passes_column link (cell / 4 % 6) (cell % 4) (cell / 4 / 6) link.dir
 

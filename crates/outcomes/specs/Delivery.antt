@@ -12,6 +12,7 @@ pub record Sinks : Type 0 where
   pub out : SinkView
   pub err : SinkView
 
+-- out and err together
 abbrev pub sinks : SinkView → SinkView → Sinks
 sinks out err = record { out = out; err = err }
 

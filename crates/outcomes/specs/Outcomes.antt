@@ -24,6 +24,7 @@ run_outcome ran = record { status = if ran.finished then status.Finished else st
 abbrev pub complains : Status → List (List ℕ) → Outcome
 complains status texts = record { status = status; out = []; err = joined texts }
 
+-- the outcome of refused words: their text on err
 abbrev pub words_refused : List ℕ → List ℕ → Outcome
 words_refused program text = complains status.Words (program ∷ codes ": " ∷ text ∷ codes "\n" ∷ [])
 

@@ -3,6 +3,7 @@ use Rattle.std.specs.Prelude.{ℕ, List, codes}
 use Rattle.rcce_audit.specs.declared.faults.LogKind.{LogKind}
 use Rattle.rcce_audit.specs.declared.faults.LogKind.TheVariants as kind
 
+-- the name of a kind of fault
 abbrev pub fault_name : LogKind → List ℕ
 fault_name kind.TooLong = codes "TooLong"
 fault_name kind.BadHead = codes "BadHead"

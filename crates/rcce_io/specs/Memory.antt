@@ -16,6 +16,7 @@ pub record Calls : Type 0 where
   pub failing : Option ℕ
   pub faults : ℕ
 
+-- no call was made, and none is to fail
 abbrev pub no_calls : Calls
 no_calls = record { made = 0; failing = None; faults = 0 }
 
@@ -41,6 +42,7 @@ pub record FilesState : Type 0 where
   pub rest : Option (List ℕ)
   pub calls : Calls
 
+-- no files yet
 abbrev pub no_files : FilesState
 no_files = record { files = []; rest = None; calls = no_calls }
 
@@ -88,6 +90,7 @@ pub record SinkState : Type 0 where
 abbrev pub sink_seen : SinkState → SinkView
 sink_seen state = record { taken = Some state.taken; faults = state.calls.faults }
 
+-- a sink that has taken nothing, of this room in all and this most a write
 abbrev pub new_sink : ℕ → ℕ → SinkState
 new_sink room most = record { taken = []; room = room; most = most; calls = no_calls }
 

@@ -12,6 +12,7 @@ named file = record { name = string_bytes file.name; contents = file.contents.it
 abbrev pub contents_at : List MemFile → ℕ → List ℕ
 contents_at files k = slice_index_or (map (λ file. file.contents.items) files) k []
 
+-- the state of files in memory
 abbrev pub state_of : Inside → FilesState
 state_of inside = record {
   files = map named inside.files.items;

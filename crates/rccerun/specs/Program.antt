@@ -43,5 +43,6 @@ abbrev pub words_plan : Option Command → Result Plan (List ℕ)
 words_plan None = Err (codes "words refused")
 words_plan (Some command) = Ok (command_plan command)
 
+-- the launcher as a program: its name, and its plan for the words
 abbrev pub rccerun : Program
 rccerun = record { name = codes "rccerun"; plan = λ words. words_plan (command_of words) }

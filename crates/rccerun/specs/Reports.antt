@@ -31,6 +31,7 @@ end_text rank (ue_end.Mismatch line from sent asked) = mismatch_line rank line f
 abbrev pub unfinished_text : ℕ → Ended → List ℕ
 unfinished_text rank ue = end_text rank ue.end
 
+-- whether a rank finished
 abbrev pub is_finished : UeEnd → Bool
 is_finished ue_end.Finished = true
 is_finished (ue_end.Waits line call) = false

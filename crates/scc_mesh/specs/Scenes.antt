@@ -46,6 +46,7 @@ abbrev pub home_in : ChipView → View
 home_in None = []
 home_in (Some scene) = scene.home
 
+-- the chip with these lists of ranks at home
 abbrev pub with_home : ChipView → View → ChipView
 with_home None home = None
 with_home (Some scene) home = Some (record scene { home = home })
@@ -58,6 +59,7 @@ events_in chip r = list_at (home_in chip) r
 abbrev pub records_in : ChipView → ℕ → Record
 records_in chip = records_by (about_in chip) (events_in chip)
 
+-- whether a chip has words
 abbrev pub is_open : ChipView → Bool
 is_open None = false
 is_open (Some scene) = true

@@ -109,6 +109,7 @@ byte_by_bits posted = stores 1 1 0 3 posted ∷ stores 1 1 0 2 1 ∷ stores 1 1 
     ∷ changes 0 1 0 0 1 1
     ++ loads 1 1 1 1 1 ∷ changes 1 1 0 1 1 0
 
+-- a message of one byte by bit flags, from rank 1 to rank 0
 abbrev pub one_byte_bits : List RankEvent
 one_byte_bits = byte_by_bits 0
 

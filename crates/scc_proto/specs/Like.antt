@@ -7,6 +7,7 @@ use Rattle.scc_proto.specs.Stages.{OnItsWay, Record}
 abbrev pub unanswered : OnItsWay → OnItsWay
 unanswered post = record post { is_answered = false }
 
+-- two records of one rank that are alike up to looks and the answer to a posted message
 pub record Like (rec other : Record) : Type 0 where
   pub stage : rec.stage ≡ other.stage
   pub post : option_map unanswered rec.post ≡ option_map unanswered other.post

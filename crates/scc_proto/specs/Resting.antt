@@ -10,5 +10,6 @@ is_resting_by Load value = true
 is_resting_by Take value = value == 0
 is_resting_by access value = false
 
+-- an event that a waiting turn may make: it stores nothing, frees nothing and takes no register
 abbrev pub is_resting : Event → Bool
 is_resting e = is_resting_by e.access e.value

@@ -23,6 +23,7 @@ pub record Memory : Type 0 where
 abbrev pub zeros : Memory
 zeros = record { word = λ core line word. 0; register = λ core. 0 }
 
+-- the value of a word
 abbrev pub word_at : Memory → WordAt → ℕ
 word_at memory place = memory.word place.core place.line place.word
 

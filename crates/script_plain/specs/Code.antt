@@ -36,6 +36,7 @@ abbrev pub IsAtPost : Next Local → Type 0
 IsAtPost (Posts message after) = Unit {0}
 IsAtPost _ = ⊥
 
+-- a rank went past the post that stood next, and left this message behind
 abbrev pub HasPosted : Next Local → Posted → Local → Type 0
 HasPosted (Posts message after) posted new = (posted ≡ message) × (new ≡ after)
 HasPosted _ posted new = ⊥
@@ -45,6 +46,7 @@ abbrev pub IsAtSend : Next Local → Type 0
 IsAtSend (Sends to head bytes after) = Unit {0}
 IsAtSend _ = ⊥
 
+-- a rank went past the send that stood next, whose bytes these are
 abbrev pub HasSent : Next Local → List ℕ → Local → Type 0
 HasSent (Sends to head bytes after) sent new = (sent ≡ bytes) × (new ≡ after)
 HasSent _ sent new = ⊥
@@ -54,10 +56,12 @@ abbrev pub IsAtReceive : Next Local → Type 0
 IsAtReceive (Recvs from head take refuse) = Unit {0}
 IsAtReceive _ = ⊥
 
+-- a rank went past the receive that stood next, with these bytes
 abbrev pub HasTaken : Next Local → List ℕ → Local → Type 0
 HasTaken (Recvs from head take refuse) bytes new = new ≡ take bytes
 HasTaken _ bytes new = ⊥
 
+-- a rank was stopped at the receive that stood next, by a message with this head
 abbrev pub HasRefused : Next Local → MessageHead → Local → Type 0
 HasRefused (Recvs from head take refuse) sent new = new ≡ refuse sent
 HasRefused _ sent new = ⊥

@@ -24,5 +24,6 @@ nothing_ended = ended None nobody
 abbrev pub ends_of : List Local → List (Option Posted) → List Ended
 ends_of cells slots = map (λ rank. ended (slice_index_or slots rank None) (local_at cells rank)) (range_with_len 0 (length cells))
 
+-- what a rank left behind
 abbrev pub ended_at : List Ended → ℕ → Ended
 ended_at ends rank = slice_index_or ends rank nothing_ended

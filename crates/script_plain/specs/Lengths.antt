@@ -18,9 +18,11 @@ pub record Lengths : Type 0 where
   pub items : ℕ
   pub printed : ℕ
 
+-- how many bytes items have together
 abbrev pub printed_bytes : List Printed → ℕ
 printed_bytes items = sum_by (λ item. length item.bytes) items
 
+-- the lengths of what a rank holds
 abbrev pub lengths_of : Local → Lengths
 lengths_of u =
     record {

@@ -31,6 +31,7 @@ recorded calls (Recvs from head take refuse) =
     (λ sent. record { local = refuse sent; matched = calls })
 recorded calls (Bars comm after) = Bars comm (record { local = after; matched = calls ++ Bar comm ∷ [] })
 
+-- what stands next at a rank, with the calls done so far
 abbrev pub next_of : State → Next State
 next_of u = recorded u.matched (local_next u.local)
 

@@ -69,5 +69,6 @@ abbrev pub is_stopped_by : Standing → Bool
 is_stopped_by standing.Running = false
 is_stopped_by (standing.Mismatched line from sent asked) = true
 
+-- whether a rank was stopped by a mismatch
 abbrev pub is_stopped : Local → Bool
 is_stopped u = is_stopped_by u.standing

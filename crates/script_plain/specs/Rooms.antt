@@ -33,6 +33,7 @@ pub record PrintsView : Type 0 where
 abbrev pub cut : List ℕ → Entry → Printed
 cut bytes entry = record { reg = entry.reg; form = entry.form; bytes = take entry.len (drop entry.start bytes) }
 
+-- entries that lie one behind the other in so many bytes
 abbrev pub AreCut : ℕ → List Entry → Type 0
 AreCut room [] = Unit {0}
 AreCut room (entry ∷ table) = (entry.start + entry.len ≤ room) × AreCut room table
@@ -44,6 +45,7 @@ AreBelow [] (room ∷ rooms) = ⊥
 AreBelow (len ∷ lens) [] = ⊥
 AreBelow (len ∷ lens) (room ∷ rooms) = (len ≤ room) × AreBelow lens rooms
 
+-- each length is within the room for it
 pub record IsWithin (l room : Lengths) : Type 0 where
   pub registers : AreBelow l.registers room.registers
   pub accumulator : l.accumulator ≤ room.accumulator
@@ -71,6 +73,7 @@ pub record IsWider (old new : Rooms) : Type 0 where
   pub lengths : IsWithin old.lengths new.lengths
   pub spare : old.spare ≤ new.spare
 
+-- the rooms that are taken for these needs
 abbrev pub rooms_of : Needs → Rooms
 rooms_of needs =
     record {
@@ -102,6 +105,7 @@ local_by contents folded taken walk prints state =
       standing = state;
     }
 
+-- the rooms of registers, work buffers and printed items
 abbrev pub rooms_by : RegistersView → RoomView → RoomView → RoomView → PrintsView → Rooms
 rooms_by contents folded taken spare prints =
     record {

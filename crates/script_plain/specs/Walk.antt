@@ -43,6 +43,7 @@ act_meant (action.Accept reg) = Accept reg
 act_meant (action.Finish reg) = Finish reg
 act_meant action.Pass = Pass
 
+-- the primitive that one of the code stands for
 abbrev pub prim_meant : Primitive → Prim
 prim_meant p = record { line = p.line; act = act_meant p.action }
 

@@ -30,9 +30,11 @@ pub record SlotAt : Type 0 where
 abbrev pub new_receive : ℕ → MessageHead → RecvAt
 new_receive from head = record { from = from; head = head; chunk = 0; stage = receive.Look }
 
+-- a send or a post at its start
 abbrev pub new_send : ℕ → MessageHead → Bool → SendAt
 new_send to head posted = record { to = to; head = head; posted = posted; chunk = 0; stage = sending.Header }
 
+-- a slot with no message on its way
 abbrev pub empty_slot : SlotAt
 empty_slot = record { to = None; seen = false }
 

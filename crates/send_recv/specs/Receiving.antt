@@ -87,6 +87,7 @@ pub record IsReceiving (seat : Seat) (rec : Record) (c : Private) (op : RecvAt) 
   pub in_hand : op.chunk < chunk_count (chunk_of seat.setup) op.head.len
   pub at : IsAtStage seat rec c op bytes op.stage
 
+-- a receive fits the record, the cache, the combiner and the buffer at its rank
 abbrev pub RecvStands : Sight → Private → RecvAt → List ℕ → Type 0
 RecvStands s c op bytes = IsReceiving s.seat (record_in s) c op bytes
 
@@ -99,6 +100,7 @@ recv_left_by more lines now first (Lines i) = (lines - i) + 3 * more - 2
 recv_left_by more lines now first Raise = (lines - now) + 3 * more - 2
 recv_left_by more lines now first Finished = 0
 
+-- how many turns a receive has left
 abbrev pub recv_left : ℕ → RecvAt → ℕ
 recv_left size op = recv_left_by (chunk_count size op.head.len - op.chunk) (lines_from size op.head.len op.chunk) (lines_now size op) (op.chunk == 0) op.stage
 

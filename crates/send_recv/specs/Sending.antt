@@ -164,6 +164,7 @@ pub record IsSending (seat : Seat) (rec : Record) (c : Private) (op : SendAt) (s
   pub in_hand : op.chunk < chunk_count (chunk_of seat.setup) op.head.len
   pub at : IsAtSendStage seat rec c op bytes op.stage
 
+-- a send or a post fits the record, the combiner, the slot and the bytes at its rank
 abbrev pub SendStands : Sight → Private → SendAt → SlotAt → List ℕ → Type 0
 SendStands s c op slot bytes = IsSending s.seat (record_in s) c op slot bytes
 

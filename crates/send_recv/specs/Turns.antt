@@ -25,6 +25,7 @@ abbrev pub HoldsNoneBy : Layout → (ℕ → Option FlagWords) → Type 0
 HoldsNoneBy LineFlags hold = Unit {0}
 HoldsNoneBy BitFlags hold = (core : ℕ) → hold core ≡ None
 
+-- the rank holds no register, as the layout needs it
 abbrev pub HoldsNone : Layout → Record → Type 0
 HoldsNone layout rec = HoldsNoneBy layout rec.held
 
