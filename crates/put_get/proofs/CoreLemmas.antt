@@ -27,6 +27,9 @@ pub record Made (s t : Sight) : Type 0 where
   pub events : List Event
   pub did : Did s events t
 
+pub made_by : {s t : Sight} {events : List Event} → Did s events t → Made s t
+made_by {events = events} did = record { events = events; did = did }
+
 pub fetch_made : {s t : Sight} {c d : Private} {line : LineAt} {words : List ℕ} → Fetch s c line words t d → Made s t
 fetch_made {s} (Held h e f) = record { events = []; did = subst (Did s []) (sym e) (did_nothing s) }
 fetch_made {line = line} {words = words} (Loaded h len did fills) = record { events = loads_of line words; did = did }

@@ -27,6 +27,7 @@ fn store_word<P: Port>(port: &mut P, out: &Out, word: u8)
     requires below { word < 4 }
     requires permitted { MayMakeAll (P.sight port.old).seat (record_in (P.sight port.old)) (store_of_word out.now word) }
     ensures did { Did (P.sight port.old) (store_of_word out.now word) (P.sight port.new) }
+    ensures steps { MadeSteps P.stepped (P.sight port.old) (P.sight port.new) }
 {
     let at = usize::from(word);
     if out.mask[at] {
@@ -38,6 +39,7 @@ fn store_word<P: Port>(port: &mut P, out: &Out, word: u8)
 fn store_line<P: Port>(port: &mut P, out: &Out)
     requires permitted { MayMakeAll (P.sight port.old).seat (record_in (P.sight port.old)) (stores_of_line out.now) }
     ensures did { Did (P.sight port.old) (stores_of_line out.now) (P.sight port.new) }
+    ensures steps { MadeSteps P.stepped (P.sight port.old) (P.sight port.new) }
 {
     store_word(port, out, 3);
     store_word(port, out, 2);
@@ -49,6 +51,7 @@ fn store_line<P: Port>(port: &mut P, out: &Out)
 pub(crate) fn store_out<P: Port>(port: &mut P, out: &Option<Out>)
     requires permitted { MayMakeAll (P.sight port.old).seat (record_in (P.sight port.old)) (stores_of out.now) }
     ensures did { Did (P.sight port.old) (stores_of out.now) (P.sight port.new) }
+    ensures steps { MadeSteps P.stepped (P.sight port.old) (P.sight port.new) }
 {
     if let Some(out) = out {
         store_line(port, out);

@@ -130,6 +130,7 @@ impl<V: Evict> Core<V> {
         requires permitted { MayMakeAll (P.sight port.old).seat (record_in (P.sight port.old))
             (stores_of (handed_out self.old.out (line_of_word place))) }
         ensures writes { Writes (P.sight port.old) self.old place value (P.sight port.new) self.new }
+        ensures steps { MadeSteps P.stepped (P.sight port.old) (P.sight port.new) }
     {
         self.cache.note_write(place, value);
         let out = self.combiner.write(place, value);
@@ -141,6 +142,7 @@ impl<V: Evict> Core<V> {
         requires other { handed_out self.old.out line ≡ self.old.out }
         requires permitted { MayMakeAll (P.sight port.old).seat (record_in (P.sight port.old)) (stores_of self.old.out) }
         ensures writes { WritesLine (P.sight port.old) self.old line words.now (P.sight port.new) self.new }
+        ensures steps { MadeSteps P.stepped (P.sight port.old) (P.sight port.new) }
     {
         self.word_write(port, line.word(0), words[0]);
         self.word_write(port, line.word(1), words[1]);
@@ -152,6 +154,7 @@ impl<V: Evict> Core<V> {
     pub fn flush<P: Port>(&mut self, port: &mut P)
         requires permitted { MayMakeAll (P.sight port.old).seat (record_in (P.sight port.old)) (stores_of self.old.out) }
         ensures flushes { Flushes (P.sight port.old) self.old (P.sight port.new) self.new }
+        ensures steps { MadeSteps P.stepped (P.sight port.old) (P.sight port.new) }
     {
         let out = self.combiner.flush();
         store_out(port, &out);

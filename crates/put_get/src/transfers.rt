@@ -44,6 +44,7 @@ impl<V: Evict> Core<V> {
         ensures core_unchanged { OnErr result (self.new ≡ self.old) }
         ensures puts { OnOk result
             (Puts (P.sight port.old) self.old (host_of (P.sight port.old).seat.setup.hosts to) at.first src.now (P.sight port.new) self.new) }
+        ensures steps { MadeSteps P.stepped (P.sight port.old) (P.sight port.new) }
     {
         let len = usize::from(at.lines());
         if src.len() > len {

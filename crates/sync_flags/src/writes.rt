@@ -23,6 +23,7 @@ pub fn store_word<V: Evict, P: Port>(core: &mut Core<V>, port: &mut P, place: Pl
     requires empty { core.old.out ≡ None }
     requires permitted { MayMake (P.sight port.old).seat (record_in (P.sight port.old)) (store_of place value) }
     ensures stores { StoresWord (P.sight port.old) core.old place value (P.sight port.new) core.new }
+    ensures steps { MadeSteps P.stepped (P.sight port.old) (P.sight port.new) }
     ensures empty { core.new.out ≡ None }
 {
     let _ = place.word();
@@ -34,6 +35,7 @@ pub fn store_word<V: Evict, P: Port>(core: &mut Core<V>, port: &mut P, place: Pl
 fn acquire_within<P: Port>(port: &mut P, c: CoreId, polls: u32) -> Option<Held>
     requires not_held { IsNotHolding (record_in (P.sight port.old)) c }
     ensures takes { TakesWithin (P.sight port.old) c polls (P.sight port.new) result }
+    ensures steps { MadeSteps P.stepped (P.sight port.old) (P.sight port.new) }
     ensures holds { record_in (P.sight port.new) ≡ after_try c (is_some result) (record_in (P.sight port.old)) }
 {
     for _ in 0..polls {
@@ -62,6 +64,7 @@ fn change_bit<V: Evict, P: Port>(core: &mut Core<V>, port: &mut P, place: Place,
     requires empty { core.old.out ≡ None }
     requires permitted { MayChange (P.sight port.old).seat (record_in (P.sight port.old)) [] place bit set }
     ensures changes { ChangesBit (P.sight port.old) core.old place bit set (P.sight port.new) core.new }
+    ensures steps { MadeSteps P.stepped (P.sight port.old) (P.sight port.new) }
     ensures holds { (k : ℕ) → IsHolding (record_in (P.sight port.old)) k → IsHolding (record_in (P.sight port.new)) k }
     ensures empty { core.new.out ≡ None }
 {
@@ -85,7 +88,7 @@ pub fn try_change_bit<V: Evict, P: Port>(
     ensures tries { TriesChange (P.sight port.old) core.old place bit set result (P.sight port.new) core.new }
     ensures freed { IsNotHolding (record_in (P.sight port.new)) place.core }
     ensures empty { core.new.out ≡ None }
-    ensures steps { result ≡ false → MadeSteps P.stepped (P.sight port.old) (P.sight port.new) }
+    ensures steps { MadeSteps P.stepped (P.sight port.old) (P.sight port.new) }
 {
     let at = place.core();
     match try_acquire(port, at) {
@@ -112,6 +115,7 @@ fn write_bit<V: Evict, P: Port>(
     requires some { 1 ≤ polls }
     requires permitted { MayWrite (P.sight port.old).seat (record_in (P.sight port.old)) place (Some bit) set }
     ensures writes { WritesFlag (P.sight port.old) core.old place (Some bit) set polls (P.sight port.new) core.new result }
+    ensures steps { MadeSteps P.stepped (P.sight port.old) (P.sight port.new) }
     ensures freed { IsNotHolding (record_in (P.sight port.new)) place.core }
     ensures empty { core.new.out ≡ None }
 {
@@ -144,6 +148,7 @@ pub fn flag_write<V: Evict, P: Port>(
     requires some { 1 ≤ polls }
     requires permitted { MayWrite (P.sight port.old).seat (record_in (P.sight port.old)) (flag_of (P.sight port.old).seat.setup at f) f.bit set }
     ensures writes { WritesFlag (P.sight port.old) core.old (flag_of (P.sight port.old).seat.setup at f) f.bit set polls (P.sight port.new) core.new result }
+    ensures steps { MadeSteps P.stepped (P.sight port.old) (P.sight port.new) }
     ensures freed { IfSome f.bit (λ b. IsNotHolding (record_in (P.sight port.new)) (flag_of (P.sight port.old).seat.setup at f).core) }
     ensures stalls { (events : List Event) → Did (P.sight port.old) events (P.sight port.new) → (IsErr result
         ↔ TriedInVain (AtRegister (flag_of (P.sight port.old).seat.setup at f).core) polls events) }

@@ -1,6 +1,7 @@
 use Rattle.std.proofs.Common.{◌++◌}
 use Rattle.scc_proto.proofs.PortLaws.{may_next}
 use Rattle.put_get.proofs.AccessLemmas.{may_part}
+use Rattle.put_get.proofs.CoreLemmas.{made_by, steps_four}
 use Rattle.put_get.specs.Accesses.{store_of_word}
 use Rattle.put_get.proofs.accesses.store_line.Goals as goal
 
@@ -21,3 +22,8 @@ store_word-requires-4-clause-permitted g c =
     (may_next _ (store_of_word c.args.out.now 2) (store_of_word c.args.out.now 1 ++ store_of_word c.args.out.now 0) _ c.store_word-2.ensures.did
     (may_next (g.P.Port.sight c.args.port.now) (store_of_word c.args.out.now 3)
     (store_of_word c.args.out.now 2 ++ (store_of_word c.args.out.now 1 ++ store_of_word c.args.out.now 0)) _ c.store_word.ensures.did c.requires.permitted))
+
+pub returns-clause-steps : goal.returns-clause-steps
+returns-clause-steps g c =
+    steps_four g.P.Port.stepped _ _ _ _ _ (made_by c.store_word.ensures.did) (made_by c.store_word-2.ensures.did) (made_by c.store_word-3.ensures.did) (made_by c.store_word-4.ensures.did)
+    c.store_word.ensures.steps c.store_word-2.ensures.steps c.store_word-3.ensures.steps c.store_word-4.ensures.steps

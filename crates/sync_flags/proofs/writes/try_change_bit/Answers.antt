@@ -1,8 +1,8 @@
 use Rattle.std.proofs.Common.{ℕ, false, true, ◌∷◌, [], ◌∙◌, ap}
 use Rattle.scc_base.specs.Events.{take_of}
 use Rattle.scc_proto.specs.Ports.{record_in}
-use Rattle.scc_proto.proofs.PortLaws.{seat_kept}
-use Rattle.put_get.proofs.StepLemmas.{steps_one}
+use Rattle.scc_proto.proofs.PortLaws.{did_both, seat_kept}
+use Rattle.put_get.proofs.StepLemmas.{steps_one, steps_both}
 use Rattle.tas_lock.specs.Holds.{after_try}
 use Rattle.sync_flags.proofs.WriteLemmas.{may_under, bit_missed, bit_tried, still_free, freed_at}
 use Rattle.sync_flags.proofs.writes.try_change_bit.Goals as goal
@@ -28,5 +28,16 @@ pub returns-in-None-clause-freed : goal.returns-in-None-clause-freed
 returns-in-None-clause-freed g c = still_free (record_in (g.P.Port.sight c.args.port.now)) (record_in (g.P.Port.sight c.try_acquire.new.port)) c.args.place.core c.core-at.result c.in-None.ensures.holds c.requires.permitted.0
 
 pub returns-in-None-clause-steps : goal.returns-in-None-clause-steps
-returns-in-None-clause-steps g c = λ e. steps_one g.P.Port.stepped (g.P.Port.sight c.args.port.now) (g.P.Port.sight c.try_acquire.new.port)
+returns-in-None-clause-steps g c = steps_one g.P.Port.stepped (g.P.Port.sight c.args.port.now) (g.P.Port.sight c.try_acquire.new.port)
     (take_of c.core-at.result false) c.in-None.ensures.takes c.in-None.ensures.step
+
+pub returns-in-Some-clause-steps : goal.returns-in-Some-clause-steps
+returns-in-Some-clause-steps g c =
+    let start = g.P.Port.sight c.args.port.now in
+    let taken = g.P.Port.sight c.try_acquire.new.port in
+    let changed = g.P.Port.sight c.change_bit.new.port in
+    let end = g.P.Port.sight c.release.new.port in
+    steps_both g.P.Port.stepped start changed end _ _ (did_both start _ taken _ changed c.in-Some.ensures.takes c.change_bit.ensures.changes.did) c.release.ensures.frees
+    (steps_both g.P.Port.stepped start taken changed _ _ c.in-Some.ensures.takes c.change_bit.ensures.changes.did
+    (steps_one g.P.Port.stepped start taken _ c.in-Some.ensures.takes c.in-Some.ensures.step) c.change_bit.ensures.steps)
+    (steps_one g.P.Port.stepped changed end _ c.release.ensures.frees c.release.ensures.step)
