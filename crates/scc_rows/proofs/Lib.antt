@@ -6,3 +6,4 @@ pub mod TeamLemmas
 pub mod MessageLemmas
 pub mod TalkLemmas
 pub mod CallLemmas
+pub mod FlagLemmas

@@ -1,5 +1,5 @@
 -- What a rank's record says of a register after it was asked for and freed.
-use Rattle.std.proofs.Common.{◌≡◌, ℕ, Bool, true, false, [], ◌∷◌, Option, None, is_some, is_none, ◌∙◌, ap}
+use Rattle.std.proofs.Common.{◌≡◌, ℕ, Bool, true, false, [], ◌∷◌, Option, None, Some, IfSome, IfNone, is_some, is_none, refl, ◌∙◌, ap}
 use Rattle.scc_base.specs.Events.{take_of, free_of}
 use Rattle.scc_proto.specs.Stages.{Record, FlagWords}
 use Rattle.scc_proto.specs.Records.{act_of}
@@ -44,3 +44,13 @@ miss_tells s core false t did none e =
 
 pub free_tells : (s : Sight) (core : ℕ) (t : Sight) → Did s (free_of core ∷ []) t → Holds s core → IsWithout t core
 free_tells s core t did held = ap (λ (x : Record). x.held core) (record_did_one s (free_of core) t did) ∙ freed_next s.seat (record_in s) core held
+
+-- ---- locks
+
+pub locked : (s t : Sight) (core : ℕ) (taken : Option ℕ) → Did s (take_of core (is_some taken) ∷ []) t → IsWithout s core → IfSome taken (λ held. held ≡ core) → IfSome taken (λ held. (held ≡ core) × Holds t core)
+locked s t core None did none names = tt
+locked s t core (Some held) did none names = (names, take_tells s core true t did none refl)
+
+pub not_locked : (s t : Sight) (core : ℕ) (taken : Option ℕ) → Did s (take_of core (is_some taken) ∷ []) t → IsWithout s core → IfNone taken (IsWithout t core)
+not_locked s t core None did none = miss_tells s core false t did none refl
+not_locked s t core (Some held) did none = tt

@@ -44,12 +44,12 @@ module _ (seat : Seat) (rec : Record) (place : WordAt) (value : ℕ) (idle : rec
   by_role HeapWord = idle
   by_role IdleWord = idle
 
-  load_keeps : (record_next seat rec (load_of place value)).stage ≡ Idle
+  pub load_keeps : (record_next seat rec (load_of place value)).stage ≡ Idle
   unfolding record_next act_of
   load_keeps = by_role (role_of seat.setup place)
 
 -- events leave a port at rest where its stage stays idle
-did_keeps : (s : Sight) (es : List Event) (t : Sight) → Did s es t → IsAtRest s → (record_on s.seat (record_in s) es).stage ≡ Idle → IsAtRest t
+pub did_keeps : (s : Sight) (es : List Event) (t : Sight) → Did s es t → IsAtRest s → (record_on s.seat (record_in s) es).stage ≡ Idle → IsAtRest t
 did_keeps s es t did rest idle = record {
   valid = subst (λ (x : Seat). IsSetup x.setup) (sym (seat_kept s es t did)) rest.valid;
   two = ap (λ (x : Seat). x.setup.nue) (seat_kept s es t did) ∙ rest.two;

@@ -1,6 +1,10 @@
 //! A chip with its ports.
 
-use crate::fixtures::{counted, free, heap_word, new_pair, spread_pair, store, take};
+ghost use Rattle.scc_rows.specs.Rests.{IsWithout};
+
+use crate::fixtures::{
+    acquire, counted, free, give_back, heap_word, new_pair, spread_pair, store, take,
+};
 use scc_base::{CoreId, Place, Rank};
 use scc_proto::Port;
 use std::test::Fail;
@@ -50,5 +54,39 @@ fn a_register_is_taken_once_until_it_is_freed(rt: HostRuntime) -> Result<(), Fai
     assert!(rt; again);
     let late = take(&mut ports.first, core);
     assert!(rt; !late);
+    Ok(())
+}
+
+// Whether a rank that holds no register can take this one; it gives it back at once.
+fn passes<P: Port>(port: &mut P, core: CoreId) -> bool
+    requires without { IsWithout (P.sight port.old) core }
+    ensures without { IsWithout (P.sight port.new) core }
+{
+    match acquire(port, core) {
+        Some(held) => {
+            give_back(port, held);
+            true
+        }
+        None => false,
+    }
+}
+
+#[test]
+fn a_lock_is_another_ranks_only_after_its_release(rt: HostRuntime) -> Result<(), Fail> {
+    let mut chip = new_pair(rt.alloc())?;
+    let mut ports = spread_pair(&mut chip);
+    let core = CoreId::of(3);
+    let Some(held) = acquire(&mut ports.first, core) else {
+        return Err("a register that is free".into());
+    };
+    let early = passes(&mut ports.second, core);
+    let again = passes(&mut ports.second, core);
+    give_back(&mut ports.first, held);
+    let late = passes(&mut ports.second, core);
+    let first = passes(&mut ports.first, core);
+    assert!(rt; !early);
+    assert!(rt; !again);
+    assert!(rt; late);
+    assert!(rt; first);
     Ok(())
 }

@@ -1,6 +1,6 @@
 //! A chip of two ranks, its ports, and an evictor that tells how often it was asked.
 
-ghost use Rattle.std.specs.Prelude.{◌≡◌, ◌<◌, ◌≤◌, ℕ, true, false, None, IfOk, IfSome};
+ghost use Rattle.std.specs.Prelude.{◌≡◌, ◌<◌, ◌≤◌, ℕ, true, false, None, IfOk, IfSome, IfNone};
 ghost use Rattle.scc_base.specs.Setups.{host_of};
 ghost use Rattle.scc_mesh.specs.Scenes.{sight_in, sight_away};
 ghost use Rattle.scc_rows.specs.Rests.{IsNewPair, IsAtRest, IsFresh, AwaitsHeap, IsWithout, Holds};
@@ -13,6 +13,7 @@ use scc_proto::{CountingPort, Port};
 use std::alloc::Global;
 use std::cell::Cell;
 use std::test::Fail;
+use tas_lock::{Held, release, try_acquire};
 
 /// A setup of two ranks, on cores 0 and 1.
 fn two_ranks(layout: Layout) -> Option<Setup>
@@ -193,6 +194,23 @@ pub(crate) fn free<P: Port>(port: &mut P, core: CoreId)
     ensures freed { IsWithout (P.sight port.new) core }
 {
     port.free(core);
+}
+
+/// Tries once to lock a core's register, which the rank does not hold.
+pub(crate) fn acquire<P: Port>(port: &mut P, core: CoreId) -> Option<Held>
+    requires without { IsWithout (P.sight port.old) core }
+    ensures took { IfSome result (λ held. (held ≡ core) × Holds (P.sight port.new) core) }
+    ensures missed { IfNone result (IsWithout (P.sight port.new) core) }
+{
+    try_acquire(port, core)
+}
+
+/// Unlocks a register.
+pub(crate) fn give_back<P: Port>(port: &mut P, held: Held)
+    requires held { Holds (P.sight port.old) held }
+    ensures freed { IsWithout (P.sight port.new) held }
+{
+    release(port, held);
 }
 
 /// Another evictor, with the numbers of its questions and of the lines that it had dropped told outside.

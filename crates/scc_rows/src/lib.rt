@@ -10,6 +10,8 @@ mod chip;
 #[cfg(test)]
 mod fixtures;
 #[cfg(test)]
+mod flags;
+#[cfg(test)]
 mod messages;
 #[cfg(test)]
 mod private_lines;

@@ -14,7 +14,7 @@ use std::test::Fail;
 
 /// What a rank is to do with a message.
 #[derive(Clone, Copy, Debug, PartialEq, Eq)]
-enum Deed {
+pub(crate) enum Deed {
     Send,
     Post,
     Receive,
@@ -22,7 +22,7 @@ enum Deed {
 
 /// A message that is to come.
 #[derive(Drop)]
-struct Task {
+pub(crate) struct Task {
     deed: Deed,
     // The bytes that the call is handed.
     bytes: Vec<u8>,
@@ -52,7 +52,7 @@ pub(crate) fn post_head_of(bytes: &[u8]) -> Option<PostHead>
 
 /// A rank that has messages with one other, one after the other.
 #[derive(Drop)]
-struct Talker<V: Evict + Drop> {
+pub(crate) struct Talker<V: Evict + Drop> {
     core: Core<V>,
     slot: Slot,
     peer: Rank,
@@ -65,7 +65,7 @@ struct Talker<V: Evict + Drop> {
     // The messages to come, the next one last.
     tasks: Vec<Task>,
     // How many messages were received with the bytes that were to be found.
-    arrived: u32,
+    pub arrived: u32,
     // The head that a receive met in place of its own, and its own.
     met: Option<Head>,
     asked: Option<Head>,
@@ -82,7 +82,7 @@ impl<V: Evict + Drop> Talker<V> {
     ghost use Rattle.scc_rows.specs.Teams.{sight_alone};
     ghost use Rattle.scc_rows.specs.Talkers.{IsTalking};
 
-    fn new(alloc: Global, peer: Rank, evict: V, tasks: Vec<Task>) -> Talker<V>
+    pub(crate) fn new(alloc: Global, peer: Rank, evict: V, tasks: Vec<Task>) -> Talker<V>
         ensures ready { (s : SetupView) (r : ℕ) → are_peers s r peer ≡ true
             → IsTalking (sight_alone s r []) result.core result.slot result.peer result.bytes.items result.sending result.receiving }
     {
@@ -218,7 +218,7 @@ pub(crate) fn bytes_from(alloc: Global, first: u8, len: usize) -> Result<Vec<u8>
 
 // These deeds, in this order, each with the length of its message. The messages of two ranks are told apart by
 // their place from the end.
-fn tasks_of(alloc: Global, deeds: &[(Deed, usize)]) -> Result<Vec<Task>, Fail> {
+pub(crate) fn tasks_of(alloc: Global, deeds: &[(Deed, usize)]) -> Result<Vec<Task>, Fail> {
     let mut tasks = Vec::new(alloc);
     for (k, (deed, len)) in deeds.iter().rev().enumerate() {
         let first = (k % 2) as u8;

@@ -1,0 +1,123 @@
+//! Heap flags between the two ranks of a chip.
+
+ghost use Rattle.std.specs.Prelude.{◌≡◌, ◌<◌, ◌≤◌, None};
+ghost use Rattle.scc_rows.specs.Rests.{IsAtRest};
+ghost use Rattle.scc_rows.specs.Writers.{MayTake};
+
+use crate::fixtures::{Pair, free, pair_in, spread_pair, take};
+use line_cache::{Evict, Never};
+use put_get::Core;
+use scc_base::{Buf, CoreId, Layout, Place, Rank, Spot, Stalled};
+use scc_proto::Port;
+use std::test::Fail;
+use sync_flags::{Flag, flag_read, flag_write, wait_until};
+
+/// Writes a flag at a rank, by a rank with no message and no barrier under way.
+fn write<P: Port, V: Evict>(
+    core: &mut Core<V>,
+    port: &mut P,
+    at: Rank,
+    flag: Flag,
+    set: bool,
+    polls: u32,
+) -> Result<(), Stalled>
+    requires rests { IsAtRest (P.sight port.old) }
+    requires free { MayTake (P.sight port.old) at flag }
+    requires empty { core.old.out ≡ None }
+    requires below { at < 2 }
+    requires heap { 225 ≤ flag.line }
+    requires some { 1 ≤ polls }
+    ensures rests { IsAtRest (P.sight port.new) }
+    ensures free { MayTake (P.sight port.new) at flag }
+    ensures empty { core.new.out ≡ None }
+{
+    flag_write(core, port, at, flag, set, polls)
+}
+
+/// Whether a flag at a rank is set.
+fn read<P: Port, V: Evict>(core: &mut Core<V>, port: &mut P, at: Rank, flag: Flag) -> bool
+    requires rests { IsAtRest (P.sight port.old) }
+    requires empty { core.old.out ≡ None }
+    requires below { at < 2 }
+    ensures empty { core.new.out ≡ None }
+{
+    flag_read(core, port, at, flag)
+}
+
+// What a rank finds that waits for a flag at itself, which another rank sets and clears.
+#[derive(Drop)]
+struct Answers {
+    early: Result<(), Stalled>,
+    set: bool,
+    cleared: bool,
+    late: bool,
+}
+
+// Rank 1 waits for its flag in vain, then rank 0 sets it, and clears it again.
+fn found<P: Port, Q: Port>(first: &mut P, second: &mut Q, flag: Flag) -> Answers
+    requires rests { IsAtRest (P.sight first.old) }
+    requires free { MayTake (P.sight first.old) 1 flag }
+    requires heap { 225 ≤ flag.line }
+{
+    let mut writer = Core::new(Never);
+    let mut waiter = Core::new(Never);
+    let at = Rank::of(1);
+    let early = wait_until(&mut waiter, second, flag, true, 2);
+    let written = write(&mut writer, first, at, flag, true, 1);
+    let seen = wait_until(&mut waiter, second, flag, true, 1);
+    let unwritten = write(&mut writer, first, at, flag, false, 1);
+    let unseen = wait_until(&mut waiter, second, flag, false, 1);
+    Answers {
+        early,
+        set: written.is_ok() && seen.is_ok(),
+        cleared: unwritten.is_ok() && unseen.is_ok(),
+        late: read(&mut writer, first, at, flag),
+    }
+}
+
+#[test]
+fn a_flag_goes_from_one_rank_to_the_other(rt: HostRuntime) -> Result<(), Fail> {
+    let buffer = Buf::new(230, 1).ok_or("a line")?;
+    for (flag, bit) in [(Flag::line(&buffer), 0), (Flag::bit(&buffer, 63), 63)] {
+        let mut chip = pair_in(rt.alloc(), Layout::bits())?;
+        let Pair {
+            mut first,
+            mut second,
+        } = spread_pair(&mut chip);
+        let found = found(&mut first, &mut second, flag);
+        let place = Place::new(CoreId::of(1), 230, 0);
+        let stalled = Stalled {
+            spot: Spot::Flag { place, bit },
+            polls: 2,
+        };
+        assert!(rt; found.early == Err(stalled));
+        assert!(rt; found.set);
+        assert!(rt; found.cleared);
+        assert!(rt; !found.late);
+    }
+    Ok(())
+}
+
+#[test]
+fn a_bit_stalls_at_a_register_that_another_rank_holds(rt: HostRuntime) -> Result<(), Fail> {
+    let buffer = Buf::new(255, 1).ok_or("a line")?;
+    let flag = Flag::bit(&buffer, 5);
+    let mut chip = pair_in(rt.alloc(), Layout::lines())?;
+    let mut ports = spread_pair(&mut chip);
+    let register = CoreId::of(0);
+    let mut core = Core::new(Never);
+    if !take(&mut ports.first, register) {
+        return Err("a register that is free".into());
+    }
+    let stalled = write(&mut core, &mut ports.second, Rank::of(0), flag, true, 3);
+    free(&mut ports.first, register);
+    let written = write(&mut core, &mut ports.second, Rank::of(0), flag, true, 3);
+    let set = read(&mut core, &mut ports.second, Rank::of(0), flag);
+    let spot = Spot::Register { core: register };
+    assert!(rt; stalled == Err(Stalled { spot, polls: 3 }));
+    assert!(rt; written.is_ok());
+    assert!(rt; set);
+    // A look at the line each, and none where the register was held.
+    assert_eq!(rt; ports.second.loads(), 8);
+    Ok(())
+}
