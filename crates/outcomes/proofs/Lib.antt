@@ -1,4 +1,5 @@
 pub mod ComplaintLemmas
 pub mod DeliveryLemmas
+pub mod Examples
 pub mod PromiseLemmas
 pub mod ReadingLemmas

@@ -12,7 +12,7 @@ pub record Sinks : Type 0 where
   pub out : SinkView
   pub err : SinkView
 
--- out and err together
+-- the sink for out, and the sink for err
 abbrev pub sinks : SinkView → SinkView → Sinks
 sinks out err = record { out = out; err = err }
 

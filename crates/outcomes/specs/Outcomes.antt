@@ -24,7 +24,7 @@ run_outcome ran = record { status = if ran.finished then status.Finished else st
 abbrev pub complains : Status → List (List ℕ) → Outcome
 complains status texts = record { status = status; out = []; err = joined texts }
 
--- the outcome of refused words: their text on err
+-- refused words, with the text that refuses them
 abbrev pub words_refused : List ℕ → List ℕ → Outcome
 words_refused program text = complains status.Words (program ∷ codes ": " ∷ text ∷ codes "\n" ∷ [])
 
@@ -36,11 +36,14 @@ file_refused program file line kind = complains status.Script (program ∷ codes
 abbrev pub too_long : List ℕ → List ℕ → Outcome
 too_long program file = file_refused program file 0 (codes "TooLong")
 
+-- want of memory
 abbrev pub no_memory : List ℕ → Outcome
 no_memory program = complains status.Memory (program ∷ codes ": no memory\n" ∷ [])
 
+-- there is no such file
 abbrev pub absent : List ℕ → List ℕ → Outcome
 absent program file = complains status.Files (program ∷ codes ": " ∷ file ∷ codes ": absent\n" ∷ [])
 
+-- a file could not be read
 abbrev pub read_fault : List ℕ → List ℕ → Outcome
 read_fault program file = complains status.Files (program ∷ codes ": " ∷ file ∷ codes ": read fault\n" ∷ [])

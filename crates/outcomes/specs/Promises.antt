@@ -17,6 +17,7 @@ abbrev pub EndsWith : (Outcome → Type 0) → Program → List (List ℕ) → F
 EndsWith also program words files files_after before after s =
     (o : Outcome) × IsMeant program.name (program.plan words) files files_after o × Delivers o before after s × also o
 
+-- The run ended with an outcome that the words and the files mean, and the sinks took its texts as far as the status says.
 abbrev pub EndsAsMeant : Program → List (List ℕ) → FilesView → FilesView → Sinks → Sinks → Status → Type 0
 EndsAsMeant program words files files_after before after s =
     (o : Outcome) × IsMeant program.name (program.plan words) files files_after o × Delivers o before after s

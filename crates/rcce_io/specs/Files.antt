@@ -29,6 +29,7 @@ pub record FilesView : Type 0 where
 abbrev pub with_open : List ℕ → FilesView → FilesView
 with_open name files = record { told = files.told; rest = option_and_then (contents_of name) files.told; is_open = true; faults = files.faults }
 
+-- the files with none open
 abbrev pub with_none_open : FilesView → FilesView
 with_none_open files = record { told = files.told; rest = None; is_open = false; faults = files.faults }
 

@@ -6,6 +6,6 @@ pub record HostState : Type 0 where
   pub is_open : Bool
   pub faults : ℕ
 
--- the system's files, of which none is open
+-- at first: no file is open, and no fault was counted
 abbrev pub nothing_open : HostState
 nothing_open = record { is_open = false; faults = 0 }

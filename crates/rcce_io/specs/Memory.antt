@@ -42,7 +42,7 @@ pub record FilesState : Type 0 where
   pub rest : Option (List ℕ)
   pub calls : Calls
 
--- no files yet
+-- no file, and none open
 abbrev pub no_files : FilesState
 no_files = record { files = []; rest = None; calls = no_calls }
 
@@ -90,7 +90,7 @@ pub record SinkState : Type 0 where
 abbrev pub sink_seen : SinkState → SinkView
 sink_seen state = record { taken = Some state.taken; faults = state.calls.faults }
 
--- a sink that has taken nothing, of this room in all and this most a write
+-- a sink with room for so many bytes, and so many at one write, that has taken none
 abbrev pub new_sink : ℕ → ℕ → SinkState
 new_sink room most = record { taken = []; room = room; most = most; calls = no_calls }
 

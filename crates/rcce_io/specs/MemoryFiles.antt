@@ -6,13 +6,15 @@ use Rattle.rcce_io.specs.declared.memory_files.MemFiles.TheInside.{Inside}
 use Rattle.rcce_io.specs.Files.{NamedFile}
 use Rattle.rcce_io.specs.Memory.{FilesState}
 
+-- a file in memory, by its name and its bytes
 abbrev pub named : MemFile → NamedFile
 named file = record { name = string_bytes file.name; contents = file.contents.items }
 
+-- the bytes of the k-th file
 abbrev pub contents_at : List MemFile → ℕ → List ℕ
 contents_at files k = slice_index_or (map (λ file. file.contents.items) files) k []
 
--- the state of files in memory
+-- files in memory as their callers see them: the rest of the open one is what stands behind its place
 abbrev pub state_of : Inside → FilesState
 state_of inside = record {
   files = map named inside.files.items;
