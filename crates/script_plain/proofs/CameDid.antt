@@ -1,9 +1,8 @@
 -- What a rank has done by itself, told from its front and from its end; and the calls that its state has are those on its way.
-use Rattle.std.proofs.Common.{◌≡◌, ℕ, List, [], ◌∷◌, ◌++◌, Option, Some, None, sym, ap, ◌∙◌, subst, append_assoc}
+use Rattle.std.proofs.Common.{◌≡◌, List, [], ◌∷◌, ◌++◌, Option, Some, None, sym, ap, ◌∙◌, subst, append_assoc}
 use Rattle.std.proofs.lemmas.List.{append-nil}
 use Rattle.scc_base.specs.Calls.{DataCall}
 use Rattle.scc_base.specs.Calls.DataCall.{Send, Recv, Post, Bar}
-use Rattle.scc_base.specs.Heads.{MessageHead}
 use Rattle.script_plain.specs.declared.posts.Posted.{Posted}
 use Rattle.script_plain.specs.Local.{local_next}
 use Rattle.script_plain.specs.Meaning.{State, next_of}

@@ -9,7 +9,7 @@ use Rattle.script_plain.specs.declared.prims.Nesting.TheVariants as nesting
 use Rattle.script_plain.specs.declared.walk.Open.{Open}
 use Rattle.script_plain.specs.Depths.{AreHeld, HasRoom, IsDeep, depth_after, depth_at, depth_from}
 use Rattle.script_plain.specs.Program.{nesting_at, prims_of}
-use Rattle.script_plain.specs.Walk.{closed, closed_by, closed_to, next_pass, opened, passed, passed_to}
+use Rattle.script_plain.specs.Walk.{closed_by, next_pass, opened, passed, passed_to}
 use Rattle.script_plain.proofs.WalkLaws.{closes_by}
 
 module _ (rank : ℕ) where

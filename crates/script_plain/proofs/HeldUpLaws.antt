@@ -1,8 +1,7 @@
 -- What holds up the ranks at the plain end: another rank of the run, or a member that has not come to a barrier.
-use Rattle.std.proofs.Common.{◌≡◌, ◌≢◌, ℕ, zero, suc, ◌+◌, ◌==◌, ◌<◌, ◌≤◌, Bool, true, false, ◌&&◌, cond, List, [], ◌∷◌, length, drop, map, get_or, Option, Some, None, IfSome, refl, sym, ap, ◌∙◌, subst, arith, slice_get, ◌⊎◌, inl, inr, ⊎_elim}
-use Rattle.std.specs.List.{range_with_len}
+use Rattle.std.proofs.Common.{◌≡◌, ◌≢◌, ℕ, zero, suc, ◌<◌, Bool, true, false, List, [], ◌∷◌, length, drop, get_or, Option, Some, None, IfSome, refl, sym, ap, ◌∙◌, subst, arith, slice_get, ◌⊎◌, inl, inr, ⊎_elim}
 use Rattle.std.specs.Option.{option_map, option_map_or}
-use Rattle.std.proofs.lemmas.Bool.{cases_eq, cases_lt, eq-eqb, eqb-true}
+use Rattle.std.proofs.lemmas.Bool.{cases_eq, eq-eqb, eqb-true}
 use Rattle.std.proofs.lemmas.List.FromFn.{get_or-map-range_with_len, length-map-range_with_len}
 use Rattle.std.proofs.lemmas.List.{length-map}
 use Rattle.std.proofs.lemmas.Option.{get_or_from_slice_get, slice_get-get_or, slice_get-map, slice_get_within}
@@ -10,29 +9,28 @@ use Rattle.groups.specs.Peers.{IsPeer}
 use Rattle.scc_base.specs.Groups.{is_with, root_in}
 use Rattle.scc_base.specs.Calls.{DataCall}
 use Rattle.scc_base.specs.Heads.{MessageHead}
-use Rattle.scc_base.specs.declared.calls.Call.TheVariants as call
-use Rattle.scc_base.proofs.GroupFacts.{root_once, root_with, root_within, true_with, with_same, with_true}
+use Rattle.scc_base.proofs.GroupFacts.{root_once, root_with, root_within, with_same, with_true}
 use Rattle.script_reader.specs.Script.{Script}
 use Rattle.script_reader.specs.Settled.{IsWhole}
 use Rattle.script_plain.specs.declared.posts.Posted.{Posted}
 use Rattle.script_plain.specs.declared.prims.Standing.{Standing}
 use Rattle.script_plain.specs.declared.prims.Standing.TheVariants as standing
 use Rattle.script_plain.specs.Collectives.{started}
-use Rattle.script_plain.specs.Ends.{Ended, ended, ended_at, ends_of, nothing_ended}
+use Rattle.script_plain.specs.Ends.{Ended, ended, ended_at, nothing_ended}
 use Rattle.script_plain.specs.HeldUp.{HasCause, IsAwaited, IsExplained, ended_at_barrier}
 use Rattle.script_plain.specs.Local.{Local, end_by_prim, end_by_slot, end_by_standing, end_of, local_at, nobody, local_next, next_by_act, next_by_prim, prim_by_standing, waits_at}
-use Rattle.script_plain.specs.Meaning.{State, ends_at, keys_of, locals_of, next_of, plain_end, plain_ends, recorded, seen_of, start_of}
+use Rattle.script_plain.specs.Meaning.{State, keys_of, locals_of, next_of, plain_end, plain_ends, recorded, seen_of, start_of}
 use Rattle.script_plain.specs.Next.{Next, call_of, is_at_barrier}
 use Rattle.script_plain.specs.Next.Next.{Ends, Goes, Posts, Sends, Recvs, Bars}
-use Rattle.script_plain.specs.Program.{Act, Prim, program_of}
-use Rattle.script_plain.specs.Step.{Configuration, all_at_barrier, barrier_step, lowest_step, next_at, slot_at, step_of}
+use Rattle.script_plain.specs.Program.{Act, Prim}
+use Rattle.script_plain.specs.Step.{Configuration, all_at_barrier, next_at, slot_at, step_of}
 use Rattle.script_plain.proofs.AimLemmas.{AreAimed, IsAimedAct, program_aimed}
 use Rattle.script_plain.proofs.KeptLaws.{AllKept, KeepsNext, kept_runs}
 use Rattle.script_plain.proofs.MessageLaws.{empty_slot, to_plain_end}
 use Rattle.script_plain.proofs.OwnWayLaws.{start_cell}
 use Rattle.script_plain.proofs.PlainLaws.{length-plain_end, plain_end_still}
 use Rattle.script_plain.proofs.RestLaws.{ends_length}
-use Rattle.script_plain.proofs.RunLaws.{past_none, stand_there, still}
+use Rattle.script_plain.proofs.RunLaws.{stand_there, still}
 use Rattle.script_plain.proofs.StepLaws as steps
 
 module _ (script : Script) (rank : ℕ) where

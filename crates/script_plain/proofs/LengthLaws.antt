@@ -1,6 +1,6 @@
 -- Wherever steps lead from the start of a script that was read, each register of a rank has no bytes, or as many as the
 -- reader reckoned, and so it was wherever the rank stood on its way.
-use Rattle.std.proofs.Common.{◌≡◌, ◌≢◌, ℕ, zero, suc, ◌<◌, ◌≤◌, ◌%◌, Bool, true, false, List, [], length, reverse, replicate, set, get_or, Option, Some, None, refl, sym, ap, ◌∙◌, subst, arith, slice_get, slice_index_or, inl, inr, ⊎_elim}
+use Rattle.std.proofs.Common.{◌≡◌, ◌≢◌, ℕ, zero, suc, ◌<◌, ◌≤◌, ◌%◌, Bool, true, false, List, [], length, replicate, set, get_or, Option, Some, None, refl, sym, ap, ◌∙◌, subst, arith, slice_get, slice_index_or, inl, inr, ⊎_elim}
 use Rattle.std.specs.Option.{option_map}
 use Rattle.std.proofs.lemmas.Bool.{cases_eq, cases_lt}
 use Rattle.std.proofs.lemmas.List.{get_or-set_other, get_or-set_same, get_or_past, length-set}
@@ -13,7 +13,6 @@ use Rattle.groups.specs.Folds.{bytes_in}
 use Rattle.groups.specs.declared.operations.Op.{Op}
 use Rattle.groups.specs.declared.operations.Ty.{Ty}
 use Rattle.groups.specs.declared.operations.Ty.TheVariants as ty_of
-use Rattle.script_reader.specs.Checks.{length_at}
 use Rattle.script_reader.specs.Script.{Script, has_rank, rules_of}
 use Rattle.script_reader.specs.Settled.{IsWhole}
 use Rattle.script_reader.specs.declared.script.Item.{Item}
@@ -27,7 +26,8 @@ use Rattle.script_plain.specs.Next.Next.{Ends, Goes, Posts, Sends, Recvs, Bars}
 use Rattle.script_plain.specs.Program.{setup_of}
 use Rattle.script_plain.specs.Step.{Configuration, all_at_barrier, by_rank, next_at, past_if, same_head, slot_at}
 use Rattle.script_plain.proofs.LengthLemmas.{IsEven, Reckons, reckoned}
-use Rattle.script_plain.proofs.LengthPaths.{AreFitting, Holds, IsSound, SoundNext, fitting_before, sound_next, sound_through}
+use Rattle.script_plain.specs.Kept.{Holds, reckoned_at}
+use Rattle.script_plain.proofs.LengthPaths.{AreFitting, IsSound, SoundNext, fitting_before, sound_next, sound_through}
 use Rattle.script_plain.proofs.LengthPrograms.{keeps_items}
 use Rattle.script_plain.proofs.MessageLaws.{cell_other, cell_there, empty_slot, same_heads}
 use Rattle.script_plain.proofs.OwnWayLaws.{stands, start_cell}
@@ -142,10 +142,6 @@ module _ (nue : ℕ) (had : ℕ → ℕ → Option ℕ) where
   sound_runs : (keys : ℕ → ℕ → ℕ) (n : ℕ) (c d : Configuration State) → Runs (IsPlainStep keys) (λ e. e ≡ d) n c → IsSoundIn c → IsSoundIn d
   sound_runs keys zero c d same sound = subst IsSoundIn same sound
   sound_runs keys (suc n) c d (a, t, step, rest) sound = sound_runs keys n t d rest (sound_step keys c t a (steps.seen keys next_of c t a step) sound)
-
--- the lengths that the reader reckoned
-abbrev pub reckoned_at : Script → ℕ → ℕ → Option ℕ
-reckoned_at script rank reg = length_at script.nue (reverse script.items) rank reg
 
 -- at the start no register has bytes, and the program keeps the lengths
 empty_register : (n reg : ℕ) → length (slice_index_or {A = List ℕ} (replicate n []) reg []) ≡ 0

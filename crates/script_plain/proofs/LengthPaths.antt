@@ -1,5 +1,5 @@
 -- Each register of a rank has no bytes, or as many as the statements say, whatever the rank does next.
-use Rattle.std.proofs.Common.{◌≡◌, ◌≢◌, ℕ, ◌<◌, ◌≤◌, ◌%◌, ◌==◌, ◌&&◌, Bool, true, false, cond, min, List, [], ◌∷◌, ◌++◌, length, drop, get_or, set, Option, Some, None, refl, sym, ap, ◌∙◌, subst, arith, slice_get, ◌⊎◌, inl, inr, ⊎_elim}
+use Rattle.std.proofs.Common.{◌≡◌, ◌≢◌, ℕ, ◌<◌, ◌≤◌, ◌%◌, ◌==◌, ◌&&◌, Bool, true, false, cond, min, List, [], ◌∷◌, ◌++◌, length, drop, get_or, set, Option, Some, None, refl, sym, ap, ◌∙◌, subst, arith, slice_get, inl, inr, ⊎_elim}
 use Rattle.std.proofs.lemmas.Bool.{cases_eq, cases_lt, eqb-true}
 use Rattle.std.proofs.lemmas.List.{get_or-set_same, get_or-set_other, get_or_past, length-set}
 use Rattle.std.proofs.lemmas.Option.{same_Some}
@@ -13,6 +13,7 @@ use Rattle.groups.proofs.FoldLemmas.{fold_length}
 use Rattle.script_plain.specs.declared.prims.Standing.{Standing}
 use Rattle.script_plain.specs.declared.prims.Standing.TheVariants as standing
 use Rattle.script_plain.specs.Collectives.{gone_by, gone_through}
+use Rattle.script_plain.specs.Kept.{Fits, FitsNext, Holds, Keeps, Sets, folding, gathering, sized_by}
 use Rattle.script_plain.specs.Local.{Local, asked_head, folded, local_next, next_by_act, next_by_prim, prim_by_standing, register_at}
 use Rattle.script_plain.specs.Meaning.{State, next_of, recorded}
 use Rattle.script_plain.specs.Next.{Next}
@@ -21,54 +22,6 @@ use Rattle.script_plain.specs.Program.{Act, Prim}
 use Rattle.script_plain.proofs.CollectivePaths.{grows}
 use Rattle.script_plain.proofs.MessageLaws.{Logs, logs}
 use Rattle.script_plain.proofs.StepLaws as steps
-
--- no bytes, or as many as this
-abbrev pub Holds : Option ℕ → ℕ → Type 0
-Holds o n = (n ≡ 0) ⊎ (o ≡ Some n)
-
--- how many bytes the accumulator and the received bytes have behind an act, or none
-abbrev pub folding : (ℕ → Option ℕ) → Option ℕ → Act → Option ℕ
-folding had acc (Act.Begin reg) = had reg
-folding had acc _ = acc
-
-abbrev pub sized_by : (ℕ → Option ℕ) → MessageHead → Option ℕ → Option ℕ
-sized_by had head None = Some head.len
-sized_by had head (Some reg) = had reg
-
-abbrev pub gathering : (ℕ → Option ℕ) → Option ℕ → Act → Option ℕ
-gathering had got (Act.Gather from head sized) = sized_by had head sized
-gathering had got _ = got
-
--- an act sets a register to its length, and posts at most one chunk
-abbrev pub Sets : (ℕ → Option ℕ) → Option ℕ → Option ℕ → Act → Type 0
-Sets had acc got (Act.Set reg content) = had reg ≡ Some (length content)
-Sets had acc got (Act.Recv from reg head) = had reg ≡ Some head.len
-Sets had acc got (Act.Post to reg) = (n : ℕ) × (had reg ≡ Some n) × (n ≤ 3584)
-Sets had acc got (Act.Accept reg) = had reg ≡ got
-Sets had acc got (Act.Finish reg) = had reg ≡ acc
-Sets had acc got _ = Unit {0}
-
-abbrev pub Keeps : (ℕ → Option ℕ) → Option ℕ → Option ℕ → List Prim → Type 0
-Keeps had acc got [] = Unit {0}
-Keeps had acc got (prim ∷ left) = Sets had acc got prim.act × Keeps had (folding had acc prim.act) (gathering had got prim.act) left
-
--- what a rank holds has these lengths, and what is left keeps them
-pub record Fits (had : ℕ → Option ℕ) (u : Local) : Type 0 where
-  pub acc : Option ℕ
-  pub got : Option ℕ
-  pub registers : (reg : ℕ) → Holds (had reg) (length (register_at u reg))
-  pub accumulator : Holds acc (length u.accumulator)
-  pub received : Holds got (length u.received)
-  pub keeps : Keeps had acc got u.left
-
--- and so it is after what stands next: a message has the length of its head
-abbrev pub FitsNext : (ℕ → Option ℕ) → Next Local → Type 0
-FitsNext had Ends = Unit {0}
-FitsNext had (Goes after) = Fits had after
-FitsNext had (Posts message after) = Fits had after × (length message.bytes ≡ message.head.len)
-FitsNext had (Sends to head bytes after) = Fits had after × (length bytes ≡ head.len)
-FitsNext had (Recvs from head take refuse) = ((bytes : List ℕ) → length bytes ≡ head.len → Fits had (take bytes)) × ((sent : MessageHead) → Fits had (refuse sent))
-FitsNext had (Bars comm after) = Fits had after
 
 -- a fold is as long as what it is folded into
 pub folded_length : (op : Op) (ty : Ty) (acc more : List ℕ) → length (folded op ty acc more) ≡ length acc

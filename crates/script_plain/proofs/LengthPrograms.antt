@@ -23,7 +23,7 @@ use Rattle.script_plain.specs.declared.prims.Nesting.{Nesting}
 use Rattle.script_plain.specs.declared.prims.Nesting.TheVariants as nesting
 use Rattle.script_plain.specs.declared.prims.Operands.{Operands}
 use Rattle.script_plain.specs.Program.{Act, Prim, Unrolled, acts_of, begins, call_steps, can_call, copies, in_front, nesting_at, part_of, parts_of, prims_of, repeated, unrolled}
-use Rattle.script_plain.proofs.LengthPaths.{Keeps, folding, gathering}
+use Rattle.script_plain.specs.Kept.{Keeps, folding, gathering}
 use Rattle.script_plain.proofs.ReductionPaths.{fold_operands}
 
 module _ (had : ℕ → Option ℕ) where

@@ -22,6 +22,8 @@ pub mod LengthLemmas
 pub mod CallableLaws
 pub mod LengthPaths
 pub mod RoomLaws
+pub mod CallListLaws
+pub mod UeLaws
 pub mod LengthPrograms
 pub mod LengthLaws
 pub mod CollectiveFits

@@ -14,8 +14,10 @@ use Rattle.script_plain.specs.Paths.{Came}
 use Rattle.script_plain.specs.Paths.Came.{Began, Went, Leaves, Passed, Took, Joined}
 use Rattle.script_plain.specs.Ready.{IsReady}
 use Rattle.script_plain.proofs.AimLemmas.{program_aimed}
-use Rattle.script_plain.proofs.LengthLaws.{reckoned_at, sound_started}
-use Rattle.script_plain.proofs.LengthPaths.{FitsNext, IsSound, SoundNext, fits_next, sound_next}
+use Rattle.script_plain.specs.Kept.{reckoned_at}
+use Rattle.script_plain.proofs.LengthLaws.{sound_started}
+use Rattle.script_plain.specs.Kept.{FitsNext}
+use Rattle.script_plain.proofs.LengthPaths.{IsSound, SoundNext, fits_next, sound_next}
 use Rattle.script_plain.proofs.SaneLemmas.{IsSane, SaneNext, sane_next}
 
 -- at the start no register has bytes

@@ -1,5 +1,5 @@
 -- Laws of rooms: what a program brings fits, primitive by primitive, where the dry walk over the lengths said so.
-use Rattle.std.proofs.Common.{◌≡◌, ℕ, zero, suc, ◌+◌, ◌-◌, ◌<◌, ◌≤◌, Bool, true, false, cond, nat_lt, List, [], ◌∷◌, ◌++◌, map, length, drop, take, get_or, set, replicate, slice_get, slice_index_or, slice_set, sum_by, Option, Some, None, refl, sym, ap, subst, ◌∙◌, arith}
+use Rattle.std.proofs.Common.{◌≡◌, ℕ, zero, suc, ◌+◌, ◌-◌, ◌<◌, ◌≤◌, Bool, true, false, cond, nat_lt, List, [], ◌∷◌, ◌++◌, map, length, drop, take, get_or, set, replicate, slice_get, slice_index_or, slice_set, Option, Some, None, refl, sym, ap, subst, ◌∙◌, arith}
 use Rattle.std.proofs.Math.Seq.{drop-append_seam, map-set_same, take-length}
 use Rattle.std.proofs.lemmas.Bool.{ltb-false, ltb-true}
 use Rattle.std.proofs.lemmas.List.{drop-append-le, length-append, length-drop, length-map, length-replicate, length-take-le, map-append, map-set, take-append-le, take_all}
@@ -8,17 +8,15 @@ use Rattle.std.proofs.lemmas.Option.{slice_get-map, slice_get_read}
 use Rattle.std.specs.Option.{option_map}
 use Rattle.script_plain.specs.declared.prims.Action.{Action}
 use Rattle.script_plain.specs.declared.prims.Primitive.{Primitive}
-use Rattle.script_plain.specs.declared.prims.Printed.{Printed}
-use Rattle.script_plain.specs.declared.prims.Source.{Source}
+use Rattle.script_plain.specs.Printed.{Printed}
 use Rattle.script_plain.specs.declared.prims.Standing.{Standing}
 use Rattle.script_plain.specs.declared.prims.Standing.TheVariants as standing
 use Rattle.script_plain.specs.declared.prints.Entry.{Entry}
-use Rattle.script_reader.specs.declared.script.Form.{Form}
 use Rattle.script_reader.specs.Script.{Script}
 use Rattle.scc_base.specs.Heads.{MessageHead}
-use Rattle.script_plain.specs.Lengths.{Lengths, asked_length, length_at, lengths_after, lengths_of, printed_bytes, with_register}
-use Rattle.script_plain.specs.Local.{Local, asked_head, folded, local_next, local_start, next_by_act, next_by_prim, next_prim, prim_by_standing, register_at}
-use Rattle.script_plain.specs.Moves.{length_in, passed, taken, went}
+use Rattle.script_plain.specs.Lengths.{Lengths, length_at, lengths_after, lengths_of, printed_bytes, with_register}
+use Rattle.script_plain.specs.Local.{Local, folded, local_next, local_start, next_by_act, next_by_prim, next_prim, prim_by_standing, register_at}
+use Rattle.script_plain.specs.Moves.{length_in}
 use Rattle.script_plain.specs.Next.{Next}
 use Rattle.script_plain.specs.Next.Next.{Ends, Goes, Posts, Sends, Recvs, Bars}
 use Rattle.script_plain.specs.Program.{Act, Prim}

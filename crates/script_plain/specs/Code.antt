@@ -1,18 +1,17 @@
 -- Words of the contracts inside the crate.
-use Rattle.std.specs.Prelude.{◌≡◌, ℕ, ◌<◌, ◌==◌, Bool, ◌&&◌, not, true, false, if◌then◌else◌, List, Option, Some, None, ◌++◌, ◌∷◌, [], length, slice_get, slice_index_or, sum_by}
+use Rattle.std.specs.Prelude.{◌≡◌, ℕ, ◌<◌, ◌==◌, Bool, ◌&&◌, not, true, false, if◌then◌else◌, List, Option, Some, None, ◌++◌, length, slice_get, slice_index_or, sum_by}
 use Rattle.std.specs.Option.{option_map_or}
 use Rattle.scc_base.specs.Groups.{is_with, root_in}
 use Rattle.scc_base.specs.Heads.{MessageHead}
 use Rattle.scc_base.specs.Setups.{SetupView}
 use Rattle.scc_base.specs.declared.calls.Call.{Call}
 use Rattle.scc_base.specs.declared.calls.Call.TheVariants as call
-use Rattle.script_reader.specs.declared.script.Form.{Form}
 use Rattle.script_plain.specs.declared.posts.Posted.{Posted}
 use Rattle.script_plain.specs.declared.prims.Action.{Action}
 use Rattle.script_plain.specs.declared.steps.Step.{Step}
 use Rattle.script_plain.specs.declared.steps.Step.TheVariants as step
 use Rattle.script_plain.specs.declared.matches.Match.{Match}
-use Rattle.script_plain.specs.Local.{Local, cost_of, local_next, register_at}
+use Rattle.script_plain.specs.Local.{Local, cost_of, local_next}
 use Rattle.script_plain.specs.Matches.{brought, line_of, step_brought}
 use Rattle.script_plain.specs.Next.{Next, call_of, is_going}
 use Rattle.script_plain.specs.Next.Next.{Ends, Posts, Sends, Recvs}
@@ -51,6 +50,11 @@ abbrev pub HasSent : Next Local → List ℕ → Local → Type 0
 HasSent (Sends to head bytes after) sent new = (sent ≡ bytes) × (new ≡ after)
 HasSent _ sent new = ⊥
 
+-- the bytes that were sent are as many as the head of the send says
+abbrev pub HasLength : Next Local → List ℕ → Type 0
+HasLength (Sends to head bytes after) sent = length sent ≡ head.len
+HasLength _ sent = ⊥
+
 -- what stands next is a receive; the state after taking these bytes, or after refusing this head
 abbrev pub IsAtReceive : Next Local → Type 0
 IsAtReceive (Recvs from head take refuse) = Unit {0}
@@ -65,11 +69,6 @@ HasTaken _ bytes new = ⊥
 abbrev pub HasRefused : Next Local → MessageHead → Local → Type 0
 HasRefused (Recvs from head take refuse) sent new = new ≡ refuse sent
 HasRefused _ sent new = ⊥
-
--- a rank whose register is printed
-abbrev pub printing : Local → ℕ → Form → Local
-printing u reg form =
-    record u { printed = u.printed ++ record { reg = reg; form = form; bytes = register_at u reg } ∷ [] }
 
 -- whether a primitive is one of the rank alone
 abbrev pub is_own_act : Act → Bool

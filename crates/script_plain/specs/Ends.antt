@@ -4,7 +4,7 @@ use Rattle.std.specs.List.{range_with_len}
 use Rattle.std.specs.Option.{option_map}
 use Rattle.script_plain.specs.declared.ends.UeEnd.{UeEnd}
 use Rattle.script_plain.specs.declared.posts.Posted.{Posted}
-use Rattle.script_plain.specs.declared.prims.Printed.{Printed}
+use Rattle.script_plain.specs.Printed.{Printed}
 use Rattle.script_plain.specs.Local.{Local, end_of, local_at, nobody}
 
 -- how a rank's run ended, the items that it printed, and the target of its posted message that was not taken

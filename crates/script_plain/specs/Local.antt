@@ -12,7 +12,7 @@ use Rattle.script_reader.specs.Script.{Script}
 use Rattle.script_plain.specs.declared.ends.UeEnd.{UeEnd}
 use Rattle.script_plain.specs.declared.ends.UeEnd.TheVariants as ue_end
 use Rattle.script_plain.specs.declared.posts.Posted.{Posted}
-use Rattle.script_plain.specs.declared.prims.Printed.{Printed}
+use Rattle.script_plain.specs.Printed.{Printed}
 use Rattle.script_plain.specs.declared.prims.Source.{Source}
 use Rattle.script_plain.specs.declared.prims.Source.TheVariants as source
 use Rattle.script_plain.specs.declared.prims.Standing.{Standing}

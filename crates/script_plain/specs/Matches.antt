@@ -5,7 +5,7 @@ use Rattle.scc_base.specs.Heads.{MessageHead}
 use Rattle.script_plain.specs.declared.matches.Match.{Match}
 use Rattle.script_plain.specs.declared.posts.Posted.{Posted}
 use Rattle.script_plain.specs.Local.{Local, next_prim}
-use Rattle.script_plain.specs.Meaning.{State, keys_of, next_of, start_of, steps_left}
+use Rattle.script_plain.specs.Meaning.{keys_of, next_of, start_of, steps_left}
 use Rattle.script_plain.specs.Next.{Next}
 use Rattle.script_plain.specs.Next.Next.{Ends, Goes, Posts, Sends, Recvs, Bars}
 use Rattle.script_plain.specs.Step.{Configuration, lowest_step, next_at, same_head, slot_at, step_of}

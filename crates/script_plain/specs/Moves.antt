@@ -1,11 +1,13 @@
 -- What a rank comes to by what stands next there, and the bytes that go out or come in with it (this project's profile).
 -- Each is a function of what stands next: where something else stands there, the state is the old one, and nothing goes
 -- out or comes in.
-use Rattle.std.specs.Prelude.{ℕ, Bool, true, false, List, []}
+use Rattle.std.specs.Prelude.{ℕ, Bool, true, false, List, [], Option, Some, None}
 use Rattle.scc_base.specs.Heads.{MessageHead}
 use Rattle.script_plain.specs.declared.prims.Standing.{Standing}
 use Rattle.script_plain.specs.declared.prims.Standing.TheVariants as standing
+use Rattle.script_plain.specs.declared.posts.OnItsWay.{OnItsWay}
 use Rattle.script_plain.specs.Local.{Local}
+use Rattle.script_plain.specs.Machine.{on_its_way}
 use Rattle.script_plain.specs.Next.{Next}
 use Rattle.script_plain.specs.Next.Next.{Ends, Goes, Posts, Sends, Recvs, Bars}
 
@@ -53,6 +55,11 @@ abbrev pub bytes_out : {U : Type 0} → Next U → List ℕ
 bytes_out (Posts message after) = message.bytes
 bytes_out (Sends to head bytes after) = bytes
 bytes_out _ = []
+
+-- the post that stands next, without its bytes
+abbrev pub post_of : {U : Type 0} → Next U → Option OnItsWay
+post_of (Posts message after) = Some (on_its_way message)
+post_of _ = None
 
 -- the line of the post that stands next
 abbrev pub line_out : {U : Type 0} → Next U → ℕ

@@ -1,14 +1,11 @@
 -- The rooms of a machine that takes all its memory at the start: what is in them, and that they hold what the program brings.
-use Rattle.std.specs.Prelude.{ℕ, ◌+◌, ◌≤◌, nat_lt, if◌then◌else◌, List, [], ◌∷◌, length, take, drop, replicate}
-use Rattle.script_reader.specs.Script.{Script}
-use Rattle.scc_base.specs.Setups.{SetupView}
-use Rattle.script_plain.specs.declared.prims.Printed.{Printed}
+use Rattle.std.specs.Prelude.{ℕ, ◌+◌, ◌≤◌, nat_lt, if◌then◌else◌, List, [], ◌∷◌, take, drop, replicate}
+use Rattle.script_plain.specs.Printed.{Printed}
 use Rattle.script_plain.specs.declared.prims.Standing.{Standing}
 use Rattle.script_plain.specs.declared.prints.Entry.{Entry}
 use Rattle.script_plain.specs.declared.reckoning.Needs.{Needs}
-use Rattle.script_plain.specs.Lengths.{Lengths, length_at, lengths_after, lengths_of}
+use Rattle.script_plain.specs.Lengths.{Lengths, length_at, lengths_after}
 use Rattle.script_plain.specs.Local.{Local}
-use Rattle.script_plain.specs.Machine.{MachineView}
 use Rattle.script_plain.specs.Program.{Act, Prim}
 use Rattle.script_plain.specs.Program.Act.{Apply}
 use Rattle.script_plain.specs.Walk.{WalkView}

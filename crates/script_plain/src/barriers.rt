@@ -1,6 +1,6 @@
 //! The groups of a script's communicators.
 
-ghost use Rattle.std.specs.Prelude.{◌≡◌, ◌==◌, ◌<◌, length, IsTrue, OnOk};
+ghost use Rattle.std.specs.Prelude.{◌≡◌, ◌==◌, ◌<◌, length, IsTrue};
 ghost use Rattle.scc_base.specs.Groups.{is_with, root_in};
 ghost use Rattle.scc_base.specs.Setups.{setup_key};
 ghost use Rattle.script_plain.specs.Local.{local_next};
@@ -10,7 +10,6 @@ ghost use Rattle.script_plain.specs.Step.{all_at_barrier, by_rank, past_if};
 use crate::ues::Ue;
 use scc_base::{CommRule, CoreId, Layout, Rank, Setup};
 use script_reader::Scripts;
-use std::alloc::AllocError;
 
 /// The ranks and communicators of a script, on any cores.
 pub fn setup_of(scripts: &Scripts) -> Setup
@@ -67,17 +66,16 @@ pub fn all_at_barrier(setup: &Setup, ues: &[Ue], comm: u8, rank: Rank) -> bool
 }
 
 /// All members of the group of a rank go past the barrier at which they stand.
-pub fn pass_barrier(setup: &Setup, ues: &mut [Ue], comm: u8, rank: Rank) -> Result<(), AllocError>
+pub fn pass_barrier(setup: &Setup, ues: &mut [Ue], comm: u8, rank: Rank)
     requires rank { rank < setup.now.nue }
     requires ranks { length ues.old ≡ setup.now.nue }
     requires sixteen { length setup.now.comms ≡ 16 }
     requires at_barrier { IsTrue (all_at_barrier local_next comm (is_with (setup_key setup.now comm) rank) ues.old) }
-    ensures { OnOk result (ues.new ≡ by_rank (λ r. past_if local_next (is_with (setup_key setup.now comm) rank r)) ues.old) }
+    ensures { ues.new ≡ by_rank (λ r. past_if local_next (is_with (setup_key setup.now comm) rank r)) ues.old }
 {
     for number in 0..setup.nue() {
         if is_with(setup, comm, rank, Rank::of(number)) {
-            ues[number as usize].pass(comm)?;
+            ues[number as usize].pass(comm);
         }
     }
-    Ok(())
 }

@@ -1,17 +1,28 @@
-//! The law of calls that can be made.
+//! The laws of the calls of a rank.
 
-ghost use Rattle.std.specs.Prelude.{◌<◌, ℕ, Option};
+ghost use Rattle.std.specs.Prelude.{◌≡◌, ◌<◌, ◌++◌, ℕ, List, Option, None, map};
 ghost use Rattle.script_reader.specs.Script.{Script};
 ghost use Rattle.script_reader.specs.Settled.{IsWhole};
 ghost use Rattle.script_plain.specs.declared.posts.Posted.{Posted};
 ghost use Rattle.script_plain.specs.Collectives.{started};
-ghost use Rattle.script_plain.specs.Local.{local_next};
+ghost use Rattle.scc_base.specs.Calls.{DataCall, call_of};
+ghost use Rattle.script_plain.specs.CallLists.{calls_from, calls_of};
+ghost use Rattle.script_plain.specs.Lengths.{lengths_of};
+ghost use Rattle.script_plain.specs.Local.{Local, local_next, local_start};
 ghost use Rattle.script_plain.specs.Meaning.{State, next_of};
-ghost use Rattle.script_plain.specs.Paths.{Came};
+ghost use Rattle.script_plain.specs.Paths.{Came, Did};
 ghost use Rattle.script_plain.specs.Ready.{IsReady};
 
 /// Wherever a rank of a script that was read comes by itself, the call that stands next can be made.
 pub fn calls_can_be_made()
     ensures law { (script : Script) → IsWhole script.nue script.items → (rank : ℕ) → rank < script.nue → (u : State) (last : Option Posted)
         → Came next_of (started script rank) u last → IsReady script rank (local_next u.local) }
+{}
+
+/// The calls that a rank has done by itself are the first of those that its program names before it runs, with the heads
+/// that these have; the others are those that are left.
+pub fn calls_are_known_before()
+    ensures law { (script : Script) → (rank : ℕ) → (u : Local) (last : Option Posted) (calls : List DataCall)
+        → Did local_next u last (local_start script rank) None calls
+        → calls_of script rank ≡ map call_of calls ++ calls_from (lengths_of u) u.left }
 {}

@@ -4,8 +4,8 @@ ghost use Rattle.std.specs.Prelude.{◌≡◌, ◌<◌, length, IfOk};
 ghost use Rattle.script_plain.specs.Code.{IsNoneGoing};
 ghost use Rattle.script_plain.specs.Ends.{ends_of};
 
-use crate::posts::Posted;
-use crate::prims::Printed;
+use crate::posts::Left;
+use crate::prints::{PrintedItem, Prints};
 use crate::ues::Ue;
 use scc_base::{Call, Head, Rank};
 use std::alloc::{AllocError, Global};
@@ -62,7 +62,7 @@ impl UeEnd {
 #[derive(Debug, Drop)]
 pub struct Rest {
     how: UeEnd,
-    items: Vec<Printed>,
+    items: Prints,
     target: Option<Rank>,
 }
 
@@ -96,7 +96,7 @@ impl Rest {
     ghost use Rattle.script_plain.specs.Next.{is_going};
 
     /// What is left of a rank with this message in its slot.
-    fn of(alloc: Global, ue: &mut Ue<'_>, slot: &Option<Posted>) -> Rest
+    fn of(alloc: Global, ue: &mut Ue<'_>, slot: &Option<Left>) -> Rest
         requires { is_going (local_next ue.old) ≡ false }
         ensures { result ≡ ended slot.now ue.old }
     {
@@ -105,7 +105,7 @@ impl Rest {
             how,
             items: ue.take_items(alloc),
             target: match slot {
-                Some(message) => Some(message.to),
+                Some(message) => Some(message.to()),
                 None => None,
             },
         }
@@ -113,11 +113,7 @@ impl Rest {
 }
 
 /// What is left of ranks of which none stands at a statement of its own, with these messages in their slots.
-pub fn end_all(
-    alloc: Global,
-    ues: &mut [Ue<'_>],
-    slots: &[Option<Posted>],
-) -> Result<End, AllocError>
+pub fn end_all(alloc: Global, ues: &mut [Ue<'_>], slots: &[Option<Left>]) -> Result<End, AllocError>
     requires still { IsNoneGoing ues.old }
     requires slots { length ues.old ≡ length slots.now }
     ensures { IfOk result (λ end. end ≡ ends_of ues.old slots.now) }
@@ -159,13 +155,13 @@ impl End {
     }
 
     /// An item that a rank printed, in their order.
-    pub fn item(&self, rank: Rank, i: usize) -> &Printed
+    pub fn item(&self, rank: Rank, i: usize) -> PrintedItem<'_>
         requires known { rank < length self.now }
         requires within { i < length (ended_at self.now rank).printed }
-        ensures { slice_get (ended_at self.now rank).printed i ≡ Some result.now }
+        ensures { slice_get (ended_at self.now rank).printed i ≡ Some result }
     {
         let rest = &self.ranks[rank.number() as usize];
-        &rest.items[i]
+        rest.items.item(i)
     }
 
     /// The target of a rank's posted message that is not taken, if there is one.

@@ -8,11 +8,8 @@ mod collective_laws;
 mod ends;
 mod held_laws;
 mod laws;
-#[cfg(test)]
 mod lowest;
 mod machines;
-#[cfg(test)]
-mod match_tests;
 mod matches;
 mod posts;
 mod prims;
@@ -21,13 +18,11 @@ mod reckoning;
 mod registers;
 mod rooms;
 mod steps;
-#[cfg(test)]
-mod tests;
 mod ues;
 mod walk;
 
 pub use barriers::{is_with, setup_of};
-pub use call_laws::calls_can_be_made;
+pub use call_laws::{calls_are_known_before, calls_can_be_made};
 pub use collective_laws::{
     broadcasts_arrive, messages_arrive_as_sent, ranks_go_their_own_ways, reductions_fold,
 };
@@ -37,10 +32,11 @@ pub use laws::{
     barriers_meet, every_order_has_one_end, every_order_is_finite, lowest_owner_steps,
     steps_commute, ways_tell_calls,
 };
+pub use lowest::lowest_run;
 pub use machines::Machine;
 pub use matches::{Match, Matches, plain_matches};
-pub use posts::{OnItsWay, Posted};
-pub use prims::{Action, Content, Primitive, Printed, Source, Standing};
+pub use posts::{Left, OnItsWay, Posted};
+pub use prims::{Action, Content, Primitive, Source, Standing};
 pub use prints::PrintedItem;
 pub use registers::Register;
 pub use steps::plain_run;

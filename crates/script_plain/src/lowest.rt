@@ -1,5 +1,5 @@
 //! The plain run as its definition has it: the enabled step with the lowest owner is taken, again and again. The tests
-//! run it beside `plain_run`.
+//! in `script_rows` run it beside `plain_run`.
 
 ghost use Rattle.std.specs.Prelude.{◌≡◌, None, length, IfOk, OnOk, sum_by};
 ghost use Rattle.scc_base.specs.Setups.{setup_key};
@@ -10,7 +10,7 @@ ghost use Rattle.script_plain.specs.Step.{lowest_step, run_on};
 
 use crate::barriers::setup_of;
 use crate::ends::{End, end_all};
-use crate::posts::Posted;
+use crate::posts::Left;
 use crate::steps::{empty_slots, start, step_at};
 use crate::ues::Ue;
 use scc_base::{Rank, Setup};
@@ -35,7 +35,7 @@ fn lowest_to_end(
     alloc: Global,
     setup: &Setup,
     ues: &mut [Ue],
-    slots: &mut [Option<Posted>],
+    slots: &mut [Option<Left>],
 ) -> Result<End, AllocError>
     requires run { IsRun setup.now ues.old slots.old }
     ensures { IfOk result (λ end. end ≡ ends_at (run_on (setup_key setup.now) local_next (sum_by cost_of ues.old) (config ues.old slots.old))) }
@@ -50,7 +50,7 @@ fn run_lowest(
     alloc: Global,
     setup: &Setup,
     ues: &mut [Ue],
-    slots: &mut [Option<Posted>],
+    slots: &mut [Option<Left>],
 ) -> Result<(), AllocError>
     requires run { IsRun setup.now ues.old slots.old }
     ensures end { OnOk result (config ues.new slots.new ≡ run_on (setup_key setup.now) local_next (sum_by cost_of ues.old) (config ues.old slots.old)) }
@@ -65,7 +65,7 @@ fn step_lowest(
     alloc: Global,
     setup: &Setup,
     ues: &mut [Ue],
-    slots: &mut [Option<Posted>],
+    slots: &mut [Option<Left>],
 ) -> Result<bool, AllocError>
     requires run { IsRun setup.now ues.old slots.old }
     ensures { IfOk result (λ moved. StepsLowest (setup_key setup.now) moved (config ues.old slots.old) (config ues.new slots.new)) }

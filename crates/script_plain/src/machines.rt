@@ -53,13 +53,14 @@ impl<'s> Model for Machine<'s> {
 }
 
 impl<'s> Machine<'s> {
-    ghost use Rattle.std.specs.Prelude.{◌≡◌, ◌<◌, ◌≤◌, false, length, min, slice_get, IfOk, IfSome, IsTrue, Option, Some};
+    ghost use Rattle.std.specs.Prelude.{◌≡◌, ◌<◌, ◌≤◌, [], false, length, min, slice_get, IfOk, IfSome, IsTrue, Option, Some};
     ghost use Rattle.std.specs.Option.{option_map};
     ghost use Rattle.scc_base.specs.Heads.{plain_head};
     ghost use Rattle.script_reader.specs.Script.{rules_of};
     ghost use Rattle.script_plain.specs.Local.{asked_head, end_of, local_next, local_start, next_prim, register_at, source_bytes, stopped_at};
     ghost use Rattle.script_plain.specs.Machine.{on_its_way};
-    ghost use Rattle.script_plain.specs.Moves.{bytes_out, is_passable, is_receiving, is_stopped, length_in, line_out, passed, refused, taken, went};
+    ghost use Rattle.script_plain.specs.Matches.{line_of};
+    ghost use Rattle.script_plain.specs.Moves.{bytes_out, is_passable, is_receiving, is_stopped, length_in, line_out, passed, post_of, refused, taken, went};
     ghost use Rattle.script_plain.specs.Next.{call_of, is_going};
     ghost use Rattle.script_plain.specs.Walk.{IsShort, prim_meant};
     ghost use Rattle.script_plain.specs.declared.posts.Posted.{Posted};
@@ -87,6 +88,13 @@ impl<'s> Machine<'s> {
             prints: Prints::new(alloc, need.items, need.printed)?,
             state: Standing::Running,
         })
+    }
+
+    /// The rank whose program this is.
+    pub fn rank(&self) -> Rank
+        ensures { result ≡ self.now.rank }
+    {
+        self.walk.rank()
     }
 
     /// The primitive at which the rank stands.
@@ -199,6 +207,14 @@ impl<'s> Machine<'s> {
     pub fn bytes(&self) -> &[u8]
         ensures { result.now ≡ bytes_out (local_next self.now.local) }
     {
+        self.sent()
+    }
+
+    /// The same bytes: no more than a message may have.
+    pub(crate) fn sent(&self) -> &[u8]
+        ensures same { result.now ≡ bytes_out (local_next self.now.local) }
+        ensures within { length (bytes_out (local_next self.now.local)) ≤ 65536 }
+    {
         match self.prim() {
             Some(
                 Primitive {
@@ -213,6 +229,33 @@ impl<'s> Machine<'s> {
                 },
             ) => self.registers.bytes(reg),
             _ => &[],
+        }
+    }
+
+    /// The line of the statement that stands next; 0 where nothing does.
+    pub fn stands_at(&self) -> u32
+        ensures { result ≡ line_of self.now.local }
+    {
+        match self.prim() {
+            Some(prim) => prim.line,
+            None => 0,
+        }
+    }
+
+    /// The post that stands next, without its bytes.
+    pub fn post(&self) -> Option<OnItsWay>
+        ensures { result ≡ post_of (local_next self.now.local) }
+    {
+        let Some(prim) = self.prim() else {
+            return None;
+        };
+        match &prim.action {
+            Action::Post { to, reg } => Some(OnItsWay {
+                line: prim.line,
+                to: *to,
+                head: self.post_head(*reg),
+            }),
+            _ => None,
         }
     }
 
@@ -360,6 +403,15 @@ impl<'s> Machine<'s> {
                 None => unreachable!(),
             },
         }
+    }
+
+    /// Hands out the items that the rank printed, in order, and is at its end.
+    pub(crate) fn take_items(&mut self, alloc: Global) -> Prints
+        ensures gives { result.items ≡ self.old.local.printed }
+        ensures ends { self.new ≡ record self.old { local = record self.old.local { left = []; printed = [] } } }
+    {
+        self.walk.finish();
+        std::mem::replace(&mut self.prints, Prints::none(alloc))
     }
 
     /// How many items the rank has printed.

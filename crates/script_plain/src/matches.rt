@@ -8,7 +8,7 @@ ghost use Rattle.script_plain.specs.Matches.{brought, line_at, line_of, matches_
 ghost use Rattle.script_plain.specs.declared.steps.Step.TheVariants as variant;
 
 use crate::barriers::setup_of;
-use crate::posts::Posted;
+use crate::posts::Left;
 use crate::steps::{Step, call_at, decide, empty_slots, start, take_step};
 use crate::ues::Ue;
 use scc_base::{Call, Head, Rank, Setup};
@@ -103,7 +103,7 @@ fn match_on(
     alloc: Global,
     setup: &Setup,
     ues: &mut [Ue],
-    slots: &mut [Option<Posted>],
+    slots: &mut [Option<Left>],
 ) -> Result<Matches, AllocError>
     requires run { IsRun setup.now ues.old slots.old }
     ensures { IfOk result (λ matches. matches ≡ matches_on (setup_key setup.now) local_next line_of (sum_by cost_of ues.old) (config ues.old slots.old)) }
@@ -118,7 +118,7 @@ fn step_lowest(
     alloc: Global,
     setup: &Setup,
     ues: &mut [Ue],
-    slots: &mut [Option<Posted>],
+    slots: &mut [Option<Left>],
     matches: &mut Matches,
 ) -> Result<bool, AllocError>
     requires run { IsRun setup.now ues.old slots.old }
@@ -137,7 +137,7 @@ fn step_by(
     alloc: Global,
     setup: &Setup,
     ues: &mut [Ue],
-    slots: &mut [Option<Posted>],
+    slots: &mut [Option<Left>],
     rank: Rank,
     matches: &mut Matches,
 ) -> Result<bool, AllocError>
@@ -159,7 +159,7 @@ fn step_by(
 fn note(
     setup: &Setup,
     ues: &[Ue],
-    slots: &[Option<Posted>],
+    slots: &[Option<Left>],
     rank: Rank,
     step: &Step,
     matches: &mut Matches,
@@ -176,7 +176,7 @@ fn note(
 }
 
 /// The message of a rank that stands at a send, which the rank `to` receives.
-fn match_to(setup: &Setup, ues: &[Ue], slots: &[Option<Posted>], rank: Rank, to: Rank) -> Match
+fn match_to(setup: &Setup, ues: &[Ue], slots: &[Option<Left>], rank: Rank, to: Rank) -> Match
     requires { decision (setup_key setup.now) ues.now slots.now rank ≡ variant.Matches to }
     ensures { brought local_next line_of (config ues.now slots.now) rank ≡ result ∷ [] }
 {
@@ -193,7 +193,7 @@ fn match_to(setup: &Setup, ues: &[Ue], slots: &[Option<Posted>], rank: Rank, to:
 }
 
 /// The message in the slot of the rank `from`, which a rank takes that stands at a receive.
-fn take_from(setup: &Setup, ues: &[Ue], slots: &[Option<Posted>], rank: Rank, from: Rank) -> Match
+fn take_from(setup: &Setup, ues: &[Ue], slots: &[Option<Left>], rank: Rank, from: Rank) -> Match
     requires { decision (setup_key setup.now) ues.now slots.now rank ≡ variant.Takes from }
     ensures { brought local_next line_of (config ues.now slots.now) rank ≡ result ∷ [] }
 {
@@ -201,8 +201,8 @@ fn take_from(setup: &Setup, ues: &[Ue], slots: &[Option<Posted>], rank: Rank, fr
         Some(Some(message)) => Match {
             from,
             to: rank,
-            head: message.head.head(),
-            send_line: message.line,
+            head: message.head(),
+            send_line: message.line(),
             recv_line: line_at(ues, rank),
         },
         _ => unreachable!(),

@@ -1,7 +1,12 @@
 //! Messages that were posted and not taken yet.
 
+ghost use Rattle.std.specs.Prelude.{◌≡◌};
+ghost use Rattle.std.specs.Option.{option_map};
+ghost use Rattle.script_plain.specs.Machine.{on_its_way};
+
 use crate::registers::Register;
-use scc_base::{PostHead, Rank};
+use scc_base::{Head, PostHead, Rank};
+use std::marker::Model;
 
 /// A message that its sender left behind and that nobody took yet: for which rank, its head and bytes, and the line of
 /// the statement that posted it.
@@ -19,4 +24,78 @@ pub struct OnItsWay {
     pub line: u32,
     pub to: Rank,
     pub head: PostHead,
+}
+
+/// A message that was posted and not taken yet. It has as many bytes as its head says.
+#[derive(Debug, Drop)]
+pub struct Left {
+    message: Posted,
+}
+
+impl Model for Left {
+    ghost use Rattle.std.specs.Prelude.{◌≡◌, length};
+    ghost use Rattle.script_plain.specs.declared.posts.Posted.{Posted};
+
+    ghost Value = { Posted };
+
+    ghost view = { λ l. l.message };
+
+    ghost invariant = { λ l. length l.message.bytes ≡ l.message.head.len };
+}
+
+impl Left {
+    ghost use Rattle.std.specs.Prelude.{◌≡◌, length};
+    ghost use Rattle.script_plain.specs.Machine.{on_its_way};
+
+    pub fn of(message: Posted) -> Left
+        requires { length message.bytes ≡ message.head.len }
+        ensures { result ≡ message }
+    {
+        Left { message }
+    }
+
+    pub fn to(&self) -> Rank
+        ensures { result ≡ self.now.to }
+    {
+        self.message.to
+    }
+
+    pub fn head(&self) -> Head
+        ensures { result ≡ self.now.head }
+    {
+        self.message.head.head()
+    }
+
+    pub fn line(&self) -> u32
+        ensures { result ≡ self.now.line }
+    {
+        self.message.line
+    }
+
+    pub fn bytes(&self) -> &Register
+        ensures same { result.now ≡ self.now.bytes }
+        ensures even { length self.now.bytes ≡ self.now.head.len }
+    {
+        &self.message.bytes
+    }
+
+    pub fn on_its_way(&self) -> OnItsWay
+        ensures { result ≡ on_its_way self.now }
+    {
+        OnItsWay {
+            line: self.message.line,
+            to: self.message.to,
+            head: self.message.head,
+        }
+    }
+}
+
+/// The message in a slot, without its bytes.
+pub fn in_slot(slot: &Option<Left>) -> Option<OnItsWay>
+    ensures { result ≡ option_map on_its_way slot.now }
+{
+    match slot {
+        Some(message) => Some(message.on_its_way()),
+        None => None,
+    }
 }

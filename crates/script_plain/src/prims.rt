@@ -8,7 +8,7 @@ ghost use Rattle.script_reader.specs.Checks.{parent_of};
 ghost use Rattle.script_plain.specs.Program.{acts_of, call_steps, collective_of, is_begin, nesting_of, part_of, parts_of, single_of};
 ghost use Rattle.script_plain.specs.Walk.{IsShort, act_meant};
 
-use crate::registers::{Register, plain_message};
+use crate::registers::plain_message;
 use groups::{Coll, Op, Step, Ty, step, steps};
 use scc_base::{CommRule, Head, Rank, Setup};
 use script_reader::{Bytes, Form, Stmt};
@@ -90,14 +90,6 @@ pub enum Action<'s> {
 pub struct Primitive<'s> {
     pub line: u32,
     pub action: Action<'s>,
-}
-
-/// A printed register.
-#[derive(Debug, Drop)]
-pub struct Printed {
-    pub reg: u8,
-    pub form: Form,
-    pub bytes: Bytes,
 }
 
 /// Whether a rank goes on: not where a message came that has another head than the receive of this line asked for.

@@ -17,7 +17,7 @@ pub struct Entry {
 
 /// The items that a rank printed: their bytes one behind the other, and a table of the items. There is room for all that
 /// the rank will print.
-#[derive(Drop)]
+#[derive(Debug, Drop)]
 pub struct Prints {
     bytes: Vec<u8>,
     table: Vec<Entry>,
@@ -40,7 +40,7 @@ impl Model for Prints {
 }
 
 /// A printed register, lent.
-#[derive(Debug)]
+#[derive(Debug, Drop)]
 pub struct PrintedItem<'p> {
     reg: u8,
     form: Form,
@@ -48,7 +48,7 @@ pub struct PrintedItem<'p> {
 }
 
 impl<'p> Model for PrintedItem<'p> {
-    ghost use Rattle.script_plain.specs.declared.prims.Printed.{Printed};
+    ghost use Rattle.script_plain.specs.Printed.{Printed};
 
     ghost Value = { Printed };
 
@@ -92,6 +92,17 @@ impl Prints {
             table,
             most: bytes,
         })
+    }
+
+    /// No item, and room for none.
+    pub fn none(alloc: Global) -> Prints
+        ensures { result ≡ record { items = []; room = 0; bytes = 0 } }
+    {
+        Prints {
+            bytes: Vec::new(alloc),
+            table: Vec::new(alloc),
+            most: 0,
+        }
     }
 
     /// Puts a register behind the items.

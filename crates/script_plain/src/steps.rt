@@ -14,7 +14,7 @@ ghost use Rattle.script_plain.specs.declared.steps.Step.TheVariants as variant;
 
 use crate::barriers::{all_at_barrier, pass_barrier, root_of, setup_of};
 use crate::ends::{End, end_all};
-use crate::posts::Posted;
+use crate::posts::Left;
 use crate::ues::Ue;
 use scc_base::{Call, Head, Rank, Setup};
 use script_reader::Scripts;
@@ -65,7 +65,7 @@ fn run_to_end(
     alloc: Global,
     setup: &Setup,
     ues: &mut [Ue],
-    slots: &mut [Option<Posted>],
+    slots: &mut [Option<Left>],
 ) -> Result<End, AllocError>
     requires run { IsRun setup.now ues.old slots.old }
     ensures { IfOk result (λ end. end ≡ ends_at (run_on (setup_key setup.now) local_next (sum_by cost_of ues.old) (config ues.old slots.old))) }
@@ -96,7 +96,7 @@ pub(crate) fn start<'s>(
 }
 
 /// This many empty slots.
-pub(crate) fn empty_slots(alloc: Global, count: usize) -> Result<Vec<Option<Posted>>, AllocError>
+pub(crate) fn empty_slots(alloc: Global, count: usize) -> Result<Vec<Option<Left>>, AllocError>
     ensures { IfOk result (λ slots. slots.items ≡ replicate count None) }
 {
     let mut slots = Vec::new(alloc);
@@ -111,7 +111,7 @@ fn run_on(
     alloc: Global,
     setup: &Setup,
     ues: &mut [Ue],
-    slots: &mut [Option<Posted>],
+    slots: &mut [Option<Left>],
 ) -> Result<(), AllocError>
     requires run { IsRun setup.now ues.old slots.old }
     ensures end { OnOk result (config ues.new slots.new ≡ run_on (setup_key setup.now) local_next (sum_by cost_of ues.old) (config ues.old slots.old)) }
@@ -126,7 +126,7 @@ fn sweep(
     alloc: Global,
     setup: &Setup,
     ues: &mut [Ue],
-    slots: &mut [Option<Posted>],
+    slots: &mut [Option<Left>],
 ) -> Result<bool, AllocError>
     requires run { IsRun setup.now ues.old slots.old }
     ensures { IfOk result (λ moved. Sweeps (setup_key setup.now) moved setup.now.nue (config ues.old slots.old) (config ues.new slots.new)) }
@@ -145,7 +145,7 @@ fn go_on(
     alloc: Global,
     setup: &Setup,
     ues: &mut [Ue],
-    slots: &mut [Option<Posted>],
+    slots: &mut [Option<Left>],
     rank: Rank,
 ) -> Result<bool, AllocError>
     requires rank { rank < setup.now.nue }
@@ -164,7 +164,7 @@ pub(crate) fn step_at(
     alloc: Global,
     setup: &Setup,
     ues: &mut [Ue],
-    slots: &mut [Option<Posted>],
+    slots: &mut [Option<Left>],
     rank: Rank,
 ) -> Result<bool, AllocError>
     requires rank { rank < setup.now.nue }
@@ -185,7 +185,7 @@ pub(crate) fn take_step(
     alloc: Global,
     setup: &Setup,
     ues: &mut [Ue],
-    slots: &mut [Option<Posted>],
+    slots: &mut [Option<Left>],
     rank: Rank,
     step: Step,
 ) -> Result<(), AllocError>
@@ -198,18 +198,27 @@ pub(crate) fn take_step(
     let i = rank.number() as usize;
     match step {
         Step::Stays => unreachable!(),
-        Step::Goes => ues[i].go(alloc),
+        Step::Goes => {
+            ues[i].go();
+            Ok(())
+        }
         Step::Posts => {
             slots[i] = Some(ues[i].post(alloc)?);
             Ok(())
         }
         Step::Matches { to } => deliver(alloc, setup, ues, slots, i, to.number() as usize),
-        Step::Takes { from } => take(setup, ues, slots, i, from.number() as usize),
+        Step::Takes { from } => {
+            take(setup, ues, slots, i, from.number() as usize);
+            Ok(())
+        }
         Step::Mismatches { sent } => {
             ues[i].refuse(sent);
             Ok(())
         }
-        Step::Passes { comm } => pass_barrier(setup, ues, comm, rank),
+        Step::Passes { comm } => {
+            pass_barrier(setup, ues, comm, rank);
+            Ok(())
+        }
     }
 }
 
@@ -218,7 +227,7 @@ fn deliver(
     alloc: Global,
     setup: &Setup,
     ues: &mut [Ue],
-    slots: &[Option<Posted>],
+    slots: &[Option<Left>],
     from: usize,
     to: usize,
 ) -> Result<(), AllocError>
@@ -226,30 +235,23 @@ fn deliver(
     ensures { OnOk result (StepsAt (setup_key setup.now) true from (config ues.old slots.now) (config ues.new slots.now)) }
 {
     let bytes = ues[from].send(alloc)?;
-    ues[to].receive(bytes)?;
+    ues[to].receive(&bytes);
     Ok(())
 }
 
 /// Brings the message in a slot to the rank that receives it.
-fn take(
-    setup: &Setup,
-    ues: &mut [Ue],
-    slots: &mut [Option<Posted>],
-    to: usize,
-    from: usize,
-) -> Result<(), AllocError>
+fn take(setup: &Setup, ues: &mut [Ue], slots: &mut [Option<Left>], to: usize, from: usize)
     requires { decision (setup_key setup.now) ues.old slots.old to ≡ variant.Takes from }
-    ensures { OnOk result (StepsAt (setup_key setup.now) true to (config ues.old slots.old) (config ues.new slots.new)) }
+    ensures { StepsAt (setup_key setup.now) true to (config ues.old slots.old) (config ues.new slots.new) }
 {
     let Some(message) = slots[from].take() else {
         unreachable!()
     };
-    ues[to].receive(message.bytes)?;
-    Ok(())
+    ues[to].receive(message.bytes());
 }
 
 /// The step that a rank owns.
-pub(crate) fn decide(setup: &Setup, ues: &[Ue], slots: &[Option<Posted>], rank: Rank) -> Step
+pub(crate) fn decide(setup: &Setup, ues: &[Ue], slots: &[Option<Left>], rank: Rank) -> Step
     requires rank { rank < setup.now.nue }
     requires run { IsRun setup.now ues.now slots.now }
     ensures { result ≡ decision (setup_key setup.now) ues.now slots.now rank }
@@ -268,7 +270,7 @@ pub(crate) fn decide(setup: &Setup, ues: &[Ue], slots: &[Option<Posted>], rank: 
 }
 
 /// The step of a rank that stands at a post.
-fn post_of(slots: &[Option<Posted>], rank: Rank) -> Step
+fn post_of(slots: &[Option<Left>], rank: Rank) -> Step
     ensures { result ≡ post_decision (slice_index_or slots.now rank None) }
 {
     match slots.get(rank.number() as usize) {
@@ -278,7 +280,7 @@ fn post_of(slots: &[Option<Posted>], rank: Rank) -> Step
 }
 
 /// The step of a rank that stands at a send of this head.
-fn match_of(ues: &[Ue], slots: &[Option<Posted>], rank: Rank, to: Rank, head: Head) -> Step
+fn match_of(ues: &[Ue], slots: &[Option<Left>], rank: Rank, to: Rank, head: Head) -> Step
     ensures { result ≡ match_decision rank to head (slice_index_or slots.now rank None) (call_at ues.now to) }
 {
     if let Some(Some(_)) = slots.get(rank.number() as usize) {
@@ -293,11 +295,11 @@ fn match_of(ues: &[Ue], slots: &[Option<Posted>], rank: Rank, to: Rank, head: He
 }
 
 /// The step of a rank that stands at a receive of this head.
-fn receive_of(ues: &[Ue], slots: &[Option<Posted>], rank: Rank, from: Rank, asked: Head) -> Step
+fn receive_of(ues: &[Ue], slots: &[Option<Left>], rank: Rank, from: Rank, asked: Head) -> Step
     ensures { result ≡ receive_decision rank from asked (slice_index_or slots.now from None) (call_at ues.now from) }
 {
     match slots.get(from.number() as usize) {
-        Some(Some(message)) => fetch_of(message.to, message.head.head(), rank, from, asked),
+        Some(Some(message)) => fetch_of(message.to(), message.head(), rank, from, asked),
         _ => mismatch_of(ues, rank, from, asked),
     }
 }

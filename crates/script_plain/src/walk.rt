@@ -56,7 +56,7 @@ impl<'s> Model for Walk<'s> {
 }
 
 impl<'s> Walk<'s> {
-    ghost use Rattle.std.specs.Prelude.{◌≡◌, ◌<◌, drop, slice_get, IfOk, IfSome};
+    ghost use Rattle.std.specs.Prelude.{◌≡◌, ◌<◌, [], drop, slice_get, IfOk, IfSome};
     ghost use Rattle.std.specs.Option.{option_map};
     ghost use Rattle.script_reader.specs.Script.{rules_of};
     ghost use Rattle.script_plain.specs.Program.{program_of};
@@ -86,6 +86,13 @@ impl<'s> Walk<'s> {
         })
     }
 
+    /// The rank whose primitives these are.
+    pub fn rank(&self) -> Rank
+        ensures { result ≡ self.now.rank }
+    {
+        self.rank
+    }
+
     /// The primitive that comes next.
     pub fn front(&self) -> Option<Primitive<'s>>
         ensures same { option_map prim_meant result ≡ slice_get self.now.left 0 }
@@ -99,6 +106,15 @@ impl<'s> Walk<'s> {
             line: item.line,
             action: action_of(&self.setup, self.rank, &item.stmt, self.step),
         })
+    }
+
+    /// Goes to the end.
+    pub fn finish(&mut self)
+        ensures { self.new ≡ record self.old { left = [] } }
+    {
+        self.place = self.scripts.len();
+        self.step = 0;
+        self.repeats.clear();
     }
 
     /// Goes past the primitive that comes next.

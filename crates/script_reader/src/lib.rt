@@ -17,8 +17,6 @@ mod said_locals;
 mod script;
 mod taking;
 mod tally;
-#[cfg(test)]
-mod tests;
 mod version;
 mod words;
 
@@ -29,4 +27,4 @@ pub use laws::version_law;
 pub use reading::read_script;
 pub use script::{Form, Item, Peer, Scripts, Stmt, Who};
 pub use version::Version;
-pub use words::number;
+pub use words::{is_text, number, uncommented};

@@ -64,7 +64,8 @@ pub(crate) fn line_count(lines: &[&[u8]]) -> usize
     }
 }
 
-fn uncommented(line: &[u8]) -> &[u8]
+/// A line up to its first `#`.
+pub fn uncommented(line: &[u8]) -> &[u8]
     ensures { result.now ≡ uncommented line.now }
 {
     let end = line.iter().position(|b| *b == b'#').unwrap_or(line.len());
@@ -72,7 +73,7 @@ fn uncommented(line: &[u8]) -> &[u8]
 }
 
 /// Whether each byte outside the comment may stand there.
-pub(crate) fn is_text(line: &[u8]) -> bool
+pub fn is_text(line: &[u8]) -> bool
     ensures { result ≡ is_text line.now }
 {
     uncommented(line).iter().all(|b| is_text_byte(*b))

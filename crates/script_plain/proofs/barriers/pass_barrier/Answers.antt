@@ -7,7 +7,7 @@ use Rattle.script_plain.specs.Next.{is_at_barrier, past_barrier}
 use Rattle.script_plain.proofs.GroupLaws.{past_end, past_skips, past_start, past_takes, past_unchanged}
 use Rattle.script_plain.proofs.RunLaws.{stands_there}
 use Rattle.script_plain.proofs.barriers.pass_barrier.Goals as goal
-use Rattle.script_plain.proofs.barriers.pass_barrier.Goals.{then-is_with+in_ok-pass, else-is_with}
+use Rattle.script_plain.proofs.barriers.pass_barrier.Goals.{then-is_with, else-is_with}
 
 pub loop-number-init : goal.loop-number-init
 loop-number-init c = past_start local_next (is_with (setup_key c.args.setup.now c.args.comm) c.args.rank) c.args.ues.now
@@ -29,14 +29,14 @@ loop-number-preserved c =
     let old = c.args.ues.now in
     let group : ℕ → Bool = is_with (setup_key c.args.setup.now c.args.comm) c.args.rank in
     elim c.if-is_with.branch [
-      | then-is_with+in_ok-pass w ↦
+      | then-is_with w ↦
           let ues = c.loop-number.ues in
           let within : c.loop-number.number < length ues = omega (arith, c.loop-number.auto.ues, c.loop-number-test.true, c.loop-number.auto.number-end, c.nue-number-end.ensures.gives, c.requires.ranks) in
           let read = slice_get_read ues (length ues) c.loop-number.number w.index-ues-number.result refl within w.index-ues-number.is in
           let was = past_unchanged local_next group old ues c.loop-number.number w.index-ues-number.result c.loop-number.invariant read in
           let member : group c.loop-number.number ≡ true = ap group (sym c.of.ensures.gives) ∙ sym c.is_with.ensures ∙ w.if-is_with.true in
           w.ues-is
-          ∙ ap (set ues c.loop-number.number) (w.in_ok-pass.ensures ∙ ap (λ (u : Local). past_barrier (local_next u) u) (sym w.index-ues-number.is))
+          ∙ ap (set ues c.loop-number.number) (w.pass.ensures ∙ ap (λ (u : Local). past_barrier (local_next u) u) (sym w.index-ues-number.is))
           ∙ past_takes local_next group old ues c.loop-number.number w.index-ues-number.result c.loop-number.invariant member was
       | else-is_with w ↦
           w.ues-is ∙ c.loop-number.invariant

@@ -1,4 +1,4 @@
-use Rattle.std.proofs.Common.{◌∙◌, sym}
+use Rattle.std.proofs.Common.{◌∙◌}
 use Rattle.scc_base.specs.Setups.{setup_key}
 use Rattle.script_plain.proofs.MatchLaws.{comes_to_rest, goes_on, was_stepped}
 use Rattle.script_plain.proofs.PlainLaws.{local_lowers}

@@ -1,10 +1,9 @@
-use Rattle.std.proofs.Common.{◌≡◌, ◌<◌, ◌∙◌, ℕ, List, ap, length, arith, subst}
+use Rattle.std.proofs.Common.{◌∙◌, ℕ, ap, length, arith, subst}
 use Rattle.scc_base.specs.Setups.{setup_key}
-use Rattle.script_plain.specs.Code.{BringsAt, BringsLowest, config}
+use Rattle.script_plain.specs.Code.{BringsAt, config}
 use Rattle.script_plain.specs.Step.{Configuration}
 use Rattle.script_plain.specs.Local.{Local}
-use Rattle.script_plain.specs.declared.matches.Match.{Match}
-use Rattle.script_plain.proofs.MatchLaws.{found_lowest, passed_lowest}
+use Rattle.script_plain.proofs.MatchLaws.{passed_lowest}
 use Rattle.script_plain.proofs.matches.step_lowest.Goals as goal
 
 pub loop-number-preserved : goal.loop-number-preserved

@@ -1,9 +1,9 @@
-use Rattle.std.proofs.Common.{◌≡◌, ◌∙◌, ap, arith, drop, refl, slice_get, sym, List, Some}
+use Rattle.std.proofs.Common.{◌≡◌, ◌∙◌, ap, arith, drop, refl, slice_get, sym, Some}
 use Rattle.std.specs.Option.{option_map}
 use Rattle.script_plain.specs.Lengths.{lengths_after}
 use Rattle.script_plain.specs.Program.{Prim}
 use Rattle.script_plain.specs.Rooms.{nothing_held, rooms_of}
-use Rattle.script_plain.specs.Walk.{WalkView, act_meant, prim_meant}
+use Rattle.script_plain.specs.Walk.{WalkView, prim_meant}
 use Rattle.script_plain.proofs.RoomLaws.{held_by, none_found, wider_same, wider_wider, within_before, within_end, within_within}
 use Rattle.script_plain.proofs.reckoning.reckon.Goals as goal
 

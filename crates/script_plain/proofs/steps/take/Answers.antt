@@ -1,11 +1,26 @@
-use Rattle.std.proofs.Common.{◌∙◌, ◌<◌, Option, Some, ap, length, refl, set, subst, sym}
+use Rattle.std.proofs.Common.{◌∙◌, ◌<◌, ℕ, List, Option, Some, ap, length, refl, set, subst, sym}
 use Rattle.std.proofs.lemmas.Option.{slice_get_read}
 use Rattle.scc_base.specs.Setups.{setup_key}
 use Rattle.script_plain.specs.Code.{HasTaken, config}
 use Rattle.script_plain.specs.Local.{Local, local_next}
+use Rattle.script_plain.specs.Moves.{length_in}
 use Rattle.script_plain.specs.declared.posts.Posted.{Posted}
 use Rattle.script_plain.proofs.CodeLaws.{fetched, fetcher_there, fetches, slot_here}
+use Rattle.script_plain.proofs.UeLaws.{fetched_long}
 use Rattle.script_plain.proofs.steps.take.Goals as goal
+
+pub receive-requires-clause-long : goal.receive-requires-clause-long
+receive-requires-clause-long c =
+    let keys = setup_key c.args.setup.now in
+    let ues = c.args.ues.now in
+    let slots = c.args.slots.now in
+    let fetch = fetches ues slots c.args.to c.args.from keys c.requires in
+    let read = slot_here slots c.args.from fetch.message c.index-slots-from.result fetch.slot c.index-slots-from.is in
+    let slot = fetch.slot ∙ sym read ∙ c.index-slots-from.is ∙ sym c.take.ensures.value ∙ c.in-Some.is in
+    let within : c.args.to < length ues = fetcher_there ues slots c.args.to c.args.from fetch in
+    let here = slice_get_read ues (length ues) c.args.to c.index-ues-to.result refl within c.index-ues-to.is in
+    ap length c.bytes.ensures.same ∙ fetched_long keys ues slots c.args.to c.args.from c.index-ues-to.result c.in-Some.message c.requires here slot c.bytes.ensures.even
+    ∙ ap (λ (u : Local). length_in (local_next u)) c.index-ues-to.is
 
 pub returns : goal.returns
 returns c =
@@ -17,6 +32,7 @@ returns c =
     let slot = fetch.slot ∙ sym read ∙ c.index-slots-from.is ∙ sym c.take.ensures.value ∙ c.in-Some.is in
     let within : c.args.to < length ues = fetcher_there ues slots c.args.to c.args.from fetch in
     let here = slice_get_read ues (length ues) c.args.to c.index-ues-to.result refl within c.index-ues-to.is in
-    fetched keys ues slots c.args.to c.args.from c.index-ues-to.result c.receive.new.self c.in-Some.message c.requires here slot
-    (subst (λ (u : Local). HasTaken (local_next u) c.in-Some.message.bytes c.receive.new.self) (sym c.index-ues-to.is) c.in_ok-receive.ensures)
+    let taken = subst (λ (b : List ℕ). HasTaken (local_next c.index-ues-to.result) b c.receive.new.self) c.bytes.ensures.same
+    (subst (λ (u : Local). HasTaken (local_next u) c.bytes.result.now c.receive.new.self) (sym c.index-ues-to.is) c.receive.ensures) in
+    fetched keys ues slots c.args.to c.args.from c.index-ues-to.result c.receive.new.self c.in-Some.message c.requires here slot taken
     ∙ ap (λ (o : Option Posted). Some (config (set ues c.args.to c.receive.new.self) (set slots c.args.from o))) (sym c.take.ensures.after)

@@ -1,4 +1,4 @@
-use Rattle.std.proofs.Common.{◌≡◌, ◌≤◌, ◌+◌, ◌∙◌, length, arith, sym}
+use Rattle.std.proofs.Common.{◌≡◌, ◌+◌, ◌∙◌, arith, sym}
 use Rattle.script_plain.specs.Depths.{depth_after, depth_at}
 use Rattle.script_plain.specs.Program.{nesting_at}
 use Rattle.script_plain.proofs.DepthLaws.{deepest_end, deepest_more, depth_more, depth_next}

@@ -1,7 +1,6 @@
-use Rattle.std.proofs.Common.{◌≡◌, ◌≤◌, ◌∙◌, arith, length, subst, sym, ℕ}
+use Rattle.std.proofs.Common.{◌≡◌, ◌≤◌, ◌∙◌, arith, length}
 use Rattle.std.specs.VecDeque.{deque_capacity}
-use Rattle.script_plain.specs.Program.{nesting_at, prims_of}
-use Rattle.script_plain.specs.Walk.{opened}
+use Rattle.script_plain.specs.Program.{prims_of}
 use Rattle.script_plain.proofs.DepthLaws.{deep_entered, deep_past, room_entered}
 use Rattle.script_plain.proofs.WalkLaws.{none_there, open-past, over_open, over_same, past_same, some_there}
 use Rattle.script_plain.proofs.walk.settled.Goals as goal

@@ -1,10 +1,10 @@
-use Rattle.std.proofs.Common.{◌≡◌, ◌≤◌, ◌∙◌, ◌++◌, ◌∷◌, ℕ, List, [], ap, arith, drop, length, refl, slice_index_or, slice_set, sym}
-use Rattle.script_plain.specs.Lengths.{Lengths, lengths_of}
-use Rattle.script_plain.specs.Local.{Local, folded, next_by_act}
+use Rattle.std.proofs.Common.{◌∙◌, ◌++◌, ◌∷◌, ℕ, List, [], ap, arith, drop, length, refl, slice_index_or, slice_set, sym}
+use Rattle.script_plain.specs.Lengths.{lengths_of}
+use Rattle.script_plain.specs.Local.{folded, next_by_act}
 use Rattle.script_plain.specs.Machine.{MachineView}
-use Rattle.script_plain.specs.Program.{Act, Prim}
-use Rattle.script_plain.specs.Program.Act.{Set, Apply, Print, Recv, Gather, Begin, Fold, Accept, Finish}
-use Rattle.script_plain.specs.Rooms.{PrintsView, RegistersView, RoomView, Rooms, local_by, rooms_by}
+use Rattle.script_plain.specs.Program.{Prim}
+use Rattle.script_plain.specs.Program.Act.{Set, Apply, Print, Begin, Fold, Accept, Finish}
+use Rattle.script_plain.specs.Rooms.{RoomView, local_by, rooms_by}
 use Rattle.script_plain.specs.Walk.{WalkView, content_of}
 use Rattle.script_plain.specs.declared.prims.Action.TheVariants as action
 use Rattle.script_plain.proofs.RoomLaws.{after, fits_next, held_by, length_index, prim_here, put_fits, rooms_next}

@@ -1,9 +1,9 @@
-use Rattle.std.proofs.Common.{◌≡◌, ◌∙◌, ℕ, List, [], ap, length, refl, replicate, sym}
-use Rattle.script_plain.specs.Lengths.{Lengths, lengths_of}
-use Rattle.script_plain.specs.Rooms.{RegistersView, local_by, nothing_held, rooms_by, rooms_of}
+use Rattle.std.proofs.Common.{◌∙◌, ℕ, List, [], ap, length, refl, replicate, sym}
+use Rattle.script_plain.specs.Lengths.{lengths_of}
+use Rattle.script_plain.specs.Rooms.{local_by, nothing_held, rooms_by, rooms_of}
 use Rattle.script_plain.specs.Walk.{WalkView}
 use Rattle.script_plain.specs.declared.prims.Standing.TheVariants as standing
-use Rattle.script_plain.proofs.RoomLaws.{below_length, held_by, lengths_unset, register_count, within_now}
+use Rattle.script_plain.proofs.RoomLaws.{held_by, lengths_unset, register_count}
 use Rattle.script_plain.proofs.machines.Machine.new.Goals as goal
 
 pub invariant_of-result : goal.invariant_of-result

@@ -1,13 +1,13 @@
-use Rattle.std.proofs.Common.{◌≡◌, ◌≤◌, ◌∙◌, ℕ, List, [], ap, arith, drop, length, refl, slice_index_or, sym}
-use Rattle.script_plain.specs.Lengths.{Lengths, lengths_of}
-use Rattle.script_plain.specs.Local.{Local, next_by_act}
+use Rattle.std.proofs.Common.{ap, arith, drop, length, refl, sym}
+use Rattle.script_plain.specs.Lengths.{lengths_of}
+use Rattle.script_plain.specs.Local.{next_by_act}
 use Rattle.script_plain.specs.Machine.{MachineView}
-use Rattle.script_plain.specs.Program.{Act, Prim}
-use Rattle.script_plain.specs.Program.Act.{Set, Apply, Print, Recv, Gather, Begin, Fold, Accept, Finish}
-use Rattle.script_plain.specs.Rooms.{PrintsView, RegistersView, RoomView, Rooms, local_by, rooms_by}
-use Rattle.script_plain.specs.Walk.{WalkView, content_of}
+use Rattle.script_plain.specs.Program.{Prim}
+use Rattle.script_plain.specs.Program.Act.{Recv, Gather}
+use Rattle.script_plain.specs.Rooms.{local_by, rooms_by}
+use Rattle.script_plain.specs.Walk.{WalkView}
 use Rattle.script_plain.specs.declared.prims.Action.TheVariants as action
-use Rattle.script_plain.proofs.RoomLaws.{after, asked_here, got_fits, held_by, length_index, prim_here, put_fits, rooms_next}
+use Rattle.script_plain.proofs.RoomLaws.{after, asked_here, got_fits, held_by, prim_here, put_fits, rooms_next}
 use Rattle.script_plain.proofs.machines.Machine.receive.Goals as goal
 
 pub write-requires : goal.write-requires

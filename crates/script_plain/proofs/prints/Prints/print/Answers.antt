@@ -1,8 +1,8 @@
-use Rattle.std.proofs.Common.{◌≡◌, ◌≤◌, ◌+◌, ◌++◌, ◌∷◌, [], ◌∙◌, ap, sym, arith, subst, length, map, ℕ, List}
+use Rattle.std.proofs.Common.{◌≡◌, ◌+◌, ◌++◌, ◌∷◌, [], ◌∙◌, ap, sym, arith, subst, length, map, ℕ, List}
 use Rattle.std.proofs.lemmas.List.{length-append}
 use Rattle.script_plain.specs.Lengths.{printed_bytes}
 use Rattle.script_plain.specs.Rooms.{AreCut, PrintsView, cut}
-use Rattle.script_plain.specs.declared.prims.Printed.{Printed}
+use Rattle.script_plain.specs.Printed.{Printed}
 use Rattle.script_plain.specs.declared.prints.Entry.{Entry}
 use Rattle.script_plain.proofs.RoomLaws.{cut_last, cut_more, cut_push, printed_more}
 use Rattle.script_plain.proofs.prints.Prints.print.Goals as goal

@@ -1,6 +1,5 @@
-use Rattle.std.proofs.Common.{◌≡◌, ◌∙◌, ℕ, ap, arith, refl, sym}
-use Rattle.script_plain.specs.Lengths.{Lengths, length_at, with_register}
-use Rattle.script_plain.specs.Rooms.{ReckoningView, greater}
+use Rattle.std.proofs.Common.{ap, arith, sym}
+use Rattle.script_plain.specs.Rooms.{ReckoningView}
 use Rattle.script_plain.proofs.RoomLaws.{greater_old, wider_by, within_same}
 use Rattle.script_plain.proofs.reckoning.Reckoning.copy.Goals as goal
 

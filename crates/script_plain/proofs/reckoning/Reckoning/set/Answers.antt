@@ -1,5 +1,5 @@
-use Rattle.std.proofs.Common.{◌≡◌, ◌∙◌, ℕ, ap, arith, refl, sym}
-use Rattle.script_plain.specs.Lengths.{Lengths, length_at, with_register}
+use Rattle.std.proofs.Common.{ap, arith, refl, sym}
+use Rattle.script_plain.specs.Lengths.{length_at, with_register}
 use Rattle.script_plain.specs.Rooms.{ReckoningView, greater}
 use Rattle.script_plain.proofs.RoomLaws.{raised_within, raised_wider, wider_by, within_by}
 use Rattle.script_plain.proofs.reckoning.Reckoning.set.Goals as goal

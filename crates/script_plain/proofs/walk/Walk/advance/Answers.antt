@@ -1,9 +1,8 @@
-use Rattle.std.proofs.Common.{◌≡◌, ◌≤◌, ◌∙◌, [], ap, sym, arith, length, drop, List}
+use Rattle.std.proofs.Common.{◌≡◌, ◌∙◌, [], ap, sym, arith, length, drop, List}
 use Rattle.std.proofs.lemmas.List.{drop-drop}
-use Rattle.std.specs.VecDeque.{deque_capacity}
 use Rattle.script_plain.specs.Program.{Prim, prims_of}
 use Rattle.script_plain.specs.Walk.{WalkView, left_at}
-use Rattle.script_plain.proofs.DepthLaws.{deep_passed, room_here}
+use Rattle.script_plain.proofs.DepthLaws.{deep_passed}
 use Rattle.script_plain.proofs.WalkLaws.{behind_open, behind_same, last_done, nothing_past, stands_there}
 use Rattle.script_plain.proofs.walk.Walk.advance.Goals as goal
 

@@ -1,7 +1,6 @@
 use Rattle.std.proofs.Common.{◌∙◌, ap, sym, subst, List}
 use Rattle.script_plain.specs.declared.walk.Open.{Open}
-use Rattle.script_plain.specs.Walk.{AreOpenAt, WalkView, left_at}
-use Rattle.script_plain.proofs.DepthLaws.{deep_start}
+use Rattle.script_plain.specs.Walk.{AreOpenAt, left_at}
 use Rattle.script_plain.proofs.WalkLaws.{all_left, none_open, unrolled_by_script}
 use Rattle.script_plain.proofs.walk.Walk.new.Goals as goal
 

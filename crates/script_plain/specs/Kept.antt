@@ -1,0 +1,62 @@
+-- What a rank holds has the lengths that the reader of the script reckoned, and what is left of its program keeps them.
+use Rattle.std.specs.Prelude.{◌≡◌, ℕ, ◌≤◌, List, [], ◌∷◌, length, reverse, Option, Some, None}
+use Rattle.std.specs.Prelude.{◌⊎◌}
+use Rattle.scc_base.specs.Heads.{MessageHead}
+use Rattle.script_reader.specs.Checks.{length_at}
+use Rattle.script_reader.specs.Script.{Script}
+use Rattle.script_plain.specs.Local.{Local, register_at}
+use Rattle.script_plain.specs.Next.{Next}
+use Rattle.script_plain.specs.Next.Next.{Ends, Goes, Posts, Sends, Recvs, Bars}
+use Rattle.script_plain.specs.Program.{Act, Prim}
+
+-- the length of each register of a rank, where it is set
+abbrev pub reckoned_at : Script → ℕ → ℕ → Option ℕ
+reckoned_at script rank reg = length_at script.nue (reverse script.items) rank reg
+
+-- no bytes, or as many as this
+abbrev pub Holds : Option ℕ → ℕ → Type 0
+Holds o n = (n ≡ 0) ⊎ (o ≡ Some n)
+
+-- how many bytes the accumulator and the received bytes have behind an act, or none
+abbrev pub folding : (ℕ → Option ℕ) → Option ℕ → Act → Option ℕ
+folding had acc (Act.Begin reg) = had reg
+folding had acc _ = acc
+
+abbrev pub sized_by : (ℕ → Option ℕ) → MessageHead → Option ℕ → Option ℕ
+sized_by had head None = Some head.len
+sized_by had head (Some reg) = had reg
+
+abbrev pub gathering : (ℕ → Option ℕ) → Option ℕ → Act → Option ℕ
+gathering had got (Act.Gather from head sized) = sized_by had head sized
+gathering had got _ = got
+
+-- an act sets a register to its length, and posts at most one chunk
+abbrev pub Sets : (ℕ → Option ℕ) → Option ℕ → Option ℕ → Act → Type 0
+Sets had acc got (Act.Set reg content) = had reg ≡ Some (length content)
+Sets had acc got (Act.Recv from reg head) = had reg ≡ Some head.len
+Sets had acc got (Act.Post to reg) = (n : ℕ) × (had reg ≡ Some n) × (n ≤ 3584)
+Sets had acc got (Act.Accept reg) = had reg ≡ got
+Sets had acc got (Act.Finish reg) = had reg ≡ acc
+Sets had acc got _ = Unit {0}
+
+abbrev pub Keeps : (ℕ → Option ℕ) → Option ℕ → Option ℕ → List Prim → Type 0
+Keeps had acc got [] = Unit {0}
+Keeps had acc got (prim ∷ left) = Sets had acc got prim.act × Keeps had (folding had acc prim.act) (gathering had got prim.act) left
+
+-- what a rank holds has these lengths, and what is left keeps them
+pub record Fits (had : ℕ → Option ℕ) (u : Local) : Type 0 where
+  pub acc : Option ℕ
+  pub got : Option ℕ
+  pub registers : (reg : ℕ) → Holds (had reg) (length (register_at u reg))
+  pub accumulator : Holds acc (length u.accumulator)
+  pub received : Holds got (length u.received)
+  pub keeps : Keeps had acc got u.left
+
+-- and so it is after what stands next: a message has the length of its head
+abbrev pub FitsNext : (ℕ → Option ℕ) → Next Local → Type 0
+FitsNext had Ends = Unit {0}
+FitsNext had (Goes after) = Fits had after
+FitsNext had (Posts message after) = Fits had after × (length message.bytes ≡ message.head.len)
+FitsNext had (Sends to head bytes after) = Fits had after × (length bytes ≡ head.len)
+FitsNext had (Recvs from head take refuse) = ((bytes : List ℕ) → length bytes ≡ head.len → Fits had (take bytes)) × ((sent : MessageHead) → Fits had (refuse sent))
+FitsNext had (Bars comm after) = Fits had after
