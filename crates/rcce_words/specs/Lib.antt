@@ -1,0 +1,4 @@
+pub mod CommandLine
+pub mod Cores
+pub mod FaultTexts
+pub mod HostFile

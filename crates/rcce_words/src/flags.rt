@@ -1,0 +1,52 @@
+//! The options of the command line.
+
+ghost use Rattle.std.specs.Prelude.{◌≡◌};
+ghost use Rattle.rcce_words.specs.CommandLine.{flag_of, takes_value};
+
+/// An option, by what it sets.
+#[derive(Clone, Copy, Debug, PartialEq, Eq)]
+pub(crate) enum Flag {
+    /// The number of units of execution.
+    Nue,
+    /// The file with the host of each.
+    Hosts,
+    /// The seed of the evictors.
+    Evict,
+    /// The seed of a run on one thread.
+    Serial,
+    /// Flags that are single bits.
+    Bits,
+    /// The seed of a script that is made.
+    Gen,
+}
+
+/// The option that a word names.
+pub(crate) fn flag_of(word: &str) -> Option<Flag>
+    ensures { result ≡ flag_of word.now }
+{
+    if word == "-nue" {
+        Some(Flag::Nue)
+    } else if word == "-f" {
+        Some(Flag::Hosts)
+    } else if word == "-evict" {
+        Some(Flag::Evict)
+    } else if word == "-serial" {
+        Some(Flag::Serial)
+    } else if word == "-bits" {
+        Some(Flag::Bits)
+    } else if word == "-gen" {
+        Some(Flag::Gen)
+    } else {
+        None
+    }
+}
+
+/// Whether the word behind this one is its value.
+pub(crate) fn takes_value(word: &str) -> bool
+    ensures { result ≡ takes_value (flag_of word.now) }
+{
+    match flag_of(word) {
+        Some(Flag::Bits) | None => false,
+        Some(_) => true,
+    }
+}
