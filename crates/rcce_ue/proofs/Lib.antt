@@ -1,0 +1,15 @@
+pub mod PathLemmas
+pub mod CountLemmas
+pub mod MeasureLemmas
+pub mod VisitLemmas
+pub mod EnterLemmas
+pub mod KeepLemmas
+pub mod SendTurns
+pub mod RecvTurns
+pub mod BarTurns
+pub mod AloneTurns
+pub mod StartLemmas
+pub mod Carry
+pub mod OpAnswers
+pub mod WaitLemmas
+pub mod OtherPort

@@ -1,0 +1,167 @@
+-- The turns of a UE, as its functions spell the UEs before and after.
+use Rattle.std.proofs.Common.{◌≡◌, ℕ, ◌+◌, ◌≤◌, Bool, true, false, List, length, take, refl, ap, ◌∙◌, subst, arith}
+use Rattle.std.specs.Prelude.{IsTrue}
+use Rattle.scc_base.specs.Heads.{MessageHead}
+use Rattle.scc_base.specs.declared.events.Spot.{Spot}
+use Rattle.scc_base.specs.declared.events.Turn.{Turn}
+use Rattle.scc_base.specs.declared.events.Turn.TheVariants as turn
+use Rattle.scc_proto.specs.Ports.{Sight, record_in}
+use Rattle.put_get.specs.Cores.{Private}
+use Rattle.send_recv.specs.Ops.{RecvAt, SendAt, SlotAt}
+use Rattle.send_recv.specs.Receiving.{RecvStands, RecvTurned}
+use Rattle.send_recv.specs.Sending.{SendStands, SendTurned, SlotStands, SlotTurned}
+use Rattle.send_recv.specs.declared.answers.RecvTurn.{RecvTurn}
+use Rattle.send_recv.specs.declared.answers.RecvTurn.TheVariants as receive
+use Rattle.barrier.specs.Stages.{BarAt, BarStands}
+use Rattle.barrier.specs.Turns.{BarTurned}
+use Rattle.script_plain.specs.Local.{Local, local_next}
+use Rattle.script_plain.specs.Moves.{bytes_out, is_stopped, length_in, passed, refused, taken, went}
+use Rattle.script_plain.specs.Next.{Next, is_going}
+use Rattle.script_plain.specs.Next.Next.{Ends, Goes, Posts, Sends, Recvs, Bars}
+use Rattle.rcce_ue.specs.Standing.{IsRecvOf, Tied}
+use Rattle.rcce_ue.specs.Turns.{Turns, is_open_none}
+use Rattle.rcce_ue.specs.Ues.{UeView, counted, entered, posted_by}
+use Rattle.rcce_ue.specs.declared.calls.Open.{Open}
+use Rattle.rcce_ue.specs.declared.calls.Open.TheVariants.{Nothing, Sending, Receiving, Meeting}
+use Rattle.rcce_ue.proofs.AloneTurns.{alone_goes, slot_turns, stopped_done}
+use Rattle.rcce_ue.proofs.BarTurns.{bar_done, bar_moved, bar_waited}
+use Rattle.rcce_ue.proofs.Carry.{carry}
+use Rattle.rcce_ue.proofs.RecvTurns.{recv_done, recv_moved, recv_refused, recv_waited}
+use Rattle.rcce_ue.proofs.SendTurns.{send_done, send_moved, send_waited}
+
+module _ (ue old now : UeView) (s t : Sight) where
+  module _ (op next : SendAt) (d : Private) (after : SlotAt) (bytes : List ℕ) (before : old ≡ record ue { op = Sending op }) (out : bytes ≡ bytes_out (local_next ue.machine.local)) (tied : Tied old s)
+      (stands : SendStands t d next after bytes) where
+    send_stands : SendStands t d next after (bytes_out (local_next ue.machine.local))
+    send_stands = subst (λ (x : List ℕ). SendStands t d next after x) out stands
+
+    send_turned : (answer : Turn) → SendTurned s ue.core op ue.slot bytes t d next after answer → SendTurned s ue.core op ue.slot (bytes_out (local_next ue.machine.local)) t d next after answer
+    send_turned answer r = subst (λ (x : List ℕ). SendTurned s ue.core op ue.slot x t d next after answer) out r
+
+    pub sending_moved : now ≡ record ue { core = d; slot = after; op = Sending next } → SendTurned s ue.core op ue.slot bytes t d next after turn.Moved → Turns old s now t turn.Moved
+    sending_moved is r = carry old (record ue { op = Sending op }) now (record ue { core = d; slot = after; op = Sending next }) s t turn.Moved before is tied
+        (λ there. send_moved ue s t op there d next after send_stands (send_turned turn.Moved r))
+
+    pub sending_waited : (spot : Spot) → now ≡ record ue { core = d; slot = after; op = Sending next } → SendTurned s ue.core op ue.slot bytes t d next after (turn.Waiting spot) → Turns old s now t (turn.Waiting spot)
+    sending_waited spot is r = carry old (record ue { op = Sending op }) now (record ue { core = d; slot = after; op = Sending next }) s t (turn.Waiting spot) before is tied
+        (λ there. send_waited ue s t op there d next after send_stands spot (send_turned (turn.Waiting spot) r))
+
+    abbrev sent_ue : UeView
+    sent_ue =
+        entered
+        (record ue {
+          machine = record ue.machine { local = passed (local_next ue.machine.local) ue.machine.local };
+          core = d;
+          slot = after;
+          posted = posted_by (local_next ue.machine.local) ue.posted;
+          sent = counted (ue.sent + 1);
+          sent_bytes = counted (ue.sent_bytes + length (bytes_out (local_next ue.machine.local)));
+        })
+
+    pub sending_done : now ≡ sent_ue → SendTurned s ue.core op ue.slot bytes t d next after turn.Done → Turns old s now t turn.Moved
+    sending_done is r = carry old (record ue { op = Sending op }) now sent_ue s t turn.Moved before is tied
+        (λ there. send_done ue s t op there d next after send_stands (send_turned turn.Done r))
+
+  -- the front of the inbox holds the message
+  module _ (op : RecvAt) (before : old ≡ record ue { op = Receiving op }) (tied : Tied old s) where
+    there_recv : Tied (record ue { op = Receiving op }) s
+    there_recv = subst (λ (x : UeView). Tied x s) before tied
+
+    fits_by : (n : Next Local) → IsRecvOf op n → op.head.len ≤ 65536 → length_in n ≤ 65536
+    fits_by Ends of short = absurd of
+    fits_by (Goes after) of short = absurd of
+    fits_by (Posts message after) of short = absurd of
+    fits_by (Sends to head bytes after) of short = absurd of
+    fits_by (Recvs from head take_in refuse) of short = let same = ap (λ (h : MessageHead). h.len) of.1 in omega (arith, same, short)
+    fits_by (Bars comm after) of short = absurd of
+
+    pub recv_fits : length_in (local_next ue.machine.local) ≤ length ue.inbox
+    recv_fits =
+        let room = there_recv.room in
+        let fits = fits_by (local_next ue.machine.local) there_recv.stands.1 there_recv.stands.0.head.len_within in
+        omega (arith, room, fits)
+
+    module _ (next : RecvAt) (d : Private) (inbox : List ℕ) (len : ℕ) (asked : len ≡ length_in (local_next ue.machine.local)) (room : length inbox ≡ length ue.inbox)
+        (stands : RecvStands t d next (take len inbox)) where
+      recv_stands : RecvStands t d next (take (length_in (local_next ue.machine.local)) inbox)
+      recv_stands = subst (λ (n : ℕ). RecvStands t d next (take n inbox)) asked stands
+
+      recv_turned : (answer : RecvTurn) → RecvTurned s ue.core op (take len ue.inbox) t d next (take len inbox) answer
+          → RecvTurned s ue.core op (take (length_in (local_next ue.machine.local)) ue.inbox) t d next (take (length_in (local_next ue.machine.local)) inbox) answer
+      recv_turned answer r = subst (λ (n : ℕ). RecvTurned s ue.core op (take n ue.inbox) t d next (take n inbox) answer) asked r
+
+      large : length inbox ≡ 65536
+      large = room ∙ there_recv.room
+
+      pub receiving_moved : now ≡ record ue { core = d; op = Receiving next; inbox = inbox } → RecvTurned s ue.core op (take len ue.inbox) t d next (take len inbox) receive.Moved → Turns old s now t turn.Moved
+      receiving_moved is r = carry old (record ue { op = Receiving op }) now (record ue { core = d; op = Receiving next; inbox = inbox }) s t turn.Moved before is tied
+          (λ there. recv_moved ue s t op there d next inbox large recv_stands (recv_turned receive.Moved r))
+
+      pub receiving_waited : (spot : Spot) → now ≡ record ue { core = d; op = Receiving next; inbox = inbox } → RecvTurned s ue.core op (take len ue.inbox) t d next (take len inbox) (receive.Waiting spot)
+          → Turns old s now t (turn.Waiting spot)
+      receiving_waited spot is r = carry old (record ue { op = Receiving op }) now (record ue { core = d; op = Receiving next; inbox = inbox }) s t (turn.Waiting spot) before is tied
+          (λ there. recv_waited ue s t op there d next inbox large recv_stands spot (recv_turned (receive.Waiting spot) r))
+
+      abbrev got_ue : UeView
+      got_ue =
+          entered
+          (record ue {
+            machine = record ue.machine { local = taken (local_next ue.machine.local) (take (length_in (local_next ue.machine.local)) inbox) ue.machine.local };
+            core = d;
+            inbox = inbox;
+          })
+
+      pub receiving_done : now ≡ got_ue → RecvTurned s ue.core op (take len ue.inbox) t d next (take len inbox) receive.Done → Turns old s now t turn.Moved
+      receiving_done is r = carry old (record ue { op = Receiving op }) now got_ue s t turn.Moved before is tied
+          (λ there. recv_done ue s t op there d next inbox large recv_stands (recv_turned receive.Done r))
+
+      abbrev stopped_ue : MessageHead → UeView
+      stopped_ue sent = entered (record ue { machine = record ue.machine { local = refused (local_next ue.machine.local) sent ue.machine.local }; core = d; inbox = inbox })
+
+      pub receiving_refused : (sent : MessageHead) → now ≡ stopped_ue sent → RecvTurned s ue.core op (take len ue.inbox) t d next (take len inbox) (receive.Mismatch sent) → Turns old s now t turn.Moved
+      receiving_refused sent is r = carry old (record ue { op = Receiving op }) now (stopped_ue sent) s t turn.Moved before is tied
+          (λ there. recv_refused ue s t op there d next inbox large recv_stands sent (recv_turned (receive.Mismatch sent) r))
+
+  module _ (op next : BarAt) (d : Private) (values : List Bool) (before : old ≡ record ue { op = Meeting op }) (tied : Tied old s) (stands : BarStands t d next values) where
+    pub meeting_moved : now ≡ record ue { core = d; parity = values; op = Meeting next } → BarTurned s ue.core op t d next values turn.Moved → Turns old s now t turn.Moved
+    meeting_moved is r = carry old (record ue { op = Meeting op }) now (record ue { core = d; parity = values; op = Meeting next }) s t turn.Moved before is tied
+        (λ there. bar_moved ue s t op there d next values stands r)
+
+    pub meeting_waited : (spot : Spot) → now ≡ record ue { core = d; parity = values; op = Meeting next } → BarTurned s ue.core op t d next values (turn.Waiting spot) → Turns old s now t (turn.Waiting spot)
+    meeting_waited spot is r = carry old (record ue { op = Meeting op }) now (record ue { core = d; parity = values; op = Meeting next }) s t (turn.Waiting spot) before is tied
+        (λ there. bar_waited ue s t op there d next values stands spot r)
+
+    abbrev met_ue : UeView
+    met_ue = entered (record ue { machine = record ue.machine { local = passed (local_next ue.machine.local) ue.machine.local }; core = d; parity = values })
+
+    pub meeting_done : now ≡ met_ue → BarTurned s ue.core op t d next values turn.Done → Turns old s now t turn.Moved
+    meeting_done is r = carry old (record ue { op = Meeting op }) now met_ue s t turn.Moved before is tied
+        (λ there. bar_done ue s t op there d next values stands r)
+
+-- no call is open
+nothing_by : (op : Open) → IsTrue (is_open_none op) → op ≡ Nothing
+nothing_by Nothing is = refl
+nothing_by (Sending op) is = absurd (cc)
+nothing_by (Receiving op) is = absurd (cc)
+nothing_by (Meeting op) is = absurd (cc)
+
+pub none_open : (old b : UeView) → old ≡ b → IsTrue (is_open_none old.op) → b.op ≡ Nothing
+none_open old b same is = nothing_by b.op (subst (λ (x : UeView). IsTrue (is_open_none x.op)) same is)
+
+pub nothing_open : (old b : UeView) → old ≡ b → IsTrue (is_open_none old.op) → old ≡ record b { op = Nothing }
+nothing_open old b same is = same ∙ (λ i. record b { op = none_open old b same is i })
+
+module _ (ue old now : UeView) (s : Sight) (before : old ≡ record ue { op = Nothing }) (tied : Tied old s) where
+  abbrev went_ue : UeView
+  went_ue = entered (record ue { machine = record ue.machine { local = went (local_next ue.machine.local) ue.machine.local } })
+
+  pub alone_went : now ≡ went_ue → is_going (local_next ue.machine.local) ≡ true → Turns old s now s turn.Moved
+  alone_went is going = carry old (record ue { op = Nothing }) now went_ue s s turn.Moved before is tied (λ there. alone_goes ue s there going)
+
+  pub alone_stopped : now ≡ record ue { op = Nothing } → is_stopped ue.machine.local ≡ true → Turns old s now s turn.Done
+  alone_stopped is stopped = carry old (record ue { op = Nothing }) now (record ue { op = Nothing }) s s turn.Done before is tied (λ there. stopped_done ue s there stopped)
+
+  pub alone_slot : (t : Sight) (d : Private) (slot : SlotAt) (answer : Turn) → now ≡ record ue { core = d; slot = slot; op = Nothing } → is_going (local_next ue.machine.local) ≡ false → is_stopped ue.machine.local ≡ false
+      → SlotStands t.seat (record_in t) slot → SlotTurned s ue.core ue.slot t d slot answer → Turns old s now t answer
+  alone_slot t d slot answer is idle on stands r = carry old (record ue { op = Nothing }) now (record ue { core = d; slot = slot; op = Nothing }) s t answer before is tied
+      (λ there. slot_turns ue s there idle on t d slot stands answer r)

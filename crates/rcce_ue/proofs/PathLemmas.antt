@@ -1,0 +1,119 @@
+-- What a rank has done, one more primitive or call at a time.
+use Rattle.std.proofs.Common.{◌≡◌, ◌≢◌, ℕ, Bool, true, false, List, [], ◌∷◌, ◌++◌, length, Option, Some, None, refl, sym, ap, subst}
+use Rattle.scc_base.specs.Calls.{DataCall}
+use Rattle.scc_base.specs.Calls.DataCall.{Send, Recv, Post, Bar}
+use Rattle.scc_base.specs.Heads.{MessageHead}
+use Rattle.scc_proto.specs.Messages.{Notes}
+use Rattle.scc_proto.specs.Stages.{Record}
+use Rattle.send_recv.specs.Receiving.{SaysHead}
+use Rattle.script_plain.specs.declared.posts.Posted.{Posted}
+use Rattle.script_plain.specs.declared.prims.Standing.{Standing}
+use Rattle.script_plain.specs.declared.prims.Standing.TheVariants as standing
+use Rattle.script_plain.specs.Local.{Local, local_next, next_by_act, next_by_prim, prim_by_standing}
+use Rattle.script_plain.specs.Meaning.{State, next_of, recorded}
+use Rattle.script_plain.specs.Moves.{is_stopped, is_stopped_by}
+use Rattle.script_plain.specs.Next.{Next}
+use Rattle.script_plain.specs.Next.Next.{Ends, Goes, Posts, Sends, Recvs, Bars}
+use Rattle.script_plain.specs.Paths.{Came}
+use Rattle.script_plain.specs.Paths.Came.{Went, Leaves, Passed, Took, Joined}
+use Rattle.script_plain.specs.Program.{Act, Prim}
+use Rattle.rcce_ue.specs.Standing.{Stood, state_at}
+use Rattle.rcce_ue.specs.Standing.Stood.{Runs, Refused}
+
+-- nothing stands next at a rank that a mismatch stopped
+stopped_by : (u : Local) (s : Standing) → is_stopped_by s ≡ true → next_by_prim u (prim_by_standing s u.left) ≡ Ends
+stopped_by u standing.Running is = absurd (cc)
+stopped_by u (standing.Mismatched line from sent asked) is = refl
+
+pub stopped_ends : (u : Local) → is_stopped u ≡ true → local_next u ≡ Ends
+unfolding local_next
+stopped_ends u is = stopped_by u u.standing is
+
+-- so a rank where something stands next was not stopped
+pub goes_on : (u : Local) → (local_next u ≡ Ends → ⊥) → is_stopped u ≡ false
+goes_on u next = by (is_stopped u) refl
+  where
+    by : (b : Bool) → is_stopped u ≡ b → b ≡ false
+    by true is = absurd (next (stopped_ends u is))
+    by false is = refl
+
+-- a rank that refuses a message is stopped
+abbrev StopsAt : Next Local → Type 0
+StopsAt (Recvs from head take refuse) = (sent : MessageHead) → is_stopped (refuse sent) ≡ true
+StopsAt _ = Unit {0}
+
+stops_act : (u : Local) (line : ℕ) (a : Act) → StopsAt (next_by_act u line a)
+stops_act u line (Act.Set reg content) = tt
+stops_act u line (Act.Apply op ty dst src) = tt
+stops_act u line (Act.Print reg form) = tt
+stops_act u line (Act.Send to head source) = tt
+stops_act u line (Act.Post to reg) = tt
+stops_act u line (Act.Recv from reg head) = λ sent. refl
+stops_act u line (Act.Gather from head sized) = λ sent. refl
+stops_act u line (Act.Bar comm) = tt
+stops_act u line (Act.Begin reg) = tt
+stops_act u line (Act.Fold op ty) = tt
+stops_act u line (Act.Accept reg) = tt
+stops_act u line (Act.Finish reg) = tt
+stops_act u line Act.Pass = tt
+
+stops_prim : (u : Local) (o : Option Prim) → StopsAt (next_by_prim u o)
+stops_prim u None = tt
+stops_prim u (Some prim) = stops_act u prim.line prim.act
+
+stops_next : (u : Local) → StopsAt (local_next u)
+unfolding local_next
+stops_next u = stops_prim u (prim_by_standing u.standing u.left)
+
+pub refused_stops : (u : Local) (from : ℕ) (head sent : MessageHead) (take : List ℕ → Local) (refuse : MessageHead → Local) → local_next u ≡ Recvs from head take refuse → is_stopped (refuse sent) ≡ true
+refused_stops u from head sent take refuse is = (subst StopsAt is (stops_next u)) sent
+
+module _ (start : State) (rec : Record) (u : Local) (last : Option Posted) where
+  -- a rank that was not stopped came by itself to where it is
+  pub is_running : Stood start rec u last → is_stopped u ≡ false → Came next_of start (state_at u rec.calls) last
+  is_running (Runs came) on = came
+  is_running (Refused v from head sent take refuse header came is other noted says at stopped) on = absurd (cc)
+
+  module _ (new : Record) (stood : Stood start rec u last) (on : is_stopped u ≡ false) where
+    came_here : Came next_of start (state_at u rec.calls) last
+    came_here = is_running stood on
+
+    -- no call was finished
+    pub stood_kept : new.calls ≡ rec.calls → Stood start new u last
+    stood_kept same = Runs (subst (λ (calls : List DataCall). Came next_of start (state_at u calls) last) (sym same) came_here)
+
+    -- a statement of the rank's own was done
+    pub stood_went : (v : Local) → local_next u ≡ Goes v → new.calls ≡ rec.calls → Stood start new v last
+    stood_went v is same =
+        Runs (subst (λ (calls : List DataCall). Came next_of start (state_at v calls) last) (sym same)
+        (Went (state_at u rec.calls) (state_at v rec.calls) last came_here (ap (recorded rec.calls) is)))
+
+    -- a post, a send, a receive, a barrier was finished
+    pub stood_left : (message : Posted) (v : Local) → local_next u ≡ Posts message v → new.calls ≡ rec.calls ++ Post message.to message.head message.bytes ∷ [] → Stood start new v (Some message)
+    stood_left message v is more =
+        Runs (subst (λ (calls : List DataCall). Came next_of start (state_at v calls) (Some message)) (sym more)
+        (Leaves (state_at u rec.calls) (state_at v (rec.calls ++ Post message.to message.head message.bytes ∷ [])) last message came_here (ap (recorded rec.calls) is)))
+
+    pub stood_sent : (to : ℕ) (head : MessageHead) (bytes : List ℕ) (v : Local) → local_next u ≡ Sends to head bytes v → new.calls ≡ rec.calls ++ Send to head bytes ∷ [] → Stood start new v last
+    stood_sent to head bytes v is more =
+        Runs (subst (λ (calls : List DataCall). Came next_of start (state_at v calls) last) (sym more)
+        (Passed (state_at u rec.calls) (state_at v (rec.calls ++ Send to head bytes ∷ [])) last to head bytes came_here (ap (recorded rec.calls) is)))
+
+    pub stood_got : (from : ℕ) (head : MessageHead) (take : List ℕ → Local) (refuse : MessageHead → Local) (bytes : List ℕ) → local_next u ≡ Recvs from head take refuse
+        → length bytes ≡ head.len → new.calls ≡ rec.calls ++ Recv from head bytes ∷ [] → Stood start new (take bytes) last
+    stood_got from head take refuse bytes is long more =
+        Runs (subst (λ (calls : List DataCall). Came next_of start (state_at (take bytes) calls) last) (sym more)
+        (Took (state_at u rec.calls) last from head bytes
+        (λ got. state_at (take got) (rec.calls ++ Recv from head got ∷ [])) (λ sent. state_at (refuse sent) rec.calls) long came_here (ap (recorded rec.calls) is)))
+
+    pub stood_met : (comm : ℕ) (v : Local) → local_next u ≡ Bars comm v → new.calls ≡ rec.calls ++ Bar comm ∷ [] → Stood start new v last
+    stood_met comm v is more =
+        Runs (subst (λ (calls : List DataCall). Came next_of start (state_at v calls) last) (sym more)
+        (Joined (state_at u rec.calls) (state_at v (rec.calls ++ Bar comm ∷ [])) last comm came_here (ap (recorded rec.calls) is)))
+
+    -- a message with another head was refused
+    pub stood_refused : (from : ℕ) (head sent : MessageHead) (take : List ℕ → Local) (refuse : MessageHead → Local) (header : Notes) → local_next u ≡ Recvs from head take refuse
+        → sent ≢ head → new.notes from ≡ Some header → SaysHead header sent → new.calls ≡ rec.calls → Stood start new (refuse sent) last
+    stood_refused from head sent take refuse header is other noted says same =
+        Refused u from head sent take refuse header (subst (λ (calls : List DataCall). Came next_of start (state_at u calls) last) (sym same) came_here) is other noted says refl
+        (refused_stops u from head sent take refuse is)

@@ -1,0 +1,93 @@
+-- A turn that waits made one try in vain, by a step of the chip's memory at a known point of its events.
+use Rattle.std.proofs.Common.{◌≡◌, ℕ, suc, Bool, true, false, not, ◌&&◌, ◌||◌, if◌then◌else◌, List, [], ◌∷◌, ◌++◌, Option, Some, refl, sym, ap, ◌∙◌, subst, arith, append_assoc, append-nil}
+use Rattle.scc_base.specs.declared.events.Event.{Event}
+use Rattle.scc_base.specs.declared.events.Spot.{Spot}
+use Rattle.scc_base.specs.declared.events.Turn.TheVariants as turn
+use Rattle.scc_proto.specs.Ports.{Seat, Sight}
+use Rattle.put_get.specs.Accesses.{WereSteps}
+use Rattle.put_get.specs.Cores.{MadeSteps}
+use Rattle.sync_flags.specs.Tries.{Aim, Fruitful, NoTry, Tried, Vain, all_vain, changing_after, is_changing, is_try, is_vain, spot_of, tries_from}
+use Rattle.rcce_ue.specs.Turns.{UeTurned, ue_aim}
+use Rattle.rcce_ue.specs.Ues.{UeView}
+
+-- among these events, the try, which was vain and a step made after the events before it
+pub record VainStep (stepped : List Event → Event → Type 0) (past : List Event) (aim : Aim) (changing : Bool) (events : List Event) : Type 0 where
+  pub before : List Event
+  pub event : Event
+  pub behind : List Event
+  pub is : events ≡ before ++ event ∷ behind
+  pub try_is : is_try (changing_after changing before) aim event ≡ true
+  pub vain : is_vain aim event ≡ true
+  pub step : stepped (past ++ before) event
+
+both_true : (a b : Bool) → (a && b) ≡ true → (a ≡ true) × (b ≡ true)
+both_true true b is = (refl, is)
+both_true false b is = absurd (cc)
+
+vain_by : (tried vain : Bool) → tried ≡ true → (not tried || vain) ≡ true → vain ≡ true
+vain_by true vain is either = either
+vain_by false vain is either = absurd (cc)
+
+none_more : (n : ℕ) → n ≡ suc n → ⊥
+none_more n is = omega (arith, is)
+
+count_if : (b : Bool) (n : ℕ) → b ≡ false → (if b then suc n else n) ≡ n
+count_if true n is = absurd (cc)
+count_if false n is = refl
+
+later : (stepped : List Event → Event → Type 0) (past : List Event) (aim : Aim) (changing : Bool) (e : Event) (es : List Event)
+    → VainStep stepped (past ++ e ∷ []) aim (is_changing changing e.access e.value) es → VainStep stepped past aim changing (e ∷ es)
+later stepped past aim changing e es rest = record {
+  before = e ∷ rest.before;
+  event = rest.event;
+  behind = rest.behind;
+  is = ap (λ (l : List Event). e ∷ l) rest.is;
+  try_is = rest.try_is;
+  vain = rest.vain;
+  step = subst (λ (l : List Event). stepped l rest.event) (append_assoc past (e ∷ []) rest.before) rest.step;
+}
+
+pub found : (stepped : List Event → Event → Type 0) (past : List Event) (aim : Aim) (changing : Bool) (n : ℕ) (events : List Event) → tries_from aim changing n events ≡ suc n
+    → all_vain aim changing events ≡ true → WereSteps stepped past events → VainStep stepped past aim changing events
+found stepped past aim changing n [] one vain steps = absurd (none_more n one)
+found stepped past aim changing n (e ∷ es) one vain steps =
+    by (is_try changing aim e) refl
+    (λ same. found stepped (past ++ e ∷ []) aim (is_changing changing e.access e.value) n es
+    (ap (λ (k : ℕ). tries_from aim (is_changing changing e.access e.value) k es) (sym (count_if (is_try changing aim e) n same)) ∙ one)
+    (both_true (not (is_try changing aim e) || is_vain aim e) (all_vain aim (is_changing changing e.access e.value) es) vain).1 steps.1)
+  where
+    by : (b : Bool) → is_try changing aim e ≡ b → (is_try changing aim e ≡ false → VainStep stepped (past ++ e ∷ []) aim (is_changing changing e.access e.value) es) → VainStep stepped past aim changing (e ∷ es)
+    by true is rest = record {
+      before = [];
+      event = e;
+      behind = es;
+      is = refl;
+      try_is = is;
+      vain = vain_by (is_try changing aim e) (is_vain aim e) is (both_true (not (is_try changing aim e) || is_vain aim e) (all_vain aim (is_changing changing e.access e.value) es) vain).0;
+      step = subst (λ (l : List Event). stepped l e) (sym (append-nil past)) steps.0;
+    }
+    by false is rest = later stepped past aim changing e es (rest is)
+
+-- what a UE that waits has looked for in vain
+pub record WaitedAt (stepped : Seat → List Event → Event → Type 0) (ue : UeView) (s : Sight) (now : UeView) (spot : Spot) : Type 0 where
+  pub aim : Aim
+  pub aim_is : ue_aim s.seat ue now.parity ≡ Some aim
+  pub spot_is : spot_of aim ≡ spot
+  pub events : List Event
+  pub look : VainStep (stepped s.seat) s.events aim false events
+
+waited_by : (stepped : Seat → List Event → Event → Type 0) (ue : UeView) (s : Sight) (now : UeView) (spot : Spot) (events : List Event) → WereSteps (stepped s.seat) s.events events
+    → (waits : Option Spot) → waits ≡ Some spot → Tried (ue_aim s.seat ue now.parity) events waits → WaitedAt stepped ue s now spot
+waited_by stepped ue s now spot events steps waits is (NoTry none no_spot) = absurd (cc)
+waited_by stepped ue s now spot events steps waits is (Vain at aims one vain here) = record {
+  aim = at;
+  aim_is = aims;
+  spot_is = (let both : Some (spot_of at) ≡ Some spot = sym here ∙ is in cc);
+  events = events;
+  look = found (stepped s.seat) s.events at false 0 events one vain steps;
+}
+waited_by stepped ue s now spot events steps waits is (Fruitful at aims one vain no_spot) = absurd (cc)
+
+pub waited : (stepped : Seat → List Event → Event → Type 0) (ue : UeView) (s : Sight) (now : UeView) (t : Sight) (spot : Spot) → UeTurned ue s now t (turn.Waiting spot) → MadeSteps stepped s t
+    → WaitedAt stepped ue s now spot
+waited stepped ue s now t spot r steps = waited_by stepped ue s now spot r.events (steps r.events r.did) (Some spot) refl r.tried

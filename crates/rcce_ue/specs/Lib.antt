@@ -1,0 +1,5 @@
+pub mod Ues
+pub mod Standing
+pub mod Left
+pub mod Turns
+pub mod Bounds

@@ -1,0 +1,101 @@
+-- One turn of a UE.
+use Rattle.std.specs.Prelude.{◌≡◌, ◌<◌, Bool, true, false, ◌&&◌, ◌||◌, not, if◌then◌else◌, List, Option, None, is_none}
+use Rattle.std.specs.List.{list_all}
+use Rattle.scc_base.specs.declared.events.Event.{Event}
+use Rattle.scc_base.specs.declared.events.Spot.{Spot}
+use Rattle.scc_base.specs.declared.events.Turn.{Turn}
+use Rattle.scc_base.specs.declared.events.Turn.TheVariants as turn
+use Rattle.scc_proto.specs.Ports.{Did, Seat, Sight, record_in}
+use Rattle.send_recv.specs.Ops.{SlotAt}
+use Rattle.send_recv.specs.Receiving.{recv_spot}
+use Rattle.send_recv.specs.Sending.{send_spot, slot_spot}
+use Rattle.send_recv.specs.Tries.{aim_at}
+use Rattle.send_recv.specs.Turns.{IsAtRest, LastHeld, StoresFromBuffer, is_resting, waits_at}
+use Rattle.sync_flags.specs.Flags.{flag_value}
+use Rattle.sync_flags.specs.Tries.{Aim, Tried}
+use Rattle.barrier.specs.Flags.{value_at}
+use Rattle.barrier.specs.Stages as barrier
+use Rattle.script_plain.specs.Local.{Local, local_next}
+use Rattle.script_plain.specs.Moves.{is_ended, is_stopped}
+use Rattle.script_plain.specs.Next.{is_going}
+use Rattle.rcce_ue.specs.Left.{left_of}
+use Rattle.rcce_ue.specs.Standing.{Tied}
+use Rattle.rcce_ue.specs.Ues.{UeView}
+use Rattle.rcce_ue.specs.declared.calls.Open.{Open}
+use Rattle.rcce_ue.specs.declared.calls.Open.TheVariants.{Nothing, Sending, Receiving, Meeting}
+
+-- a UE has met a mismatch, or it has finished: nothing is left of its program, and its slot is empty
+abbrev pub is_over : UeView → Bool
+is_over ue = is_stopped ue.machine.local || (is_ended (local_next ue.machine.local) && is_none ue.slot.to)
+
+-- where nothing is left of the program, a turn tries for the slot
+abbrev pub slot_aim : Seat → Local → SlotAt → Option Aim
+slot_aim seat u slot = if not (is_stopped u) && is_ended (local_next u) then aim_at seat.setup.layout (slot_spot seat slot) else None
+
+-- what the one try of a turn is for: what the call tries for that stands next, or the slot
+abbrev pub aim_by : Seat → Local → SlotAt → List Bool → Open → Option Aim
+aim_by seat u slot parity Nothing = slot_aim seat u slot
+aim_by seat u slot parity (Sending op) = aim_at seat.setup.layout (send_spot seat op slot)
+aim_by seat u slot parity (Receiving op) = aim_at seat.setup.layout (recv_spot seat op)
+aim_by seat u slot parity (Meeting op) = barrier.aim_at seat op.comm op.stage (flag_value (value_at parity op.comm))
+
+-- and of a UE, with the parity after the turn
+abbrev pub ue_aim : Seat → UeView → List Bool → Option Aim
+ue_aim seat ue parity = aim_by seat ue.machine.local ue.slot parity ue.op
+
+-- a UE stays as it is, but for what its core has cached and the bytes that have no message yet
+abbrev pub IsStill : UeView → UeView → Type 0
+IsStill ue now = now ≡ record ue { core = now.core; parity = now.parity; inbox = now.inbox }
+
+-- no statement of the rank's own stands next, so that its run has an end that can be told
+abbrev pub IsPausing : UeView → Type 0
+IsPausing ue = is_going (local_next ue.machine.local) ≡ false
+
+-- what each answer means: the number of turns left falls with Moved alone; and Done comes exactly where the UE was over
+-- before, and then nothing is done
+abbrev pub UeMeans : UeView → Sight → UeView → Sight → Turn → Type 0
+UeMeans ue s now t turn.Moved = (left_of now < left_of ue) × (is_over ue ≡ false)
+UeMeans ue s now t (turn.Waiting spot) = IsStill ue now × (left_of now ≡ left_of ue) × IsAtRest (record_in s) (record_in t) × (is_over ue ≡ false) × IsPausing now
+UeMeans ue s now t turn.Done = (now ≡ ue) × (t ≡ s) × (is_over ue ≡ true) × IsPausing now
+
+-- one turn of a UE: what it did, and what it came to
+pub record UeTurned (ue : UeView) (s : Sight) (now : UeView) (t : Sight) (answer : Turn) : Type 0 where
+  pub events : List Event
+  -- each event was permitted
+  pub did : Did s events t
+  -- the script, the setup and the rank stay
+  pub program : (now.machine.script ≡ ue.machine.script) × (now.machine.setup ≡ ue.machine.setup) × (now.machine.rank ≡ ue.machine.rank)
+  -- it waits exactly where its one try was vain, at a spot that its next call or its slot waits at
+  pub tried : Tried (ue_aim s.seat ue now.parity) events (waits_at answer)
+  -- where it waits, each of its events was a load or a vain take
+  pub rests : (spot : Spot) → answer ≡ turn.Waiting spot → list_all is_resting events ≡ true
+  pub means : UeMeans ue s now t answer
+  -- each header or chunk word that it stored stood in the buffer before
+  pub drafts : StoresFromBuffer s.seat.setup ue.core events
+  -- the line that was loaded last stands in the cache, unless lines were evicted
+  pub held : LastHeld events ue.core.evictions now.core
+
+-- a turn, after which the UE and the port fit together again
+pub record Turns (ue : UeView) (s : Sight) (now : UeView) (t : Sight) (answer : Turn) : Type 0 where
+  pub tied : Tied now t
+  pub turned : UeTurned ue s now t answer
+
+-- no call stands next
+abbrev pub is_open_none : Open → Bool
+is_open_none Nothing = true
+is_open_none op = false
+
+-- a send or a post stands next
+abbrev pub is_open_send : Open → Bool
+is_open_send (Sending op) = true
+is_open_send other = false
+
+-- a receive stands next
+abbrev pub is_open_receive : Open → Bool
+is_open_receive (Receiving op) = true
+is_open_receive other = false
+
+-- a barrier stands next
+abbrev pub is_meeting : Open → Bool
+is_meeting (Meeting op) = true
+is_meeting other = false

@@ -1,0 +1,10 @@
+//! Units of execution: the script of one rank on one core, over the chip, a turn at a time.
+#![tactic(auto)]
+
+mod calls;
+mod laws;
+mod receiving;
+mod ues;
+
+pub use laws::other_port_law;
+pub use ues::Ue;

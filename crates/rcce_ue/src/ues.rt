@@ -1,0 +1,349 @@
+//! A unit of execution: one script on one core.
+
+ghost use Rattle.std.specs.Prelude.{◌≡◌};
+ghost use Rattle.script_plain.specs.Local.{local_next};
+ghost use Rattle.rcce_ue.specs.Ues.{posted_by};
+
+use crate::calls::{Open, begin};
+use crate::receiving::{front_of, take_turn};
+use barrier::Parity;
+use line_cache::Evict;
+use put_get::Core;
+use scc_base::{Call, Rank, Setup, Turn};
+use scc_proto::Port;
+use script_plain::{Machine, OnItsWay, PrintedItem, UeEnd};
+use script_reader::Scripts;
+use send_recv::{RecvTurn, Slot};
+use std::alloc::{AllocError, Global};
+use std::marker::Model;
+
+/// A unit of execution (RCCE specification 2.0: UE), which runs the script of one rank on one core.
+#[derive(Drop)]
+pub struct Ue<'s, V: Evict> {
+    machine: Machine<'s>,
+    core: Core<V>,
+    slot: Slot,
+    parity: Parity,
+    op: Open,
+    inbox: Vec<u8>,
+    posted: Option<OnItsWay>,
+    sent: u64,
+    sent_bytes: u64,
+}
+
+impl<'s, V: Evict> Model for Ue<'s, V> {
+    ghost use Rattle.rcce_ue.specs.Ues.{UeView};
+
+    ghost Value = { UeView };
+
+    ghost view = { λ a. record {
+      machine = a.machine;
+      core = a.core;
+      slot = a.slot;
+      parity = a.parity;
+      op = a.op;
+      inbox = a.inbox.items;
+      posted = a.posted;
+      sent = a.sent;
+      sent_bytes = a.sent_bytes;
+    } };
+}
+
+/// The message that was posted last, where a post may have ended.
+fn posted_after(machine: &Machine<'_>, earlier: Option<OnItsWay>) -> Option<OnItsWay>
+    ensures { result ≡ posted_by (local_next machine.now.local) earlier }
+{
+    match &machine.call() {
+        Some(Call::Post { to, head }) => Some(OnItsWay {
+            line: machine.line(),
+            to: *to,
+            head: *head,
+        }),
+        _ => earlier,
+    }
+}
+
+impl<'s, V: Evict> Ue<'s, V> {
+    ghost use Rattle.std.specs.Prelude.{◌≡◌, ◌≤◌, ◌+◌, ◌<◌, ℕ, [], true, false, length, take, IfOk, IsTrue, Some};
+    ghost use Rattle.scc_base.specs.declared.events.Spot.{Spot};
+    ghost use Rattle.scc_proto.specs.Ports.{Sight};
+    ghost use Rattle.put_get.specs.Cores.{MadeSteps};
+    ghost use Rattle.send_recv.specs.Turns.{waits_at};
+    ghost use Rattle.script_plain.specs.Collectives.{started};
+    ghost use Rattle.script_plain.specs.Moves.{bytes_out, is_passable, is_receiving, is_stopped, length_in, passed, refused, taken, went};
+    ghost use Rattle.script_plain.specs.Next.{is_going};
+    ghost use Rattle.rcce_ue.specs.Bounds.{bounds_of, visits};
+    ghost use Rattle.rcce_ue.specs.Left.{left_of};
+    ghost use Rattle.rcce_ue.specs.Standing.{Tied};
+    ghost use Rattle.rcce_ue.specs.Turns.{Turns, UeTurned, is_meeting, is_open_receive, is_open_send, is_open_none};
+    ghost use Rattle.rcce_ue.specs.Ues.{IsBegun, counted, entered};
+
+    // Comes to what stands next: the op of the next call is made.
+    fn enter(&mut self)
+        ensures { self.new ≡ entered self.old }
+    {
+        self.op = begin(&self.machine.call());
+    }
+
+    // Goes past the send or the post that has ended, and counts it.
+    fn pass_message(&mut self)
+        requires { IsTrue (is_passable (local_next self.old.machine.local)) }
+        ensures { self.new ≡ entered (record self.old {
+          machine = record self.old.machine { local = passed (local_next self.old.machine.local) self.old.machine.local };
+          posted = posted_by (local_next self.old.machine.local) self.old.posted;
+          sent = counted (self.old.sent + 1);
+          sent_bytes = counted (self.old.sent_bytes + length (bytes_out (local_next self.old.machine.local)));
+        }) }
+    {
+        self.posted = posted_after(&self.machine, self.posted);
+        self.sent = self.sent.saturating_add(1);
+        self.sent_bytes = self
+            .sent_bytes
+            .saturating_add(self.machine.bytes().len() as u64);
+        self.machine.pass();
+        self.enter();
+    }
+
+    // Goes past the barrier that has ended.
+    fn pass_barrier(&mut self)
+        requires { IsTrue (is_passable (local_next self.old.machine.local)) }
+        ensures { self.new ≡ entered (record self.old {
+          machine = record self.old.machine { local = passed (local_next self.old.machine.local) self.old.machine.local };
+        }) }
+    {
+        self.machine.pass();
+        self.enter();
+    }
+
+    // Takes the message that has come.
+    fn receive(&mut self)
+        requires at_receive { IsTrue (is_receiving (local_next self.old.machine.local)) }
+        requires room { length_in (local_next self.old.machine.local) ≤ length self.old.inbox }
+        ensures { self.new ≡ entered (record self.old {
+          machine = record self.old.machine {
+            local = taken (local_next self.old.machine.local) (take (length_in (local_next self.old.machine.local)) self.old.inbox) self.old.machine.local;
+          };
+        }) }
+    {
+        let len = self.machine.asked();
+        self.machine.receive(front_of(self.inbox.as_slice(), len));
+        self.enter();
+    }
+
+    // One turn of the send or the post that stands next.
+    fn go_on_sending<P: Port>(&mut self, port: &mut P) -> Turn
+        requires tied { Tied self.old (P.sight port.old) }
+        requires sending { IsTrue (is_open_send self.old.op) }
+        ensures turns { Turns self.old (P.sight port.old) self.new (P.sight port.new) result }
+        ensures steps { (spot : Spot) → waits_at result ≡ Some spot → MadeSteps P.stepped (P.sight port.old) (P.sight port.new) }
+    {
+        match &mut self.op {
+            Open::Sending(op) => {
+                match op.turn(&mut self.core, port, &mut self.slot, self.machine.bytes()) {
+                    Turn::Moved => Turn::Moved,
+                    Turn::Waiting(spot) => Turn::Waiting(spot),
+                    Turn::Done => {
+                        self.pass_message();
+                        Turn::Moved
+                    }
+                }
+            }
+            _ => unreachable!(),
+        }
+    }
+
+    // One turn of the receive that stands next.
+    fn go_on_receiving<P: Port>(&mut self, port: &mut P) -> Turn
+        requires tied { Tied self.old (P.sight port.old) }
+        requires receiving { IsTrue (is_open_receive self.old.op) }
+        ensures turns { Turns self.old (P.sight port.old) self.new (P.sight port.new) result }
+        ensures steps { (spot : Spot) → waits_at result ≡ Some spot → MadeSteps P.stepped (P.sight port.old) (P.sight port.new) }
+    {
+        let len = self.machine.asked();
+        match &mut self.op {
+            Open::Receiving(op) => {
+                match take_turn(op, &mut self.core, port, self.inbox.as_mut_slice(), len) {
+                    RecvTurn::Moved => Turn::Moved,
+                    RecvTurn::Waiting(spot) => Turn::Waiting(spot),
+                    RecvTurn::Done => {
+                        self.receive();
+                        Turn::Moved
+                    }
+                    RecvTurn::Mismatch(sent) => {
+                        self.machine.refuse(sent);
+                        self.enter();
+                        Turn::Moved
+                    }
+                }
+            }
+            _ => unreachable!(),
+        }
+    }
+
+    // One turn of the barrier that stands next.
+    fn go_on_meeting<P: Port>(&mut self, port: &mut P) -> Turn
+        requires tied { Tied self.old (P.sight port.old) }
+        requires meeting { IsTrue (is_meeting self.old.op) }
+        ensures turns { Turns self.old (P.sight port.old) self.new (P.sight port.new) result }
+        ensures steps { (spot : Spot) → waits_at result ≡ Some spot → MadeSteps P.stepped (P.sight port.old) (P.sight port.new) }
+    {
+        match &mut self.op {
+            Open::Meeting(op) => match op.turn(&mut self.core, port, &mut self.parity) {
+                Turn::Moved => Turn::Moved,
+                Turn::Waiting(spot) => Turn::Waiting(spot),
+                Turn::Done => {
+                    self.pass_barrier();
+                    Turn::Moved
+                }
+            },
+            _ => unreachable!(),
+        }
+    }
+
+    // One statement of the rank's own, or a turn of the slot behind the end.
+    fn go_alone<P: Port>(&mut self, port: &mut P) -> Turn
+        requires tied { Tied self.old (P.sight port.old) }
+        requires alone { IsTrue (is_open_none self.old.op) }
+        ensures turns { Turns self.old (P.sight port.old) self.new (P.sight port.new) result }
+        ensures steps { (spot : Spot) → waits_at result ≡ Some spot → MadeSteps P.stepped (P.sight port.old) (P.sight port.new) }
+    {
+        if self.machine.is_going() {
+            self.machine.go();
+            self.enter();
+            return Turn::Moved;
+        }
+        if self.machine.is_stopped() {
+            return Turn::Done;
+        }
+        self.slot.turn(&mut self.core, port)
+    }
+
+    /// Goes on by one turn: one statement of the rank's own, or one turn of the call that stands next, or of the slot.
+    pub fn turn<P: Port>(&mut self, port: &mut P) -> Turn
+        requires tied { Tied self.old (P.sight port.old) }
+        ensures tied { Tied self.new (P.sight port.new) }
+        ensures turned { UeTurned self.old (P.sight port.old) self.new (P.sight port.new) result }
+        ensures steps { (spot : Spot) → waits_at result ≡ Some spot → MadeSteps P.stepped (P.sight port.old) (P.sight port.new) }
+    {
+        match &self.op {
+            Open::Nothing => self.go_alone(port),
+            Open::Sending(_) => self.go_on_sending(port),
+            Open::Receiving(_) => self.go_on_receiving(port),
+            Open::Meeting(_) => self.go_on_meeting(port),
+        }
+    }
+}
+
+impl<'s, V: Evict + Drop> Ue<'s, V> {
+    ghost use Rattle.std.specs.Prelude.{◌≡◌, ◌≤◌, ◌<◌, ◌+◌, [], IfOk};
+    ghost use Rattle.scc_proto.specs.Ports.{Sight};
+    ghost use Rattle.script_reader.specs.Script.{rules_of};
+    ghost use Rattle.script_plain.specs.Local.{local_start};
+    ghost use Rattle.rcce_ue.specs.Bounds.{bounds_of, visits};
+    ghost use Rattle.rcce_ue.specs.Left.{left_of};
+    ghost use Rattle.rcce_ue.specs.Standing.{Tied};
+
+    /// The UE of a rank before its first turn. All its memory is taken here.
+    pub fn new(
+        alloc: Global,
+        scripts: &'s Scripts,
+        setup: Setup,
+        rank: Rank,
+        evict: V,
+    ) -> Result<Ue<'s, V>, AllocError>
+        requires within { rank < setup.nue }
+        requires ranks { setup.nue ≡ scripts.now.nue }
+        requires communicators { setup.comms ≡ rules_of scripts.now.items }
+        ensures machine { IfOk result (λ u. u.machine ≡ record { script = scripts.now; setup = setup; rank = rank; local = local_start scripts.now rank }) }
+        ensures tied { IfOk result (λ u. (s : Sight) → s.seat.setup ≡ setup → s.seat.rank ≡ rank → s.events ≡ [] → Tied u s) }
+        ensures left { IfOk result (λ u. left_of u ≤ visits scripts.now rank + bounds_of setup scripts.now rank) }
+    {
+        scripts.acceptance_law();
+        let machine = Machine::new(alloc, scripts, setup, rank)?;
+        let inbox = vec![in alloc; 0u8; 65536]?;
+        let op = begin(&machine.call());
+        Ok(Ue {
+            machine,
+            core: Core::new(evict),
+            slot: Slot::new(),
+            parity: Parity::new(),
+            op,
+            inbox,
+            posted: None,
+            sent: 0,
+            sent_bytes: 0,
+        })
+    }
+}
+
+impl<'s, V: Evict> Ue<'s, V> {
+    ghost use Rattle.std.specs.Prelude.{◌≡◌, ◌<◌, false, not, length, slice_get, Option, Some};
+    ghost use Rattle.std.specs.Option.{option_map};
+    ghost use Rattle.script_plain.specs.Local.{end_of};
+    ghost use Rattle.script_plain.specs.Machine.{on_its_way};
+    ghost use Rattle.script_plain.specs.Moves.{is_stopped};
+    ghost use Rattle.script_plain.specs.Next.{is_going};
+    ghost use Rattle.script_plain.specs.declared.posts.Posted.{Posted};
+    ghost use Rattle.rcce_ue.specs.Ues.{in_slot};
+
+    /// Whether no statement of the rank's own stands next, so that it can be told how the run stands.
+    pub fn is_pausing(&self) -> bool
+        ensures tells { result ≡ not (is_going (local_next self.now.machine.local)) }
+    {
+        !self.machine.is_going()
+    }
+
+    /// Whether a mismatch stopped the rank.
+    pub fn is_stopped(&self) -> bool
+        ensures tells { result ≡ is_stopped self.now.machine.local }
+    {
+        self.machine.is_stopped()
+    }
+
+    /// How the rank's run stands: finished, stopped by a mismatch, or at what it waits.
+    pub fn end(&self) -> UeEnd
+        requires rests { is_going (local_next self.now.machine.local) ≡ false }
+        ensures gives { (last : Option Posted) → self.now.posted ≡ option_map on_its_way last → result ≡ end_of (in_slot self.now.slot last) self.now.machine.local }
+    {
+        match self.slot.holds() {
+            Some(_) => self.machine.end(self.posted),
+            None => self.machine.end(None),
+        }
+    }
+
+    /// How many items the rank has printed.
+    pub fn items(&self) -> usize
+        ensures gives { result ≡ length self.now.machine.local.printed }
+    {
+        self.machine.items()
+    }
+
+    /// An item that the rank printed, in the order of printing.
+    pub fn item(&self, i: usize) -> PrintedItem<'_>
+        requires below { i < length self.now.machine.local.printed }
+        ensures gives { slice_get self.now.machine.local.printed i ≡ Some result }
+    {
+        self.machine.item(i)
+    }
+
+    /// The rank.
+    pub fn rank(&self) -> Rank
+        ensures gives { result ≡ self.now.machine.rank }
+    {
+        self.machine.rank()
+    }
+
+    /// How many sends and posts have ended. The count stays at the largest value of u64 once it is there.
+    pub fn sent(&self) -> u64
+        ensures gives { result ≡ self.now.sent }
+    {
+        self.sent
+    }
+
+    /// How many bytes they had. The count stays at the largest value of u64 once it is there.
+    pub fn sent_bytes(&self) -> u64
+        ensures gives { result ≡ self.now.sent_bytes }
+    {
+        self.sent_bytes
+    }
+}
