@@ -20,7 +20,7 @@ use Rattle.script_plain.specs.Next.Next.{Ends, Goes, Posts, Sends, Recvs, Bars}
 use Rattle.rcce_run.specs.Sweep.{SlotWaits, RaiseWaits, TakeWaits, IsLooking, BarWaits, AtRoot, AtMember, Vain}
 
 -- a posted message is there in both, for the same rank
-post_like : (p : OnItsWay) (o : Option OnItsWay) → Some (unanswered p) ≡ option_map unanswered o → (q : OnItsWay) × (o ≡ Some q) × (p.to ≡ q.to)
+pub post_like : (p : OnItsWay) (o : Option OnItsWay) → Some (unanswered p) ≡ option_map unanswered o → (q : OnItsWay) × (o ≡ Some q) × (p.to ≡ q.to)
 post_like p None is = absurd (cc (is))
 post_like p (Some q) is = (q, refl, ap (λ (x : OnItsWay). x.to) (same_Some (unanswered p) (unanswered q) is))
 
@@ -28,7 +28,7 @@ module _ (s : SetupView) (one other : Memory) (records recs : ℕ → Record) (a
   same : SameFlagWords s (view_of s one) (view_of s other)
   same = flags_like s one other records recs a b like
 
-  slot_like : (k : ℕ) → k < s.nue → SlotWaits (view_of s one) k (records k) → SlotWaits (view_of s other) k (recs k)
+  pub slot_like : (k : ℕ) → k < s.nue → SlotWaits (view_of s one) k (records k) → SlotWaits (view_of s other) k (recs k)
   slot_like k low waits =
       let on : IsOnItsWay s k (records k).stage waits.post = subst (IsPosted s k (records k).stage) waits.is_posted (a.singles.0 k low).post in
       let (q, there, to_is) = post_like waits.post (recs k).post (sym (ap (option_map unanswered) waits.is_posted) ∙ (like k).post) in

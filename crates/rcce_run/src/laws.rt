@@ -1,6 +1,6 @@
 //! The law of a sweep in which no UE moves, and how the looks of its turns are carried to its end.
 
-ghost use Rattle.std.specs.Prelude.{◌≡◌, ◌≢◌, ◌<◌, ◌++◌, ℕ, List, Option, None, Some, option_map, true};
+ghost use Rattle.std.specs.Prelude.{◌≡◌, ◌≢◌, ◌<◌, ◌++◌, ◌⊎◌, ℕ, List, Option, None, Some, option_map, true};
 ghost use Rattle.std.specs.List.{list_all};
 ghost use Rattle.scc_base.specs.declared.events.Event.{Event};
 ghost use Rattle.scc_base.specs.Runs.{IsStill};
@@ -10,14 +10,17 @@ ghost use Rattle.scc_proto.specs.Like.{Like};
 ghost use Rattle.scc_proto.specs.Passed.{slot_of};
 ghost use Rattle.scc_proto.specs.Records.{record_from};
 ghost use Rattle.scc_proto.specs.Resting.{is_resting};
-ghost use Rattle.scc_proto.specs.Stages.{Record};
-ghost use Rattle.scc_proto.specs.Views.{view_of};
-ghost use Rattle.scc_proto.specs.Words.{Memory};
+ghost use Rattle.scc_base.specs.Heads.{MessageHead};
+ghost use Rattle.scc_proto.specs.Messages.{Notes, Progress};
+ghost use Rattle.scc_proto.specs.Stages.{Answered, Part, Raised, Record, Sending};
+ghost use Rattle.scc_proto.specs.Views.{View, view_of};
+ghost use Rattle.scc_proto.specs.Words.{Memory, are_peers};
 ghost use Rattle.script_reader.specs.Script.{Script};
 ghost use Rattle.script_plain.specs.declared.posts.Posted.{Posted};
 ghost use Rattle.script_plain.specs.Meaning.{IsPlainStep, State, keys_of, next_of, plain_end};
 ghost use Rattle.rcce_run.specs.Scripts.{IsOpenCall, IsSwept};
-ghost use Rattle.rcce_run.specs.Sweep.{Holds, SlotWaits, Vain, outgoing, slots_by};
+ghost use Rattle.rcce_run.specs.Turns.{Waits};
+ghost use Rattle.rcce_run.specs.Sweep.{Holds, RaiseWaits, SlotWaits, Vain, outgoing, slots_by};
 
 /// Where a sweep has found every UE waiting, the script has come to its plain end: whatever the order of turns was, and
 /// whatever the threads did.
@@ -58,4 +61,11 @@ pub fn looks_stay_vain()
         → list_all is_resting before ≡ true → list_all is_resting rest ≡ true
         → Like rec (record_from s me rec (before ++ rest)) → Like rec (records me) → ((j : ℕ) → j ≢ me → Like (seen j) (records j))
         → Vain s (view_of s at) me (seen me) (next_of u) → Vain s (view_of s now) me (records me) (next_of u) }
+    // By the same words a rank whose record is alike waits for the same.
+    ensures same { (s : SetupView) (view : View) (me : ℕ) (rec now : Record) (u : State)
+        → Like rec now → Waits s view me rec (next_of u) → Waits s view me now (next_of u) }
+    // A send whose chunk is up waits where its `ready` is not set: it cannot have seen it set.
+    ensures raised { (s : SetupView) (memory : Memory) (records : ℕ → Record) (me to : ℕ) (head : MessageHead) (part : Part) (message : Progress) (chunk : Notes)
+        → Agrees s memory records → are_peers s me to ≡ true → (records me).stage ≡ Sending to part message chunk → (part ≡ Raised) ⊎ (part ≡ Answered)
+        → message.head ≡ head → (view_of s memory).ready me to ≢ 1 → RaiseWaits s (view_of s memory) me to head (records me) }
 {}

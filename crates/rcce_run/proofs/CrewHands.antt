@@ -1,0 +1,12 @@
+-- Between turns no rank of a crew holds a test-and-set register.
+use Rattle.std.proofs.Common.{◌≡◌, ◌≢◌, ℕ, ◌<◌, List, length, slice_index_or, sym, subst}
+use Rattle.scc_base.specs.Setups.{SetupView}
+use Rattle.scc_base.specs.declared.events.Event.{Event}
+use Rattle.scc_mesh.specs.Scenes.{ChipView, about_in, events_in, records_in}
+use Rattle.rcce_run.specs.Crews.{IsCrew}
+use Rattle.rcce_run.specs.Turns.{Fits, NoneElseHolds, WorkerView}
+
+pub crew_free : {A : Type 0} (seen : A → WorkerView) (tied : A → SetupView → ℕ → List Event → Type 0) (fits : (x : A) (s : SetupView) (r : ℕ) (events : List Event) → tied x s r events → Fits (seen x) s r events)
+    (chip : ChipView) (crew : List A) (d : A) (me : ℕ) → IsCrew tied chip crew → NoneElseHolds (about_in chip) (records_in chip) me
+crew_free seen tied fits chip crew d me is k core low ne =
+    (fits (slice_index_or crew k d) (about_in chip) k (events_in chip k) (is.ties k d (subst (λ (n : ℕ). k < n) (sym is.each) low))).hands core

@@ -1,0 +1,224 @@
+-- A turn through the port of a rank at home, and what it leaves on the chip.
+use Rattle.std.proofs.Common.{◌≡◌, ◌≢◌, inl, inr, ⊎_elim, ℕ, ◌<◌, ◌≤◌, Bool, true, false, List, [], ◌∷◌, ◌++◌, None, refl, sym, ◌∙◌, ap, subst, append-nil, ◌&&◌}
+use Rattle.std.specs.List.{list_all}
+use Rattle.std.proofs.lemmas.Bool.{cases_lt}
+use Rattle.std.proofs.lemmas.List.Folds.{list_all-append}
+use Rattle.scc_base.specs.Setups.{SetupView}
+use Rattle.scc_base.specs.declared.events.Event.{Event}
+use Rattle.scc_base.specs.declared.events.Turn.{Turn}
+use Rattle.scc_base.specs.declared.events.Turn.TheVariants as turn
+use Rattle.scc_proto.specs.Like.{Like}
+use Rattle.scc_proto.specs.Ports.{Sight, Did}
+use Rattle.scc_proto.specs.Records.{record_from, record_of}
+use Rattle.scc_proto.specs.Resting.{is_resting}
+use Rattle.scc_proto.specs.Stages.{Record, blank}
+use Rattle.scc_proto.specs.Views.{view_of}
+use Rattle.scc_proto.proofs.FlagsTold.{like_both, like_self, like_sym}
+use Rattle.scc_proto.proofs.PortLaws.{record_from-append}
+use Rattle.scc_proto.proofs.RestLaw.{resting_part}
+use Rattle.scc_proto.proofs.Tests.{both_first, both_second, same_or_other}
+use Rattle.scc_mesh.specs.Keeping.{WasStep, records_by}
+use Rattle.scc_mesh.specs.Scenes.{ChipView, IsWhole, WasSeatStep, about_in, home_in, events_in, records_in, is_port_of, sight_in}
+use Rattle.scc_mesh.specs.Turns.{IsTurned, Saw}
+use Rattle.scc_mesh.proofs.LookLaws.{saw_later}
+use Rattle.scc_mesh.proofs.PortEnds.{chip_ends}
+use Rattle.scc_mesh.proofs.TurnLaws.{turn_leaves}
+use Rattle.script_plain.specs.Local.{Local}
+use Rattle.script_plain.specs.Meaning.{State, next_of}
+use Rattle.script_plain.specs.Moves.{is_stopped}
+use Rattle.rcce_run.specs.Turns.{WorkerView, HasStayed, HasWaited, IsDone, IsOver, NoneElseHolds, OwnTurn, Turned, TurnedAtHome, TurnMeans, Waits, WaitsThen, rest_by, state_of}
+
+-- the record of more events, by the record of the first of them
+pub record_split : (s : SetupView) (r : ℕ) (own events : List Event) → record_of s r (own ++ events) ≡ record_from s r (record_of s r own) events
+unfolding record_of
+record_split s r own events = record_from-append s r blank own events
+
+-- a test that all pass, in parts
+pub both_pass : (one two : List Event) → list_all is_resting (one ++ two) ≡ true → (list_all is_resting one ≡ true) × (list_all is_resting two ≡ true)
+both_pass one two all =
+    let parts : (list_all is_resting one && list_all is_resting two) ≡ true = sym (list_all-append is_resting one two) ∙ all in
+    (both_first (list_all is_resting one) (list_all is_resting two) parts, both_second (list_all is_resting one) (list_all is_resting two) parts)
+
+-- an event that was a step for the port is one for the chip
+means_later : (P Q : List Event → Event → Type 0) → ((own : List Event) (e : Event) → P own e → Q own e) → (s : SetupView) (r : ℕ) (own events : List Event) (old new : WorkerView) (answer : Turn)
+    → TurnMeans P s r own events old new answer → TurnMeans Q s r own events old new answer
+means_later P Q turns s r own events old new turn.Moved means = means
+means_later P Q turns s r own events old new (turn.Waiting spot) means = record {
+  local = means.local;
+  left = means.left;
+  rests = means.rests;
+  alike = means.alike;
+  look = record {
+    before = means.look.before;
+    look = means.look.look;
+    behind = means.look.behind;
+    is = means.look.is;
+    step = turns (own ++ means.look.before) means.look.look means.look.step;
+    waits = means.look.waits;
+  };
+}
+means_later P Q turns s r own events old new turn.Done means = means
+
+module _ {A : Type 0} (seen : A → WorkerView) (tied : A → SetupView → ℕ → List Event → Type 0) where
+  own_turn_of : (chip now : ChipView) (r later hold name : ℕ) (w x : A) (answer : Turn) → IsWhole chip → r < (about_in chip).nue → is_port_of now later ≡ true
+      → Turned (WasSeatStep (sight_in chip r hold).seat) (seen w) (sight_in chip r hold) (seen x) (sight_in now later name) answer
+      → tied x (about_in now) later (events_in now later) → OwnTurn seen tied chip r w now x answer
+  own_turn_of chip now r later hold name w x answer whole below port turned ties =
+      let rank : later ≡ r = ap (λ (x : Sight). x.seat.rank) turned.did.continues in
+      let same : name ≡ hold = ap (λ (x : Sight). x.seat.hold) turned.did.continues in
+      let did : Did (sight_in chip r hold) turned.events (sight_in now r hold) =
+      subst (λ (n : ℕ). Did (sight_in chip r hold) turned.events (sight_in now r n)) same
+      (subst (λ (k : ℕ). Did (sight_in chip r hold) turned.events (sight_in now k name)) rank turned.did) in
+      let open_port : is_port_of now r ≡ true = subst (λ (k : ℕ). is_port_of now k ≡ true) rank port in
+      record {
+        turned = turn_leaves chip now r turned.events whole below (chip_ends chip now r hold hold turned.events whole.opened open_port did);
+        events = turned.events;
+        longer = ap (λ (x : Sight). x.events) did.continues;
+        ties = subst (λ (k : ℕ). tied x (about_in now) k (events_in now k)) rank ties;
+        script = turned.script;
+        means = means_later (WasSeatStep (sight_in chip r hold).seat) (Saw now r) (λ own e was. saw_later chip now r hold own turned.events e did was)
+            (about_in chip) r (events_in chip r) turned.events (seen w) (seen x) answer turned.means;
+      }
+
+  -- the turn of a worker through a port that was lent the chip
+  pub own_turn_ends : (chip old now : ChipView) (r before later hold name : ℕ) (w x : A) (answer : Turn) → old ≡ chip → before ≡ r → IsWhole chip → r < (about_in chip).nue → is_port_of now later ≡ true
+      → Turned (WasSeatStep (sight_in old before hold).seat) (seen w) (sight_in old before hold) (seen x) (sight_in now later name) answer
+      → tied x (about_in now) later (events_in now later) → OwnTurn seen tied chip r w now x answer
+  own_turn_ends chip old now r before later hold name w x answer same from whole below port turned ties =
+      own_turn_of chip now r later hold name w x answer whole below port
+      (subst (λ (k : ℕ). Turned (WasSeatStep (sight_in chip k hold).seat) (seen w) (sight_in chip k hold) (seen x) (sight_in now later name) answer) from
+      (subst (λ (c : ChipView). Turned (WasSeatStep (sight_in c before hold).seat) (seen w) (sight_in c before hold) (seen x) (sight_in now later name) answer) same turned)) ties
+
+  -- the chip at the end of the borrow is the port's
+  pub own_turn_at : (chip : ChipView) (r : ℕ) (w x : A) (answer : Turn) (end now : ChipView) → end ≡ now → OwnTurn seen tied chip r w now x answer → OwnTurn seen tied chip r w end x answer
+  own_turn_at chip r w x answer end now same turned = subst (λ (c : ChipView). OwnTurn seen tied chip r w c x answer) (sym same) turned
+
+  module _ (chip now : ChipView) (r : ℕ) (w x : A) (is : IsTurned chip r now) (events : List Event) (longer : events_in now r ≡ events_in chip r ++ events)
+      (beyond : (q : ℕ) → (about_in now).nue ≤ q → events_in now q ≡ []) where
+    -- the record after the turn
+    record_now : records_in now r ≡ record_of (about_in chip) r (events_in chip r ++ events)
+    record_now = λ i. record_of (is.about i) r (longer i)
+
+    like_now : Like (record_of (about_in chip) r (events_in chip r)) (record_of (about_in chip) r (events_in chip r ++ events)) → Like (records_in chip r) (records_in now r)
+    like_now alike = subst (λ (rec : Record). Like (records_in chip r) rec) (sym record_now) alike
+
+    -- where nothing was done the record is as before
+    record_same : events ≡ [] → records_in now r ≡ record_of (about_in chip) r (events_in chip r)
+    record_same none = record_now ∙ ap (λ (es : List Event). record_of (about_in chip) r (events_in chip r ++ es)) none ∙ ap (record_of (about_in chip) r) (append-nil (events_in chip r))
+
+    stayed_done : (stopped : Bool) → stopped ≡ is_stopped (seen x).local → IsDone (about_in chip) r (events_in chip r) events (seen w) (seen x)
+        → (b : Bool) → stopped ≡ b → (b ≡ true → HasStayed false chip r now (seen w) (seen x)) × (b ≡ false → HasStayed true chip r now (seen w) (seen x))
+    stayed_done stopped tells done b is_b = (λ so. stuck (sym tells ∙ is_b ∙ so), λ none. ended (sym tells ∙ is_b ∙ none))
+      where
+        same : records_in now r ≡ record_of (about_in chip) r (events_in chip r)
+        same = record_same done.nothing
+
+        alike : Like (records_in chip r) (records_in now r)
+        alike = subst (λ (rec : Record). Like (records_in chip r) rec) (sym same) (like_self (records_in chip r))
+
+        over : IsOver (records_in now r) (seen x).local
+        over = subst (λ (rec : Record). IsOver rec (seen x).local) (sym same) (subst (λ (u : Local). IsOver (record_of (about_in chip) r (events_in chip r)) u) (sym done.local) done.over)
+
+        stuck : is_stopped (seen x).local ≡ true → HasStayed false chip r now (seen w) (seen x)
+        stuck so = record { local = done.local; left = done.left; alike = alike; rests = inl (record { over = over; stopped = so }) }
+
+        ended : is_stopped (seen x).local ≡ false → HasStayed true chip r now (seen w) (seen x)
+        ended none = record {
+          local = done.local;
+          left = done.left;
+          alike = alike;
+          rests = record {
+            over = over;
+            running = none;
+            slot = ⊎_elim
+                (λ (so : is_stopped (seen w).local ≡ true). absurd (let no_stop : is_stopped (seen w).local ≡ false = ap is_stopped (sym done.local) ∙ none in cc (so, no_stop)))
+                (λ (empty : (record_of (about_in chip) r (events_in chip r)).post ≡ None). ap (λ (rec : Record). rec.post) same ∙ empty)
+                done.slot;
+          };
+        }
+
+    module _ (free : NoneElseHolds (about_in chip) (records_in chip) r) (waited : HasWaited (Saw now r) (about_in now) r (events_in chip r) events (seen w) (seen x)) where
+      abbrev own : List Event
+      own = events_in chip r
+
+      abbrev rec : Record
+      rec = record_of (about_in now) r own
+
+      was : WasStep (about_in now) (home_in now) r (own ++ waited.look.before) waited.look.look
+      was = waited.look.step.step
+
+      -- the record before the look is alike
+      like_before : Like rec (record_of (about_in now) r (own ++ waited.look.before))
+      like_before =
+          let (front, behind) = both_pass waited.look.before (waited.look.look ∷ waited.look.behind) (subst (λ (es : List Event). list_all is_resting es ≡ true) waited.look.is waited.rests) in
+          let whole : Like rec (record_from (about_in now) r rec (waited.look.before ++ waited.look.look ∷ waited.look.behind)) =
+          subst (λ (x : Record). Like rec x) (ap (λ (es : List Event). record_of (about_in now) r (own ++ es)) waited.look.is ∙ record_split (about_in now) r own (waited.look.before ++ waited.look.look ∷ waited.look.behind)) waited.alike in
+          subst (λ (x : Record). Like rec x) (sym (record_split (about_in now) r own waited.look.before))
+          (resting_part (about_in now) r rec waited.look.before (waited.look.look ∷ waited.look.behind) front behind whole)
+
+      mine : Like (record_of (about_in now) r (was.lists r)) (records_in now r)
+      mine =
+          subst (λ (es : List Event). Like (record_of (about_in now) r es) (records_in now r)) (sym was.own)
+          (like_both (record_of (about_in now) r (own ++ waited.look.before)) rec (records_in now r)
+          (like_sym rec (record_of (about_in now) r (own ++ waited.look.before)) like_before)
+          (subst (λ (es : List Event). Like rec (record_of (about_in now) r es)) (sym longer) waited.alike))
+
+      same_list : (j : ℕ) → j ≢ r → was.lists j ≡ events_in now j
+      same_list j ne =
+          ⊎_elim
+          (λ (low : j < (about_in now).nue). was.others j (events_in now j) ne (is.whole.home j low))
+          (λ (past : (about_in now).nue ≤ j). was.before.beyond j past ∙ sym (beyond j past))
+          (cases_lt j (about_in now).nue)
+
+      -- no other rank held a register when the look was made
+      none_else : NoneElseHolds (about_in now) (records_by (about_in now) was.lists) r
+      none_else k core low ne =
+          ap (λ (es : List Event). (record_of (about_in now) k es).held core) (same_list k ne ∙ is.others k ne)
+          ∙ ap (λ (s : SetupView). (record_of s k (events_in chip k)).held core) is.about
+          ∙ free k core (subst (λ (s : SetupView). k < s.nue) is.about low) ne
+
+      stayed_waits : WaitsThen (about_in now) (records_in now) r (state_of (seen x).local (records_in now r))
+      stayed_waits = record {
+        memory = was.memory;
+        records = records_by (about_in now) was.lists;
+        agrees = was.before.agree;
+        alike = λ j. same_or_other (Like (record_of (about_in now) j (was.lists j)) (records_in now j)) j r
+            (λ t e. subst (λ (k : ℕ). Like (record_of (about_in now) k (was.lists k)) (records_in now k)) (sym e) mine)
+            (λ t ne. subst (λ (es : List Event). Like (record_of (about_in now) j (was.lists j)) (record_of (about_in now) j es)) (same_list j ne) (like_self (record_of (about_in now) j (was.lists j))));
+        waits = subst (λ (u : State). Waits (about_in now) (view_of (about_in now) was.memory) r (record_of (about_in now) r (was.lists r)) (next_of u))
+            (λ i. record { local = sym waited.local i; matched = calls i })
+            (waited.look.waits was.memory (records_by (about_in now) was.lists) was.before.agree (ap (record_of (about_in now) r) was.own) none_else was.step);
+      }
+        where
+          calls : rec.calls ≡ (records_in now r).calls
+          calls = waited.alike.calls ∙ ap (λ (es : List Event). (record_of (about_in now) r es).calls) (sym longer)
+
+  -- what a turn at home came to
+  pub turned_at_home : (chip now : ChipView) (r : ℕ) (w x : A) (answer : Turn) (stopped : Bool) → NoneElseHolds (about_in chip) (records_in chip) r → OwnTurn seen tied chip r w now x answer → ((q : ℕ) → (about_in now).nue ≤ q → events_in now q ≡ [])
+      → stopped ≡ is_stopped (seen x).local → TurnedAtHome seen tied chip r w now x (rest_by answer stopped)
+  turned_at_home chip now r w x turn.Moved stopped free turned beyond tells =
+      record { turned = turned.turned; ties = turned.ties; script = turned.script; comes = turned.means }
+  turned_at_home chip now r w x (turn.Waiting spot) stopped free turned beyond tells = record {
+    turned = turned.turned;
+    ties = turned.ties;
+    script = turned.script;
+    comes = record {
+      local = turned.means.local;
+      left = turned.means.left;
+      alike = like_now chip now r w x turned.turned turned.events turned.longer beyond turned.means.alike;
+      rests = inr (stayed_waits chip now r w x turned.turned turned.events turned.longer beyond free
+          (subst (λ (s : SetupView). HasWaited (Saw now r) s r (events_in chip r) turned.events (seen w) (seen x)) (sym turned.turned.about) turned.means));
+    };
+  }
+  turned_at_home chip now r w x turn.Done true free turned beyond tells = record {
+    turned = turned.turned;
+    ties = turned.ties;
+    script = turned.script;
+    comes = (stayed_done chip now r w x turned.turned turned.events turned.longer beyond true tells turned.means true refl).0 refl;
+  }
+  turned_at_home chip now r w x turn.Done false free turned beyond tells = record {
+    turned = turned.turned;
+    ties = turned.ties;
+    script = turned.script;
+    comes = (stayed_done chip now r w x turned.turned turned.events turned.longer beyond false tells turned.means false refl).1 refl;
+  }

@@ -1,0 +1,188 @@
+-- What a run of UEs leaves: where all of them rest, each shows the end of its rank in the plain meaning.
+use Rattle.std.proofs.Common.{◌≡◌, ◌≢◌, ◌⊎◌, inl, inr, ⊎_elim, ℕ, ◌<◌, ◌≤◌, Bool, true, false, List, length, if◌then◌else◌, slice_get, slice_index_or, Option, Some, None, is_none, option_map, option_and_then, refl, sym, ◌∙◌, ap, subst, arith}
+use Rattle.std.proofs.lemmas.Bool.{cases_lt}
+use Rattle.scc_base.specs.Calls.{DataCall}
+use Rattle.scc_base.specs.Calls as calls
+use Rattle.scc_base.specs.Setups.{SetupView}
+use Rattle.scc_base.specs.declared.calls.Call.{Call}
+use Rattle.scc_base.specs.declared.events.Event.{Event}
+use Rattle.scc_proto.specs.Agreement.{Agrees}
+use Rattle.scc_proto.specs.Passed.{open_call}
+use Rattle.scc_proto.specs.Ports.{record_in}
+use Rattle.scc_proto.specs.Stages.{OnItsWay, Record}
+use Rattle.scc_proto.specs.Views.{view_of}
+use Rattle.scc_proto.specs.Words.{Memory}
+use Rattle.scc_mesh.specs.Scenes.{ChipView, about_in, events_in, records_in}
+use Rattle.script_reader.specs.Script.{Script}
+use Rattle.script_plain.specs.declared.posts.Posted.{Posted}
+use Rattle.script_plain.specs.Collectives.{started}
+use Rattle.script_plain.specs.Ends.{Ended, ended, ended_at}
+use Rattle.script_plain.specs.Local.{Local, end_of, local_next, local_start}
+use Rattle.script_plain.specs.Machine.{MachineView}
+use Rattle.script_plain.specs.Meaning.{State, next_of, plain_end, plain_ends, recorded}
+use Rattle.script_plain.specs.Moves.{is_ended, is_stopped}
+use Rattle.script_plain.specs.Next.{Next, call_of, is_going}
+use Rattle.script_plain.specs.Next.Next.{Ends, Goes, Posts, Sends, Recvs, Bars}
+use Rattle.send_recv.specs.Ops.{SlotAt}
+use Rattle.rcce_ue.specs.Standing.{Tied}
+use Rattle.rcce_ue.specs.Ues.{UeView, in_slot}
+use Rattle.rcce_run.specs.declared.members.Member.{Member}
+use Rattle.rcce_run.specs.Crews.{AllRest, AllRun, IsCrew, locals_of}
+use Rattle.rcce_run.specs.UeRuns.{HasPlainCalls, IsFreshCrew, IsFreshUe, ShowsEnd, WaitsOpen, member_seen, member_tied}
+use Rattle.rcce_run.specs.Scripts.{IsSwept}
+use Rattle.rcce_run.specs.Sweep.{Holds, SlotWaits, Stood, slots_by}
+use Rattle.rcce_run.specs.Turns.{RestsAt, state_of}
+use Rattle.rcce_run.proofs.Holding.{at_below}
+use Rattle.rcce_run.proofs.OpenCalls.{open_is_next}
+use Rattle.rcce_run.proofs.PlainEnds.{call_waits, end_same, plain_ended_at}
+use Rattle.rcce_run.proofs.RunEnds.{is_swept, vain_stays}
+use Rattle.rcce_run.proofs.ScriptSweep.{script_calls, script_empty, script_ends, script_waits}
+use Rattle.rcce_run.proofs.UeFits.{some_sight, tied_stood, ue_stands}
+use Rattle.rcce_run.proofs.VainLike.{slot_like}
+
+-- ---- the start
+
+-- fresh UEs are a crew, which runs their script
+pub fresh_crew : (script : Script) (chip : ChipView) (crew : List (Member UeView)) → IsFreshCrew script chip crew → IsCrew member_tied chip crew
+fresh_crew script chip crew fresh = record {
+  whole = fresh.whole;
+  each = fresh.each;
+  ties = λ k d low. record {
+    ties = ue_stands (slice_index_or crew k d).worker (about_in chip) k (events_in chip k)
+        (λ sight setup rank events. (fresh.fresh k d low).tied sight setup rank (events ∙ fresh.empty k (subst (λ (n : ℕ). k < n) fresh.each low)));
+    empty = fresh.home k d low;
+  };
+}
+
+pub fresh_run : (script : Script) (chip : ChipView) (crew : List (Member UeView)) → IsFreshCrew script chip crew → AllRun member_seen script crew
+fresh_run script chip crew fresh k d low = ap (λ (m : MachineView). m.script) (fresh.fresh k d low).machine
+
+pub fresh_some : (script : Script) (chip : ChipView) (crew : List (Member UeView)) (s : SetupView) → IsFreshCrew script chip crew → s ≡ about_in chip → 1 ≤ s.nue → 0 < length crew
+fresh_some script chip crew s fresh same ranks =
+    let each = fresh.each in
+    let some : 1 ≤ (about_in chip).nue = subst (λ (x : SetupView). 1 ≤ x.nue) same ranks in
+    omega (arith, each, some)
+
+-- ---- the end
+
+in_slot_none : {X : Type 0} (slot : SlotAt) (message : Option X) → slot.to ≡ None → in_slot slot message ≡ None
+in_slot_none slot message none = ap (λ (o : Option ℕ). if is_none o then None else message) none
+
+in_slot_full : {X : Type 0} (slot : SlotAt) (message : Option X) (j : ℕ) → slot.to ≡ Some j → in_slot slot message ≡ message
+in_slot_full slot message j full = ap (λ (o : Option ℕ). if is_none o then None else message) full
+
+recorded_call : (done : List DataCall) (n : Next Local) → call_of (recorded done n) ≡ call_of n
+recorded_call done Ends = refl
+recorded_call done (Goes after) = refl
+recorded_call done (Posts message after) = refl
+recorded_call done (Sends to head bytes after) = refl
+recorded_call done (Recvs from head take refuse) = refl
+recorded_call done (Bars comm after) = refl
+
+module _ (script : Script) (chip : ChipView) (crew : List (Member UeView)) (memory : Memory) (agrees : Agrees (about_in chip) memory (records_in chip)) (is_crew : IsCrew member_tied chip crew)
+    (all_run : AllRun member_seen script crew) (some : 0 < length crew) (d : Member UeView) (rests : AllRest member_seen chip crew (about_in chip).nue) where
+  abbrev s : SetupView
+  s = about_in chip
+
+  abbrev records : ℕ → Record
+  records = records_in chip
+
+  abbrev ue_at : ℕ → UeView
+  ue_at k = (slice_index_or crew k d).worker
+
+  abbrev locals : ℕ → Local
+  locals k = (ue_at k).machine.local
+
+  abbrev states : ℕ → State
+  states k = state_of (locals k) (records k)
+
+  within : (k : ℕ) → k < s.nue → k < length crew
+  within k low = subst (λ (n : ℕ). k < n) (sym is_crew.each) low
+
+  abbrev tied_at : (k : ℕ) → k < s.nue → Tied (ue_at k) (some_sight s k (events_in chip k))
+  tied_at k low = (is_crew.ties k d (within k low)).ties.tied (some_sight s k (events_in chip k)) refl refl refl
+
+  -- the message that each rank posted last
+  abbrev last_by : (k : ℕ) → (k < s.nue) ⊎ (s.nue ≤ k) → Option Posted
+  last_by k (inl low) = (tied_at k low).last
+  last_by k (inr past) = None
+
+  abbrev lasts : ℕ → Option Posted
+  lasts k = last_by k (cases_lt k s.nue)
+
+  stood_by : (k : ℕ) (o : (k < s.nue) ⊎ (s.nue ≤ k)) → k < s.nue → Stood next_of s k (started script k) (records k) (states k) (last_by k o)
+  stood_by k (inl below) low =
+      subst (λ (x : Script). Stood next_of s k (started x k) (records k) (states k) (tied_at k below).last) (all_run k d (within k low))
+      (tied_stood (ue_at k) s k (events_in chip k) (tied_at k below))
+  stood_by k (inr past) low = absurd (omega (arith, low, past))
+
+  sw : IsSwept script s memory records states lasts
+  sw =
+      let found = is_swept member_seen member_tied (λ m s r events home. home.ties.fits) script chip crew memory agrees is_crew all_run some d rests in
+      record { ranks = found.ranks; comms = found.comms; swept = record { agrees = agrees; stands = λ k low. stood_by k (cases_lt k s.nue) low; vain = found.swept.vain } }
+
+  holds : Holds script.nue (plain_end script) states (slots_by s records lasts)
+  holds = script_ends script s memory records states lasts sw
+
+  at_plain : (k : ℕ) → k < script.nue → ended_at (plain_ends script) k ≡ ended (slots_by s records lasts k) (locals k)
+  at_plain k low = plain_ended_at script states (slots_by s records lasts) holds k low
+
+  below : (k : ℕ) → k < script.nue → k < s.nue
+  below k low = subst (λ (n : ℕ). k < n) (sym sw.ranks) low
+
+  -- a rank that rests stands at no statement of its own
+  stays : (k : ℕ) (b : Bool) → RestsAt b s records k (locals k) → is_going (local_next (locals k)) ≡ false
+  stays k true at = ap is_going at.over.ends
+  stays k false (inl at) = ap is_going at.over.ends
+  stays k false (inr waits) = vain_stays s (view_of s waits.memory) k (waits.records k) (records k).calls (local_next (locals k)) waits.waits.vain
+
+  module _ (k : ℕ) (low : k < s.nue) (tied : Tied (ue_at k) (some_sight s k (events_in chip k))) (same : lasts k ≡ tied.last) where
+    slot_is : (ue_at k).slot.to ≡ option_map (λ (post : OnItsWay). post.to) (records k).post
+    unfolding record_in
+    slot_is = tied.slot_is.to
+
+    -- where nothing is left, the UE's slot is that of the plain end
+    slot_same : (b : Bool) → RestsAt b s records k (locals k) → local_next (locals k) ≡ Ends → is_stopped (locals k) ≡ false → in_slot (ue_at k).slot tied.last ≡ slots_by s records lasts k
+    slot_same true at ends running =
+        in_slot_none (ue_at k).slot tied.last (slot_is ∙ ap (option_map (λ (post : OnItsWay). post.to)) at.slot) ∙ sym (script_empty script s memory records states lasts sw k at.slot)
+    slot_same false (inl at) ends running = absurd (let stopped = at.stopped in cc (stopped, running))
+    slot_same false (inr waits) ends running =
+        let slot : SlotWaits (view_of s memory) k (records k) = slot_like s waits.memory memory waits.records records waits.agrees agrees waits.alike k low
+        (waits.waits.at_end (ap (λ (n : Next Local). is_ended (recorded (records k).calls n)) ends)) in
+        let (message, last, there) = script_waits script s memory records states lasts sw k low slot in
+        in_slot_full (ue_at k).slot tied.last slot.post.to (slot_is ∙ ap (option_map (λ (post : OnItsWay). post.to)) slot.is_posted) ∙ sym same ∙ last ∙ sym there
+
+    shows_by : k < script.nue → (b : Bool) → RestsAt b s records k (locals k) → ShowsEnd (ended_at (plain_ends script) k) (ue_at k)
+    shows_by less b at = record {
+      pausing = stays k b at;
+      last = tied.last;
+      posted = tied.posted_is;
+      end = end_same (locals k) (in_slot (ue_at k).slot tied.last) (slots_by s records lasts k) (λ ends running. slot_same b at ends running) ∙ ap (λ (e : Ended). e.end) (sym (at_plain k less));
+      printed = ap (λ (e : Ended). e.printed) (sym (at_plain k less));
+    }
+
+  shown_by : (k : ℕ) → k < script.nue → (o : (k < s.nue) ⊎ (s.nue ≤ k)) → cases_lt k s.nue ≡ o → ShowsEnd (ended_at (plain_ends script) k) (ue_at k)
+  shown_by k less (inl low) is = let (b, at) = rests k d low in shows_by k low (tied_at k low) (ap (last_by k) is) less b at
+  shown_by k less (inr past) is = absurd (let low = below k less in omega (arith, low, past))
+
+  -- each UE shows what its rank leaves behind in the plain meaning
+  pub shows_ends : (k : ℕ) → k < script.nue → ShowsEnd (ended_at (plain_ends script) k) (ue_at k)
+  shows_ends k less = shown_by k less (cases_lt k s.nue) refl
+
+  cell_at : (k : ℕ) → k < script.nue → slice_get (plain_end script).cells k ≡ Some (states k)
+  cell_at k less = holds.cells_at k ∙ at_below script.nue k (states k) less
+
+  -- the calls of each record are those of the plain meaning
+  pub has_calls : (k : ℕ) → k < script.nue → HasPlainCalls script k (records k)
+  has_calls k less = ap (option_map (λ (u : State). u.matched)) (cell_at k less)
+
+  -- an open call is the one at which the plain meaning leaves the rank waiting
+  pub waits_open : (k : ℕ) (call : DataCall) → k < script.nue → open_call s (records k) ≡ Some call → WaitsOpen script k call
+  waits_open k call less open_there =
+      let next_is : call_of (next_of (states k)) ≡ Some (calls.call_of call) = open_is_next next_of s memory records (started script) states lasts sw.swept k (below k less) call open_there in
+      let (line, waits) = call_waits (locals k) (slots_by s records lasts k) (calls.call_of call) (sym (recorded_call (records k).calls (local_next (locals k))) ∙ next_is) in
+      record {
+        stands = ap (option_and_then (λ (u : State). call_of (next_of u))) (cell_at k less) ∙ next_is;
+        line = line;
+        waits = ap (λ (e : Ended). e.end) (at_plain k less) ∙ waits;
+      }

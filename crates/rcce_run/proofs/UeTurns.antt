@@ -1,0 +1,323 @@
+-- A turn of a UE is a turn of a worker.
+use Rattle.std.proofs.Common.{◌≡◌, ◌≢◌, ◌⊎◌, inl, inr, ⊎_elim, ℕ, ◌%◌, ◌<◌, ◌==◌, ◌&&◌, ◌||◌, not, if◌then◌else◌, Bool, true, false, List, [], ◌∷◌, ◌++◌, Option, Some, None, is_none, option_map, refl, sym, ap, ◌∙◌, subst, take, length, append-nil, arith, length-append}
+use Rattle.std.specs.List.{list_all}
+use base.Stored.{Gv}
+use Rattle.scc_base.specs.Calls.{DataCall}
+use Rattle.scc_base.specs.Heads.{MessageHead}
+use Rattle.scc_base.specs.Setups.{SetupView}
+use Rattle.scc_base.specs.declared.events.Access.{Access}
+use Rattle.scc_base.specs.declared.events.Access.TheVariants.{Load, Store, Take, Free}
+use Rattle.scc_base.specs.declared.events.Event.{Event}
+use Rattle.scc_base.specs.declared.events.Spot.{Spot}
+use Rattle.scc_base.specs.declared.events.Turn.{Turn}
+use Rattle.scc_base.specs.declared.events.Turn.TheVariants as turn
+use Rattle.scc_proto.specs.Agreement.{Agrees}
+use Rattle.scc_proto.specs.Like.{Like, unanswered}
+use Rattle.scc_proto.specs.Ports.{Did, Seat, Sight, WereMade, and_then, record_in, record_on}
+use Rattle.scc_proto.specs.Records.{IsPermitted, permits_by, record_from, record_of}
+use Rattle.scc_proto.specs.Resting as proto
+use Rattle.scc_proto.specs.Stages.{Idle, OnItsWay, Record}
+use Rattle.scc_proto.specs.Views.{view_of}
+use Rattle.scc_proto.specs.Words.{IsStep, Memory}
+use Rattle.scc_proto.proofs.PortLaws.{made_left, record_in-and_then}
+use Rattle.scc_proto.proofs.RestLaw.{resting_part}
+use Rattle.scc_proto.proofs.Tests.{both_first, both_second}
+use Rattle.put_get.specs.Accesses.{WereSteps}
+use Rattle.put_get.specs.Cores.{MadeSteps, Private}
+use Rattle.sync_flags.specs.Tries.{Aim, Fruitful, NoTry, Tried, Vain, changing_after, is_take, spot_of}
+use Rattle.sync_flags.specs.Turns.{at_port}
+use Rattle.send_recv.specs.Ops.{RecvAt, SendAt, SlotAt}
+use Rattle.send_recv.specs.Sending.{SlotStands}
+use Rattle.send_recv.specs.Turns as sr
+use Rattle.barrier.specs.Flags.{IsParityOf}
+use Rattle.barrier.specs.Stages.{BarAt}
+use Rattle.script_plain.specs.Local.{Local, local_next}
+use Rattle.script_plain.specs.Meaning.{State, next_of, recorded}
+use Rattle.script_plain.specs.Moves.{bytes_out, is_ended, is_stopped, length_in}
+use Rattle.script_plain.specs.Next.{Next}
+use Rattle.script_plain.specs.Next.Next.{Ends, Goes, Posts, Sends, Recvs, Bars}
+use Rattle.rcce_ue.specs.Left.{left_of}
+use Rattle.rcce_ue.specs.Standing as ue
+use Rattle.rcce_ue.specs.Standing.{IsBarOf, IsNoCall, IsRecvOf, IsSendOf, OpStands, Tied}
+use Rattle.rcce_ue.specs.Turns.{UeMeans, UeTurned, aim_by, is_over, slot_aim, ue_aim}
+use Rattle.rcce_ue.specs.Ues.{UeView}
+use Rattle.rcce_ue.specs.declared.calls.Open.{Open}
+use Rattle.rcce_ue.specs.declared.calls.Open.TheVariants.{Nothing, Sending, Receiving, Meeting}
+use Rattle.rcce_ue.proofs.OtherPort.{tied_there}
+use Rattle.rcce_ue.proofs.PathLemmas.{stopped_ends}
+use Rattle.rcce_ue.proofs.WaitLemmas.{VainStep, found}
+use Rattle.rcce_run.specs.Sweep.{BarWaits, RaiseWaits, SlotWaits, TakeWaits}
+use Rattle.rcce_run.specs.Turns.{HasWaited, IsDone, IsOver, LookedAt, NoneElseHolds, TurnMeans, Turned, Waits, state_of}
+use Rattle.rcce_run.specs.Ues.{UeStands, ue_seen}
+use Rattle.rcce_run.proofs.HomeTurns.{both_pass, record_split}
+use Rattle.rcce_run.proofs.Looks.{waits_same}
+use Rattle.rcce_run.proofs.UeFits.{ue_stands}
+use Rattle.rcce_run.proofs.UeLooks.{Tells, bar_waits, recv_waits, send_waits, slot_waits, take_is, told}
+
+-- ---- events that rest, and records that are alike
+
+rest_same : (a : Access) (v : ℕ) → sr.is_resting_by a v ≡ true → proto.is_resting_by a v ≡ true
+rest_same Load v is = refl
+rest_same Store v is = absurd (cc (is))
+rest_same Take v is = is
+rest_same Free v is = absurd (cc (is))
+
+both_true : (a b : Bool) → a ≡ true → b ≡ true → (a && b) ≡ true
+both_true a b one two = ap (λ (x : Bool). x && b) one ∙ two
+
+all_rest : (es : List Event) → list_all sr.is_resting es ≡ true → list_all proto.is_resting es ≡ true
+all_rest [] all = refl
+all_rest (e ∷ es) all =
+    both_true (proto.is_resting e) (list_all proto.is_resting es) (rest_same e.access e.value (both_first (sr.is_resting e) (list_all sr.is_resting es) all))
+    (all_rest es (both_second (sr.is_resting e) (list_all sr.is_resting es) all))
+
+post_alike : (o new : Option OnItsWay) → sr.IsSamePost o new → option_map unanswered o ≡ option_map unanswered new
+post_alike None new same = ap (option_map unanswered) (sym same)
+post_alike (Some post) new (answered, is, kept) = ap (option_map unanswered) (sym is)
+
+rest_alike : (rec new : Record) → sr.IsAtRest rec new → Like rec new
+rest_alike rec new rest = record {
+  stage = sym rest.stage;
+  post = post_alike rec.post new.post rest.post;
+  flips = λ comm. ap (λ (flips : ℕ → ℕ). flips comm) (sym rest.rest.flips);
+  calls = sym rest.calls;
+}
+
+-- ---- what a UE waits for
+
+-- by the send or the post that stands next
+sends_wait : (s : SetupView) (memory : Memory) (me : ℕ) (rec : Record) (calls : List DataCall) (op : SendAt) (n : Next Local) → IsSendOf op n
+    → SlotWaits (view_of s memory) me rec ⊎ ((op.posted ≡ false) × RaiseWaits s (view_of s memory) me op.to op.head rec) → Waits s (view_of s memory) me rec (recorded calls n)
+sends_wait s memory me rec calls op Ends of_next waits = absurd of_next
+sends_wait s memory me rec calls op (Goes after) of_next waits = absurd of_next
+sends_wait s memory me rec calls op (Posts message after) of_next (inl slot) = record { vain = slot; at_end = λ e. absurd (cc (e)) }
+sends_wait s memory me rec calls op (Posts message after) of_next (inr (own, raise)) = absurd (let posted = of_next.2 in cc (own, posted))
+sends_wait s memory me rec calls op (Sends to head bytes after) of_next (inl slot) = record { vain = inl slot; at_end = λ e. absurd (cc (e)) }
+sends_wait s memory me rec calls op (Sends to head bytes after) of_next (inr (own, raise)) = record {
+  vain = inr (subst (λ (h : MessageHead). RaiseWaits s (view_of s memory) me to h rec) of_next.1 (subst (λ (k : ℕ). RaiseWaits s (view_of s memory) me k op.head rec) of_next.0 raise));
+  at_end = λ e. absurd (cc (e));
+}
+sends_wait s memory me rec calls op (Recvs from head take_in refuse) of_next waits = absurd of_next
+sends_wait s memory me rec calls op (Bars comm after) of_next waits = absurd of_next
+
+receives_wait : (s : SetupView) (memory : Memory) (me : ℕ) (rec : Record) (calls : List DataCall) (op : RecvAt) (n : Next Local) → IsRecvOf op n → TakeWaits s (view_of s memory) me op.from rec
+    → Waits s (view_of s memory) me rec (recorded calls n)
+receives_wait s memory me rec calls op Ends of_next waits = absurd of_next
+receives_wait s memory me rec calls op (Goes after) of_next waits = absurd of_next
+receives_wait s memory me rec calls op (Posts message after) of_next waits = absurd of_next
+receives_wait s memory me rec calls op (Sends to head bytes after) of_next waits = absurd of_next
+receives_wait s memory me rec calls op (Recvs from head take_in refuse) of_next waits =
+    record { vain = subst (λ (k : ℕ). TakeWaits s (view_of s memory) me k rec) of_next.0 waits; at_end = λ e. absurd (cc (e)) }
+receives_wait s memory me rec calls op (Bars comm after) of_next waits = absurd of_next
+
+meets_wait : (s : SetupView) (memory : Memory) (me : ℕ) (rec : Record) (calls : List DataCall) (op : BarAt) (n : Next Local) → IsBarOf op n → BarWaits s (view_of s memory) me op.comm rec
+    → Waits s (view_of s memory) me rec (recorded calls n)
+meets_wait s memory me rec calls op Ends of_next waits = absurd of_next
+meets_wait s memory me rec calls op (Goes after) of_next waits = absurd of_next
+meets_wait s memory me rec calls op (Posts message after) of_next waits = absurd of_next
+meets_wait s memory me rec calls op (Sends to head bytes after) of_next waits = absurd of_next
+meets_wait s memory me rec calls op (Recvs from head take_in refuse) of_next waits = absurd of_next
+meets_wait s memory me rec calls op (Bars comm after) of_next waits =
+    record { vain = subst (λ (k : ℕ). BarWaits s (view_of s memory) me k rec) of_next.0 waits; at_end = λ e. absurd (cc (e)) }
+
+-- where nothing is left
+ended_is : (n : Next Local) → is_ended n ≡ true → n ≡ Ends
+ended_is Ends is = refl
+ended_is (Goes after) is = absurd (cc (is))
+ended_is (Posts message after) is = absurd (cc (is))
+ended_is (Sends to head bytes after) is = absurd (cc (is))
+ended_is (Recvs from head take_in refuse) is = absurd (cc (is))
+ended_is (Bars comm after) is = absurd (cc (is))
+
+ends_wait : (s : SetupView) (memory : Memory) (me : ℕ) (rec : Record) (calls : List DataCall) (n : Next Local) → n ≡ Ends → rec.stage ≡ Idle → SlotWaits (view_of s memory) me rec
+    → Waits s (view_of s memory) me rec (recorded calls n)
+ends_wait s memory me rec calls n ends idle slot =
+    subst (λ (x : Next Local). Waits s (view_of s memory) me rec (recorded calls x)) (sym ends) (record { vain = idle; at_end = λ e. slot })
+
+if_some : (b : Bool) (o : Option Aim) (aim : Aim) → (if b then o else None) ≡ Some aim → (b ≡ true) × (o ≡ Some aim)
+if_some true o aim is = (refl, is)
+if_some false o aim is = absurd (cc (is))
+
+-- ---- a turn that waits
+
+-- the record before a part of events that rest is alike
+like_before : (s t : Sight) (events before behind : List Event) → Did s events t → list_all proto.is_resting events ≡ true → events ≡ before ++ behind → Like (record_in s) (record_in t)
+    → Like (record_in s) (record_in (and_then s before))
+unfolding record_in
+like_before s t events before behind did rests is alike =
+    let (front, rest) = both_pass before behind (subst (λ (es : List Event). list_all proto.is_resting es ≡ true) is rests) in
+    let rec : Record = record_of s.seat.setup s.seat.rank s.events in
+    let whole : Like rec (record_from s.seat.setup s.seat.rank rec (before ++ behind)) =
+    subst (λ (x : Record). Like rec x)
+    (ap record_in did.continues ∙ ap (λ (es : List Event). record_of s.seat.setup s.seat.rank (s.events ++ es)) is ∙ record_split s.seat.setup s.seat.rank s.events (before ++ behind)) alike in
+    subst (λ (x : Record). Like rec x) (sym (record_split s.seat.setup s.seat.rank s.events before)) (resting_part s.seat.setup s.seat.rank rec before behind front rest whole)
+
+-- a register is taken only where the rank does not hold it
+take_allowed : (s t : Sight) (events before behind : List Event) (e : Event) → Did s events t → events ≡ before ++ e ∷ behind → is_take e.access ≡ true
+    → is_none ((record_in (and_then s before)).held e.place.core) ≡ true
+take_allowed s t events before behind e did is takes =
+    let made : WereMade s.seat (record_in s) (before ++ e ∷ behind) = subst (WereMade s.seat (record_in s)) is did.made in
+    let may : IsPermitted s.seat.setup s.seat.rank (record_on s.seat (record_in s) before) e = (made_left s.seat (record_in s) before (e ∷ behind) made).0.permitted in
+    let here : IsPermitted s.seat.setup s.seat.rank (record_in (and_then s before)) e = subst (λ (r : Record). IsPermitted s.seat.setup s.seat.rank r e) (sym (record_in-and_then s before)) may in
+    subst (λ (a : Access). permits_by s.seat.setup s.seat.rank (record_in (and_then s before)) a e.place e.value ≡ true) (take_is e.access takes) here
+
+-- the one try of the turn, which was vain
+record Sought (stepped : List Event → Event → Type 0) (tried : Option Aim) (past events : List Event) : Type 0 where
+  pub aim : Aim
+  pub aim_is : tried ≡ Some aim
+  pub look : VainStep stepped past aim false events
+
+module _ (stepped : List Event → Event → Type 0) (x : UeView) (s t : Sight) (now : UeView) (spot : Spot) (tied : Tied x s) (later : Tied now t) (turned : UeTurned x s now t (turn.Waiting spot))
+    (steps : WereSteps stepped s.events turned.events) where
+  sought_by : (waits : Option Spot) → waits ≡ Some spot → Tried (ue_aim s.seat x now.parity) turned.events waits → Sought stepped (ue_aim s.seat x now.parity) s.events turned.events
+  sought_by waits is (NoTry none no_spot) = absurd (cc (is, no_spot))
+  sought_by waits is (Vain at aims one vain here) = record { aim = at; aim_is = aims; look = found stepped s.events at false 0 turned.events one vain steps }
+  sought_by waits is (Fruitful at aims one vain no_spot) = absurd (cc (is, no_spot))
+
+  sought : Sought stepped (ue_aim s.seat x now.parity) s.events turned.events
+  sought = sought_by (Some spot) refl turned.tried
+
+  alike : Like (record_in s) (record_in t)
+  alike = rest_alike (record_in s) (record_in t) turned.means.2
+
+  rests : list_all proto.is_resting turned.events ≡ true
+  rests = all_rest turned.events (turned.rests spot refl)
+
+  module _ (memory : Memory) (records : ℕ → Record) (agrees : Agrees s.seat.setup memory records) (mine : records s.seat.rank ≡ record_in (and_then s sought.look.before))
+      (others : NoneElseHolds s.seat.setup records s.seat.rank) (step : IsStep memory sought.look.event) where
+    like : Like (record_in s) (records s.seat.rank)
+    like = subst (λ (r : Record). Like (record_in s) r) (sym mine)
+        (like_before s t turned.events sought.look.before (sought.look.event ∷ sought.look.behind) turned.did rests sought.look.is alike)
+
+    tells : Tells memory sought.aim
+    tells = told s.seat.setup memory records s.seat.rank agrees others (changing_after false sought.look.before) sought.aim sought.look.event sought.look.try_is sought.look.vain
+        (λ takes. subst (λ (r : Record). is_none (r.held sought.look.event.place.core) ≡ true) (sym mine)
+        (take_allowed s t turned.events sought.look.before sought.look.behind sought.look.event turned.did sought.look.is takes)) step
+
+    parity : IsParityOf (record_in s) now.parity
+    parity comm low = later.parity_is comm low ∙ ap (λ (n : ℕ). n % 2) (sym (alike.flips comm))
+
+    abbrev Here : Record → Type 0
+    Here rec = Waits s.seat.setup (view_of s.seat.setup memory) s.seat.rank rec (recorded (record_in s).calls (local_next x.machine.local))
+
+    same : Here (record_in s) → Here (records s.seat.rank)
+    same waits = waits_same s.seat.setup (view_of s.seat.setup memory) s.seat.rank (record_in s) (records s.seat.rank) like (recorded (record_in s).calls (local_next x.machine.local)) waits
+
+    waits_by : (op : Open) → OpStands s x.core x.slot x.parity x.inbox op (local_next x.machine.local) → aim_by s.seat x.machine.local x.slot now.parity op ≡ Some sought.aim → Here (records s.seat.rank)
+    waits_by Nothing (idle, empty, none) is =
+        let (over, aims) = if_some (not (is_stopped x.machine.local) && is_ended (local_next x.machine.local)) _ sought.aim is in
+        let ends : local_next x.machine.local ≡ Ends = ended_is (local_next x.machine.local) (both_second (not (is_stopped x.machine.local)) (is_ended (local_next x.machine.local)) over) in
+        same (ends_wait s.seat.setup memory s.seat.rank (record_in s) (record_in s).calls (local_next x.machine.local) ends idle
+        (slot_waits s.seat memory records agrees (record_in s) like x.slot sought.aim tied.slot_is idle aims tells))
+    waits_by (Sending op) (stands, of_next) is =
+        ⊎_elim
+        (λ (slot : SlotWaits (view_of s.seat.setup memory) s.seat.rank (record_in s)).
+        same (sends_wait s.seat.setup memory s.seat.rank (record_in s) (record_in s).calls op (local_next x.machine.local) of_next (inl slot)))
+        (λ (raise : (op.posted ≡ false) × RaiseWaits s.seat.setup (view_of s.seat.setup memory) s.seat.rank op.to op.head (records s.seat.rank)).
+        sends_wait s.seat.setup memory s.seat.rank (records s.seat.rank) (record_in s).calls op (local_next x.machine.local) of_next (inr raise))
+        (send_waits s.seat memory records agrees (record_in s) like x.core op x.slot (bytes_out (local_next x.machine.local)) sought.aim tells stands is)
+    waits_by (Receiving op) (stands, of_next) is =
+        receives_wait s.seat.setup memory s.seat.rank (records s.seat.rank) (record_in s).calls op (local_next x.machine.local) of_next
+        (recv_waits s.seat memory records agrees (record_in s) like x.core op (take (length_in (local_next x.machine.local)) x.inbox) sought.aim tells stands is)
+    waits_by (Meeting op) (stands, of_next) is =
+        meets_wait s.seat.setup memory s.seat.rank (records s.seat.rank) (record_in s).calls op (local_next x.machine.local) of_next
+        (bar_waits s.seat memory records agrees (record_in s) like op.comm now.parity sought.aim tells stands.below stands.present parity op.stage stands.at is)
+
+    waits_here : Here (records s.seat.rank)
+    waits_here = waits_by x.op tied.stands sought.aim_is
+
+  pub has_waited : HasWaited stepped s.seat.setup s.seat.rank s.events turned.events (ue_seen x) (ue_seen now)
+  unfolding record_in
+  has_waited = record {
+    local = ap (λ (y : UeView). y.machine.local) turned.means.0;
+    left = turned.means.1;
+    rests = rests;
+    alike = subst (λ (r : Record). Like (record_in s) r) (ap record_in turned.did.continues) alike;
+    look = record {
+      before = sought.look.before;
+      look = sought.look.event;
+      behind = sought.look.behind;
+      is = sought.look.is;
+      step = sought.look.step;
+      waits = λ memory records agrees mine others step. waits_here memory records agrees mine others step;
+    };
+  }
+
+-- ---- a turn of a UE that is over
+
+no_more : (xs ys : List Event) → xs ≡ xs ++ ys → ys ≡ []
+no_more xs [] is = refl
+no_more xs (e ∷ es) is = absurd (let long : length xs ≡ length (xs ++ e ∷ es) = ap length is in omega (arith, long, length-append xs (e ∷ es)))
+
+none_posted : (o : Option OnItsWay) → None ≡ option_map (λ (post : OnItsWay). post.to) o → o ≡ None
+none_posted None is = refl
+none_posted (Some post) is = absurd (cc (is))
+
+is_none_of : {A : Type 0} (o : Option A) → is_none o ≡ true → o ≡ None
+is_none_of None is = refl
+is_none_of (Some y) is = absurd (cc (is))
+
+-- nothing is open where nothing stands next
+idle_by : (x : UeView) (s : Sight) (op : Open) (n : Next Local) → n ≡ Ends → OpStands s x.core x.slot x.parity x.inbox op n → (record_in s).stage ≡ Idle
+idle_by x s Nothing n ends stands = stands.0
+idle_by x s (Sending op) n ends stands = absurd (subst (λ (y : Next Local). IsSendOf op y) ends stands.1)
+idle_by x s (Receiving op) n ends stands = absurd (subst (λ (y : Next Local). IsRecvOf op y) ends stands.1)
+idle_by x s (Meeting op) n ends stands = absurd (subst (λ (y : Next Local). IsBarOf op y) ends stands.1)
+
+over_by : (stopped ended empty : Bool) → (stopped || (ended && empty)) ≡ true → (stopped ≡ true) ⊎ ((ended ≡ true) × (empty ≡ true))
+over_by true ended empty is = inl refl
+over_by false true true is = inr (refl, refl)
+over_by false true false is = absurd (cc (is))
+over_by false false empty is = absurd (cc (is))
+
+module _ (x : UeView) (s t : Sight) (now : UeView) (tied : Tied x s) (turned : UeTurned x s now t turn.Done) where
+  over : (is_stopped x.machine.local ≡ true) ⊎ ((is_ended (local_next x.machine.local) ≡ true) × (is_none x.slot.to ≡ true))
+  over = over_by (is_stopped x.machine.local) (is_ended (local_next x.machine.local)) (is_none x.slot.to) turned.means.2
+
+  ends : local_next x.machine.local ≡ Ends
+  ends = ⊎_elim
+      (λ (stopped : is_stopped x.machine.local ≡ true). stopped_ends x.machine.local stopped)
+      (λ (both : (is_ended (local_next x.machine.local) ≡ true) × (is_none x.slot.to ≡ true)). ended_is (local_next x.machine.local) both.0)
+      over
+
+  pub is_done : IsDone s.seat.setup s.seat.rank s.events turned.events (ue_seen x) (ue_seen now)
+  unfolding record_in
+  is_done = record {
+    local = ap (λ (y : UeView). y.machine.local) turned.means.0;
+    left = ap left_of turned.means.0;
+    nothing = no_more s.events turned.events (ap (λ (y : Sight). y.events) (sym turned.means.1 ∙ turned.did.continues));
+    over = record { ends = ends; idle = idle_by x s x.op (local_next x.machine.local) ends tied.stands };
+    slot = ⊎_elim
+        (λ (stopped : is_stopped x.machine.local ≡ true). inl stopped)
+        (λ (both : (is_ended (local_next x.machine.local) ≡ true) × (is_none x.slot.to ≡ true)). inr (none_posted (record_in s).post (sym (is_none_of x.slot.to both.1) ∙ tied.slot_is.to)))
+        over;
+  }
+
+-- ---- the turn
+
+means_by : (stepped : List Event → Event → Type 0) (x : UeView) (s t : Sight) (now : UeView) (answer : Turn) (tied : Tied x s) (later : Tied now t) (turned : UeTurned x s now t answer)
+    → ((spot : Spot) → sr.waits_at answer ≡ Some spot → WereSteps stepped s.events turned.events) → TurnMeans stepped s.seat.setup s.seat.rank s.events turned.events (ue_seen x) (ue_seen now) answer
+means_by stepped x s t now turn.Moved tied later turned steps = turned.means.0
+means_by stepped x s t now (turn.Waiting spot) tied later turned steps = has_waited stepped x s t now spot tied later turned (steps spot refl)
+means_by stepped x s t now turn.Done tied later turned steps = is_done x s t now tied turned
+
+-- a turn of a UE is one of a worker
+pub ue_turned : (stepped : Seat → List Event → Event → Type 0) (x : UeView) (s t : Sight) (now : UeView) (answer : Turn) → Tied x s → Tied now t → UeTurned x s now t answer
+    → ((spot : Spot) → sr.waits_at answer ≡ Some spot → MadeSteps stepped s t) → Turned (stepped s.seat) (ue_seen x) s (ue_seen now) t answer
+ue_turned stepped x s t now answer tied later turned steps = record {
+  events = turned.events;
+  did = turned.did;
+  script = turned.program.0;
+  means = means_by (stepped s.seat) x s t now answer tied later turned (λ spot is. steps spot is turned.events turned.did);
+}
+
+-- where a UE fits one port it fits every port at which its rank has these events
+pub stands_there : (now : UeView) (t : Sight) → Tied now t → UeStands now t.seat.setup t.seat.rank t.events
+stands_there now t tied = ue_stands now t.seat.setup t.seat.rank t.events
+    (λ sight setup rank events.
+    subst (Tied now)
+    (λ i. record {
+      seat = record { setup = sym setup i; rank = sym rank i; mark = sight.seat.mark; rest = sight.seat.rest; hold = sight.seat.hold };
+      events = sym events i;
+    })
+    (tied_there t sight.seat.mark sight.seat.rest sight.seat.hold now tied))

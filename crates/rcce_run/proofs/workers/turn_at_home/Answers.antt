@@ -1,0 +1,14 @@
+use Rattle.std.proofs.Common.{subst, sym}
+use Rattle.rcce_run.specs.Turns.{TurnedAtHome}
+use Rattle.rcce_run.specs.declared.rests.Rest.{Rest}
+use Rattle.rcce_run.proofs.HomeTurns.{turned_at_home}
+use Rattle.rcce_run.proofs.workers.turn_at_home.Goals as goal
+
+pub returns : goal.returns
+returns g c = record {
+  turned = subst
+      (λ (came : Rest). TurnedAtHome g.W.Worker.seen g.W.Worker.tied c.args.chip.now c.args.rank c.args.worker.now c.own_turn-answer.new.chip c.own_turn-answer.new.worker came)
+      (sym c.of.ensures.gives)
+      (turned_at_home g.W.Worker.seen g.W.Worker.tied c.args.chip.now c.own_turn-answer.new.chip c.args.rank c.args.worker.now c.own_turn-answer.new.worker c.own_turn-answer.result c.is_stopped.result
+      c.requires.free c.own_turn-answer.ensures.turned c.agrees.ensures.beyond c.is_stopped.ensures.tells);
+}

@@ -1,0 +1,75 @@
+-- A run of UEs: where it begins, and what it leaves (this project's profile).
+use Rattle.std.specs.Prelude.{◌≡◌, ℕ, ◌<◌, false, List, [], length, Option, None, Some, slice_get, slice_index_or, option_map, option_and_then}
+use Rattle.scc_base.specs.Calls.{DataCall, call_of}
+use Rattle.scc_base.specs.Setups.{SetupView}
+use Rattle.scc_base.specs.declared.events.Event.{Event}
+use Rattle.scc_proto.specs.Passed.{open_call}
+use Rattle.scc_proto.specs.Ports.{Sight}
+use Rattle.scc_proto.specs.Stages.{Record}
+use Rattle.scc_mesh.specs.Scenes.{ChipView, IsWhole, about_in, events_in, table_in}
+use Rattle.script_reader.specs.Script.{Script}
+use Rattle.script_plain.specs.declared.ends.UeEnd.TheVariants as ue_end
+use Rattle.script_plain.specs.declared.posts.Posted.{Posted}
+use Rattle.script_plain.specs.Ends.{Ended, ended_at}
+use Rattle.script_plain.specs.Local.{end_of, local_next, local_start}
+use Rattle.script_plain.specs.Machine.{on_its_way}
+use Rattle.script_plain.specs.Meaning.{State, next_of, plain_end, plain_ends}
+use Rattle.script_plain.specs.Next as next
+use Rattle.rcce_ue.specs.Standing.{Tied}
+use Rattle.rcce_ue.specs.Ues.{UeView, in_slot}
+use Rattle.rcce_run.specs.Away.{IsAtHome}
+use Rattle.rcce_run.specs.Turns.{WorkerView}
+use Rattle.rcce_run.specs.Ues.{UeStands, ue_seen}
+use Rattle.rcce_run.specs.declared.members.Member.{Member}
+
+-- a UE before its first turn: it holds what the script starts its rank with, and fits every port of its rank without events
+pub record IsFreshUe (script : Script) (s : SetupView) (rank : ℕ) (ue : UeView) : Type 0 where
+  pub machine : ue.machine ≡ record { script = script; setup = s; rank = rank; local = local_start script rank }
+  pub tied : (sight : Sight) → sight.seat.setup ≡ s → sight.seat.rank ≡ rank → sight.events ≡ [] → Tied ue sight
+
+-- a chip that is open without events, all its ranks at home, and for each rank, in rank order, a UE of this script with the
+-- chip's setup, before its first turn
+pub record IsFreshCrew (script : Script) (chip : ChipView) (crew : List (Member UeView)) : Type 0 where
+  pub whole : IsWhole chip
+  pub empty : (r : ℕ) → r < (about_in chip).nue → events_in chip r ≡ []
+  pub each : length crew ≡ (about_in chip).nue
+  pub fresh : (k : ℕ) (d : Member UeView) → k < length crew → IsFreshUe script (about_in chip) k (slice_index_or crew k d).worker
+  pub home : (k : ℕ) (d : Member UeView) → k < length crew → (slice_index_or crew k d).token ≡ None
+
+-- what a run sees of the UE of a member, and where it stands
+abbrev pub member_seen : Member UeView → WorkerView
+member_seen m = ue_seen m.worker
+
+-- a UE stands where its rank's events stand, and the place for its token is empty
+abbrev pub member_tied : Member UeView → SetupView → ℕ → List Event → Type 0
+member_tied m = IsAtHome (UeStands m.worker) m.token
+
+-- it is the same chip with the same setup, and all its ranks are at home
+pub record IsSameChip (old now : ChipView) : Type 0 where
+  pub about : about_in now ≡ about_in old
+  pub table : table_in now ≡ table_in old
+  pub whole : IsWhole now
+
+-- there are as many members, each with an empty place for its rank's token
+pub record AreHome (old now : List (Member UeView)) : Type 0 where
+  pub count : length now ≡ length old
+  pub empty : (k : ℕ) (d : Member UeView) → k < length now → (slice_index_or now k d).token ≡ None
+
+-- a UE shows what its rank leaves behind: it can be asked for its end, and then tells this end, whatever message it posted
+-- last, and it has printed these items
+pub record ShowsEnd (ended : Ended) (ue : UeView) : Type 0 where
+  pub pausing : next.is_going (local_next ue.machine.local) ≡ false
+  pub last : Option Posted
+  pub posted : ue.posted ≡ option_map on_its_way last
+  pub end : end_of (in_slot ue.slot last) ue.machine.local ≡ ended.end
+  pub printed : ue.machine.local.printed ≡ ended.printed
+
+-- the finished calls of a record, with their bytes, are those that the plain meaning has done for the rank, in order
+abbrev pub HasPlainCalls : Script → ℕ → Record → Type 0
+HasPlainCalls script k rec = option_map (λ (u : State). u.matched) (slice_get (plain_end script).cells k) ≡ Some rec.calls
+
+-- the call that is open in a record stands next at the rank at the plain end, which leaves it waiting there
+pub record WaitsOpen (script : Script) (k : ℕ) (call : DataCall) : Type 0 where
+  pub stands : option_and_then (λ (u : State). next.call_of (next_of u)) (slice_get (plain_end script).cells k) ≡ Some (call_of call)
+  pub line : ℕ
+  pub waits : (ended_at (plain_ends script) k).end ≡ ue_end.Waits line (call_of call)

@@ -1,0 +1,10 @@
+//! How a run ends.
+
+/// How a run ended.
+#[derive(Clone, Copy, Debug, PartialEq, Eq)]
+pub enum RunEnd {
+    /// Every rank has finished.
+    Finished,
+    /// Some rank has not, and no turn of any rank would change that.
+    Stuck,
+}

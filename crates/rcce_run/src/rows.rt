@@ -1,0 +1,51 @@
+//! A row of turns of one worker, in the thread that makes its rank's events.
+
+ghost use Rattle.std.specs.Prelude.{◌≡◌, ◌≤◌, ◌<◌};
+ghost use Rattle.rcce_run.specs.Away.{IsLater, RowOfTurns, vain_by};
+
+use crate::workers::Worker;
+use scc_base::Turn;
+use scc_mesh::{Token, Words};
+use scc_proto::Port;
+
+/// How many vain turns in a row end it.
+const VAIN: usize = 1000;
+
+/// How many turns in a row were vain after one more.
+fn vain_after(answer: &Turn, vain: usize) -> usize
+    requires below { vain < 1000 }
+    ensures gives { result ≡ vain_by 1000 answer.now vain }
+{
+    match answer {
+        Turn::Moved => 0,
+        Turn::Waiting(_) => vain + 1,
+        Turn::Done => VAIN,
+    }
+}
+
+/// Turns of a worker, until it is over or has waited in a thousand turns in a row.
+pub(crate) fn row<W: Worker, P: Port>(worker: &mut W, port: &mut P)
+    requires ties { W.tied worker.old (P.sight port.old).seat.setup (P.sight port.old).seat.rank (P.sight port.old).events }
+    ensures ties { W.tied worker.new (P.sight port.new).seat.setup (P.sight port.new).seat.rank (P.sight port.new).events }
+    ensures row { RowOfTurns (W.seen worker.old) (P.sight port.old) (W.seen worker.new) (P.sight port.new) }
+{
+    let mut vain = 0;
+    while vain < VAIN {
+        let answer = worker.turn(port);
+        vain = vain_after(&answer, vain);
+    }
+}
+
+/// The same for a rank that is away, by a port of its own.
+pub(crate) fn row_away<W: Worker>(words: Words<'_>, token: Token, worker: &mut W) -> Token
+    requires of_chip { token.table ≡ words.space.now.table }
+    requires ties { W.tied worker.old words.space.now.about token.rank token.events }
+    ensures table { result.table ≡ token.table }
+    ensures rank { result.rank ≡ token.rank }
+    ensures ties { W.tied worker.new words.entry.space.now.about result.rank result.events }
+    ensures later { IsLater (W.seen worker.old) (W.seen worker.new) }
+{
+    let mut port = words.port(token);
+    row(worker, &mut port);
+    port.into_token()
+}

@@ -1,0 +1,99 @@
+//! A run: rounds and sweeps, until a sweep in which no worker moves.
+
+ghost use Rattle.std.specs.Prelude.{◌≡◌, ◌<◌, length};
+ghost use Rattle.rcce_run.specs.Away.{IsAtHome};
+ghost use Rattle.rcce_run.specs.Crews.{AllRest, AllRun, CrewStands, EndsAs, IsAtEnd, IsCrew, locals_of};
+ghost use Rattle.rcce_run.specs.Runs.{InOrder, NextRound, rounds_of};
+ghost use Rattle.scc_mesh.specs.Scenes.{about_in, records_in};
+ghost use Rattle.script_reader.specs.Script.{Script};
+
+use crate::crews::{round, sweep};
+use crate::ends::RunEnd;
+use crate::gates::Gate;
+use crate::members::Member;
+use crate::threads::round_in_threads;
+use crate::workers::Worker;
+use rand_core::SeedableRng;
+use rand_pcg::Pcg32;
+use scc_mesh::Chip;
+use std::thread::Threads;
+
+/// How the turns of a run are taken.
+#[derive(Clone, Copy, Debug, PartialEq, Eq)]
+pub enum Mode {
+    /// Each rank takes its turns in a thread of its own.
+    Threads,
+    /// All turns are taken in this thread, in the order that a generator with this seed names.
+    Serial(u64),
+}
+
+/// How the rounds go on.
+#[derive(Drop)]
+enum Rounds {
+    InThreads,
+    Picked(Pcg32),
+}
+
+impl Rounds {
+    /// Before the first round.
+    fn of(mode: Mode) -> Rounds
+        ensures gives { result ≡ rounds_of mode }
+    {
+        match mode {
+            Mode::Threads => Rounds::InThreads,
+            Mode::Serial(seed) => Rounds::Picked(Pcg32::seed_from_u64(seed)),
+        }
+    }
+}
+
+/// The next round.
+fn next_round<W: Worker + Drop + Send, G: Gate + Sync, R: Threads + Sync>(
+    rt: &R,
+    chip: &mut Chip,
+    crew: &mut [Member<W>],
+    rounds: &mut Rounds,
+    gate: &G,
+)
+    requires crew { IsCrew (λ m. IsAtHome (W.tied m.worker) m.token) chip.old crew.old }
+    requires some { 0 < length crew.old }
+    ensures stands { CrewStands (λ m. W.seen m.worker) (λ m. IsAtHome (W.tied m.worker) m.token) chip.old crew.old chip.new crew.new }
+    ensures next { NextRound (λ m. W.seen m.worker) (λ m. IsAtHome (W.tied m.worker) m.token) rounds.old rounds.new chip.old crew.old chip.new crew.new }
+{
+    match rounds {
+        Rounds::InThreads => round_in_threads(rt, chip, crew, gate),
+        Rounds::Picked(picks) => round(chip, crew, picks),
+    }
+}
+
+/// Runs the members of a chip's crew, until a sweep in which none moves.
+pub fn run_members<W: Worker + Drop + Send, G: Gate + Sync, R: Threads + Sync>(
+    rt: &R,
+    chip: &mut Chip,
+    crew: &mut [Member<W>],
+    mode: Mode,
+    gate: &G,
+) -> RunEnd
+    requires crew { IsCrew (λ m. IsAtHome (W.tied m.worker) m.token) chip.old crew.old }
+    requires some { 0 < length crew.old }
+    // It is the same chip, whole, with the same members, each tied to its rank's events; no member holds a token.
+    ensures stands { CrewStands (λ m. W.seen m.worker) (λ m. IsAtHome (W.tied m.worker) m.token) chip.old crew.old chip.new crew.new }
+    // Each worker rests: it has finished, a mismatch stopped it, or it waits.
+    ensures rests { AllRest (λ m. W.seen m.worker) chip.new crew.new (length crew.new) }
+    // What the ranks hold, the calls that they have done and the messages in their slots are the plain end's.
+    ensures ends { (script : Script) → AllRun (λ m. W.seen m.worker) script crew.old → (d : _)
+        → IsAtEnd script (about_in chip.new) (records_in chip.new) (locals_of (λ m. W.seen m.worker) crew.new d) }
+    // It answers Finished where all ranks have finished in the plain meaning, and Stuck where one has not.
+    ensures answer { (script : Script) → AllRun (λ m. W.seen m.worker) script crew.old → EndsAs result script }
+    // Under Serial the turns were those of the ranks that the seed's generator names, with a sweep behind each round.
+    ensures order { InOrder (λ m. W.seen m.worker) (λ m. IsAtHome (W.tied m.worker) m.token) mode chip.old crew.old chip.new crew.new }
+{
+    let mut rounds = Rounds::of(mode);
+    loop {
+        next_round(rt, chip, crew, &mut rounds, gate);
+        let came = sweep(chip, crew);
+        if let Some(end) = came.end() {
+            chip.agrees();
+            return end;
+        }
+    }
+}
