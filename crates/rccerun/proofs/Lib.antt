@@ -1,4 +1,7 @@
+pub mod ChipLemmas
+pub mod LoadLemmas
 pub mod PlanLemmas
 pub mod ReportLemmas
+pub mod RunLemmas
 pub mod TextLemmas
 pub mod ValueLemmas

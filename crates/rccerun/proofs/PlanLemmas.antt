@@ -6,15 +6,10 @@ use Rattle.script_reader.specs.declared.fault.ReadStop.{ReadStop}
 use Rattle.script_reader.specs.declared.fault.ReadStop.TheVariants as stop
 use Rattle.script_reader.specs.Faults.{Gives}
 use Rattle.script_reader.specs.Script.{Script}
-use Rattle.script_plain.specs.Ends.{Ended}
-use Rattle.script_plain.specs.Meaning.{plain_ends}
-use Rattle.outcomes.specs.Coming.{Comes, IsMeant}
-use Rattle.outcomes.specs.Outcomes.{Outcome, no_memory, run_outcome}
-use Rattle.rccerun.specs.declared.command.Job.{Job}
-use Rattle.rccerun.specs.Command.{Command}
-use Rattle.rccerun.specs.Job.{IsJob, job_command}
-use Rattle.rccerun.specs.Program.{command_plan, fault_outcome, parsed_plan, stop_outcome, words_plan}
-use Rattle.rccerun.specs.Reports.{ran_of}
+use Rattle.outcomes.specs.Coming.{Comes}
+use Rattle.outcomes.specs.Outcomes.{Outcome, no_memory}
+use Rattle.rccerun.specs.Loading.{fault_outcome, stop_outcome}
+use Rattle.rccerun.specs.Program.{parsed_plan}
 
 -- a plan of a script that was read
 pub comes_parsed : (program file : List ℕ) (meant : Result Script ReadFault) (parsed : Result Script ReadFault) (files : FilesView) (o : Outcome) →
@@ -26,28 +21,9 @@ pub comes_memory : (program file : List ℕ) (meant : Result Script ReadFault) (
 comes_memory program file (Ok script) files = (refl, inr refl)
 comes_memory program file (Err fault) files = (refl, inr refl)
 
--- a script that ran to its plain end
-pub comes_run : (program file : List ℕ) (script : Script) (ues : List Ended) (files : FilesView) → ues ≡ plain_ends script →
-    Comes program (parsed_plan file (Ok script)) files files (run_outcome (ran_of script.names ues))
-comes_run program file script ues files ended = (refl, inl (ap (λ e. run_outcome (ran_of script.names e)) ended))
-
 -- a reading that stopped, at the grammar's fault or for want of memory
 pub comes_stopped : {X : Type 0} (view : X → Script) (program file : List ℕ) (meant : Result Script ReadFault) (why : ReadStop) (files : FilesView) →
     Gives view (Err why) meant → Comes program (parsed_plan file meant) files files (stop_outcome program file why)
 comes_stopped view program file meant (stop.Fault fault) files given =
     comes_parsed program file meant (Err fault) files (fault_outcome program file fault) given (refl, inl refl)
 comes_stopped view program file meant stop.Memory files given = comes_memory program file meant files
-
--- the outcome of a job is that of its command
-pub meant_by_job : (program : List ℕ) (command : Option Command) (job : Job) (before after : FilesView) (o : Outcome) → IsJob command (Some job) →
-    Comes program (command_plan (job_command job)) before after o → IsMeant program (words_plan command) before after o
-meant_by_job program None job before after o is came = absurd is
-meant_by_job program (Some command) job before after o is came =
-    let same : job_command job ≡ command = rw (is.nue, is.script) refl in
-    subst (λ c. Comes program (command_plan c) before after o) same came
-
--- refused words
-pub meant_refused : (program : List ℕ) (command : Option Command) (files : FilesView) (o : Outcome) → IsJob command None →
-    IsMeant program (words_plan None) files files o → IsMeant program (words_plan command) files files o
-meant_refused program None files o is meant = meant
-meant_refused program (Some command) files o is meant = absurd is

@@ -1,8 +1,6 @@
 -- Lines of units of execution, by rank.
-use Rattle.std.proofs.Common.{◌≡◌, ℕ, ◌+◌, ◌<◌, Bool, true, false, ◌&&◌, List, [], ◌∷◌, ◌++◌, length, take, drop, get_or, refl, sym, ap, ◌∙◌, append_assoc, add-zero, arith}
-use Rattle.std.specs.List.{list_all}
+use Rattle.std.proofs.Common.{◌≡◌, ℕ, ◌+◌, ◌<◌, List, [], ◌∷◌, ◌++◌, length, take, drop, get_or, refl, sym, ap, ◌∙◌, append_assoc, add-zero, arith}
 use Rattle.std.proofs.lemmas.List.{take-append-drop, take_more, append-nil, length-take}
-use Rattle.std.proofs.lemmas.List.Folds.{list_all-append, list_all_more}
 use Rattle.script_plain.specs.declared.ends.UeEnd.{UeEnd}
 use Rattle.script_plain.specs.Ends.{Ended, ended_at, nothing_ended}
 use Rattle.rccerun.specs.Reports.{by_rank, end_text, unfinished_text}
@@ -32,17 +30,6 @@ by_rank-parts text ues i d within =
     ap (by_rank text 0) (sym (take-append-drop (i + 1) ues)) ∙ by_rank-append text 0 (take (i + 1) ues) (drop (i + 1) ues)
     ∙ ap (λ t. t ++ by_rank text (0 + length (take (i + 1) ues)) (drop (i + 1) ues)) (by_rank-more text ues i d within)
     ∙ append_assoc (by_rank text 0 (take i ues)) (text i (get_or ues i d)) _
-
-and_false : (a b : Bool) → ((a && false) && b) ≡ false
-and_false true b = refl
-and_false false b = refl
-
--- not all pass where one does not
-pub list_all-at_false : {X : Type 0} (p : X → Bool) (xs : List X) (i : ℕ) (d : X) → i < length xs → p (get_or xs i d) ≡ false → list_all p xs ≡ false
-list_all-at_false p xs i d within fails =
-    ap (list_all p) (sym (take-append-drop (i + 1) xs)) ∙ list_all-append p (take (i + 1) xs) (drop (i + 1) xs)
-    ∙ ap (λ t. t && list_all p (drop (i + 1) xs)) (list_all_more p xs i d within ∙ ap (λ t. list_all p (take i xs) && t) fails)
-    ∙ and_false (list_all p (take i xs)) (list_all p (drop (i + 1) xs))
 
 -- the line of an end that a rank came to
 end_text-at : (ues : List Ended) (number rank : ℕ) (end : UeEnd) → end ≡ (ended_at ues rank).end → rank ≡ number →

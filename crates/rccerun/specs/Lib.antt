@@ -1,6 +1,8 @@
-pub mod Command
-pub mod Job
+pub mod Asking
+pub mod History
+pub mod Loading
 pub mod Pieces
 pub mod Program
 pub mod Reports
+pub mod Runs
 pub mod Texts

@@ -1,48 +1,58 @@
 -- What `rccerun` does on its words (this project's profile).
 use Rattle.std.specs.Prelude.{ℕ, List, codes, Option, Some, None, Result, Ok, Err}
 use Rattle.script_reader.specs.declared.fault.ReadFault.{ReadFault}
-use Rattle.script_reader.specs.declared.fault.ReadStop.{ReadStop}
-use Rattle.script_reader.specs.declared.fault.ReadStop.TheVariants as stop
 use Rattle.script_reader.specs.Faults.{kind_name}
 use Rattle.script_reader.specs.Reading.{parse_script}
 use Rattle.script_reader.specs.Script.{Script}
-use Rattle.script_plain.specs.Meaning.{plain_ends}
-use Rattle.outcomes.specs.Outcomes.{Outcome, Ran, file_refused, no_memory}
 use Rattle.outcomes.specs.Plans.{Plan, Program}
 use Rattle.outcomes.specs.Plans.Plan.{Runs, Refuses, Reads}
-use Rattle.rccerun.specs.declared.report.Report.{Report}
-use Rattle.rccerun.specs.Command.{Command, command_of}
-use Rattle.rccerun.specs.Reports.{ran_of}
-
--- what a script that has run came to
-abbrev pub report_ran : Report → Ran
-report_ran report = ran_of report.script.names report.end
+use Rattle.rcce_words.specs.CommandLine.{parse_command}
+use Rattle.rcce_words.specs.FaultTexts.{fault_text, word_at}
+use Rattle.rcce_words.specs.HostFile.{host_kind_name, parse_hosts}
+use Rattle.rcce_words.specs.declared.command.Job.{Job}
+use Rattle.rcce_words.specs.declared.command.Work.{Work}
+use Rattle.rcce_words.specs.declared.command.Work.TheVariants as work
+use Rattle.rcce_words.specs.declared.command.WordFault.{WordFault}
+use Rattle.rcce_words.specs.declared.host_file.HostFault.{HostFault}
+use Rattle.rccerun.specs.Reports.{run_ran}
 
 -- a script that was read runs to its plain end, and its first fault refuses its file
 abbrev pub parsed_plan : List ℕ → Result Script ReadFault → Plan
 parsed_plan file (Err fault) = Refuses file fault.line (kind_name fault.kind)
-parsed_plan file (Ok script) = Runs (ran_of script.names (plain_ends script))
+parsed_plan file (Ok script) = Runs (run_ran script)
 
--- a script that is refused, and a reading that stopped
-abbrev pub fault_outcome : List ℕ → List ℕ → ReadFault → Outcome
-fault_outcome program file fault = file_refused program file fault.line (kind_name fault.kind)
-
-abbrev pub stop_outcome : List ℕ → List ℕ → ReadStop → Outcome
-stop_outcome program file (stop.Fault fault) = fault_outcome program file fault
-stop_outcome program file stop.Memory = no_memory program
-
--- the bytes of the script's file
-abbrev pub script_plan : Command → List ℕ → Plan
-script_plan command bytes = parsed_plan command.script (parse_script bytes command.nue)
+-- the bytes of a script's file
+abbrev pub script_plan : List ℕ → ℕ → List ℕ → Plan
+script_plan file nue bytes = parsed_plan file (parse_script bytes nue)
 
 -- the script's file has at most 4 MiB
-abbrev pub command_plan : Command → Plan
-command_plan command = Reads command.script 4194304 (script_plan command)
+abbrev pub file_plan : List ℕ → ℕ → Plan
+file_plan file nue = Reads file 4194304 (script_plan file nue)
 
-abbrev pub words_plan : Option Command → Result Plan (List ℕ)
-words_plan None = Err (codes "words refused")
-words_plan (Some command) = Ok (command_plan command)
+-- cores that were read lead on, and the first fault of the host file refuses it
+abbrev pub listed_plan : List ℕ → Plan → Result (List ℕ) HostFault → Plan
+listed_plan file next (Err fault) = Refuses file fault.line (host_kind_name fault.kind)
+listed_plan file next (Ok cores) = next
 
--- the launcher as a program: its name, and its plan for the words
+-- the bytes of a host file
+abbrev pub hosts_plan : List ℕ → ℕ → Plan → List ℕ → Plan
+hosts_plan file nue next bytes = listed_plan file next (parse_hosts bytes nue)
+
+-- the host file comes first, if there is one, and has at most 64 KiB
+abbrev pub plan_behind : List (List ℕ) → ℕ → Plan → Option ℕ → Plan
+plan_behind words nue next None = next
+plan_behind words nue next (Some at) = Reads (word_at words at) 65536 (hosts_plan (word_at words at) nue next)
+
+-- the script of a file, after the host file. (A script that is made from a seed is not built yet.)
+abbrev pub work_plan : List (List ℕ) → Job → Work → Result Plan (List ℕ)
+work_plan words job (work.Script at) = Ok (plan_behind words job.nue (file_plan (word_at words at) job.nue) job.hosts)
+work_plan words job (work.Gen seed) = Err (codes "unknown word: -gen")
+
+-- the words: refused, or a job
+abbrev pub words_plan : List (List ℕ) → Result Job WordFault → Result Plan (List ℕ)
+words_plan words (Err fault) = Err (fault_text words fault)
+words_plan words (Ok job) = work_plan words job job.work
+
+-- the launcher, by its name and what it does on its words
 abbrev pub rccerun : Program
-rccerun = record { name = codes "rccerun"; plan = λ words. words_plan (command_of words) }
+rccerun = record { name = codes "rccerun"; plan = λ words. words_plan words (parse_command words) }

@@ -3,8 +3,10 @@ use Rattle.std.specs.Prelude.{ℕ, ◌+◌, Bool, List, [], ◌∷◌, ◌++◌,
 use Rattle.std.specs.List.{list_all}
 use Rattle.script_plain.specs.declared.ends.UeEnd.{UeEnd}
 use Rattle.script_plain.specs.declared.ends.UeEnd.TheVariants as ue_end
-use Rattle.script_plain.specs.declared.prims.Printed.{Printed}
+use Rattle.script_plain.specs.Printed.{Printed}
 use Rattle.script_plain.specs.Ends.{Ended}
+use Rattle.script_plain.specs.Meaning.{plain_ends}
+use Rattle.script_reader.specs.Script.{Script}
 use Rattle.rcce_io.specs.Sending.{joined}
 use Rattle.outcomes.specs.Outcomes.{Ran}
 use Rattle.rccerun.specs.Texts.{item_line, call_pieces, waiting_line, mismatch_line}
@@ -28,15 +30,17 @@ end_text rank ue_end.Finished = []
 end_text rank (ue_end.Waits line call) = waiting_line rank line (call_pieces call)
 end_text rank (ue_end.Mismatch line from sent asked) = mismatch_line rank line from sent asked
 
+-- the line of a unit of execution that has not finished, and nothing of one that has
 abbrev pub unfinished_text : ℕ → Ended → List ℕ
 unfinished_text rank ue = end_text rank ue.end
 
--- whether a rank finished
+-- the unit of execution has finished
 abbrev pub is_finished : UeEnd → Bool
 is_finished ue_end.Finished = true
 is_finished (ue_end.Waits line call) = false
 is_finished (ue_end.Mismatch line from sent asked) = false
 
+-- each unit of execution has finished
 abbrev pub all_finished : List Ended → Bool
 all_finished ues = list_all (λ ue. is_finished ue.end) ues
 
@@ -48,3 +52,7 @@ ran_of names ues = record {
   out = by_rank (printed_text names) 0 ues;
   err = by_rank unfinished_text 0 ues;
 }
+
+-- what the run of a script comes to, by its plain meaning
+abbrev pub run_ran : Script → Ran
+run_ran script = ran_of script.names (plain_ends script)

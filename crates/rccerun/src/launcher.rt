@@ -1,118 +1,121 @@
 //! The top call.
 
-ghost use Rattle.std.specs.Prelude.{◌≡◌, ◌≤◌, codes, map, string_bytes, List, ℕ};
-ghost use Rattle.rcce_io.specs.Files.{FilesView};
-ghost use Rattle.outcomes.specs.Coming.{Comes, IsMeant};
-ghost use Rattle.outcomes.specs.Complaints.{complaint_outcome, outcome_of};
+ghost use Rattle.std.specs.Prelude.{◌≡◌, map, string_bytes, None};
 ghost use Rattle.outcomes.specs.Delivery.{sinks};
-ghost use Rattle.outcomes.specs.Promises.{Promises};
-ghost use Rattle.rccerun.specs.Command.{command_of};
-ghost use Rattle.rccerun.specs.Job.{job_command};
-ghost use Rattle.rccerun.specs.Program.{command_plan, fault_outcome, parsed_plan, rccerun, report_ran, script_plan, stop_outcome, words_plan};
+ghost use Rattle.outcomes.specs.Promises.{EndsWith, Promises};
+ghost use Rattle.scc_mesh.specs.Scenes.{IsNew, IsOpen};
+ghost use Rattle.rcce_words.specs.CommandLine.{parse_command};
+ghost use Rattle.rccerun.specs.Asking.{ChipTells};
+ghost use Rattle.rccerun.specs.History.{AreLegal};
+ghost use Rattle.rccerun.specs.Loading.{Launches, Ran, asked_by};
+ghost use Rattle.rccerun.specs.Program.{rccerun};
+ghost use Rattle.rccerun.specs.Runs.{IsFresh, IsOver};
 
-use crate::command::{Job, job_of};
-use crate::report::Report;
-use outcomes::{Complaint, Status, deliver, read_file};
+use crate::crew::crew_of;
+use crate::loaded::Loaded;
+use crate::loading::load;
+use crate::run::Run;
+use line_cache::Choice;
+use outcomes::{Complaint, Status, deliver};
 use rcce_io::{Files, Sink};
-use script_plain::plain_run;
-use script_reader::{ReadFault, ReadStop, Scripts, read_script};
+use rcce_run::{Crew, Gate, Mode, RunEnd, run};
+use scc_mesh::Chip;
 use std::alloc::Global;
+use std::thread::Threads;
 
-/// The longest script file, in bytes.
-const SCRIPT_BYTES: usize = 4_194_304;
-
-/// Runs the script that the words ask for, from its file to its output. The words are those after the program's name.
+/// Runs the script that the words ask for over the chip, from its file to its output. The words are those after the
+/// program's name.
 ///
-/// The checks go in this order, and the first that refuses counts: the words, the reading of the script's file, its
-/// grammar, memory for the run, the run, the writing of out, the writing of err. Memory is taken only by the reading, the
-/// grammar and the run. A sink that fails is not written to again, nor is the other one.
-///
-/// What it promises has a name for each fact, among them `output`, the output theorem, `refused` for refused words, and
-/// the causes of the statuses.
-pub fn rccerun<F: Files, O: Sink, E: Sink>(
+/// The checks go in this order, and the first that refuses counts: the words, the reading of the host file, its grammar,
+/// the reading of the script's file, its grammar, memory for the run, the run, the writing of out, the writing of err.
+/// Memory is taken for the host file, the script, the units of execution, and last for the chip's words; none is taken once
+/// the run begins. Each unit of execution runs in a thread of its own and passes the gate at the start of each round, or all
+/// run on one thread where the words ask for that. A sink that fails is not written to again, nor is the other one.
+pub fn rccerun<R: Threads + Sync, F: Files, O: Sink, E: Sink, G: Gate + Sync>(
+    rt: &R,
     alloc: Global,
     words: &[String],
     files: &mut F,
     out: &mut O,
     err: &mut E,
+    chip: &mut Chip,
+    gate: &G,
 ) -> Status
+    requires blank { chip.old ≡ None }
+    // The output theorem is its field `output`, with `refused` for refused words, and the causes of the statuses.
     ensures promises { Promises rccerun (map string_bytes words.now) (F.seen files.old) (F.seen files.new)
         (sinks (O.seen out.old) (E.seen err.old)) (sinks (O.seen out.new) (E.seen err.new)) result }
+    // The chip history theorem: with the statuses 0 and 3 the chip has the history of the run that the words ask for, and with
+    // 1, 2, 4 and 5 it is blank. Where a write failed, it is as the outcome says that was to be written.
+    ensures history { EndsWith (ChipTells (map string_bytes words.now) (parse_command (map string_bytes words.now)) (F.seen files.old).told chip.new)
+        rccerun (map string_bytes words.now) (F.seen files.old) (F.seen files.new)
+        (sinks (O.seen out.old) (E.seen err.old)) (sinks (O.seen out.new) (E.seen err.new)) result }
+    // The legality theorem, whatever the status. (A blank chip has no calls.)
+    ensures legal { IsOpen chip.new → AreLegal chip.new }
 {
-    let ending = run_words(alloc, words, files);
+    match load(alloc, words, files) {
+        Ok(loaded) => run_loaded(rt, alloc, &loaded, out, err, chip, gate),
+        Err(complaint) => deliver::<Run<'_>, O, E>("rccerun", &Err(complaint), out, err),
+    }
+}
+
+// Runs what was loaded, and writes what it came to.
+fn run_loaded<R: Threads + Sync, O: Sink, E: Sink, G: Gate + Sync>(
+    rt: &R,
+    alloc: Global,
+    loaded: &Loaded,
+    out: &mut O,
+    err: &mut E,
+    chip: &mut Chip,
+    gate: &G,
+) -> Status
+    requires blank { chip.old ≡ None }
+    ensures ran { Ran (asked_by loaded.now) chip.new (sinks (O.seen out.old) (E.seen err.old))
+        (sinks (O.seen out.new) (E.seen err.new)) result }
+    ensures legal { IsOpen chip.new → AreLegal chip.new }
+{
+    let ending = launch(rt, alloc, loaded, chip, gate);
     deliver("rccerun", &ending, out, err)
 }
 
-fn run_words<'a, F: Files>(
+// Makes the units of execution and then the chip's words, and runs.
+fn launch<'s, R: Threads + Sync, G: Gate + Sync>(
+    rt: &R,
     alloc: Global,
-    words: &'a [String],
-    files: &mut F,
-) -> Result<Report, Complaint<'a>>
-    ensures { IsMeant (codes "rccerun") (words_plan (command_of (map string_bytes words.now)))
-        (F.seen files.old) (F.seen files.new) (outcome_of (codes "rccerun") report_ran result) }
+    loaded: &'s Loaded,
+    chip: &mut Chip,
+    gate: &G,
+) -> Result<Run<'s>, Complaint<'s>>
+    requires blank { chip.old ≡ None }
+    ensures ran { Launches (asked_by loaded.now) chip.new result }
+    ensures legal { IsOpen chip.new → AreLegal chip.new }
 {
-    match job_of(words) {
-        Some(job) => run_file(alloc, files, job),
-        None => Err(Complaint::words("words refused")),
+    let Ok(mut crew) = crew_of(alloc, &loaded.script, &loaded.setup, loaded.job.evict) else {
+        return Err(Complaint::Memory);
+    };
+    if chip.open(alloc, loaded.setup.copy()).is_err() {
+        return Err(Complaint::Memory);
     }
+    let end = run_crew(rt, loaded, chip, crew.as_mut_slice(), gate);
+    chip.agrees();
+    Ok(Run::new(&loaded.script, crew, end))
 }
 
-// Reads the script's file, and goes on with its bytes.
-fn run_file<'a, F: Files>(
-    alloc: Global,
-    files: &mut F,
-    job: Job<'a>,
-) -> Result<Report, Complaint<'a>>
-    requires some { 1 ≤ job.nue }
-    requires most { job.nue ≤ 48 }
-    ensures { Comes (codes "rccerun") (command_plan (job_command job.entry))
-        (F.seen files.old) (F.seen files.new) (outcome_of (codes "rccerun") report_ran result) }
+// Runs the units of execution, each in a thread of its own, or all on one thread where the words ask for that.
+fn run_crew<R: Threads + Sync, G: Gate + Sync>(
+    rt: &R,
+    loaded: &Loaded,
+    chip: &mut Chip,
+    crew: &mut [Crew<'_, Choice>],
+    gate: &G,
+) -> RunEnd
+    requires chip { IsNew loaded.now.setup chip.old }
+    requires fresh { IsFresh loaded.now.script loaded.now.setup crew.old }
+    ensures { IsOver (asked_by loaded.now) chip.new crew.new result }
 {
-    match read_file(alloc, files, job.script, SCRIPT_BYTES) {
-        Ok(bytes) => run_bytes(alloc, job, bytes.as_slice()),
-        Err(complaint) => Err(complaint),
-    }
-}
-
-// Reads the script, and runs it.
-fn run_bytes<'a>(alloc: Global, job: Job<'a>, bytes: &[u8]) -> Result<Report, Complaint<'a>>
-    requires some { 1 ≤ job.nue }
-    requires most { job.nue ≤ 48 }
-    ensures { (files : FilesView) → Comes (codes "rccerun") (script_plan (job_command job.entry) bytes.now) files files
-        (outcome_of (codes "rccerun") report_ran result) }
-{
-    match read_script(alloc, bytes, job.nue) {
-        Ok(script) => run_script(alloc, script),
-        Err(stop) => Err(stopped(job.script, stop)),
-    }
-}
-
-// Why the reading of a script stopped.
-fn stopped(file: &str, stop: ReadStop) -> Complaint<'_>
-    ensures { (program : List ℕ) → complaint_outcome program result ≡ stop_outcome program file.now stop }
-{
-    match stop {
-        ReadStop::Fault(fault) => refused(file, fault),
-        ReadStop::Memory => Complaint::Memory,
-    }
-}
-
-fn refused(file: &str, fault: ReadFault) -> Complaint<'_>
-    ensures { (program : List ℕ) → complaint_outcome program result ≡ fault_outcome program file.now fault }
-{
-    Complaint::Refused {
-        file,
-        line: fault.line,
-        kind: fault.kind.name(),
-    }
-}
-
-fn run_script<'a>(alloc: Global, script: Scripts) -> Result<Report, Complaint<'a>>
-    ensures { (file : List ℕ) (files : FilesView) → Comes (codes "rccerun") (parsed_plan file (Ok script)) files files
-        (outcome_of (codes "rccerun") report_ran result) }
-{
-    match plain_run(alloc, &script) {
-        Ok(end) => Ok(Report { script, end }),
-        Err(_) => Err(Complaint::Memory),
-    }
+    let mode = match loaded.job.serial {
+        Some(seed) => Mode::Serial(u64::from(seed)),
+        None => Mode::Threads,
+    };
+    run(rt, chip, crew, mode, gate)
 }

@@ -10,7 +10,7 @@ use crate::pieces::Piece::{Hex, Number, Text, Values};
 use groups::Ty;
 use rcce_io::{Sink, TextSource, WriteFault, write_texts};
 use scc_base::{Call, Head, Kind, Rank};
-use script_plain::{Printed, UeEnd};
+use script_plain::{PrintedItem, UeEnd};
 use script_reader::Form;
 
 /// The name of a message's kind.
@@ -41,7 +41,7 @@ fn type_text(ty: Ty) -> &'static str
 pub struct ItemLine<'a> {
     pub rank: Rank,
     pub name: &'a str,
-    pub item: &'a Printed,
+    pub item: &'a PrintedItem<'a>,
 }
 
 impl TextSource for ItemLine<'_> {
@@ -49,8 +49,8 @@ impl TextSource for ItemLine<'_> {
 
     fn write_to<S: Sink>(&self, sink: &mut S) -> Result<(), WriteFault> {
         let ue = self.rank.number() as u32;
-        let bytes = self.item.bytes.as_slice();
-        match self.item.form {
+        let bytes = self.item.bytes();
+        match self.item.form() {
             Form::Hex => write_texts(
                 sink,
                 &[

@@ -1,18 +1,30 @@
 //! `rccerun`: runs a script of messages between units of execution, and prints what they print.
 #![tactic(auto)]
 
-mod command;
+#[cfg(test)]
+mod asked;
+mod crew;
+mod endings;
+#[cfg(test)]
+mod faults;
 mod launcher;
 mod lines;
+mod loaded;
+mod loading;
 mod pieces;
 mod report;
+mod run;
 #[cfg(test)]
 mod runs;
 #[cfg(test)]
 mod tests;
+#[cfg(test)]
+mod together;
 
 use launcher::rccerun;
 use rcce_io::{HostFiles, StdSink};
+use rcce_run::Open;
+use scc_mesh::Chip;
 use std::env;
 use std::process::ExitCode;
 
@@ -28,6 +40,16 @@ fn main(rt: HostRuntime) -> ExitCode {
     let mut files = HostFiles::new(rt);
     let mut out = StdSink::out(&rt);
     let mut err = StdSink::err(&rt);
-    let status = rccerun(rt.alloc(), words.as_slice(), &mut files, &mut out, &mut err);
+    let mut chip = Chip::blank();
+    let status = rccerun(
+        &rt,
+        rt.alloc(),
+        words.as_slice(),
+        &mut files,
+        &mut out,
+        &mut err,
+        &mut chip,
+        &Open,
+    );
     ExitCode::from(status.number())
 }

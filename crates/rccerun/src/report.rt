@@ -1,73 +1,66 @@
-//! A script that has run, and its lines on out and on err.
+//! The lines of a run that is over. No memory is taken.
 
 ghost use Rattle.std.specs.Prelude.{◌≡◌, ◌<◌, length};
 ghost use Rattle.rcce_io.specs.Sending.{Sends};
 ghost use Rattle.script_plain.specs.Ends.{ended_at};
-ghost use Rattle.rccerun.specs.Reports.{printed_text};
+ghost use Rattle.rccerun.specs.Reports.{by_rank, printed_text, unfinished_text};
 
-use crate::lines::{ItemLine, is_finished, write_end};
+use crate::endings::Endings;
+use crate::lines::{ItemLine, write_end};
 use rcce_io::{Buffer, Sink, WriteFault};
 use scc_base::Rank;
-use script_plain::End;
 use script_reader::Scripts;
 
-/// A script, and what its units of execution came to.
-#[derive(Debug, Drop)]
-pub struct Report {
-    pub script: Scripts,
-    pub end: End,
-    ghost ranked: { length end ≡ script.nue },
+/// Writes what the ranks of a script printed, by rank and in the order of printing.
+pub fn write_printed<T: Endings, S: Sink>(
+    sink: &mut S,
+    scripts: &Scripts,
+    run: &T,
+) -> Result<(), WriteFault>
+    requires ranked { length (T.ended run.now) ≡ scripts.now.nue }
+    ensures { Sends (by_rank (printed_text scripts.now.names) 0 (T.ended run.now)) (S.seen sink.old) (S.seen sink.new) result }
+{
+    for number in 0..scripts.nue() {
+        write_items(sink, scripts, run, Rank::of(number))?;
+    }
+    Ok(())
 }
 
-impl outcomes::Report for Report {
-    ghost use Rattle.rccerun.specs.Reports.{ran_of};
-
-    ghost ran = { λ report. ran_of report.script.names report.end };
-
-    // Whether every unit of execution has finished.
-    fn is_finished(&self) -> bool {
-        for number in 0..self.script.nue() {
-            if !is_finished(&self.end.ue(Rank::of(number))) {
-                return false;
-            }
-        }
-        true
+/// Writes what one rank printed.
+fn write_items<T: Endings, S: Sink>(
+    sink: &mut S,
+    scripts: &Scripts,
+    run: &T,
+    rank: Rank,
+) -> Result<(), WriteFault>
+    requires { rank < length (T.ended run.now) }
+    ensures { Sends (printed_text scripts.now.names rank (ended_at (T.ended run.now) rank)) (S.seen sink.old) (S.seen sink.new) result }
+{
+    let mut buffer = Buffer::new();
+    for i in 0..run.items(rank) {
+        let item = run.item(rank, i);
+        let line = ItemLine {
+            rank,
+            name: scripts.name(item.reg()),
+            item: &item,
+        };
+        buffer.gather(sink, &line)?;
     }
-
-    // Writes what the units of execution printed, by rank and in the order of printing.
-    fn write_out<S: Sink>(&self, sink: &mut S) -> Result<(), WriteFault> {
-        for number in 0..self.script.nue() {
-            self.write_items(sink, Rank::of(number))?;
-        }
-        Ok(())
-    }
-
-    // Writes where the units of execution stand that have not finished, by rank.
-    fn write_err<S: Sink>(&self, sink: &mut S) -> Result<(), WriteFault> {
-        for number in 0..self.script.nue() {
-            let rank = Rank::of(number);
-            write_end(sink, rank, &self.end.ue(rank))?;
-        }
-        Ok(())
-    }
+    buffer.flush(sink)
 }
 
-impl Report {
-    // Writes what one unit of execution printed.
-    fn write_items<S: Sink>(&self, sink: &mut S, rank: Rank) -> Result<(), WriteFault>
-        requires { rank < length self.now.end }
-        ensures { Sends (printed_text self.now.script.names rank (ended_at self.now.end rank)) (S.seen sink.old) (S.seen sink.new) result }
-    {
-        let mut buffer = Buffer::new();
-        for i in 0..self.end.items(rank) {
-            let item = self.end.item(rank, i);
-            let line = ItemLine {
-                rank,
-                name: self.script.name(item.reg),
-                item,
-            };
-            buffer.gather(sink, &line)?;
-        }
-        buffer.flush(sink)
+/// Writes where the ranks of a script stand that have not finished, by rank.
+pub fn write_unfinished<T: Endings, S: Sink>(
+    sink: &mut S,
+    scripts: &Scripts,
+    run: &T,
+) -> Result<(), WriteFault>
+    requires ranked { length (T.ended run.now) ≡ scripts.now.nue }
+    ensures { Sends (by_rank unfinished_text 0 (T.ended run.now)) (S.seen sink.old) (S.seen sink.new) result }
+{
+    for number in 0..scripts.nue() {
+        let rank = Rank::of(number);
+        write_end(sink, rank, &run.end(rank))?;
     }
+    Ok(())
 }

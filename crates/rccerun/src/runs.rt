@@ -1,12 +1,18 @@
 //! What no clause says: that the definitions mean the language. Whole scripts with their texts.
 
 use crate::launcher::rccerun;
-use crate::tests::{Ended, run, words_of};
+use crate::report::{write_printed, write_unfinished};
+use crate::tests::{Ended, expect, run, words_of};
 use outcomes::Status;
 use rcce_io::{MemFiles, MemSink};
-use std::alloc::{AllocError, Global};
+use rcce_run::Open;
+use scc_mesh::Chip;
+use script_plain::plain_run;
+use script_reader::read_script;
+use std::alloc::{Alloc, AllocError, Global};
 use std::process::Abort;
 use std::test::Fail;
+use std::thread::Threads;
 
 /// A script that runs, and what it writes. A `/` stands for the end of a line.
 #[derive(Clone, Copy, Debug)]
@@ -37,22 +43,29 @@ fn lines(alloc: Global, text: &[u8]) -> Result<Vec<u8>, AllocError> {
 }
 
 /// Runs a script on so many units of execution.
-fn run_lines(alloc: Global, nue: &str, script: &[u8]) -> Result<Ended, AllocError> {
-    let script = lines(alloc, script)?;
-    run(alloc, &["-nue", nue, "s.rcce"], "s.rcce", script.as_slice())
+fn run_lines<R: Threads + Sync + Alloc<A = Global>>(
+    rt: &R,
+    nue: &str,
+    script: &[u8],
+) -> Result<Ended, AllocError> {
+    let script = lines(rt.alloc(), script)?;
+    run(rt, &["-nue", nue, "s.rcce"], "s.rcce", script.as_slice())
 }
 
 /// Runs each script, and compares its texts and its status.
-fn expect_runs(rt: &impl Abort, alloc: Global, cases: &[Run]) -> Result<(), Fail> {
+fn expect_runs<R: Threads + Sync + Alloc<A = Global> + Abort>(
+    rt: &R,
+    cases: &[Run],
+) -> Result<(), Fail> {
     for case in cases {
-        let run = run_lines(alloc, case.nue, case.script)?;
+        let run = run_lines(rt, case.nue, case.script)?;
         let status = if case.err.is_empty() {
             Status::Finished
         } else {
             Status::Stuck
         };
-        let out = lines(alloc, case.out)?;
-        let err = lines(alloc, case.err)?;
+        let out = lines(rt.alloc(), case.out)?;
+        let err = lines(rt.alloc(), case.err)?;
         assert_eq!(rt; run.out.bytes(), out.as_slice(), "out: {}", case.shows);
         assert_eq!(rt; run.err.bytes(), err.as_slice(), "err: {}", case.shows);
         assert_eq!(rt; run.status, status, "status: {}", case.shows);
@@ -99,7 +112,7 @@ fn messages_meet_in_the_order_of_both_ranks(rt: HostRuntime) -> Result<(), Fail>
             err: b"ue 0 waits at line 4: send to 1 bcast 0 1/ue 1 mismatch at line 6: from 0 sent bcast 0 1, asked plain 0 1/",
         },
     ];
-    expect_runs(&rt, rt.alloc(), &cases)
+    expect_runs(&rt, &cases)
 }
 
 #[test]
@@ -141,7 +154,7 @@ fn barriers_wait_for_their_group(rt: HostRuntime) -> Result<(), Fail> {
             err: b"ue 0 waits at line 4: barrier 1/",
         },
     ];
-    expect_runs(&rt, rt.alloc(), &cases)
+    expect_runs(&rt, &cases)
 }
 
 #[test]
@@ -204,19 +217,25 @@ fn collective_calls_combine_values(rt: HostRuntime) -> Result<(), Fail> {
             err: b"",
         },
     ];
-    expect_runs(&rt, rt.alloc(), &cases)
+    expect_runs(&rt, &cases)
 }
 
 #[test]
 fn forty_eight_ranks_exchange_halos(rt: HostRuntime) -> Result<(), Fail> {
-    let case = Run {
-        shows: "halo exchange",
-        nue: "48",
-        script: b"# heat, halo exchange/rcce 1/all/fill edge 256 17/rank mine long/longs total 0/split 1 div 8/barrier/even/repeat 20/send +1 edge/recv -1 left 256/allreduce 0 sum long total mine/barrier 1/end/odd/repeat 20/recv -1 left 256/send +1 edge/allreduce 0 sum long total mine/barrier 1/end/all/barrier/ue 0/print long total/print total/",
-        out: b"ue 0 total long 1128/ue 0 total 6804000000000000/",
-        err: b"",
-    };
-    expect_runs(&rt, rt.alloc(), &[case])
+    let script = lines(
+        rt.alloc(),
+        b"# heat, halo exchange/rcce 1/all/fill edge 256 17/rank mine long/longs total 0/split 1 div 8/barrier/even/repeat 20/send +1 edge/recv -1 left 256/allreduce 0 sum long total mine/barrier 1/end/odd/repeat 20/recv -1 left 256/send +1 edge/allreduce 0 sum long total mine/barrier 1/end/all/barrier/ue 0/print long total/print total/",
+    )?;
+    let words = [
+        "-nue", "48", "-evict", "7", "-serial", "3", "-bits", "s.rcce",
+    ];
+    let run = run(&rt, &words, "s.rcce", script.as_slice())?;
+    let out = lines(
+        rt.alloc(),
+        b"ue 0 total long 1128/ue 0 total 6804000000000000/",
+    )?;
+    expect(&rt, &run, Status::Finished, out.as_slice(), b"");
+    Ok(())
 }
 
 #[test]
@@ -251,14 +270,17 @@ fn a_post_goes_on_until_the_next(rt: HostRuntime) -> Result<(), Fail> {
             err: b"ue 0 waits at line 3: post to 1 plain 0 2/ue 1 mismatch at line 5: from 0 sent plain 0 2, asked plain 0 1/",
         },
     ];
-    expect_runs(&rt, rt.alloc(), &cases)
+    expect_runs(&rt, &cases)
 }
 
 /// Runs each script, and compares what it writes with its refusal.
-fn expect_refusals(rt: &impl Abort, alloc: Global, cases: &[Refusal]) -> Result<(), Fail> {
+fn expect_refusals<R: Threads + Sync + Alloc<A = Global> + Abort>(
+    rt: &R,
+    cases: &[Refusal],
+) -> Result<(), Fail> {
     for case in cases {
-        let run = run_lines(alloc, case.nue, case.script)?;
-        let err = lines(alloc, case.err)?;
+        let run = run_lines(rt, case.nue, case.script)?;
+        let err = lines(rt.alloc(), case.err)?;
         assert_eq!(rt; run.err.bytes(), err.as_slice());
         assert_eq!(rt; run.out.bytes(), b"".as_slice());
         assert_eq!(rt; run.status, Status::Script);
@@ -320,18 +342,17 @@ fn scripts_are_refused_by_line_and_kind(rt: HostRuntime) -> Result<(), Fail> {
             err: b"rccerun: s.rcce line 1: BadNumber/",
         },
     ];
-    expect_refusals(&rt, rt.alloc(), &cases)
+    expect_refusals(&rt, &cases)
 }
 
 /// Runs a script in which rank 1 prints a message, and compares how long the line is and how it ends.
-fn expect_message(
-    rt: &impl Abort,
-    alloc: Global,
+fn expect_message<R: Threads + Sync + Alloc<A = Global> + Abort>(
+    rt: &R,
     script: &[u8],
     len: usize,
     last: &[u8],
 ) -> Result<(), Fail> {
-    let run = run_lines(alloc, "2", script)?;
+    let run = run_lines(rt, "2", script)?;
     let out = run.out.bytes();
     assert_eq!(rt; out.len(), len);
     assert!(rt; out.starts_with(b"ue 1 y 05060708".as_slice()));
@@ -343,22 +364,21 @@ fn expect_message(
 
 #[test]
 fn messages_of_many_bytes_arrive_whole(rt: HostRuntime) -> Result<(), Fail> {
-    let alloc = rt.alloc();
     let one_chunk = b"ue 0/fill x 3584 5/send 1 x/ue 1/recv 0 y 3584/print y/";
-    expect_message(&rt, alloc, one_chunk, 7_176, b"4a\n")?;
+    expect_message(&rt, one_chunk, 7_176, b"4a\n")?;
     let one_byte_more = b"ue 0/fill x 3585 5/send 1 x/ue 1/recv 0 y 3585/print y/";
-    expect_message(&rt, alloc, one_byte_more, 7_178, b"4b\n")?;
+    expect_message(&rt, one_byte_more, 7_178, b"4b\n")?;
     let the_most = b"ue 0/fill x 65536 5/send 1 x/ue 1/recv 0 y 65536/print y/";
-    expect_message(&rt, alloc, the_most, 131_080, b"1d\n")
+    expect_message(&rt, the_most, 131_080, b"1d\n")
 }
 
 #[test]
 fn the_most_operations_and_printed_bytes_finish(rt: HostRuntime) -> Result<(), Fail> {
-    let run = run_lines(rt.alloc(), "2", b"all/repeat 50000/bytes x 00/end/")?;
+    let run = run_lines(&rt, "2", b"all/repeat 50000/bytes x 00/end/")?;
     assert_eq!(rt; run.out.bytes(), b"".as_slice());
     assert_eq!(rt; run.status, Status::Finished);
     let script = b"all/fill x 65536 0/repeat 16/print x/end/";
-    let run = run_lines(rt.alloc(), "2", script.as_slice())?;
+    let run = run_lines(&rt, "2", script.as_slice())?;
     assert_eq!(rt; run.out.bytes().len(), 2 * 16 * 131_080);
     assert_eq!(rt; run.status, Status::Finished);
     Ok(())
@@ -373,9 +393,39 @@ fn a_fault_that_cannot_be_written_is_a_failed_write(rt: HostRuntime) -> Result<(
     let mut out = MemSink::new(alloc, 64, 64)?;
     let mut err = MemSink::new(alloc, 64, 64)?;
     err.fail_at(1);
-    let status = rccerun(alloc, words.as_slice(), &mut files, &mut out, &mut err);
+    let mut chip = Chip::blank();
+    let status = rccerun(
+        &rt,
+        alloc,
+        words.as_slice(),
+        &mut files,
+        &mut out,
+        &mut err,
+        &mut chip,
+        &Open,
+    );
     assert_eq!(rt; status, Status::Write);
     assert_eq!(rt; out.bytes(), b"".as_slice());
     assert_eq!(rt; err.bytes(), b"".as_slice());
+    Ok(())
+}
+
+/// The lines of a script's plain run are those of its run over the chip.
+#[test]
+fn the_plain_run_has_the_same_lines(rt: HostRuntime) -> Result<(), Fail> {
+    let alloc = rt.alloc();
+    let script =
+        b"all/rank x int/print x/allreduce 0 sum int y x/print int y/ue 1/send 0 x/ue 2/recv 1 z 4/";
+    let run = run_lines(&rt, "4", script.as_slice())?;
+    let bytes = lines(alloc, script.as_slice())?;
+    let scripts = read_script(alloc, bytes.as_slice(), 4)?;
+    let end = plain_run(alloc, &scripts)?;
+    let mut out = MemSink::new(alloc, 4096, 4096)?;
+    let mut err = MemSink::new(alloc, 4096, 4096)?;
+    write_printed(&mut out, &scripts, &end)?;
+    write_unfinished(&mut err, &scripts, &end)?;
+    assert_eq!(rt; run.out.bytes(), out.bytes());
+    assert_eq!(rt; run.err.bytes(), err.bytes());
+    assert_eq!(rt; run.status, Status::Stuck);
     Ok(())
 }

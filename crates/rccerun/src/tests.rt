@@ -4,13 +4,16 @@ use crate::launcher::rccerun;
 use crate::lines::write_end;
 use outcomes::Status;
 use rcce_io::{MemFiles, MemSink};
+use rcce_run::Open;
 use scc_base::{Call, Head, Kind, PostHead, Rank};
+use scc_mesh::Chip;
 use script_plain::UeEnd;
-use std::alloc::{AllocError, Global};
+use std::alloc::{Alloc, AllocError, Global};
 use std::process::Abort;
 use std::test::Fail;
+use std::thread::Threads;
 
-const FOUR_BYTES: &[u8] = b"ue 0\nbytes x 01020304\nsend 1 x\nue 1\nrecv 0 y 4\nprint y\n";
+pub const FOUR_BYTES: &[u8] = b"ue 0\nbytes x 01020304\nsend 1 x\nue 1\nrecv 0 y 4\nprint y\n";
 
 /// The room of a sink, more than any test writes.
 const MOST_BYTES: usize = 8_388_608;
@@ -32,22 +35,41 @@ pub fn words_of(alloc: Global, texts: &[&str]) -> Result<Vec<String>, AllocError
 }
 
 /// Runs these words where this is the only file.
-pub fn run(alloc: Global, texts: &[&str], name: &str, script: &[u8]) -> Result<Ended, AllocError> {
+pub fn run<R: Threads + Sync + Alloc<A = Global>>(
+    rt: &R,
+    texts: &[&str],
+    name: &str,
+    script: &[u8],
+) -> Result<Ended, AllocError> {
+    let alloc = rt.alloc();
     let words = words_of(alloc, texts)?;
     let mut files = MemFiles::new(alloc);
     files.add(name, script)?;
     let mut out = MemSink::new(alloc, MOST_BYTES, MOST_BYTES)?;
     let mut err = MemSink::new(alloc, MOST_BYTES, MOST_BYTES)?;
-    let status = rccerun(alloc, words.as_slice(), &mut files, &mut out, &mut err);
+    let mut chip = Chip::blank();
+    let status = rccerun(
+        rt,
+        alloc,
+        words.as_slice(),
+        &mut files,
+        &mut out,
+        &mut err,
+        &mut chip,
+        &Open,
+    );
     Ok(Ended { status, out, err })
 }
 
 /// Runs a script on two units of execution.
-fn run_script(alloc: Global, script: &[u8]) -> Result<Ended, AllocError> {
-    run(alloc, &["-nue", "2", "s.rcce"], "s.rcce", script)
+fn run_script<R: Threads + Sync + Alloc<A = Global>>(
+    rt: &R,
+    script: &[u8],
+) -> Result<Ended, AllocError> {
+    run(rt, &["-nue", "2", "s.rcce"], "s.rcce", script)
 }
 
-fn expect(rt: &impl Abort, run: &Ended, status: Status, out: &[u8], err: &[u8]) {
+pub fn expect(rt: &impl Abort, run: &Ended, status: Status, out: &[u8], err: &[u8]) {
     assert_eq!(rt; run.out.bytes(), out);
     assert_eq!(rt; run.err.bytes(), err);
     assert_eq!(rt; run.status, status);
@@ -55,15 +77,15 @@ fn expect(rt: &impl Abort, run: &Ended, status: Status, out: &[u8], err: &[u8]) 
 
 #[test]
 fn four_bytes_arrive(rt: HostRuntime) -> Result<(), Fail> {
-    let run = run(rt.alloc(), &["-nue", "2", "a.rcce"], "a.rcce", FOUR_BYTES)?;
+    let run = run(&rt, &["-nue", "2", "a.rcce"], "a.rcce", FOUR_BYTES)?;
     expect(&rt, &run, Status::Finished, b"ue 1 y 01020304\n", b"");
     Ok(())
 }
 
 /// A body that always answers want of memory meets each clause, and fails here.
 #[test]
-fn row_one_has_memory(rt: HostRuntime) -> Result<(), Fail> {
-    let run = run_script(rt.alloc(), FOUR_BYTES)?;
+fn four_bytes_have_memory(rt: HostRuntime) -> Result<(), Fail> {
+    let run = run_script(&rt, FOUR_BYTES)?;
     assert_ne!(rt; run.status, Status::Memory);
     Ok(())
 }
@@ -71,7 +93,7 @@ fn row_one_has_memory(rt: HostRuntime) -> Result<(), Fail> {
 #[test]
 fn an_empty_message_arrives(rt: HostRuntime) -> Result<(), Fail> {
     let script = b"ue 0\nbytes x -\nsend 1 x\nue 1\nrecv 0 y 0\nprint y\n";
-    let run = run_script(rt.alloc(), script.as_slice())?;
+    let run = run_script(&rt, script.as_slice())?;
     expect(&rt, &run, Status::Finished, b"ue 1 y -\n", b"");
     Ok(())
 }
@@ -80,7 +102,7 @@ fn an_empty_message_arrives(rt: HostRuntime) -> Result<(), Fail> {
 fn two_equal_messages_arrive_in_order(rt: HostRuntime) -> Result<(), Fail> {
     let script =
         b"ue 0\nbytes x aa\nsend 1 x\nsend 1 x\nue 1\nrecv 0 y 1\nrecv 0 z 1\nprint y\nprint z\n";
-    let run = run_script(rt.alloc(), script.as_slice())?;
+    let run = run_script(&rt, script.as_slice())?;
     expect(&rt, &run, Status::Finished, b"ue 1 y aa\nue 1 z aa\n", b"");
     Ok(())
 }
@@ -88,7 +110,7 @@ fn two_equal_messages_arrive_in_order(rt: HostRuntime) -> Result<(), Fail> {
 #[test]
 fn a_message_that_nobody_receives_waits(rt: HostRuntime) -> Result<(), Fail> {
     let script = b"ue 0\nbytes x aa\nsend 1 x\nsend 1 x\nue 1\nrecv 0 y 1\nprint y\n";
-    let run = run_script(rt.alloc(), script.as_slice())?;
+    let run = run_script(&rt, script.as_slice())?;
     let waits = b"ue 0 waits at line 4: send to 1 plain 0 1\n";
     expect(&rt, &run, Status::Stuck, b"ue 1 y aa\n", waits);
     Ok(())
@@ -96,7 +118,7 @@ fn a_message_that_nobody_receives_waits(rt: HostRuntime) -> Result<(), Fail> {
 
 #[test]
 fn a_receive_that_nobody_sends_waits(rt: HostRuntime) -> Result<(), Fail> {
-    let run = run_script(rt.alloc(), b"ue 1\nrecv 0 y 300\n")?;
+    let run = run_script(&rt, b"ue 1\nrecv 0 y 300\n")?;
     let waits = b"ue 1 waits at line 2: recv from 0 plain 0 300\n";
     expect(&rt, &run, Status::Stuck, b"", waits);
     Ok(())
@@ -105,7 +127,7 @@ fn a_receive_that_nobody_sends_waits(rt: HostRuntime) -> Result<(), Fail> {
 #[test]
 fn lengths_differ(rt: HostRuntime) -> Result<(), Fail> {
     let script = b"ue 0\nbytes x 0001020304050607\nsend 1 x\nue 1\nrecv 0 y 4\n";
-    let run = run_script(rt.alloc(), script.as_slice())?;
+    let run = run_script(&rt, script.as_slice())?;
     let ends =
         b"ue 0 waits at line 3: send to 1 plain 0 8\nue 1 mismatch at line 5: from 0 sent plain 0 8, asked plain 0 4\n";
     expect(&rt, &run, Status::Stuck, b"", ends.as_slice());
@@ -114,42 +136,15 @@ fn lengths_differ(rt: HostRuntime) -> Result<(), Fail> {
 
 #[test]
 fn an_empty_script_finishes(rt: HostRuntime) -> Result<(), Fail> {
-    let run = run_script(rt.alloc(), b"")?;
+    let run = run_script(&rt, b"")?;
     expect(&rt, &run, Status::Finished, b"", b"");
-    Ok(())
-}
-
-#[test]
-fn no_words_are_refused(rt: HostRuntime) -> Result<(), Fail> {
-    let run = run(rt.alloc(), &[], "a.rcce", FOUR_BYTES)?;
-    expect(&rt, &run, Status::Words, b"", b"rccerun: words refused\n");
-    Ok(())
-}
-
-#[test]
-fn other_words_are_refused(rt: HostRuntime) -> Result<(), Fail> {
-    let refused: [&[&str]; 9] = [
-        &["-nue"],
-        &["-nue", "2"],
-        &["-nue", "0", "a.rcce"],
-        &["-nue", "49", "a.rcce"],
-        &["-nue", "+2", "a.rcce"],
-        &["-nue", "00000000002", "a.rcce"],
-        &["-nue", "2", "-a.rcce"],
-        &["-ues", "2", "a.rcce"],
-        &["-nue", "2", "a.rcce", "a.rcce"],
-    ];
-    for words in refused {
-        let run = run(rt.alloc(), words, "a.rcce", FOUR_BYTES)?;
-        expect(&rt, &run, Status::Words, b"", b"rccerun: words refused\n");
-    }
     Ok(())
 }
 
 #[test]
 fn a_number_has_up_to_ten_digits(rt: HostRuntime) -> Result<(), Fail> {
     for count in ["2", "48", "0000000002"] {
-        let run = run(rt.alloc(), &["-nue", count, "a.rcce"], "a.rcce", FOUR_BYTES)?;
+        let run = run(&rt, &["-nue", count, "a.rcce"], "a.rcce", FOUR_BYTES)?;
         expect(&rt, &run, Status::Finished, b"ue 1 y 01020304\n", b"");
     }
     Ok(())
@@ -157,12 +152,7 @@ fn a_number_has_up_to_ten_digits(rt: HostRuntime) -> Result<(), Fail> {
 
 #[test]
 fn absent_file(rt: HostRuntime) -> Result<(), Fail> {
-    let run = run(
-        rt.alloc(),
-        &["-nue", "2", "none.rcce"],
-        "a.rcce",
-        FOUR_BYTES,
-    )?;
+    let run = run(&rt, &["-nue", "2", "none.rcce"], "a.rcce", FOUR_BYTES)?;
     expect(
         &rt,
         &run,
@@ -174,12 +164,13 @@ fn absent_file(rt: HostRuntime) -> Result<(), Fail> {
 }
 
 /// The four bytes, where the given call on the files fails and so do the given writes, of which each takes `most` bytes.
-fn run_with_faults(
-    alloc: Global,
+fn run_with_faults<R: Threads + Sync + Alloc<A = Global>>(
+    rt: &R,
     call: Option<u64>,
     out_write: Option<u64>,
     err_write: Option<u64>,
 ) -> Result<Ended, AllocError> {
+    let alloc = rt.alloc();
     let words = words_of(alloc, &["-nue", "2", "a.rcce"])?;
     let mut files = MemFiles::new(alloc);
     files.add("a.rcce", FOUR_BYTES)?;
@@ -194,14 +185,24 @@ fn run_with_faults(
     if let Some(write) = err_write {
         err.fail_at(write);
     }
-    let status = rccerun(alloc, words.as_slice(), &mut files, &mut out, &mut err);
+    let mut chip = Chip::blank();
+    let status = rccerun(
+        rt,
+        alloc,
+        words.as_slice(),
+        &mut files,
+        &mut out,
+        &mut err,
+        &mut chip,
+        &Open,
+    );
     Ok(Ended { status, out, err })
 }
 
 #[test]
 fn read_fault(rt: HostRuntime) -> Result<(), Fail> {
     for call in 1..4 {
-        let run = run_with_faults(rt.alloc(), Some(call), None, None)?;
+        let run = run_with_faults(&rt, Some(call), None, None)?;
         expect(
             &rt,
             &run,
@@ -215,9 +216,9 @@ fn read_fault(rt: HostRuntime) -> Result<(), Fail> {
 
 #[test]
 fn nothing_is_written_after_a_failed_write(rt: HostRuntime) -> Result<(), Fail> {
-    let run = run_with_faults(rt.alloc(), None, Some(2), None)?;
+    let run = run_with_faults(&rt, None, Some(2), None)?;
     expect(&rt, &run, Status::Write, b"u", b"");
-    let run = run_with_faults(rt.alloc(), Some(1), None, Some(4))?;
+    let run = run_with_faults(&rt, Some(1), None, Some(4))?;
     expect(&rt, &run, Status::Write, b"", b"rcc");
     Ok(())
 }

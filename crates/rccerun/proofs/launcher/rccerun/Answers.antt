@@ -1,6 +1,25 @@
+use Rattle.std.proofs.Common.{ap, map, string_bytes, sym, ◌∙◌}
+use Rattle.std.proofs.lemmas.Bool.{false≢true}
+use Rattle.scc_mesh.specs.Scenes.{is_open}
 use Rattle.outcomes.proofs.PromiseLemmas.{keeps_promises}
 use Rattle.rccerun.specs.Program.{rccerun}
+use Rattle.rccerun.proofs.ChipLemmas.{ends_loaded, ends_refused}
 use Rattle.rccerun.proofs.launcher.rccerun.Goals as goal
 
-pub returns : goal.returns
-returns g c = record { promises = keeps_promises rccerun _ _ _ _ _ _ (_, c.run_words-ending.ensures, c.deliver.ensures) }
+pub returns-in-Ok : goal.returns-in-Ok
+returns-in-Ok g c =
+    let ended = ends_loaded (map string_bytes c.args.words.now) _ _ _ _ _ _ _ c.in-Ok.ensures c.run_loaded.ensures.ran in
+    record {
+      promises = keeps_promises rccerun _ _ _ _ _ _ (ended.0, ended.1, ended.2);
+      history = ended;
+      legal = c.run_loaded.ensures.legal;
+    }
+
+pub returns-in-Err : goal.returns-in-Err
+returns-in-Err g c =
+    let ended = ends_refused (map string_bytes c.args.words.now) _ _ _ _ _ _ _ c.in-Err.ensures c.deliver.ensures c.requires.blank in
+    record {
+      promises = keeps_promises rccerun _ _ _ _ _ _ (ended.0, ended.1, ended.2);
+      history = ended;
+      legal = λ opened. absurd (false≢true (sym (ap is_open c.requires.blank) ∙ opened));
+    }

@@ -1,0 +1,179 @@
+-- What was loaded, and what a file that was read holds.
+use Rattle.std.proofs.Common.{◌≡◌, ℕ, ◌+◌, ◌≤◌, ◌⊎◌, List, [], length, take, codes, refl, sym, subst, ap, ◌∙◌, inl, inr, arith, Bool, true, false, Option, Some, None, Result, Ok, Err, IfSome, nat_lt}
+use Rattle.std.proofs.lemmas.List.{length-take, take_all}
+use Rattle.rcce_io.specs.declared.reading.ReadEnd.{ReadEnd}
+use Rattle.rcce_io.specs.declared.reading.ReadEnd.TheVariants as ends
+use Rattle.rcce_io.specs.Files.{FilesView, NamedFile, contents_of}
+use Rattle.rcce_io.specs.Reading.{ReadsAll}
+use Rattle.outcomes.specs.Coming.{ByTest, Comes, Holds, LeadsOn, ReadsOn}
+use Rattle.outcomes.specs.Complaints.{ReadsFile, complaint_outcome}
+use Rattle.outcomes.specs.Outcomes.{Outcome, Ran, file_refused, no_memory, run_outcome, too_long, words_refused}
+use Rattle.outcomes.specs.Plans.{Plan}
+use Rattle.outcomes.specs.Plans.Plan.{Runs, Reads}
+use Rattle.outcomes.specs.declared.complaint.Complaint.{Complaint}
+use Rattle.script_reader.specs.Reading.{parse_script}
+use Rattle.script_reader.specs.Script.{Script}
+use Rattle.rcce_words.specs.FaultTexts.{fault_text, word_at}
+use Rattle.rcce_words.specs.HostFile.{default_hosts, host_kind_name, parse_hosts}
+use Rattle.rcce_words.specs.declared.command.Job.{Job}
+use Rattle.rcce_words.specs.declared.command.Work.{Work}
+use Rattle.rcce_words.specs.declared.command.Work.TheVariants as works
+use Rattle.rcce_words.specs.declared.command.WordFault.{WordFault}
+use Rattle.rcce_words.specs.declared.host_file.HostFault.{HostFault}
+use Rattle.rccerun.specs.Asking.{AsksFor, IsScript, setup_by}
+use Rattle.rccerun.specs.History.{Asked}
+use Rattle.rccerun.specs.Loading.{AsksBehind, AsksListed, AsksOn, LoadsBy, LoadsPlan, LoadsWords, asked_by}
+use Rattle.rccerun.specs.Program.{file_plan, hosts_plan, listed_plan, plan_behind, script_plan, work_plan}
+use Rattle.rccerun.specs.declared.loaded.Loaded.{Loaded}
+use Rattle.rccerun.proofs.PlanLemmas.{comes_parsed}
+
+-- a plan that shows the bytes that were read
+abbrev shown : List ℕ → Ran
+shown bytes = record { finished = true; out = bytes; err = [] }
+
+abbrev showing : List ℕ → Plan
+showing bytes = Runs (shown bytes)
+
+-- the first bytes that are fewer are all
+take_whole : (n : ℕ) (whole bytes : List ℕ) → bytes ≡ take (n + 1) whole → length bytes ≤ n → whole ≡ bytes
+take_whole n whole bytes is few =
+    let count : length (take (n + 1) whole) ≤ n = subst (λ (b : List ℕ). length b ≤ n) is few in
+    sym (is ∙ take_all (n + 1) whole (omega (arith, length-take (n + 1) whole, count)))
+
+holds_by : (told : Option (List NamedFile)) (file : List ℕ) (limit : ℕ) (bytes : List ℕ) → length bytes ≤ limit
+    → IfSome told (λ files. (whole : List ℕ) × (contents_of file files ≡ Some whole) × (bytes ≡ take (limit + 1) whole)) → Holds told file bytes
+holds_by None file limit bytes few found = found
+holds_by (Some files) file limit bytes few found = found.1 ∙ ap Some (take_whole limit found.0 bytes found.2 few)
+
+module _ (file : List ℕ) (limit : ℕ) (before between : FilesView) (bytes : List ℕ) (few : length bytes ≤ limit) where
+  abbrev came : Outcome
+  came = run_outcome (shown bytes)
+
+  abbrev Found : Type 0
+  Found = Holds before.told file bytes × (between.told ≡ before.told)
+
+  other_status : (o : Outcome) → came ≡ o → came.status ≡ o.status
+  other_status o same = ap (λ (x : Outcome). x.status) same
+
+  by_run : (mid : FilesView) (found : List ℕ) → ReadsAll file limit before mid (Ok found)
+      → (between ≡ mid) × (came ≡ run_outcome (shown found)) → Found
+  by_run mid found all leads =
+      let same : bytes ≡ found = ap (λ (x : Outcome). x.out) leads.1 in
+      let held : Holds before.told file found = holds_by before.told file limit found (subst (λ (b : List ℕ). length b ≤ limit) same few) all.2 in (
+        subst (λ (b : List ℕ). Holds before.told file b) (sym same) held,
+        ap (λ (v : FilesView). v.told) leads.0 ∙ ap (λ (v : FilesView). v.told) all.0,
+      )
+
+  by_end : (mid : FilesView) (found : List ℕ) → ReadsAll file limit before mid (Ok found)
+      → Comes [] (showing found) mid between came → Found
+  by_end mid found all leads = by leads.1
+    where
+      by : (came ≡ run_outcome (shown found)) ⊎ (came ≡ no_memory []) → Found
+      by (inl same) = by_run mid found all (leads.0, same)
+      by (inr same) = absurd (let e = other_status (no_memory []) same in cc (e))
+
+  by_test : (test : Bool) (mid : FilesView) (found : List ℕ) → ReadsAll file limit before mid (Ok found)
+      → ByTest test ((between ≡ mid) × (came ≡ too_long [] file)) (Comes [] (showing found) mid between came) → Found
+  by_test true mid found all leads = absurd (let e = other_status (too_long [] file) leads.1 in cc (e))
+  by_test false mid found all leads = by_end mid found all leads
+
+  by_answer : (mid : FilesView) (answer : Result (List ℕ) ReadEnd) → ReadsAll file limit before mid answer
+      → LeadsOn [] file limit (λ b. Comes [] (showing b) mid between came) mid between came answer → Found
+  by_answer mid (Ok found) all leads = by_test (nat_lt limit (length found)) mid found all leads
+  by_answer mid (Err ends.Absent) all leads = absurd (let e = other_status _ leads.1 in cc (e))
+  by_answer mid (Err ends.Failed) all leads = absurd (let e = other_status _ leads.1 in cc (e))
+  by_answer mid (Err ends.Memory) all leads = absurd (let e = other_status _ leads.1 in cc (e))
+
+  -- bytes that were read stand in the file, where files are told; and what is told of them stays
+  pub holds_read : ReadsFile file limit before between (Ok bytes) → Found
+  holds_read reads =
+      let on : ReadsOn [] file limit (λ mid b. Comes [] (showing b) mid between came) before between came = reads [] showing between came (refl, inl refl) in
+      by_answer on.0 on.1 on.2 on.3
+
+-- what was loaded from a file's bytes was loaded from the file
+pub loads_read : (file : List ℕ) (limit : ℕ) (next : List ℕ → Plan) (asks : Asked → Type 0) (before between after : FilesView) (bytes : List ℕ) (answer : Result Loaded Complaint)
+    → ReadsFile file limit before between (Ok bytes) → LoadsPlan (next bytes) asks between after answer → LoadsPlan (Reads file limit next) asks before after answer
+loads_read file limit next asks before between after bytes (Ok loaded) reads leads =
+    record { goes = λ o came. reads (codes "rccerun") next after o (leads.goes o came); asked = leads.asked }
+loads_read file limit next asks before between after bytes (Err why) reads came = reads (codes "rccerun") next after _ came
+
+-- a script that was read, and its setup
+pub loads_script : (file : List ℕ) (told : Option (List NamedFile)) (job : Job) (hosts bytes : List ℕ) (files : FilesView) (script : Script) (loaded : Loaded)
+    → parse_script bytes job.nue ≡ Ok script → loaded.script ≡ script → loaded.setup ≡ setup_by job hosts script → length bytes ≤ 4194304 → Holds told file bytes
+    → LoadsPlan (script_plan file job.nue bytes) (AsksOn file told job hosts) files files (Ok loaded)
+loads_script file told job hosts bytes files script loaded gives same setup few holds =
+    let is : parse_script bytes job.nue ≡ Ok loaded.script = gives ∙ ap Ok (sym same) in
+    record {
+      goes = λ o came. comes_parsed (codes "rccerun") file _ (Ok loaded.script) files o is came;
+      asked = record { script = (bytes, few, holds, is); setup = setup ∙ ap (setup_by job hosts) (sym same) };
+    }
+
+-- what was loaded asks for less too
+loads_less : (plan : Plan) (asks less : Asked → Type 0) (before after : FilesView) (answer : Result Loaded Complaint) → ((asked : Asked) → asks asked → less asked)
+    → LoadsPlan plan asks before after answer → LoadsPlan plan less before after answer
+loads_less plan asks less before after (Ok loaded) weaker leads = record { goes = leads.goes; asked = weaker (asked_by loaded) leads.asked }
+loads_less plan asks less before after (Err why) weaker came = came
+
+-- a script's file, behind the hosts of a host file
+pub loads_listed : (list file : List ℕ) (told : Option (List NamedFile)) (job : Job) (hosts bytes : List ℕ) (before after : FilesView) (answer : Result Loaded Complaint)
+    → parse_hosts bytes job.nue ≡ Ok hosts → length bytes ≤ 65536 → Holds told list bytes → LoadsPlan (file_plan file job.nue) (AsksOn file told job hosts) before after answer
+    → LoadsPlan (hosts_plan list job.nue (file_plan file job.nue) bytes) (AsksListed list file told job) before after answer
+loads_listed list file told job hosts bytes before after answer gives few holds leads =
+    let less = loads_less (file_plan file job.nue) (AsksOn file told job hosts) (AsksListed list file told job) before after answer
+    (λ asked on. record { hosts = hosts; listed = (bytes, few, holds, gives); on = on }) leads in
+    subst (λ (r : Result (List ℕ) HostFault). LoadsPlan (listed_plan list (file_plan file job.nue) r) (AsksListed list file told job) before after answer) (sym gives) less
+
+-- a host file that is refused
+pub comes_unlisted : (list : List ℕ) (next : Plan) (bytes : List ℕ) (nue : ℕ) (fault : HostFault) (files : FilesView) (o : Outcome)
+    → parse_hosts bytes nue ≡ Err fault → o ≡ file_refused (codes "rccerun") list fault.line (host_kind_name fault.kind) → Comes (codes "rccerun") (hosts_plan list nue next bytes) files files o
+comes_unlisted list next bytes nue fault files o gives is =
+    subst (λ (r : Result (List ℕ) HostFault). Comes (codes "rccerun") (listed_plan list next r) files files o) (sym gives) (refl, inl is)
+
+-- the host file that the words name, or none
+pub loads_named : (words : List (List ℕ)) (told : Option (List NamedFile)) (job : Job) (hosts : Option ℕ) (at : ℕ) (file : List ℕ) (before after : FilesView) (answer : Result Loaded Complaint)
+    → hosts ≡ Some at → LoadsPlan (plan_behind words job.nue (file_plan file job.nue) (Some at)) (AsksListed (word_at words at) file told job) before after answer
+    → LoadsPlan (plan_behind words job.nue (file_plan file job.nue) hosts) (AsksBehind words told job hosts file) before after answer
+loads_named words told job hosts at file before after answer is leads =
+    subst (λ (h : Option ℕ). LoadsPlan (plan_behind words job.nue (file_plan file job.nue) h) (AsksBehind words told job h file) before after answer) (sym is)
+    (loads_less _ (AsksListed (word_at words at) file told job) (AsksBehind words told job (Some at) file) before after answer
+    (λ asked all. record { hosts = all.hosts; are_hosts = all.listed; on = all.on }) leads)
+
+pub loads_unnamed : (words : List (List ℕ)) (told : Option (List NamedFile)) (job : Job) (hosts : Option ℕ) (cores file : List ℕ) (before after : FilesView) (answer : Result Loaded Complaint)
+    → hosts ≡ None → cores ≡ default_hosts → LoadsPlan (file_plan file job.nue) (AsksOn file told job cores) before after answer
+    → LoadsPlan (plan_behind words job.nue (file_plan file job.nue) hosts) (AsksBehind words told job hosts file) before after answer
+loads_unnamed words told job hosts cores file before after answer is own leads =
+    subst (λ (h : Option ℕ). LoadsPlan (plan_behind words job.nue (file_plan file job.nue) h) (AsksBehind words told job h file) before after answer) (sym is)
+    (loads_less _ (AsksOn file told job cores) (AsksBehind words told job None file) before after answer
+    (λ asked on. record { hosts = cores; are_hosts = own; on = on }) leads)
+
+-- what a job asks for
+pub loads_work : (words : List (List ℕ)) (told : Option (List NamedFile)) (job : Job) (work : Work) (at : ℕ) (before after : FilesView) (answer : Result Loaded Complaint)
+    → job.work ≡ work → work ≡ works.Script at → LoadsPlan (plan_behind words job.nue (file_plan (word_at words at) job.nue) job.hosts) (AsksBehind words told job job.hosts (word_at words at)) before after answer
+    → LoadsBy (work_plan words job job.work) (AsksFor words told job) before after answer
+loads_work words told job work at before after answer same is leads =
+    let here : job.work ≡ works.Script at = same ∙ is in
+    subst (λ (x : Work). LoadsBy (work_plan words job x) (AsksFor words told job) before after answer) (sym here)
+    (loads_less _ (AsksBehind words told job job.hosts (word_at words at)) (AsksFor words told job) before after answer
+    (λ asked all. record {
+      hosts = all.hosts;
+      are_hosts = all.are_hosts;
+      script = subst (λ (x : Work). IsScript words told job.nue x asked.script) (sym here) all.on.script;
+      setup = all.on.setup;
+    }) leads)
+
+-- a script that is made is not built yet
+pub loads_made : (words : List (List ℕ)) (told : Option (List NamedFile)) (job : Job) (seed : ℕ) (files : FilesView) (why : Complaint)
+    → job.work ≡ works.Gen seed → complaint_outcome (codes "rccerun") why ≡ words_refused (codes "rccerun") (codes "unknown word: -gen")
+    → LoadsBy (work_plan words job job.work) (AsksFor words told job) files files (Err why)
+loads_made words told job seed files why is meant =
+    subst (λ (x : Work). LoadsBy (work_plan words job x) (AsksFor words told job) files files (Err why)) (sym is) (refl, meant)
+
+-- what words ask for
+pub loads_words : (words : List (List ℕ)) (command : Result Job WordFault) (job : Job) (before after : FilesView) (answer : Result Loaded Complaint)
+    → Ok job ≡ command → LoadsBy (work_plan words job job.work) (AsksFor words before.told job) before after answer → LoadsWords words command before after answer
+loads_words words command job before after answer is leads = subst (λ (c : Result Job WordFault). LoadsWords words c before after answer) is leads
+
+-- refused words ask for nothing
+pub loads_nothing : (words : List (List ℕ)) (command : Result Job WordFault) (fault : WordFault) (files : FilesView) (why : Complaint)
+    → Err fault ≡ command → complaint_outcome (codes "rccerun") why ≡ words_refused (codes "rccerun") (fault_text words fault) → LoadsWords words command files files (Err why)
+loads_nothing words command fault files why is meant = subst (λ (c : Result Job WordFault). LoadsWords words c files files (Err why)) is (refl, meant)

@@ -1,0 +1,230 @@
+//! From words to a run that can begin: the words, the host file, the script's file and its grammar.
+
+ghost use Rattle.std.specs.Prelude.{◌≡◌, ◌≤◌, map, string_bytes, length, IfOk, List, ℕ, Option};
+ghost use Rattle.rcce_io.specs.Files.{FilesView, NamedFile};
+ghost use Rattle.scc_base.specs.Setups.{AreApart};
+ghost use Rattle.script_reader.specs.Faults.{Gives};
+ghost use Rattle.script_reader.specs.Reading.{parse_script};
+ghost use Rattle.outcomes.specs.Coming.{Holds};
+ghost use Rattle.outcomes.specs.Complaints.{complaint_outcome};
+ghost use Rattle.outcomes.specs.Outcomes.{file_refused};
+ghost use Rattle.outcomes.specs.Plans.Plan.{Reads};
+ghost use Rattle.rcce_words.specs.CommandLine.{parse_command};
+ghost use Rattle.rcce_words.specs.HostFile.{host_kind_name};
+ghost use Rattle.rccerun.specs.Asking.{AsksFor, layout_by, setup_by};
+ghost use Rattle.rccerun.specs.Loading.{AsksBehind, AsksListed, AsksOn, LoadsBy, LoadsPlan, LoadsWords, fault_outcome, stop_outcome};
+ghost use Rattle.rccerun.specs.Program.{file_plan, hosts_plan, plan_behind, script_plan, work_plan};
+
+use crate::loaded::Loaded;
+use outcomes::{Complaint, read_file};
+use rcce_io::Files;
+use rcce_words::{
+    HostFault, Job, Work, complaint, default_hosts, parse_words, read_hosts, word_at,
+};
+use scc_base::{CoreId, Layout};
+use script_reader::{ReadFault, ReadStop, Scripts, read_script};
+use std::alloc::Global;
+
+/// The longest host file, in bytes.
+const HOST_BYTES: usize = 65_536;
+
+/// The longest script file, in bytes.
+const SCRIPT_BYTES: usize = 4_194_304;
+
+/// Loads the run that the words ask for.
+pub fn load<'a, F: Files>(
+    alloc: Global,
+    words: &'a [String],
+    files: &mut F,
+) -> Result<Loaded, Complaint<'a>>
+    ensures { LoadsWords (map string_bytes words.now) (parse_command (map string_bytes words.now)) (F.seen files.old) (F.seen files.new) result }
+{
+    match parse_words(words) {
+        Ok(job) => load_job(alloc, words, files, job),
+        Err(fault) => Err(complaint(words, fault)),
+    }
+}
+
+// Loads what a job asks for.
+fn load_job<'a, F: Files>(
+    alloc: Global,
+    words: &'a [String],
+    files: &mut F,
+    job: Job,
+) -> Result<Loaded, Complaint<'a>>
+    requires some { 1 ≤ job.nue }
+    requires most { job.nue ≤ 48 }
+    ensures { LoadsBy (work_plan (map string_bytes words.now) job job.work) (AsksFor (map string_bytes words.now) (F.seen files.old).told job)
+        (F.seen files.old) (F.seen files.new) result }
+{
+    match job.work {
+        Work::Script(at) => load_behind(alloc, words, files, job, word_at(words, at)),
+        Work::Gen(_) => Err(Complaint::words("unknown word: -gen")),
+    }
+}
+
+// Reads the host file, if there is one, and goes on with the hosts.
+fn load_behind<'a, F: Files>(
+    alloc: Global,
+    words: &'a [String],
+    files: &mut F,
+    job: Job,
+    script: &'a str,
+) -> Result<Loaded, Complaint<'a>>
+    requires some { 1 ≤ job.nue }
+    requires most { job.nue ≤ 48 }
+    ensures { LoadsPlan (plan_behind (map string_bytes words.now) job.nue (file_plan script.now job.nue) job.hosts)
+        (AsksBehind (map string_bytes words.now) (F.seen files.old).told job job.hosts script.now) (F.seen files.old) (F.seen files.new) result }
+{
+    match job.hosts {
+        Some(at) => load_hosts(alloc, files, job, word_at(words, at), script),
+        None => load_script(alloc, files, job, script, default_hosts()),
+    }
+}
+
+// Reads the host file, and goes on with its bytes.
+fn load_hosts<'a, F: Files>(
+    alloc: Global,
+    files: &mut F,
+    job: Job,
+    list: &'a str,
+    script: &'a str,
+) -> Result<Loaded, Complaint<'a>>
+    requires some { 1 ≤ job.nue }
+    requires most { job.nue ≤ 48 }
+    ensures { LoadsPlan (Reads list.now 65536 (hosts_plan list.now job.nue (file_plan script.now job.nue)))
+        (AsksListed list.now script.now (F.seen files.old).told job) (F.seen files.old) (F.seen files.new) result }
+{
+    match read_file(alloc, files, list, HOST_BYTES) {
+        Ok(bytes) => load_listed(alloc, files, job, list, bytes.as_slice(), script),
+        Err(complaint) => Err(complaint),
+    }
+}
+
+// Reads the hosts, and goes on with the script's file.
+fn load_listed<'a, F: Files>(
+    alloc: Global,
+    files: &mut F,
+    job: Job,
+    list: &'a str,
+    bytes: &[u8],
+    script: &'a str,
+) -> Result<Loaded, Complaint<'a>>
+    requires some { 1 ≤ job.nue }
+    requires most { job.nue ≤ 48 }
+    requires within { length bytes.now ≤ 65536 }
+    ensures { Holds (F.seen files.old).told list.now bytes.now → LoadsPlan (hosts_plan list.now job.nue (file_plan script.now job.nue) bytes.now)
+        (AsksListed list.now script.now (F.seen files.old).told job) (F.seen files.old) (F.seen files.new) result }
+{
+    match read_hosts(bytes, job.nue) {
+        Ok(hosts) => load_script(alloc, files, job, script, hosts),
+        Err(fault) => Err(refused_hosts(list, fault)),
+    }
+}
+
+// Reads the script's file, and goes on with its bytes.
+fn load_script<'a, F: Files>(
+    alloc: Global,
+    files: &mut F,
+    job: Job,
+    script: &'a str,
+    hosts: [CoreId; 48],
+) -> Result<Loaded, Complaint<'a>>
+    requires some { 1 ≤ job.nue }
+    requires most { job.nue ≤ 48 }
+    requires apart { AreApart job.nue hosts }
+    ensures { LoadsPlan (file_plan script.now job.nue) (AsksOn script.now (F.seen files.old).told job hosts) (F.seen files.old) (F.seen files.new) result }
+{
+    match read_file(alloc, files, script, SCRIPT_BYTES) {
+        Ok(bytes) => load_bytes(alloc, job, script, bytes.as_slice(), hosts),
+        Err(complaint) => Err(complaint),
+    }
+}
+
+// Reads the script.
+fn load_bytes<'a>(
+    alloc: Global,
+    job: Job,
+    file: &'a str,
+    bytes: &[u8],
+    hosts: [CoreId; 48],
+) -> Result<Loaded, Complaint<'a>>
+    requires some { 1 ≤ job.nue }
+    requires most { job.nue ≤ 48 }
+    requires apart { AreApart job.nue hosts }
+    requires within { length bytes.now ≤ 4194304 }
+    ensures { (files : FilesView) (told : Option (List NamedFile)) → Holds told file.now bytes.now
+        → LoadsPlan (script_plan file.now job.nue bytes.now) (AsksOn file.now told job hosts) files files result }
+{
+    match read_for(alloc, bytes, job.nue) {
+        Ok(script) => Ok(with_setup(job, script, hosts)),
+        Err(stop) => Err(stopped(file, stop)),
+    }
+}
+
+// Reads a script for so many ranks. It has as many, which the reader's contract does not say: another number would be
+// answered as want of memory is.
+fn read_for(alloc: Global, bytes: &[u8], nue: u8) -> Result<Scripts, ReadStop>
+    requires some { 1 ≤ nue }
+    requires most { nue ≤ 48 }
+    ensures gives { Gives (λ script. script) result (parse_script bytes.now nue) }
+    ensures ranks { IfOk result (λ script. script.nue ≡ nue) }
+{
+    let script = read_script(alloc, bytes, nue)?;
+    if script.nue() == nue {
+        Ok(script)
+    } else {
+        Err(ReadStop::Memory)
+    }
+}
+
+// The script with its setup on these hosts.
+fn with_setup(job: Job, script: Scripts, hosts: [CoreId; 48]) -> Loaded
+    requires ranks { script.nue ≡ job.nue }
+    requires apart { AreApart job.nue hosts }
+    ensures script { result.script ≡ script }
+    ensures setup { result.setup ≡ setup_by job hosts script }
+{
+    let setup = script.setup(layout_of(job.bits), hosts);
+    Loaded { job, script, setup }
+}
+
+fn layout_of(bits: bool) -> Layout
+    ensures { result ≡ layout_by bits }
+{
+    if bits {
+        Layout::bits()
+    } else {
+        Layout::lines()
+    }
+}
+
+// Why the reading of a script stopped.
+fn stopped(file: &str, stop: ReadStop) -> Complaint<'_>
+    ensures { (program : List ℕ) → complaint_outcome program result ≡ stop_outcome program file.now stop }
+{
+    match stop {
+        ReadStop::Fault(fault) => refused(file, fault),
+        ReadStop::Memory => Complaint::Memory,
+    }
+}
+
+fn refused(file: &str, fault: ReadFault) -> Complaint<'_>
+    ensures { (program : List ℕ) → complaint_outcome program result ≡ fault_outcome program file.now fault }
+{
+    Complaint::Refused {
+        file,
+        line: fault.line,
+        kind: fault.kind.name(),
+    }
+}
+
+fn refused_hosts(list: &str, fault: HostFault) -> Complaint<'_>
+    ensures { (program : List ℕ) → complaint_outcome program result ≡ file_refused program list.now fault.line (host_kind_name fault.kind) }
+{
+    Complaint::Refused {
+        file: list,
+        line: fault.line,
+        kind: fault.kind.name(),
+    }
+}
