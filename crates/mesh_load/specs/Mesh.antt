@@ -43,6 +43,7 @@ route from to =
     (links_from (to.x - from.x) from East ++ links_from (from.x - to.x) from West)
     ++ (links_from (to.y - from.y) corner North ++ links_from (from.y - to.y) corner South)
 
+-- whether two directions are the same
 abbrev pub same_dir : Dir → Dir → Bool
 same_dir East East = true
 same_dir West West = true
@@ -50,6 +51,7 @@ same_dir North North = true
 same_dir South South = true
 same_dir _ _ = false
 
+-- whether two links are the same
 abbrev pub same_link : Link → Link → Bool
 same_link a b = (a.tile.x == b.tile.x) && (a.tile.y == b.tile.y) && same_dir a.dir b.dir
 
