@@ -4,6 +4,7 @@ pub mod ListLemmas
 pub mod ReadingLemmas
 pub mod StandingLemmas
 pub mod StepLemmas
+pub mod TextLemmas
 pub mod VerdictLemmas
 pub mod WordLemmas
 pub mod WritingLemmas

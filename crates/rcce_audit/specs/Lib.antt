@@ -1,6 +1,7 @@
 pub mod Grammar
 pub mod Kinds
 pub mod Logs
+pub mod Pieces
 pub mod Reading
 pub mod Standings
 pub mod Texts

@@ -15,6 +15,7 @@ mod steps;
 mod tests;
 mod verdicts;
 mod words;
+mod writing;
 
 pub use faults::{LogFault, LogKind, LogStop};
 pub use judging::audit;

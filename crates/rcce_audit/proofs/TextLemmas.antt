@@ -1,0 +1,91 @@
+-- The texts of a log's lines, line by line.
+use Rattle.std.proofs.Common.{◌≡◌, ℕ, zero, suc, ◌+◌, ◌-◌, ◌/◌, ◌%◌, ◌<◌, ◌≤◌, List, [], ◌∷◌, ◌++◌, codes, decimal, length, get_or, map, take, drop, refl, sym, ap, ◌∙◌, append_assoc, arith}
+use Rattle.std.specs.Prelude.{slice_index}
+use Rattle.std.proofs.Math.Seq.{take-add}
+use Rattle.std.proofs.lemmas.List.{append-nil, take-append-drop, take_more, length-take-le}
+use Rattle.hex.specs.Hex.{encode_with, encode_lower, lower_digits}
+use Rattle.scc_base.specs.Heads.{MessageHead, kind_at}
+use Rattle.rcce_io.specs.Sending.{joined}
+use Rattle.rcce_audit.specs.declared.logs.LogCall.{LogCall}
+use Rattle.rcce_audit.specs.Logs.{LogView}
+use Rattle.rcce_audit.specs.Pieces.{call_text, ended}
+use Rattle.rcce_audit.specs.Texts.{call_lines, head_words, hex_text, kind_text, line_of, log_text, message_words, rule_lines, split_words, table_lines, text_of}
+use Rattle.rcce_audit.specs.Views.{data_list, data_of}
+
+-- the digits of some bytes and then of others
+encode_lower-append : (a b : List ℕ) → encode_lower (a ++ b) ≡ encode_lower a ++ encode_lower b
+unfolding encode_with
+encode_lower-append [] b = refl
+encode_lower-append (x ∷ a) b = ap (λ t. slice_index lower_digits (x / 16) ∷ slice_index lower_digits (x % 16) ∷ t) (encode_lower-append a b)
+
+take-part : (from to : ℕ) (xs : List ℕ) → from ≤ to → take to xs ≡ take from xs ++ take (to - from) (drop from xs)
+take-part from to xs within = ap (λ n. take n xs) (omega arith) ∙ take-add from (to - from) xs
+
+-- the digits of the bytes up to a place go on with those of the next part
+pub encode_lower-part : (from to : ℕ) (xs : List ℕ) → from ≤ to →
+    encode_lower (take to xs) ≡ encode_lower (take from xs) ++ encode_lower (take (to - from) (drop from xs))
+encode_lower-part from to xs within = ap encode_lower (take-part from to xs within) ∙ encode_lower-append (take from xs) (take (to - from) (drop from xs))
+
+-- and the digits of all bytes go on behind that part
+pub encode_lower-parts : (from to : ℕ) (xs : List ℕ) → from ≤ to →
+    encode_lower xs ≡ encode_lower (take from xs) ++ (encode_lower (take (to - from) (drop from xs)) ++ encode_lower (drop to xs))
+encode_lower-parts from to xs within =
+    ap encode_lower (sym (take-append-drop to xs)) ∙ encode_lower-append (take to xs) (drop to xs)
+    ∙ ap (λ t. t ++ encode_lower (drop to xs)) (encode_lower-part from to xs within)
+    ∙ append_assoc (encode_lower (take from xs)) _ _
+
+-- lines of two lists
+pub text_of-append : (xs ys : List (List ℕ)) → text_of (xs ++ ys) ≡ text_of xs ++ text_of ys
+text_of-append [] ys = refl
+text_of-append (x ∷ xs) ys = ap (λ (t : List ℕ). (x ++ 10 ∷ []) ++ t) (text_of-append xs ys) ∙ sym (append_assoc (x ++ 10 ∷ []) (text_of xs) (text_of ys))
+
+pub table_lines-append : {X : Type 0} (lines : ℕ → X → List (List ℕ)) (n : ℕ) (xs ys : List X) → table_lines lines n (xs ++ ys) ≡ table_lines lines n xs ++ table_lines lines (n + length xs) ys
+table_lines-append {X} lines n [] ys = ap (λ (m : ℕ). table_lines lines m ys) (omega arith)
+table_lines-append {X} lines n (x ∷ xs) ys =
+    ap (λ (t : List (List ℕ)). lines n x ++ t) (table_lines-append lines (n + 1) xs ys ∙ ap (λ (m : ℕ). table_lines lines (n + 1) xs ++ table_lines lines m ys) (omega arith))
+    ∙ sym (append_assoc (lines n x) (table_lines lines (n + 1) xs) (table_lines lines (n + length (x ∷ xs)) ys))
+
+-- the text of the first things of a table, and of the next one
+pub table-more : {X : Type 0} (lines : ℕ → X → List (List ℕ)) (xs : List X) (i : ℕ) (d : X) → i < length xs
+    → text_of (table_lines lines 0 (take (i + 1) xs)) ≡ text_of (table_lines lines 0 (take i xs)) ++ text_of (lines i (get_or xs i d))
+table-more {X} lines xs i d within =
+    let at : 0 + length (take i xs) ≡ i = omega (arith, length-take-le i xs (omega arith)) in
+    ap (λ (l : List X). text_of (table_lines lines 0 l)) (take_more xs i d within)
+    ∙ ap text_of (table_lines-append lines 0 (take i xs) (get_or xs i d ∷ []))
+    ∙ text_of-append (table_lines lines 0 (take i xs)) (table_lines lines (0 + length (take i xs)) (get_or xs i d ∷ []))
+    ∙ ap (λ (m : ℕ). text_of (table_lines lines 0 (take i xs)) ++ text_of (lines m (get_or xs i d) ++ [])) at
+    ∙ ap (λ (l : List (List ℕ)). text_of (table_lines lines 0 (take i xs)) ++ text_of l) (append-nil (lines i (get_or xs i d)))
+
+-- and of those behind it
+pub table-parts : {X : Type 0} (lines : ℕ → X → List (List ℕ)) (xs : List X) (i : ℕ) (d : X) → i < length xs
+    → text_of (table_lines lines 0 xs) ≡ text_of (table_lines lines 0 (take i xs)) ++ (text_of (lines i (get_or xs i d)) ++ text_of (table_lines lines (0 + length (take (i + 1) xs)) (drop (i + 1) xs)))
+table-parts {X} lines xs i d within =
+    let rest = text_of (table_lines lines (0 + length (take (i + 1) xs)) (drop (i + 1) xs)) in
+    ap (λ (l : List X). text_of (table_lines lines 0 l)) (sym (take-append-drop (i + 1) xs))
+    ∙ ap text_of (table_lines-append lines 0 (take (i + 1) xs) (drop (i + 1) xs))
+    ∙ text_of-append (table_lines lines 0 (take (i + 1) xs)) (table_lines lines (0 + length (take (i + 1) xs)) (drop (i + 1) xs))
+    ∙ ap (λ (t : List ℕ). t ++ rest) (table-more lines xs i d within)
+    ∙ append_assoc (text_of (table_lines lines 0 (take i xs))) (text_of (lines i (get_or xs i d))) rest
+
+-- a rank's calls, one line each
+pub calls_text : (rank : ℕ) (calls : List LogCall) → joined (map (call_text rank) calls) ≡ text_of (call_lines rank (data_list calls))
+calls_text rank [] = refl
+calls_text rank (c ∷ calls) = ap (λ (t : List ℕ). call_text rank c ++ t) (calls_text rank calls)
+
+-- pieces that make a line of words
+pub message_pieces : (r verb peer kind comm len hex : List ℕ) → r ++ (codes " " ++ (verb ++ (codes " " ++ (peer ++ (codes " " ++ (kind ++ (codes " " ++ (comm ++ (codes " " ++ (len ++ (codes " " ++ (hex ++ (codes "\n" ++ [])))))))))))))
+    ≡ ended (r ∷ verb ∷ peer ∷ kind ∷ comm ∷ len ∷ hex ∷ [])
+message_pieces r verb peer kind comm len hex = sym (simp append_assoc)
+
+pub barrier_pieces : (r comm : List ℕ) → r ++ (codes " bar " ++ (comm ++ (codes "\n" ++ []))) ≡ ended (r ∷ codes "bar" ∷ comm ∷ [])
+barrier_pieces r comm = sym (simp append_assoc)
+
+pub split_pieces : (comm parent how k : List ℕ) → codes "comm " ++ (comm ++ (codes " " ++ (parent ++ (codes " " ++ (how ++ (codes " " ++ (k ++ (codes "\n" ++ [])))))))) ≡ ended (codes "comm" ∷ comm ∷ parent ∷ how ∷ k ∷ [])
+split_pieces comm parent how k = sym (simp append_assoc)
+
+pub head_pieces : (nue : List ℕ) → codes "rcce log " ++ (nue ++ (codes "\n" ++ [])) ≡ ended (codes "rcce" ∷ codes "log" ∷ nue ∷ [])
+head_pieces nue = refl
+
+-- the text of a log, part by part
+pub log_parts : (log : LogView) → log_text log ≡ ended (head_words log.nue) ++ (text_of (table_lines rule_lines 0 log.comms) ++ text_of (table_lines call_lines 0 log.lists))
+log_parts log = ap (λ (t : List ℕ). ended (head_words log.nue) ++ t) (text_of-append (table_lines rule_lines 0 log.comms) (table_lines call_lines 0 log.lists))

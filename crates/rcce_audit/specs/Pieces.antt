@@ -1,0 +1,21 @@
+-- The text of a piece of a log's line, and the texts of lines with their line feeds.
+use Rattle.std.specs.Prelude.{ℕ, List, [], ◌∷◌, ◌++◌, decimal}
+use Rattle.scc_base.specs.Heads.{MessageHead}
+use Rattle.rcce_audit.specs.declared.writing.Piece.{Piece}
+use Rattle.rcce_audit.specs.declared.writing.Piece.TheVariants.{Text, Number, Hex}
+use Rattle.rcce_audit.specs.declared.logs.LogCall.{LogCall}
+use Rattle.rcce_audit.specs.Texts.{call_words, hex_text, line_of, message_words}
+use Rattle.rcce_audit.specs.Views.{data_of}
+
+abbrev pub piece_text : Piece → List ℕ
+piece_text (Text text) = text.now
+piece_text (Number n) = decimal n
+piece_text (Hex bytes) = hex_text bytes.now
+
+-- a line of words with its line feed
+abbrev pub ended : List (List ℕ) → List ℕ
+ended words = line_of words ++ 10 ∷ []
+
+-- the line of a rank's call
+abbrev pub call_text : ℕ → LogCall → List ℕ
+call_text rank call = ended (call_words rank (data_of call))

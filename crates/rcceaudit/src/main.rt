@@ -1,0 +1,28 @@
+//! `rcceaudit`: tells whether the calls of a log are legal.
+#![tactic(auto)]
+
+mod launcher;
+mod report;
+#[cfg(test)]
+mod tests;
+
+use launcher::rcceaudit;
+use rcce_io::{HostFiles, StdSink};
+use std::env;
+use std::process::ExitCode;
+
+fn main(rt: HostRuntime) -> ExitCode {
+    // Arguments that cannot be read as text are taken for no words at all.
+    let words = match env::args(&rt) {
+        Ok(args) => args
+            .skip(1)
+            .collect(rt.alloc())
+            .unwrap_or(Vec::new(rt.alloc())),
+        Err(_) => Vec::new(rt.alloc()),
+    };
+    let mut files = HostFiles::new(rt);
+    let mut out = StdSink::out(&rt);
+    let mut err = StdSink::err(&rt);
+    let status = rcceaudit(rt.alloc(), words.as_slice(), &mut files, &mut out, &mut err);
+    ExitCode::from(status.number())
+}
