@@ -1,0 +1,164 @@
+-- A statement that no check refuses stands behind the others.
+use Rattle.std.proofs.Common.{◌≡◌, ℕ, zero, suc, ◌+◌, ◌*◌, ◌<◌, ◌≤◌, Bool, true, false, cond, ◌&&◌, ◌||◌, List, [], ◌∷◌, ◌++◌, length, reverse, Option, Some, None, Result, Ok, Err, refl, ◌∙◌, ap, arith, length-append}
+use Rattle.std.specs.Prelude.{nat_lt, slice_index, ◌==◌}
+use Rattle.std.specs.List.{remove}
+use Rattle.std.specs.Option.{option_map_or}
+use Rattle.std.proofs.lemmas.Bool.{cond-false, le-ltb}
+use Rattle.scc_base.specs.Groups.{list_below, is_with}
+use Rattle.scc_base.specs.Setups.{SetupView, members_of, place_of, setup_key}
+use Rattle.groups.specs.Collectives.{fold_each, head_of, others_of, other_steps, root_steps, send_each, steps_of}
+use Rattle.groups.specs.declared.collectives.Coll.TheVariants as coll
+use Rattle.groups.specs.declared.collectives.Step.TheVariants as step
+use Rattle.scc_base.specs.declared.kinds.Kind.TheVariants as message_kind
+use Rattle.groups.proofs.StepLemmas.{folds_length, sends_length}
+use Rattle.script_reader.specs.declared.checks.RankCheck.{RankCheck}
+use Rattle.script_reader.specs.declared.checks.RankCheck.TheVariants as check
+use Rattle.script_reader.specs.declared.fault.FaultKind.{FaultKind}
+use Rattle.script_reader.specs.declared.script.Item.{Item}
+use Rattle.script_reader.specs.declared.script.Stmt.{Stmt}
+use Rattle.script_reader.specs.declared.script.Who.{Who}
+use Rattle.script_reader.specs.declared.version.Version.TheVariants as version
+use Rattle.script_reader.specs.Checks.{cost_of, has_no_parent, has_no_root, has_split, is_misshapen, is_not_split, is_stray, is_to_self, is_too_deep, is_too_long, is_unknown, is_unset, length_at, open_of, operations, posts_too_much, printed, prints, refuses, run_of, some_below, turns_in, turns_too_often}
+use Rattle.script_reader.specs.Faults.{◌>>=◌}
+use Rattle.script_reader.specs.Progress.{Progress, checked_in, fault_before, is_refused, place}
+use Rattle.script_reader.specs.Script.{has_rank}
+use Rattle.script_gen.specs.Scripts.{item_of}
+
+pub or_false : (a b : Bool) → a ≡ false → b ≡ false → (a || b) ≡ false
+or_false true b p q = p
+or_false false b p q = q
+
+-- no rank of the section is refused
+none_below : (n : ℕ) (who : Who) (test : ℕ → Bool) → ((rank : ℕ) → rank < n → has_rank who rank ≡ true → test rank ≡ false) → some_below n (λ rank. has_rank who rank && test rank) ≡ false
+none_below zero who test clear = refl
+none_below (suc n) who test clear =
+    or_false _ _ (none_below n who test (λ rank below has. clear rank (omega (arith, below)) has)) (one (has_rank who n) refl)
+  where
+    one : (b : Bool) → has_rank who n ≡ b → (has_rank who n && test n) ≡ false
+    one true is = ap (λ (b : Bool). b && test n) is ∙ clear n (omega arith) is
+    one false is = ap (λ (b : Bool). b && test n) is
+
+-- what the checks ask of a statement behind others
+pub record Passes (nue : ℕ) (past : List Item) (who : Who) (s : Stmt) : Type 0 where
+  pub known : is_unknown version.One (run_of nue past) s ≡ false
+  pub parented : has_no_parent (run_of nue past) s ≡ false
+  pub closed : is_stray (open_of past) s ≡ false
+  pub flat : is_too_deep (open_of past) s ≡ false
+  pub turning : turns_too_often (turns_in (open_of past)) s ≡ false
+  pub short : is_too_long s ≡ false
+  pub clear : (check : RankCheck) (rank : ℕ) → rank < nue → has_rank who rank ≡ true → refuses check nue past s rank ≡ false
+
+-- where the reader stands in a section
+abbrev pub stage : ℕ → List Item → List (List ℕ) → Who → Progress
+stage nue items names who = record { version = version.One; nue = nue; opening = false; items = items; names = names; section = Some who }
+
+module _ (nue : ℕ) (items : List Item) (names : List (List ℕ)) (who : Who) (s : Stmt) (p : Passes nue (reverse items) who s) where
+  not_refused : (check : RankCheck) → is_refused check (stage nue items names who) s ≡ false
+  not_refused check = none_below nue who (refuses check nue (reverse items) s) (p.clear check)
+
+  before : fault_before (stage nue items names who) s ≡ None
+  before =
+      cond-false _ _ _ (not_refused check.RootRange)
+      ∙ cond-false _ _ _ (not_refused check.SelfMessage)
+      ∙ cond-false _ _ _ p.known
+      ∙ cond-false _ _ _ (or_false _ _ p.parented (not_refused check.NotSplit))
+      ∙ cond-false _ _ _ (not_refused check.Unset)
+      ∙ cond-false _ _ _ (not_refused check.Shape)
+
+  behind : nat_lt 64 (length names) ≡ false → checked_in (stage nue items names who) s (Some who) ≡ Ok who
+  behind few =
+      cond-false _ _ _ p.closed
+      ∙ cond-false _ _ _ p.flat
+      ∙ cond-false _ _ _ (or_false _ _ p.turning (not_refused check.TooManyOps))
+      ∙ cond-false _ _ _ (or_false _ _ p.short (not_refused check.TooLong))
+      ∙ cond-false _ _ _ few
+
+  pub placed : (line : ℕ) → nat_lt 64 (length names) ≡ false → place line (stage nue items names who) s ≡ Ok (stage nue (items ++ item_of line who s ∷ []) names who)
+  placed line few =
+      ap (λ (r : Result Who FaultKind). r >>= λ w. Ok (record (stage nue items names who) { items = items ++ item_of line w s ∷ [] }))
+      (ap (λ (o : Option FaultKind). option_map_or Err o (checked_in (stage nue items names who) s (Some who))) before ∙ behind few)
+
+pub not_above : (limit n : ℕ) → n ≤ limit → nat_lt limit n ≡ false
+not_above limit n within = le-ltb limit n within
+
+-- no check refuses a statement for a rank
+pub clears : (nue : ℕ) (past : List Item) (s : Stmt) (rank : ℕ)
+    → has_no_root (run_of nue past) s rank ≡ false
+    → is_to_self nue s rank ≡ false
+    → is_not_split (has_split past rank) s ≡ false
+    → is_unset (run_of nue past) (length_at nue past rank) s rank ≡ false
+    → is_misshapen (run_of nue past) (length_at nue past rank) s rank ≡ false
+    → posts_too_much (length_at nue past rank) s ≡ false
+    → operations nue past rank + turns_in (open_of past) * cost_of (run_of nue past) s rank ≤ 100000
+    → printed nue past rank + turns_in (open_of past) * prints (length_at nue past rank) s ≤ 1048576
+    → (check : RankCheck) → refuses check nue past s rank ≡ false
+clears nue past s rank root self split set shape posts worked shown check.RootRange = root
+clears nue past s rank root self split set shape posts worked shown check.SelfMessage = self
+clears nue past s rank root self split set shape posts worked shown check.NotSplit = split
+clears nue past s rank root self split set shape posts worked shown check.Unset = set
+clears nue past s rank root self split set shape posts worked shown check.Shape = shape
+clears nue past s rank root self split set shape posts worked shown check.TooManyOps = not_above 100000 _ worked
+clears nue past s rank root self split set shape posts worked shown check.TooLong = or_false _ _ posts (not_above 1048576 _ shown)
+
+-- statements that are few operations each
+abbrev pub AreLight : ℕ → ℕ → List Item → Type 0
+AreLight nue rank [] = Unit {0}
+AreLight nue rank (item ∷ past) = AreLight nue rank past × (turns_in (open_of past) * cost_of (run_of nue past) item.stmt rank ≤ 1500)
+
+pub part : (b : Bool) (n m : ℕ) → n ≤ m → cond b n 0 ≤ m
+part true n m within = within
+part false n m within = omega arith
+
+one_more : (a c n : ℕ) → a ≤ 1500 * n → c ≤ 1500 → a + c ≤ 1500 * suc n
+one_more a c n before here = omega arith
+
+light_work : (nue rank : ℕ) (past : List Item) → AreLight nue rank past → operations nue past rank ≤ 1500 * length past
+light_work nue rank [] light = omega arith
+light_work nue rank (item ∷ past) light =
+    let before = light_work nue rank past light.0 in
+    let here = part (has_rank item.who rank) (turns_in (open_of past) * cost_of (run_of nue past) item.stmt rank) 1500 light.1 in
+    one_more _ _ _ before here
+
+within_all : (a c n : ℕ) → a ≤ 1500 * n → c ≤ 1500 → n ≤ 60 → a + c ≤ 100000
+within_all a c n before here few = omega arith
+
+pub worked : (nue rank : ℕ) (past : List Item) (item : Item) → AreLight nue rank (item ∷ past) → length past ≤ 60 → operations nue past rank + turns_in (open_of past) * cost_of (run_of nue past) item.stmt rank ≤ 100000
+worked nue rank past item light few =
+    within_all _ _ _ (light_work nue rank past light.0) light.1 few
+
+-- the steps of a reduction to all
+list_below_short : (test : ℕ → Bool) (n : ℕ) → length (list_below test n) ≤ n
+list_below_short test zero = omega arith
+list_below_short test (suc n) = by (test n) (list_below_short test n)
+  where
+    by : (b : Bool) → length (list_below test n) ≤ n → length (cond b (list_below test n ++ n ∷ []) (list_below test n)) ≤ suc n
+    by true short = omega (arith, short, length-append (list_below test n) (n ∷ []))
+    by false short = omega (arith, short)
+
+remove_short : (xs : List ℕ) (i : ℕ) → length (remove xs i) ≤ length xs
+remove_short [] zero = omega arith
+remove_short [] (suc i) = omega arith
+remove_short (x ∷ xs) zero = omega arith
+remove_short (x ∷ xs) (suc i) = let rest = remove_short xs i in omega (arith, rest)
+
+root_short : (others : List ℕ) → length others ≤ 48 → length (root_steps (coll.Allreduce 0 0) others) ≤ 150
+root_short others few =
+    let up = head_of message_kind.AllUp 0 0 in
+    let down = head_of message_kind.AllDown 0 0 in
+    let all = length-append (fold_each up others ++ send_each down others) (step.Finish ∷ []) in
+    let both = length-append (fold_each up others) (send_each down others) in
+    omega (arith, all, both, folds_length up others, sends_length down others, few)
+
+pub allreduce_short : (run : SetupView) (rank : ℕ) → run.nue ≤ 48 → length (steps_of run rank (coll.Allreduce 0 0)) ≤ 150
+allreduce_short run rank few =
+    by (place_of run 0 rank == 0)
+  where
+    members : length (others_of run 0 rank 0) ≤ 48
+    members =
+        let below = list_below_short (is_with (setup_key run 0) rank) run.nue in
+        let others = remove_short (members_of run 0 rank) 0 in
+        omega (arith, below, others, few)
+
+    by : (b : Bool) → length (cond b (root_steps (coll.Allreduce 0 0) (others_of run 0 rank 0)) (other_steps (coll.Allreduce 0 0) (slice_index (members_of run 0 rank) 0))) ≤ 150
+    by true = root_short (others_of run 0 rank 0) members
+    by false = omega arith

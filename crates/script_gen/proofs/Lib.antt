@@ -1,0 +1,10 @@
+pub mod Checks
+pub mod Facts
+pub mod GenLaws
+pub mod Lines
+pub mod Lone
+pub mod Numbers
+pub mod Others
+pub mod Reading
+pub mod Ring
+pub mod Sections

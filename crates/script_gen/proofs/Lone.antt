@@ -1,0 +1,398 @@
+-- The script of a number for one rank: what the reader reads in its text.
+use Rattle.std.proofs.Common.{◌≡◌, ℕ, ◌+◌, ◌*◌, ◌%◌, ◌≤◌, Bool, true, false, cond, List, [], ◌∷◌, ◌++◌, length, map, reverse, take, drop, codes, decimal, Result, Ok, refl, ◌∙◌, ap, arith}
+use Rattle.std.specs.Prelude.{◌==◌, nat_lt}
+use Rattle.std.proofs.lemmas.Fmt.{length-decimal-le}
+use Rattle.groups.specs.declared.operations.Op.TheVariants as op
+use Rattle.groups.specs.declared.operations.Ty.TheVariants as ty
+use Rattle.script_reader.specs.declared.fault.ReadFault.{ReadFault}
+use Rattle.script_reader.specs.declared.script.Form.TheVariants as form
+use Rattle.script_reader.specs.declared.script.Item.{Item}
+use Rattle.script_reader.specs.declared.script.Stmt.TheVariants as stmt
+use Rattle.script_reader.specs.declared.script.Who.{Who}
+use Rattle.script_reader.specs.declared.script.Who.TheVariants as who
+use Rattle.script_reader.specs.declared.version.Version.TheVariants as version
+use Rattle.script_reader.specs.Checks.{cost_of, open_of, operations, run_of, turns_in}
+use Rattle.script_reader.specs.Faults.{◌>>=◌}
+use Rattle.script_reader.specs.Progress.{Progress, start}
+use Rattle.script_reader.specs.Reading.{at_end, parse_script, read_all_lines, read_lines, version_of}
+use Rattle.script_reader.specs.Words.{line_count, lines_of}
+use Rattle.script_gen.specs.Scripts.{item_of, lone_script}
+use Rattle.script_gen.specs.Texts.{text_of_lines, turns_of}
+use Rattle.script_gen.proofs.Checks.{AreLight, Passes, clears, not_above, placed, stage}
+use Rattle.script_gen.proofs.Facts.{light_sum, none_odd, work}
+use Rattle.script_gen.proofs.Lines.{AreLines, AreWords, IsWord, decimal_word, line_of, lines_of_text}
+use Rattle.script_gen.proofs.Reading.{allreduce_is, fill_is, go, repeat_is, text_short, too_long}
+
+-- the names of the registers, as they come
+abbrev names_1 : List (List ℕ)
+names_1 = codes "h" ∷ []
+
+abbrev names_2 : List (List ℕ)
+names_2 = codes "h" ∷ codes "me" ∷ []
+
+-- its lines, as words
+abbrev pub lone_words : ℕ → ℕ → List (List (List ℕ))
+lone_words s t =
+    (codes "even" ∷ []) ∷
+    (codes "fill" ∷ codes "h" ∷ decimal s ∷ decimal s ∷ []) ∷
+    (codes "rank" ∷ codes "me" ∷ codes "long" ∷ []) ∷
+    (codes "repeat" ∷ decimal t ∷ []) ∷
+    (codes "allreduce" ∷ codes "0" ∷ codes "sum" ∷ codes "long" ∷ codes "me" ∷ codes "me" ∷ []) ∷
+    (codes "end" ∷ []) ∷
+    (codes "print" ∷ codes "long" ∷ codes "me" ∷ []) ∷
+    (codes "odd" ∷ []) ∷
+    (codes "fill" ∷ codes "h" ∷ decimal s ∷ decimal s ∷ []) ∷
+    (codes "rank" ∷ codes "me" ∷ codes "long" ∷ []) ∷
+    (codes "repeat" ∷ decimal t ∷ []) ∷
+    (codes "allreduce" ∷ codes "0" ∷ codes "sum" ∷ codes "long" ∷ codes "me" ∷ codes "me" ∷ []) ∷
+    (codes "end" ∷ []) ∷
+    (codes "print" ∷ codes "long" ∷ codes "me" ∷ []) ∷
+    []
+
+-- its statements, before the repeats are told their ends
+abbrev lone_said : ℕ → ℕ → List Item
+lone_said s t =
+    item_of 2 who.Even (stmt.Fill 0 s s) ∷
+    item_of 3 who.Even (stmt.RankOf 1 ty.Long) ∷
+    item_of 4 who.Even (stmt.Repeat t 0) ∷
+    item_of 5 who.Even (stmt.Allreduce 0 op.Sum ty.Long 1 1) ∷
+    item_of 6 who.Even (stmt.End 2) ∷
+    item_of 7 who.Even (stmt.Print 1 (form.Decimal ty.Long)) ∷
+    item_of 9 who.Odd (stmt.Fill 0 s s) ∷
+    item_of 10 who.Odd (stmt.RankOf 1 ty.Long) ∷
+    item_of 11 who.Odd (stmt.Repeat t 0) ∷
+    item_of 12 who.Odd (stmt.Allreduce 0 op.Sum ty.Long 1 1) ∷
+    item_of 13 who.Odd (stmt.End 8) ∷
+    item_of 14 who.Odd (stmt.Print 1 (form.Decimal ty.Long)) ∷
+    []
+
+-- the statements before one, and those behind it; the lines behind one; and where the reader stands then
+abbrev past : ℕ → ℕ → ℕ → List Item
+past s t n = reverse (take n (lone_said s t))
+
+abbrev more : ℕ → ℕ → ℕ → List Item
+more s t n = reverse (drop n (lone_said s t))
+
+abbrev rest : ℕ → ℕ → ℕ → List (List ℕ)
+rest s t n = map line_of (drop n (lone_words s t)) ++ [] ∷ []
+
+abbrev at : ℕ → ℕ → ℕ → ℕ → List (List ℕ) → Who → Progress
+at nue s t n names who = stage nue (take n (lone_said s t)) names who
+
+module _ (s t : ℕ) (small : s ≤ 65535) (least : 1 ≤ t) (few : t ≤ 10) where
+  light : (rank : ℕ) → AreLight 1 rank (reverse (lone_said s t))
+  light rank = (
+    (
+      (
+        (
+          (
+            (
+              (
+                (
+                  (
+                    (((tt, omega (arith, few)), omega (arith, few)), omega (arith, few)),
+                    light_sum 1 rank (past s t 3) (omega (arith, few)) (omega arith),
+                  ),
+                  omega (arith, few),
+                ),
+                omega (arith, few),
+              ),
+              omega (arith, few),
+            ),
+            omega (arith, few),
+          ),
+          omega (arith, few),
+        ),
+        light_sum 1 rank (past s t 9) (omega (arith, few)) (omega arith),
+      ),
+      omega (arith, few),
+    ),
+    omega (arith, few),
+  )
+
+  spent : (rank : ℕ) (ahead back : List Item) (item : Item) → ahead ++ item ∷ back ≡ reverse (lone_said s t) → length back ≤ 60
+      → operations 1 back rank + turns_in (open_of back) * cost_of (run_of 1 back) item.stmt rank ≤ 100000
+  spent rank ahead back item is short = work 1 rank (reverse (lone_said s t)) ahead back item (light rank) is short
+
+  pass_0 : Passes 1 (past s t 0) who.Even (stmt.Fill 0 s s)
+  pass_0 = record {
+    known = refl;
+    parented = refl;
+    closed = refl;
+    flat = refl;
+    turning = refl;
+    short = not_above 65536 s (omega (arith, small));
+    clear = λ check rank below has.
+        let even : (rank % 2 == 0) ≡ true = has in
+        clears 1 (past s t 0) (stmt.Fill 0 s s) rank refl refl refl refl refl refl
+        (spent rank (more s t 1) (past s t 0) (item_of 2 who.Even (stmt.Fill 0 s s)) refl (omega arith))
+        (omega (arith, small)) check;
+  }
+
+  pass_1 : Passes 1 (past s t 1) who.Even (stmt.RankOf 1 ty.Long)
+  pass_1 = record {
+    known = refl;
+    parented = refl;
+    closed = refl;
+    flat = refl;
+    turning = refl;
+    short = refl;
+    clear = λ check rank below has.
+        let even : (rank % 2 == 0) ≡ true = has in
+        clears 1 (past s t 1) (stmt.RankOf 1 ty.Long) rank refl refl refl refl (simp even) refl
+        (spent rank (more s t 2) (past s t 1) (item_of 3 who.Even (stmt.RankOf 1 ty.Long)) refl (omega arith))
+        (simp even (omega (arith, small))) check;
+  }
+
+  pass_2 : Passes 1 (past s t 2) who.Even (stmt.Repeat t 0)
+  pass_2 = record {
+    known = refl;
+    parented = refl;
+    closed = refl;
+    flat = refl;
+    turning = not_above 100000 (1 * t) (omega (arith, few));
+    short = refl;
+    clear = λ check rank below has.
+        let even : (rank % 2 == 0) ≡ true = has in
+        clears 1 (past s t 2) (stmt.Repeat t 0) rank refl refl refl refl refl refl
+        (spent rank (more s t 3) (past s t 2) (item_of 4 who.Even (stmt.Repeat t 0)) refl (omega arith))
+        (simp even (omega (arith, small))) check;
+  }
+
+  pass_3 : Passes 1 (past s t 3) who.Even (stmt.Allreduce 0 op.Sum ty.Long 1 1)
+  pass_3 = record {
+    known = refl;
+    parented = refl;
+    closed = refl;
+    flat = refl;
+    turning = refl;
+    short = refl;
+    clear = λ check rank below has.
+        let even : (rank % 2 == 0) ≡ true = has in
+        clears 1 (past s t 3) (stmt.Allreduce 0 op.Sum ty.Long 1 1) rank refl refl refl (simp even) (simp even) refl
+        (spent rank (more s t 4) (past s t 3) (item_of 5 who.Even (stmt.Allreduce 0 op.Sum ty.Long 1 1)) refl (omega arith))
+        (simp even (omega (arith, small))) check;
+  }
+
+  pass_4 : Passes 1 (past s t 4) who.Even (stmt.End 2)
+  pass_4 = record {
+    known = refl;
+    parented = refl;
+    closed = refl;
+    flat = refl;
+    turning = refl;
+    short = refl;
+    clear = λ check rank below has.
+        let even : (rank % 2 == 0) ≡ true = has in
+        clears 1 (past s t 4) (stmt.End 2) rank refl refl refl refl refl refl
+        (spent rank (more s t 5) (past s t 4) (item_of 6 who.Even (stmt.End 2)) refl (omega arith))
+        (simp even (omega (arith, small))) check;
+  }
+
+  pass_5 : Passes 1 (past s t 5) who.Even (stmt.Print 1 (form.Decimal ty.Long))
+  pass_5 = record {
+    known = refl;
+    parented = refl;
+    closed = refl;
+    flat = refl;
+    turning = refl;
+    short = refl;
+    clear = λ check rank below has.
+        let even : (rank % 2 == 0) ≡ true = has in
+        clears 1 (past s t 5) (stmt.Print 1 (form.Decimal ty.Long)) rank refl refl refl (simp even) (simp even) refl
+        (spent rank (more s t 6) (past s t 5) (item_of 7 who.Even (stmt.Print 1 (form.Decimal ty.Long))) refl (omega arith))
+        (simp even (omega (arith, small))) check;
+  }
+
+  pass_6 : Passes 1 (past s t 6) who.Odd (stmt.Fill 0 s s)
+  pass_6 = record {
+    known = refl;
+    parented = refl;
+    closed = refl;
+    flat = refl;
+    turning = refl;
+    short = not_above 65536 s (omega (arith, small));
+    clear = λ check rank below has. absurd (none_odd rank below has);
+  }
+
+  pass_7 : Passes 1 (past s t 7) who.Odd (stmt.RankOf 1 ty.Long)
+  pass_7 = record {
+    known = refl;
+    parented = refl;
+    closed = refl;
+    flat = refl;
+    turning = refl;
+    short = refl;
+    clear = λ check rank below has. absurd (none_odd rank below has);
+  }
+
+  pass_8 : Passes 1 (past s t 8) who.Odd (stmt.Repeat t 0)
+  pass_8 = record {
+    known = refl;
+    parented = refl;
+    closed = refl;
+    flat = refl;
+    turning = not_above 100000 (1 * t) (omega (arith, few));
+    short = refl;
+    clear = λ check rank below has. absurd (none_odd rank below has);
+  }
+
+  pass_9 : Passes 1 (past s t 9) who.Odd (stmt.Allreduce 0 op.Sum ty.Long 1 1)
+  pass_9 = record {
+    known = refl;
+    parented = refl;
+    closed = refl;
+    flat = refl;
+    turning = refl;
+    short = refl;
+    clear = λ check rank below has. absurd (none_odd rank below has);
+  }
+
+  pass_10 : Passes 1 (past s t 10) who.Odd (stmt.End 8)
+  pass_10 = record {
+    known = refl;
+    parented = refl;
+    closed = refl;
+    flat = refl;
+    turning = refl;
+    short = refl;
+    clear = λ check rank below has. absurd (none_odd rank below has);
+  }
+
+  pass_11 : Passes 1 (past s t 11) who.Odd (stmt.Print 1 (form.Decimal ty.Long))
+  pass_11 = record {
+    known = refl;
+    parented = refl;
+    closed = refl;
+    flat = refl;
+    turning = refl;
+    short = refl;
+    clear = λ check rank below has. absurd (none_odd rank below has);
+  }
+
+  s_is : IsWord (decimal s)
+  s_is = decimal_word s small
+
+  t_is : IsWord (decimal t)
+  t_is = decimal_word t (omega (arith, few))
+
+  even_are : AreWords (codes "even" ∷ [])
+  even_are = ((refl, refl), tt)
+
+  fill_are : AreWords (codes "fill" ∷ codes "h" ∷ decimal s ∷ decimal s ∷ [])
+  fill_are = ((refl, refl), ((refl, refl), (s_is, (s_is, tt))))
+
+  rank_are : AreWords (codes "rank" ∷ codes "me" ∷ codes "long" ∷ [])
+  rank_are = ((refl, refl), ((refl, refl), ((refl, refl), tt)))
+
+  repeat_are : AreWords (codes "repeat" ∷ decimal t ∷ [])
+  repeat_are = ((refl, refl), (t_is, tt))
+
+  sum_are : AreWords (codes "allreduce" ∷ codes "0" ∷ codes "sum" ∷ codes "long" ∷ codes "me" ∷ codes "me" ∷ [])
+  sum_are = ((refl, refl), ((refl, refl), ((refl, refl), ((refl, refl), ((refl, refl), ((refl, refl), tt))))))
+
+  end_are : AreWords (codes "end" ∷ [])
+  end_are = ((refl, refl), tt)
+
+  printme_are : AreWords (codes "print" ∷ codes "long" ∷ codes "me" ∷ [])
+  printme_are = ((refl, refl), ((refl, refl), ((refl, refl), tt)))
+
+  odd_are : AreWords (codes "odd" ∷ [])
+  odd_are = ((refl, refl), tt)
+
+  are : AreLines (lone_words s t)
+  are = (
+    even_are,
+    (
+      fill_are,
+      (
+        rank_are,
+        (
+          repeat_are,
+          (
+            sum_are,
+            (
+              end_are,
+              (
+                printme_are,
+                (
+                  odd_are,
+                  (
+                    fill_are,
+                    (
+                      rank_are,
+                      (repeat_are, (sum_are, (end_are, (printme_are, tt)))),
+                    ),
+                  ),
+                ),
+              ),
+            ),
+          ),
+        ),
+      ),
+    ),
+  )
+
+  reading : read_lines 0 (start version.One 1) (rest s t 0) ≡ Ok (stage 1 (lone_said s t) names_2 who.Odd)
+  reading =
+      (go 0 (start version.One 1) (at 1 s t 0 [] who.Even) (codes "even") []
+      (rest s t 1) _ even_are
+      refl
+      (go 1 (at 1 s t 0 [] who.Even) (at 1 s t 1 names_1 who.Even) (codes "fill") (codes "h" ∷ decimal s ∷ decimal s ∷ [])
+      (rest s t 2) _ fill_are
+      (fill_is 2 (at 1 s t 0 [] who.Even) s small ∙ placed 1 (take 0 (lone_said s t)) names_1 who.Even (stmt.Fill 0 s s) pass_0 2 refl)
+      (go 2 (at 1 s t 1 names_1 who.Even) (at 1 s t 2 names_2 who.Even) (codes "rank") (codes "me" ∷ codes "long" ∷ [])
+      (rest s t 3) _ rank_are
+      (placed 1 (take 1 (lone_said s t)) names_2 who.Even (stmt.RankOf 1 ty.Long) pass_1 3 refl)
+      (go 3 (at 1 s t 2 names_2 who.Even) (at 1 s t 3 names_2 who.Even) (codes "repeat") (decimal t ∷ [])
+      (rest s t 4) _ repeat_are
+      (repeat_is 4 (at 1 s t 2 names_2 who.Even) t least few ∙ placed 1 (take 2 (lone_said s t)) names_2 who.Even (stmt.Repeat t 0) pass_2 4 refl)
+      (go 4 (at 1 s t 3 names_2 who.Even) (at 1 s t 4 names_2 who.Even) (codes "allreduce") (codes "0" ∷ codes "sum" ∷ codes "long" ∷ codes "me" ∷ codes "me" ∷ [])
+      (rest s t 5) _ sum_are
+      (allreduce_is 5 (at 1 s t 3 names_2 who.Even) ∙ placed 1 (take 3 (lone_said s t)) names_2 who.Even (stmt.Allreduce 0 op.Sum ty.Long 1 1) pass_3 5 refl)
+      (go 5 (at 1 s t 4 names_2 who.Even) (at 1 s t 5 names_2 who.Even) (codes "end") []
+      (rest s t 6) _ end_are
+      (placed 1 (take 4 (lone_said s t)) names_2 who.Even (stmt.End 2) pass_4 6 refl)
+      (go 6 (at 1 s t 5 names_2 who.Even) (at 1 s t 6 names_2 who.Even) (codes "print") (codes "long" ∷ codes "me" ∷ [])
+      (rest s t 7) _ printme_are
+      (placed 1 (take 5 (lone_said s t)) names_2 who.Even (stmt.Print 1 (form.Decimal ty.Long)) pass_5 7 refl)
+      (go 7 (at 1 s t 6 names_2 who.Even) (at 1 s t 6 names_2 who.Odd) (codes "odd") []
+      (rest s t 8) _ odd_are
+      refl
+      (go 8 (at 1 s t 6 names_2 who.Odd) (at 1 s t 7 names_2 who.Odd) (codes "fill") (codes "h" ∷ decimal s ∷ decimal s ∷ [])
+      (rest s t 9) _ fill_are
+      (fill_is 9 (at 1 s t 6 names_2 who.Odd) s small ∙ placed 1 (take 6 (lone_said s t)) names_2 who.Odd (stmt.Fill 0 s s) pass_6 9 refl)
+      (go 9 (at 1 s t 7 names_2 who.Odd) (at 1 s t 8 names_2 who.Odd) (codes "rank") (codes "me" ∷ codes "long" ∷ [])
+      (rest s t 10) _ rank_are
+      (placed 1 (take 7 (lone_said s t)) names_2 who.Odd (stmt.RankOf 1 ty.Long) pass_7 10 refl)
+      (go 10 (at 1 s t 8 names_2 who.Odd) (at 1 s t 9 names_2 who.Odd) (codes "repeat") (decimal t ∷ [])
+      (rest s t 11) _ repeat_are
+      (repeat_is 11 (at 1 s t 8 names_2 who.Odd) t least few ∙ placed 1 (take 8 (lone_said s t)) names_2 who.Odd (stmt.Repeat t 0) pass_8 11 refl)
+      (go 11 (at 1 s t 9 names_2 who.Odd) (at 1 s t 10 names_2 who.Odd) (codes "allreduce") (codes "0" ∷ codes "sum" ∷ codes "long" ∷ codes "me" ∷ codes "me" ∷ [])
+      (rest s t 12) _ sum_are
+      (allreduce_is 12 (at 1 s t 9 names_2 who.Odd) ∙ placed 1 (take 9 (lone_said s t)) names_2 who.Odd (stmt.Allreduce 0 op.Sum ty.Long 1 1) pass_9 12 refl)
+      (go 12 (at 1 s t 10 names_2 who.Odd) (at 1 s t 11 names_2 who.Odd) (codes "end") []
+      (rest s t 13) _ end_are
+      (placed 1 (take 10 (lone_said s t)) names_2 who.Odd (stmt.End 8) pass_10 13 refl)
+      (go 13 (at 1 s t 11 names_2 who.Odd) (at 1 s t 12 names_2 who.Odd) (codes "print") (codes "long" ∷ codes "me" ∷ [])
+      (rest s t 14) _ printme_are
+      (placed 1 (take 11 (lone_said s t)) names_2 who.Odd (stmt.Print 1 (form.Decimal ty.Long)) pass_11 14 refl)
+      refl))))))))))))))
+
+  fits : nat_lt 4194304 (length (text_of_lines (map line_of (lone_words s t)))) ≡ false
+  fits =
+      let s_short : length (decimal s) ≤ 10 = length-decimal-le 10 s (omega arith) (omega (arith, small)) (omega (arith, small)) in
+      let t_short : length (decimal t) ≤ 10 = length-decimal-le 10 t (omega arith) (omega (arith, few)) (omega (arith, few)) in
+      let size = text_short (lone_words s t) in
+      not_above 4194304 _ (omega (arith, size, s_short, t_short))
+
+  pub lone_read : parse_script (text_of_lines (map line_of (lone_words s t))) 1 ≡ at_end (line_count (rest s t 0)) (stage 1 (lone_said s t) names_2 who.Odd)
+  lone_read =
+      let text = text_of_lines (map line_of (lone_words s t)) in
+      ap (λ (b : Bool). cond b too_long (read_all_lines (version_of (lines_of text)) (lines_of text) 1)) fits
+      ∙ ap (λ (ls : List (List ℕ)). read_all_lines (version_of ls) ls 1) (lines_of_text (lone_words s t) are)
+      ∙ ap (λ (r : Result Progress ReadFault). r >>= at_end (line_count (rest s t 0))) reading
+
+-- the script that the text says
+pub lone_law : (s : ℕ) → s ≤ 65535 → parse_script (text_of_lines (map line_of (lone_words s (turns_of s)))) 1 ≡ Ok (lone_script s)
+lone_law s small = lone_read s (turns_of s) small (omega arith) (omega arith)

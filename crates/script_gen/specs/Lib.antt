@@ -1,0 +1,4 @@
+pub mod Outcome
+pub mod Pieces
+pub mod Scripts
+pub mod Texts

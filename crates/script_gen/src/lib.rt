@@ -1,0 +1,11 @@
+//! The generator of scripts: a ring of messages and sums over all ranks, by one number.
+#![tactic(auto)]
+
+mod generate;
+mod laws;
+mod pieces;
+#[cfg(test)]
+mod tests;
+
+pub use generate::gen_script;
+pub use laws::generated_scripts_are_read;
