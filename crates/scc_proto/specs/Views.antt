@@ -10,6 +10,7 @@ use Rattle.scc_proto.specs.Tables.{put_two}
 use Rattle.scc_proto.specs.Moves.{Move, DraftHeader, DraftChunk, RaiseSent, LowerSent, RaiseReady, LowerReady, FlipGather, WriteRelease}
 use Rattle.scc_proto.specs.Words.{Memory, are_peers, is_present}
 
+-- the words of the chip by what they are for: by rank, peer, communicator and member in place of core, line and word
 pub record View : Type 0 where
   -- the flag `sent` of the messages from one rank to another, and the flag `ready` of the same messages
   pub sent : ℕ → ℕ → ℕ
@@ -29,7 +30,7 @@ flag_in BitFlags word flag = bit_at word flag.bit
 abbrev pub word_of_flag : Memory → ℕ → FlagPlace → ℕ
 word_of_flag memory core flag = memory.word core flag.line flag.word
 
--- the words of the chip by what they are for
+-- the words of a memory, so read
 abbrev pub view_of : SetupView → Memory → View
 view_of s memory = record {
   sent = λ from to. flag_in s.layout (word_of_flag memory (host_of s.hosts to) (sent_at s.layout from)) (sent_at s.layout from);
