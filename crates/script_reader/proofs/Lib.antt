@@ -2,6 +2,7 @@ pub mod AcceptanceLemmas
 pub mod BareLemmas
 pub mod CheckLemmas
 pub mod EndLemmas
+pub mod RankLemmas
 pub mod ReaderLemmas
 pub mod RuleLemmas
 pub mod SettledLemmas

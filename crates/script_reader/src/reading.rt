@@ -168,6 +168,8 @@ pub fn read_script(alloc: Global, bytes: &[u8], nue: u8) -> Result<Scripts, Read
     requires some { 1 ≤ nue }
     requires most { nue ≤ 48 }
     ensures gives { Gives (λ script. script) result (parse_script bytes.now nue) }
+    // It has as many ranks as it was read for.
+    ensures ranks { IfOk result (λ script. script.nue ≡ nue) }
     // A script of version 1 has no rule for the communicators from 8 on, and no parent but the world.
     ensures low { IfOk result (HasCommsTo (last_comm (version_of (lines_of bytes.now)))) }
     ensures flat { version_of (lines_of bytes.now) ≡ One → IfOk result SplitsWorldAlone }

@@ -1,8 +1,9 @@
-use Rattle.std.proofs.Common.{subst, sym}
+use Rattle.std.proofs.Common.{◌≡◌, subst, sym}
 use Rattle.std.specs.Prelude.{IfOk}
 use Rattle.script_reader.specs.declared.version.Version.{Version}
 use Rattle.script_reader.specs.Reading.{read_as}
 use Rattle.script_reader.specs.Settled.{SplitsWorldAlone}
+use Rattle.script_reader.proofs.RankLemmas.{parse_has}
 use Rattle.script_reader.proofs.VersionLemmas.{IfOk-given, first-flat}
 use Rattle.script_reader.proofs.reading.read_script.Goals as goal
 
@@ -12,3 +13,6 @@ returns-clause-flat c = λ is.
     let bytes = c.args.bytes.now in
     IfOk-given SplitsWorldAlone c.read_file.result _ c.read_file.ensures.gives
     (subst (λ (version : Version). IfOk (read_as version bytes c.args.nue) SplitsWorldAlone) (sym is) (first-flat bytes c.args.nue))
+
+pub returns-clause-ranks : goal.returns-clause-ranks
+returns-clause-ranks c = IfOk-given (λ script. script.nue ≡ c.args.nue) c.read_file.result _ c.read_file.ensures.gives (parse_has c.args.bytes.now c.args.nue)
