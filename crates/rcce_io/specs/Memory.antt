@@ -1,5 +1,5 @@
 -- The whole state of the files and of the sink in memory, and what each call answers and leaves. This project's profile.
-use Rattle.std.specs.Prelude.{ℕ, ◌-◌, ◌==◌, ◌||◌, min, Bool, false, if◌then◌else◌, List, [], ◌∷◌, ◌++◌, length, take, drop, Option, Some, None, is_some, unwrap_or, option_map}
+use Rattle.std.specs.Prelude.{ℕ, ◌-◌, ◌^◌, ◌==◌, ◌||◌, min, Bool, false, if◌then◌else◌, List, [], ◌∷◌, ◌++◌, length, take, drop, Option, Some, None, is_some, unwrap_or, option_map}
 use Rattle.rcce_io.specs.declared.files.Opened.{Opened}
 use Rattle.rcce_io.specs.declared.files.Opened.TheVariants as opened
 use Rattle.rcce_io.specs.declared.files.Got.{Got}
@@ -36,15 +36,16 @@ after_call failed calls = record calls {
   faults = if failed then next_count calls.faults else calls.faults;
 }
 
--- files in memory: in the order of their adding, with the rest of the open one
+-- files in memory: in the order of their adding, with the rest of the open one, and how many bytes one read gives at most
 pub record FilesState : Type 0 where
   pub files : List NamedFile
   pub rest : Option (List ℕ)
+  pub most : ℕ
   pub calls : Calls
 
--- no file, and none open
+-- no file, none open, and reads that are bounded by their buffer alone
 abbrev pub no_files : FilesState
-no_files = record { files = []; rest = None; calls = no_calls }
+no_files = record { files = []; rest = None; most = 2 ^ 64 - 1; calls = no_calls }
 
 -- as a caller of any files sees them: all is told
 abbrev pub files_seen : FilesState → FilesView
@@ -66,16 +67,20 @@ after_open state name = record state {
   calls = after_call (fails_next state.calls) state.calls;
 }
 
+-- how many bytes a read into a buffer of this length gives at most
+abbrev pub read_room : FilesState → ℕ → ℕ
+read_room state len = min len state.most
+
 -- what a read into a buffer of this length answers
 abbrev pub read_answer : FilesState → ℕ → Got
-read_answer state most =
+read_answer state len =
     let left = length (unwrap_or state.rest []) in
     if fails_next state.calls then got.Failed else
-    if left == 0 then got.End else got.Bytes (min most left)
+    if left == 0 then got.End else got.Bytes (min (read_room state len) left)
 
 abbrev pub after_read : FilesState → ℕ → FilesState
-after_read state most = record state {
-  rest = if fails_next state.calls then state.rest else option_map (drop most) state.rest;
+after_read state len = record state {
+  rest = if fails_next state.calls then state.rest else option_map (drop (read_room state len)) state.rest;
   calls = after_call (fails_next state.calls) state.calls;
 }
 

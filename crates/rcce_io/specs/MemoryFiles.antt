@@ -19,6 +19,7 @@ abbrev pub state_of : Inside → FilesState
 state_of inside = record {
   files = map named inside.files.items;
   rest = option_map (λ place. drop place.at (contents_at inside.files.items place.file)) inside.place;
+  most = inside.most;
   calls = inside.calls;
 }
 

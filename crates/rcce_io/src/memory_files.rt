@@ -7,12 +7,13 @@ use crate::{Files, Got, Opened};
 use std::alloc::{AllocError, Global};
 use std::marker::Model;
 
-/// Files in memory. One call of `open` or `read` can be made to fail.
+/// Files in memory, that give at most so many bytes at one read. One call of `open` or `read` can be made to fail.
 #[derive(Drop)]
 pub struct MemFiles {
     alloc: Global,
     files: Vec<MemFile>,
     place: Option<Place>,
+    most: usize,
     calls: CallCounter,
 }
 
@@ -34,12 +35,13 @@ impl Model for MemFiles {
 
     ghost Value = { FilesState };
 
+    ghost use Rattle.std.specs.Prelude.{◌<◌};
     ghost use Rattle.std.specs.Option.{ForSome};
     ghost use Rattle.rcce_io.specs.MemoryFiles.{state_of, IsWithin};
 
     ghost view = { state_of };
 
-    ghost invariant = { λ m. ForSome m.place (IsWithin m.files.items) };
+    ghost invariant = { λ m. ForSome m.place (IsWithin m.files.items) × (0 < m.most) };
 }
 
 impl MemFiles {
@@ -53,6 +55,7 @@ impl MemFiles {
             alloc,
             files: Vec::new(alloc),
             place: None,
+            most: usize::MAX,
             calls: CallCounter::new(),
         }
     }
@@ -74,6 +77,14 @@ impl MemFiles {
         };
         self.files.push(file)?;
         Ok(())
+    }
+
+    /// From now on a read gives at most this many bytes. The last number set counts.
+    pub fn piece(&mut self, most: usize)
+        requires { 0 < most }
+        ensures { self.new ≡ record self.old { most = most } }
+    {
+        self.most = most;
     }
 
     /// Makes the call of this number fail, counted from 1 over all calls of `open` and `read`. The last
@@ -137,7 +148,8 @@ impl Files for MemFiles {
             return Got::Failed;
         }
         let rest = &self.files[place.file].contents[place.at..];
-        let len = rest.len().min(buf.len());
+        let room = buf.len().min(self.most);
+        let len = rest.len().min(room);
         if len == 0 {
             return Got::End;
         }

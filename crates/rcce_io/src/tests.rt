@@ -174,6 +174,21 @@ fn a_file_is_read_up_to_one_byte_past_the_limit(rt: HostRuntime) -> Result<(), F
 }
 
 #[test]
+fn a_file_that_is_read_in_pieces_arrives_whole(rt: HostRuntime) -> Result<(), Fail> {
+    let alloc = rt.alloc();
+    let mut files = MemFiles::new(alloc);
+    files.add("a", b"three")?;
+    files.piece(2);
+    assert_eq!(rt; files.open("a"), Opened::Open);
+    assert_eq!(rt; files.read(&mut [0; 4]), Got::Bytes(2));
+    assert_eq!(rt; files.read(&mut [0; 1]), Got::Bytes(1));
+    let bytes = read_all(alloc, &mut files, "a", 9)?;
+    assert_eq!(rt; bytes.as_slice(), b"three".as_slice());
+    assert_eq!(rt; files.calls_made(), 8);
+    Ok(())
+}
+
+#[test]
 fn each_name_has_its_own_contents(rt: HostRuntime) -> Result<(), Fail> {
     let alloc = rt.alloc();
     let mut files = MemFiles::new(alloc);
