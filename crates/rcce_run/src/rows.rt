@@ -7,9 +7,13 @@ use crate::workers::Worker;
 use scc_base::Turn;
 use scc_mesh::{Token, Words};
 use scc_proto::Port;
+use std::thread;
 
 /// How many vain turns in a row end it.
 const VAIN: usize = 1000;
+
+/// From how many vain turns in a row on other threads run behind each.
+const PATIENCE: usize = 16;
 
 /// How many turns in a row were vain after one more.
 fn vain_after(answer: &Turn, vain: usize) -> usize
@@ -23,6 +27,13 @@ fn vain_after(answer: &Turn, vain: usize) -> usize
     }
 }
 
+/// Lets another thread run behind a vain turn, once several were vain: the rank that is waited for may have no processor.
+fn give_way(vain: usize) {
+    if vain >= PATIENCE {
+        thread::yield_now();
+    }
+}
+
 /// Turns of a worker, until it is over or has waited in a thousand turns in a row.
 pub(crate) fn row<W: Worker, P: Port>(worker: &mut W, port: &mut P)
     requires ties { W.tied worker.old (P.sight port.old).seat.setup (P.sight port.old).seat.rank (P.sight port.old).events }
@@ -33,6 +44,7 @@ pub(crate) fn row<W: Worker, P: Port>(worker: &mut W, port: &mut P)
     while vain < VAIN {
         let answer = worker.turn(port);
         vain = vain_after(&answer, vain);
+        give_way(vain);
     }
 }
 
