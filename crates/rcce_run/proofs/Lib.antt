@@ -23,3 +23,4 @@ pub mod ServedLaws
 pub mod ThreadLaws
 pub mod OrderLaws
 pub mod RunLaws
+pub mod SentLaws

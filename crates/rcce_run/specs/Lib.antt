@@ -8,3 +8,4 @@ pub mod Ues
 pub mod UeRuns
 pub mod Orders
 pub mod Runs
+pub mod Sent

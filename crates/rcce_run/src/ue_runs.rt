@@ -3,6 +3,7 @@
 ghost use Rattle.std.specs.Prelude.{◌≡◌, ◌<◌, ℕ, Some, slice_index_or};
 ghost use Rattle.rcce_run.specs.Crews.{EndsAs};
 ghost use Rattle.rcce_run.specs.Runs.{InOrder};
+ghost use Rattle.rcce_run.specs.Sent.{CountsSends};
 ghost use Rattle.rcce_run.specs.UeRuns.{AreHome, HasPlainCalls, IsFreshCrew, IsSameChip, ShowsEnd, WaitsOpen, member_seen, member_tied};
 ghost use Rattle.rcce_run.specs.declared.members.Member.{Member};
 ghost use Rattle.rcce_ue.specs.Ues.{UeView};
@@ -55,6 +56,9 @@ pub fn run<V: Evict + Drop + Send, G: Gate + Sync, R: Threads + Sync>(
         → ShowsEnd (ended_at (plain_ends script) k) (slice_index_or crew.new k d).worker }
     // The finished calls of each rank are those that the plain meaning has done for it, with their bytes and in order.
     ensures calls { (script : Script) → IsFreshCrew script chip.old crew.old → (k : ℕ) → k < script.nue → HasPlainCalls script k (records_in chip.new k) }
+    // Each UE has counted the messages that its rank's finished calls sent, and their bytes.
+    ensures sent { (script : Script) → IsFreshCrew script chip.old crew.old → (k : ℕ) (d : Member UeView) → k < script.nue
+        → CountsSends script k (records_in chip.new k) (slice_index_or crew.new k d).worker }
     // A call that a rank has open is the one at which the plain meaning leaves it waiting. None is open where the rank waits
     // for its posted message at its end.
     ensures opened { (script : Script) → IsFreshCrew script chip.old crew.old → (k : ℕ) (call : DataCall) → k < script.nue
