@@ -8,3 +8,5 @@ pub mod Others
 pub mod Reading
 pub mod Ring
 pub mod Sections
+pub mod Usual
+pub mod Sums

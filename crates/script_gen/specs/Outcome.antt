@@ -4,9 +4,12 @@ use Rattle.std.specs.List.{sum}
 use Rattle.rcce_io.specs.Sending.{joined}
 use Rattle.scc_base.specs.Calls.{DataCall}
 use Rattle.scc_base.specs.Calls.DataCall.{Send, Post}
+use Rattle.script_plain.specs.declared.matches.Match.{Match}
 use Rattle.script_plain.specs.Ends.{Ended}
-use Rattle.script_plain.specs.Meaning.{State, ends_at, plain_end, seen_of}
+use Rattle.script_plain.specs.Matches.{plain_matches}
+use Rattle.script_plain.specs.Meaning.{State, plain_ends}
 use Rattle.script_plain.specs.Step.{Configuration}
+use Rattle.script_reader.specs.Script.{Script}
 use Rattle.script_gen.specs.Scripts.{gen_script_of}
 
 -- whether a call has sent a message, as 1 or 0, and with how many bytes
@@ -27,19 +30,28 @@ all_sends c = sum_by (λ u. sum_by sends_of u.matched) c.cells
 abbrev pub all_sent_bytes : Configuration State → ℕ
 all_sent_bytes c = sum_by (λ u. sum_by sent_bytes_of u.matched) c.cells
 
--- the sum of all bytes in all items that the ranks printed, modulo 2 ^ 32
+-- the bytes of messages that came
+abbrev pub message_bytes : List Match → ℕ
+message_bytes matches = sum_by (λ m. m.head.len) matches
+
+-- the sum of all bytes in the items that a rank printed
+abbrev pub item_bytes : Ended → ℕ
+item_bytes ue = sum_by (λ item. sum item.bytes) ue.printed
+
+-- and in those of all ranks, modulo 2 ^ 32
 abbrev pub printed_sum : List Ended → ℕ
-printed_sum ends = sum_by (λ ue. sum_by (λ item. sum item.bytes) ue.printed) ends % 2 ^ 32
+printed_sum ends = sum_by item_bytes ends % 2 ^ 32
 
 -- the line, by its numbers
 abbrev pub counts_line : ℕ → ℕ → ℕ → ℕ → ℕ → List ℕ
 counts_line nue s sends bytes sum =
     joined (codes "gen " ∷ decimal s ∷ codes " ues " ∷ decimal nue ∷ codes " sends " ∷ decimal sends ∷ codes " bytes " ∷ decimal bytes ∷ codes " sum " ∷ decimal sum ∷ codes "\n" ∷ [])
 
--- the line of a run of nue ranks that came to this end
-abbrev pub end_line : ℕ → ℕ → Configuration State → List ℕ
-end_line nue s c = counts_line nue s (all_sends c) (all_sent_bytes c) (printed_sum (ends_at (seen_of c)))
+-- the line of a run of a script that was made of a number: how many messages came, with how many bytes, and the sum of what was
+-- printed
+abbrev pub script_line : ℕ → Script → List ℕ
+script_line s script = counts_line script.nue s (length (plain_matches script)) (message_bytes (plain_matches script)) (printed_sum (plain_ends script))
 
--- the line of the script of a number s for nue ranks: that of its plain end
+-- the line of the script of a number s for nue ranks
 abbrev pub gen_line : ℕ → ℕ → List ℕ
-gen_line nue s = end_line nue s (plain_end (gen_script_of nue s))
+gen_line nue s = script_line s (gen_script_of nue s)

@@ -8,4 +8,4 @@ mod pieces;
 mod tests;
 
 pub use generate::gen_script;
-pub use laws::generated_scripts_are_read;
+pub use laws::{generated_scripts_are_read, generated_scripts_are_short, sent_messages_came};
