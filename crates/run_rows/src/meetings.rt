@@ -1,0 +1,126 @@
+//! What no clause says: that the ranks take their turns at the same time.
+
+ghost use Rattle.std.specs.Prelude.{None, []};
+
+use crate::runs::{Evictors, FOUR_BYTES, Nevers, come};
+use line_cache::Evict;
+use rcce_run::{Gate, Mode, Open, RunEnd};
+use scc_base::{Layout, Rank};
+use std::sync::atomic::{AtomicU64, Ordering};
+use std::test::Fail;
+
+/// How often a rank looks for the other one.
+const LOOKS: u64 = 50_000_000;
+
+/// A place where two threads meet: how many have come to it, and how many waited there in vain.
+#[derive(Drop)]
+struct Meeting {
+    came: AtomicU64,
+    missed: AtomicU64,
+}
+
+impl Meeting {
+    fn new() -> Meeting {
+        Meeting {
+            came: AtomicU64::new(0),
+            missed: AtomicU64::new(0),
+        }
+    }
+
+    /// Comes, and waits until two have come.
+    fn wait(&self) {
+        self.came.fetch_add(1, Ordering::SeqCst);
+        for _ in 0..LOOKS {
+            if self.came.load(Ordering::SeqCst) > 1 {
+                return;
+            }
+        }
+        self.missed.fetch_add(1, Ordering::SeqCst);
+    }
+}
+
+impl Gate for Meeting {
+    fn pass(&self, rank: Rank) {
+        let _ = rank;
+        self.wait();
+    }
+}
+
+/// An evictor that drops nothing, and that waits for the other rank's at its first question.
+#[derive(Drop)]
+struct Meets<'a> {
+    meeting: &'a Meeting,
+    was_asked: bool,
+}
+
+impl<'a> Evict for Meets<'a> {
+    ghost count = { λ _. 0 };
+
+    ghost asked = { λ _. None };
+
+    ghost answers = { λ _. [] };
+
+    fn drop_one(&mut self, held: usize) -> Option<usize> {
+        let _ = held;
+        if !self.was_asked {
+            self.was_asked = true;
+            self.meeting.wait();
+        }
+        None
+    }
+}
+
+/// Evictors that meet here.
+#[derive(Drop)]
+struct MeetAt<'a> {
+    meeting: &'a Meeting,
+}
+
+impl<'a> Evictors<Meets<'a>> for MeetAt<'a> {
+    fn make(&self, rank: u8) -> Meets<'a> {
+        let _ = rank;
+        Meets {
+            meeting: self.meeting,
+            was_asked: false,
+        }
+    }
+}
+
+#[test]
+fn two_ranks_wait_for_each_other_at_the_gate(rt: HostRuntime) -> Result<(), Fail> {
+    let meeting = Meeting::new();
+    let layout = Layout::lines();
+    let came = come(
+        &rt,
+        rt.alloc(),
+        &FOUR_BYTES,
+        layout,
+        &Nevers,
+        Mode::Threads,
+        &meeting,
+    )?;
+    assert_eq!(rt; came.end, RunEnd::Finished);
+    assert!(rt; meeting.came.load(Ordering::SeqCst) > 1);
+    assert_eq!(rt; meeting.missed.load(Ordering::SeqCst), 0);
+    Ok(())
+}
+
+#[test]
+fn two_ranks_wait_for_each_other_inside_their_turns(rt: HostRuntime) -> Result<(), Fail> {
+    let meeting = Meeting::new();
+    let evictors = MeetAt { meeting: &meeting };
+    let layout = Layout::lines();
+    let came = come(
+        &rt,
+        rt.alloc(),
+        &FOUR_BYTES,
+        layout,
+        &evictors,
+        Mode::Threads,
+        &Open,
+    )?;
+    assert_eq!(rt; came.end, RunEnd::Finished);
+    assert!(rt; meeting.came.load(Ordering::SeqCst) > 1);
+    assert_eq!(rt; meeting.missed.load(Ordering::SeqCst), 0);
+    Ok(())
+}
