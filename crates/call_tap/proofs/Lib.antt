@@ -1,0 +1,5 @@
+pub mod CallMoves
+pub mod EventMoves
+pub mod FollowLaws
+pub mod TapLaws
+pub mod WatchLaws

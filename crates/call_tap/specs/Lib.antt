@@ -1,0 +1,5 @@
+pub mod Kept
+pub mod Moves
+pub mod Taps
+pub mod Uses
+pub mod Watching
