@@ -1,0 +1,10 @@
+pub mod ListLemmas
+pub mod TableLemmas
+pub mod GoodLemmas
+pub mod WindowLemmas
+pub mod TurnLemmas
+pub mod SendTurns
+pub mod RecvTurns
+pub mod EndLemmas
+pub mod PieceLemmas
+pub mod OpAnswers

@@ -1,0 +1,140 @@
+-- A turn of a collective call that is in the midst of a send.
+use Rattle.std.proofs.Common.{◌≡◌, ℕ, ◌+◌, ◌<◌, Bool, true, false, cond, List, [], ◌∷◌, ◌++◌, map, take, Option, Some, slice_get, refl, sym, ap, ◌∙◌, subst, arith, append_assoc}
+use Rattle.scc_base.specs.Calls.{DataCall}
+use Rattle.scc_base.specs.Calls.DataCall.{Send, Post}
+use Rattle.scc_base.specs.Heads.{MessageHead, plain_head}
+use Rattle.scc_base.specs.declared.events.Spot.{Spot}
+use Rattle.scc_base.specs.declared.events.Turn.{Turn}
+use Rattle.scc_base.specs.declared.events.Turn.TheVariants as turn
+use Rattle.scc_proto.specs.Ports.{Seat, Sight, record_in}
+use Rattle.scc_proto.specs.Records.{chunk_of}
+use Rattle.scc_proto.proofs.PortLaws.{seat_kept}
+use Rattle.put_get.specs.Cores.{Private}
+use Rattle.send_recv.specs.Ops.{SendAt, SlotAt, is_sent}
+use Rattle.send_recv.specs.Sending.{SendStands, SendTurned, send_call, send_left}
+use Rattle.send_recv.specs.declared.answers.RecvTurn.TheVariants as receive
+use Rattle.send_recv.proofs.Starts.{free_after_sent}
+use Rattle.coll_more.specs.Ops.{HasOwn, MoreAt, bytes_of, data_by, data_of, ended_calls, is_taking, table_of}
+use Rattle.coll_more.specs.Standing.{IsFit, IsSendOf, MoreStands, Stands}
+use Rattle.coll_more.specs.Turns.{Turns, left_from}
+use Rattle.coll_more.specs.declared.kinds.PieceCall.{PieceCall}
+use Rattle.coll_more.specs.declared.kinds.Way.{Way}
+use Rattle.coll_more.specs.declared.kinds.Way.TheVariants.{Gives, Shares, Takes}
+use Rattle.coll_more.specs.declared.ops.Stage.TheVariants.{Between, Sending}
+use Rattle.coll_more.proofs.ListLemmas.{next_taken}
+
+-- the call that is finished
+sent_call : (op : SendAt) (to : ℕ) (head : MessageHead) (bytes : List ℕ) → op.to ≡ to → op.head ≡ head → op.posted ≡ false → is_sent op.stage ≡ false → send_call op bytes ≡ Send to head bytes ∷ []
+sent_call op to head bytes at is posted on = λ i. cond (on i) [] (cond (posted i) (Post (at i) (is i) bytes ∷ []) (Send (at i) (is i) bytes ∷ []))
+
+sent_data : (w : Way) (peer len : ℕ) (bytes : List ℕ) → is_taking w ≡ false → Send peer (plain_head len) bytes ≡ data_by w peer len bytes
+sent_data Gives peer len bytes is = refl
+sent_data Shares peer len bytes is = refl
+sent_data Takes peer len bytes is = absurd (cc)
+
+module _ (m : MoreAt) (s t : Sight) (c d : Private) (call : PieceCall) (op next : SendAt) (slot after : SlotAt) (src dst : List ℕ) where
+  abbrev Turned : Turn → Type 0
+  Turned answer = SendTurned s c op slot (bytes_of call src dst) t d next after answer
+
+  later_of : IsSendOf call op → (next.to ≡ op.to) × (next.head ≡ op.head) × (next.posted ≡ op.posted) → is_sent next.stage ≡ false → IsSendOf call next
+  later_of of same unended = record { way = of.way; to = same.0 ∙ of.to; head = same.1 ∙ of.head; plain = same.2 ∙ of.plain; unended = unended }
+
+  module _ (fit : Stands s c (record m { stage = Sending call op }) slot src dst) (there : SendStands t d next after (bytes_of call src dst)) where
+    here : IsSendOf call op
+    here = fit.1.at.1
+
+    module _ (answer : Turn) (r : Turned answer) where
+      seat : t.seat ≡ s.seat
+      seat = seat_kept s r.events t r.did
+
+      fits_there : (old : IsFit m.more s.seat.rank s.seat.setup.nue m.len src dst) → IsFit m.more t.seat.rank t.seat.setup.nue m.len src dst
+      fits_there old = subst (λ (x : Seat). IsFit m.more x.rank x.setup.nue m.len src dst) (sym seat) old
+
+      own_there : HasOwn m.more s.seat.rank m.len src dst → HasOwn m.more t.seat.rank m.len src dst
+      own_there old = subst (λ (x : Seat). HasOwn m.more x.rank m.len src dst) (sym seat) old
+
+      kept : is_sent next.stage ≡ false → (record_in t).calls ≡ (record_in s).calls → (base : List DataCall) → MoreStands base s c (record m { stage = Sending call op }) slot src dst
+          → MoreStands base t d (record m { stage = Sending call next }) after src dst
+      kept unended calls base st = record {
+        fits = fits_there st.fits;
+        calls = calls ∙ st.calls ∙ ap (λ (x : Seat). base ++ ended_calls x m src dst) (sym seat);
+        own = λ is. own_there (st.own refl);
+        at = (subst (λ (x : Seat). slice_get (table_of x m) m.ended ≡ Some call) (sym seat) st.at.0, later_of st.at.1 r.same unended, there);
+      }
+
+    pub send_moved : Turned turn.Moved → Turns s c (record m { stage = Sending call op }) slot src dst t d (record m { stage = Sending call next }) after dst receive.Moved
+    send_moved r = record {
+      stands = kept turn.Moved r r.means.3 r.means.1;
+      turned = record {
+        events = r.events;
+        did = r.did;
+        tried = r.tried;
+        freed = r.freed;
+        rests = λ spot same. absurd (cc);
+        only = r.only;
+        same = (refl, refl);
+        means = (less, refl);
+        rest = r.rest;
+        drafts = r.drafts;
+        held = r.held;
+      };
+    }
+      where
+        less : (1 + send_left s.seat.setup.layout (chunk_of s.seat.setup) next after) + left_from s.seat m (m.ended + 1)
+            < (1 + send_left s.seat.setup.layout (chunk_of s.seat.setup) op slot) + left_from s.seat m (m.ended + 1)
+        less = let fewer = r.means.0 in omega (arith, fewer)
+
+    pub send_waited : (spot : Spot) → Turned (turn.Waiting spot)
+        → Turns s c (record m { stage = Sending call op }) slot src dst t d (record m { stage = Sending call next }) after dst (receive.Waiting spot)
+    send_waited spot r = record {
+      stands = kept (turn.Waiting spot) r (ap (λ (x : SendAt). is_sent x.stage) r.means.0 ∙ here.unended) r.means.2.calls;
+      turned = record {
+        events = r.events;
+        did = r.did;
+        tried = r.tried;
+        freed = r.freed;
+        rests = λ at same. r.rests spot refl;
+        only = r.only;
+        same = (refl, refl);
+        means = (record { same_op = (λ i. record m { stage = Sending call (r.means.0 i) }); same_slot = r.means.1; same_dst = refl; rest = r.means.2 }, refl);
+        rest = r.rest;
+        drafts = r.drafts;
+        held = r.held;
+      };
+    }
+
+    pub send_done : Turned turn.Done
+        → Turns s c (record m { stage = Sending call op }) slot src dst t d (record m { ended = m.ended + 1; stage = Between }) after dst receive.Moved
+    send_done r = record {
+      stands = λ base st. record {
+        fits = fits_there turn.Done r st.fits;
+        calls = more base st;
+        own = λ is. own_there turn.Done r (st.own refl);
+        at = free_after_sent r there;
+      };
+      turned = record {
+        events = r.events;
+        did = r.did;
+        tried = r.tried;
+        freed = r.freed;
+        rests = λ spot same. absurd (cc);
+        only = r.only;
+        same = (refl, refl);
+        means = (less, refl);
+        rest = r.rest;
+        drafts = r.drafts;
+        held = r.held;
+      };
+    }
+      where
+        less : left_from s.seat m (m.ended + 1) < (1 + send_left s.seat.setup.layout (chunk_of s.seat.setup) op slot) + left_from s.seat m (m.ended + 1)
+        less = omega arith
+
+        more : (base : List DataCall) → MoreStands base s c (record m { stage = Sending call op }) slot src dst
+            → (record_in t).calls ≡ base ++ ended_calls t.seat (record m { ended = m.ended + 1 }) src dst
+        more base st =
+            r.means.2
+            ∙ (λ i. st.calls i ++ (sent_call op call.peer (plain_head call.len) (bytes_of call src dst) here.to here.head here.plain here.unended ∙ ap (λ (x : DataCall). x ∷ []) (sent_data call.way call.peer call.len (bytes_of call src dst) here.way)) i)
+            ∙ append_assoc base (ended_calls s.seat m src dst) (data_of src dst call ∷ [])
+            ∙ ap (λ (x : List DataCall). base ++ x) (sym (next_taken (data_of src dst) (table_of s.seat m) m.ended call st.at.0))
+            ∙ ap (λ (x : Seat). base ++ ended_calls x (record m { ended = m.ended + 1 }) src dst) (sym (seat turn.Done r))

@@ -1,0 +1,5 @@
+pub mod Tables
+pub mod Ops
+pub mod Standing
+pub mod Turns
+pub mod Pieces

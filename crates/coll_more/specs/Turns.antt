@@ -1,0 +1,134 @@
+-- One turn of a collective call.
+use Rattle.std.specs.Prelude.{◌≡◌, ◌≢◌, ℕ, ◌+◌, ◌*◌, ◌<◌, Bool, true, false, List, drop, Option, Some, None, is_none, slice_get, sum_by}
+use Rattle.std.specs.List.{list_all}
+use Rattle.scc_base.specs.Calls.{DataCall}
+use Rattle.scc_base.specs.Heads.{MessageHead, plain_head}
+use Rattle.scc_base.specs.declared.events.Event.{Event}
+use Rattle.scc_base.specs.declared.events.Spot.{Spot}
+use Rattle.scc_base.specs.declared.layouts.Layout.{Layout}
+use Rattle.scc_base.specs.Layouts.{chunk_size}
+use Rattle.scc_proto.specs.Messages.{Notes}
+use Rattle.scc_proto.specs.Ports.{Did, Seat, Sight, record_in}
+use Rattle.scc_proto.specs.Records.{chunk_of}
+use Rattle.scc_proto.specs.Stages.{Record}
+use Rattle.put_get.specs.Cores.{Private}
+use Rattle.send_recv.specs.Chunks.{chunk_count, lines_of}
+use Rattle.send_recv.specs.Ops.{SlotAt}
+use Rattle.send_recv.specs.Receiving.{SaysHead, recv_left, recv_spot, recv_waits}
+use Rattle.send_recv.specs.Sending.{send_left, send_spot}
+use Rattle.send_recv.specs.Tries.{aim_at}
+use Rattle.send_recv.specs.Turns.{IsAtRest, KeepsRest, LastHeld, OnlyTries, StoresFromBuffer, is_resting}
+use Rattle.send_recv.specs.declared.answers.RecvTurn.{RecvTurn}
+use Rattle.send_recv.specs.declared.answers.RecvTurn.TheVariants as turn
+use Rattle.sync_flags.specs.Tries.{Aim, Tried, changing_after}
+use Rattle.coll_more.specs.Ops.{MoreAt, table_of}
+use Rattle.coll_more.specs.Standing.{MoreStands}
+use Rattle.coll_more.specs.declared.kinds.PieceCall.{PieceCall}
+use Rattle.coll_more.specs.declared.ops.Stage.{Stage}
+use Rattle.coll_more.specs.declared.ops.Stage.TheVariants.{Own, Between, Sending, Receiving}
+
+-- the bound of a message: 4 + 5c + l turns for c chunks of l lines
+abbrev pub message_bound : Layout → PieceCall → ℕ
+message_bound layout call = 4 + 5 * chunk_count (chunk_size layout) call.len + lines_of call.len
+
+-- a message counts two more: the turn that begins it, and the one that ends it
+abbrev pub call_bound : Layout → PieceCall → ℕ
+call_bound layout call = 2 + message_bound layout call
+
+-- what is left of the messages from this place of the table on
+abbrev pub left_from : Seat → MoreAt → ℕ → ℕ
+left_from seat op place = sum_by (call_bound seat.setup.layout) (drop place (table_of seat op))
+
+-- how many turns that do not wait are left at most
+abbrev pub left_by : Seat → MoreAt → SlotAt → Stage → ℕ
+left_by seat op slot Own = 1 + left_from seat op op.ended
+left_by seat op slot Between = left_from seat op op.ended
+left_by seat op slot (Sending call send) = (1 + send_left seat.setup.layout (chunk_of seat.setup) send slot) + left_from seat op (op.ended + 1)
+left_by seat op slot (Receiving call receive) = (1 + recv_left (chunk_of seat.setup) receive) + left_from seat op (op.ended + 1)
+
+abbrev pub more_left : Seat → MoreAt → SlotAt → ℕ
+more_left seat op slot = left_by seat op slot op.stage
+
+-- what the one try of a turn is for: what the message tries for that stands next
+abbrev pub aim_by : Seat → SlotAt → Stage → Option Aim
+aim_by seat slot Own = None
+aim_by seat slot Between = None
+aim_by seat slot (Sending call send) = aim_at seat.setup.layout (send_spot seat send slot)
+aim_by seat slot (Receiving call receive) = aim_at seat.setup.layout (recv_spot seat receive)
+
+-- whether nothing of a collective call is left
+abbrev pub is_over_by : List PieceCall → ℕ → Stage → Bool
+is_over_by table ended Between = is_none (slice_get table ended)
+is_over_by table ended stage = false
+
+abbrev pub is_over : Seat → MoreAt → Bool
+is_over seat op = is_over_by (table_of seat op) op.ended op.stage
+
+-- a receive has met a message with another head than its own, whose words the record has noted
+abbrev pub MetOther : Record → MessageHead → Stage → Type 0
+MetOther rec sent (Receiving call receive) = (sent ≢ plain_head call.len) × (header : Notes) × (rec.notes call.peer ≡ Some header) × SaysHead header sent
+MetOther rec sent stage = ⊥
+
+-- the op, the slot and dst are as before, and the record but for what it has seen
+pub record IsStill (rec : Record) (op : MoreAt) (slot : SlotAt) (dst : List ℕ) (new : Record) (now : MoreAt) (after : SlotAt) (later : List ℕ) : Type 0 where
+  pub same_op : now ≡ op
+  pub same_slot : after ≡ slot
+  pub same_dst : later ≡ dst
+  pub rest : IsAtRest rec new
+
+-- what each answer means: Moved alone lowers the number of turns left; Waiting and Mismatch leave all as it was; and Done comes
+-- exactly where nothing was left before, and then nothing is done
+abbrev pub MoreMeans : Sight → Private → MoreAt → SlotAt → List ℕ → Sight → Private → MoreAt → SlotAt → List ℕ → RecvTurn → Type 0
+MoreMeans s c op slot dst t d now after later turn.Moved = (more_left s.seat now after < more_left s.seat op slot) × (is_over s.seat op ≡ false)
+MoreMeans s c op slot dst t d now after later (turn.Waiting spot) = IsStill (record_in s) op slot dst (record_in t) now after later × (is_over s.seat op ≡ false)
+MoreMeans s c op slot dst t d now after later turn.Done = (now ≡ op) × (after ≡ slot) × (later ≡ dst) × (t ≡ s) × (d ≡ c) × (is_over s.seat op ≡ true)
+MoreMeans s c op slot dst t d now after later (turn.Mismatch sent) = IsStill (record_in s) op slot dst (record_in t) now after later × (is_over s.seat op ≡ false)
+    × MetOther (record_in t) sent op.stage
+
+-- one turn of a collective call: what it did, and what it came to
+pub record MoreTurned (s : Sight) (c : Private) (op : MoreAt) (slot : SlotAt) (dst : List ℕ) (t : Sight) (d : Private) (now : MoreAt) (after : SlotAt) (later : List ℕ)
+    (answer : RecvTurn) : Type 0 where
+  pub events : List Event
+  -- each event was permitted
+  pub did : Did s events t
+  -- it waits exactly where its one try was vain, at the spot of its message
+  pub tried : Tried (aim_by s.seat slot op.stage) events (recv_waits answer)
+  -- it has freed the register that it took
+  pub freed : changing_after false events ≡ false
+  -- where it waits, each of its events was a load or a vain take
+  pub rests : (spot : Spot) → answer ≡ turn.Waiting spot → list_all is_resting events ≡ true
+  -- where it waits, it made that one try and nothing else
+  pub only : OnlyTries (aim_at s.seat.setup.layout (recv_waits answer)) events
+  pub same : (now.more ≡ op.more) × (now.len ≡ op.len)
+  pub means : MoreMeans s c op slot dst t d now after later answer
+  pub rest : KeepsRest (record_in s) (record_in t)
+  -- each header or chunk word that it stored stood in the buffer before
+  pub drafts : StoresFromBuffer s.seat.setup c events
+  -- the line that was loaded last stands in the cache, unless lines were evicted
+  pub held : LastHeld events c.evictions d
+
+-- a turn, after which the op and its rank fit together again
+pub record Turns (s : Sight) (c : Private) (op : MoreAt) (slot : SlotAt) (src dst : List ℕ) (t : Sight) (d : Private) (now : MoreAt) (after : SlotAt) (later : List ℕ)
+    (answer : RecvTurn) : Type 0 where
+  pub stands : (base : List DataCall) → MoreStands base s c op slot src dst → MoreStands base t d now after src later
+  pub turned : MoreTurned s c op slot dst t d now after later answer
+
+-- the own piece is copied next
+abbrev pub is_own : Stage → Bool
+is_own Own = true
+is_own stage = false
+
+-- the next message begins, or nothing is left
+abbrev pub is_between : Stage → Bool
+is_between Between = true
+is_between stage = false
+
+-- a send is in hand
+abbrev pub is_sending : Stage → Bool
+is_sending (Sending call send) = true
+is_sending stage = false
+
+-- a receive is in hand
+abbrev pub is_receiving : Stage → Bool
+is_receiving (Receiving call receive) = true
+is_receiving stage = false
