@@ -1,5 +1,5 @@
 -- A collective call at its end, at its start, and at another port.
-use Rattle.std.proofs.Common.{◌≡◌, ℕ, zero, suc, ◌+◌, ◌*◌, ◌<◌, ◌≤◌, Bool, true, false, List, [], ◌∷◌, ◌++◌, length, map, take, Option, Some, None, is_none, slice_get, refl, sym, ap, ◌∙◌, subst, arith, append-nil, sum_by, take_all}
+use Rattle.std.proofs.Common.{◌≡◌, ℕ, zero, suc, ◌+◌, ◌*◌, ◌≤◌, true, List, [], ◌∷◌, ◌++◌, length, map, take, Option, Some, None, is_none, slice_get, refl, sym, ap, ◌∙◌, subst, arith, append-nil, sum_by}
 use base.Stored.{Gv}
 use Rattle.std.proofs.lemmas.List.Sums.{sum_by-cons}
 use Rattle.scc_base.specs.Calls.{DataCall}
@@ -13,7 +13,7 @@ use Rattle.send_recv.specs.declared.answers.RecvTurn.TheVariants as turn
 use Rattle.send_recv.proofs.OtherPort.{free_there, receive_there, send_there, slot_there}
 use Rattle.sync_flags.specs.Turns.{at_port}
 use Rattle.sync_flags.proofs.TurnLemmas.{record_at_port}
-use Rattle.coll_more.specs.Ops.{MoreAt, bytes_of, data_of, ended_calls, is_copied, new_more, table_of, window}
+use Rattle.coll_more.specs.Ops.{MoreAt, bytes_of, data_of, is_copied, new_more, table_of, window}
 use Rattle.coll_more.specs.Standing.{HasEnded, IsFit, MoreStands, StandsAt}
 use Rattle.coll_more.specs.Turns.{MoreTurned, call_bound, is_over_by, message_bound, more_left}
 use Rattle.coll_more.specs.declared.kinds.More.{More}

@@ -1,6 +1,6 @@
 -- Each message of a table is between ranks of the run and inside its bytes, and no receive writes where an earlier message read or
 -- wrote, or where the own piece stands.
-use Rattle.std.proofs.Common.{◌≡◌, ◌≢◌, ◌⊎◌, ℕ, zero, suc, ◌+◌, ◌-◌, ◌*◌, ◌<◌, ◌≤◌, ◌==◌, max, Bool, true, false, List, [], ◌∷◌, ◌++◌, length, Option, Some, slice_get, refl, sym, ap, ◌∙◌, subst, arith, inl, inr, add-mul, append-nil, mul-le-mul_right}
+use Rattle.std.proofs.Common.{◌≡◌, ◌≢◌, ◌⊎◌, ℕ, zero, suc, ◌+◌, ◌-◌, ◌*◌, ◌<◌, ◌≤◌, ◌==◌, max, Bool, true, false, List, [], ◌∷◌, ◌++◌, Some, slice_get, refl, sym, ap, subst, arith, inl, inr, add-mul, append-nil, mul-le-mul_right}
 use Rattle.coll_more.specs.Ops.{is_taking}
 use Rattle.scc_proto.proofs.Tests.{eqb_other, same_by_eqb}
 use Rattle.coll_more.proofs.ListLemmas.{some_same}

@@ -1,5 +1,5 @@
 -- The messages of a table with one rank, and a list made of pieces.
-use Rattle.std.proofs.Common.{◌≡◌, ◌≢◌, ◌⊎◌, ℕ, zero, suc, ◌+◌, ◌-◌, ◌*◌, ◌<◌, ◌≤◌, ◌==◌, Bool, true, false, if◌then◌else◌, List, [], ◌∷◌, ◌++◌, length, get_or, map, take, drop, flat_map, Option, refl, sym, ap, ◌∙◌, subst, arith, inl, inr, append-nil, length-drop, take-append-drop}
+use Rattle.std.proofs.Common.{◌≡◌, ◌≢◌, ◌⊎◌, ℕ, zero, suc, ◌+◌, ◌-◌, ◌*◌, ◌<◌, ◌≤◌, ◌==◌, Bool, if◌then◌else◌, List, [], ◌∷◌, ◌++◌, length, get_or, map, drop, flat_map, Option, refl, sym, ap, ◌∙◌, subst, arith, inl, inr, append-nil, take-append-drop}
 use Rattle.std.specs.List.{range_with_len}
 use Rattle.std.proofs.lemmas.List.{drop-drop, drop_all, map-append, nil_from_length, take_all}
 use Rattle.scc_base.specs.Calls.{DataCall}
@@ -10,8 +10,8 @@ use Rattle.scc_proto.proofs.LegalMessages.{legal_messages}
 use Rattle.scc_proto.proofs.MessageLists.{received_messages-append, sent_messages-append}
 use Rattle.scc_proto.proofs.Tests.{eqb_other, eqb_same, same_or_other}
 use Rattle.coll_more.specs.Ops.{data_of, window}
-use Rattle.coll_more.specs.Pieces.{HasMade, HaveMade, all_of, pieces_for}
-use Rattle.coll_more.specs.Tables.{alltoall_calls, for_each, gather_calls, gives, gives_piece, gives_then_takes, has_own, scatter_calls, shares, spread_calls, takes, takes_piece, takes_then_gives}
+use Rattle.coll_more.specs.Pieces.{HaveMade, all_of, pieces_for}
+use Rattle.coll_more.specs.Tables.{alltoall_calls, for_each, gives_piece, gives_then_takes, shares, takes_piece, takes_then_gives}
 use Rattle.coll_more.specs.declared.kinds.More.{More}
 use Rattle.coll_more.specs.declared.kinds.More.TheVariants.{Gather, Scatter, Allgather, Alltoall}
 use Rattle.coll_more.specs.declared.kinds.PieceCall.{PieceCall}

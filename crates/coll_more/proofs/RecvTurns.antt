@@ -1,5 +1,5 @@
 -- A turn of a collective call that is in the midst of a receive.
-use Rattle.std.proofs.Common.{◌≡◌, ◌≢◌, ◌⊎◌, ℕ, ◌+◌, ◌*◌, ◌<◌, ◌≤◌, Bool, true, false, cond, List, [], ◌∷◌, ◌++◌, length, map, take, drop, Option, Some, slice_get, refl, sym, ap, ◌∙◌, subst, arith, inl, inr, append_assoc}
+use Rattle.std.proofs.Common.{◌≡◌, ◌⊎◌, ℕ, ◌+◌, ◌*◌, ◌<◌, ◌≤◌, Bool, true, false, cond, List, [], ◌∷◌, ◌++◌, length, take, drop, Some, slice_get, refl, sym, ap, ◌∙◌, subst, arith, inl, inr, append_assoc}
 use Rattle.std.specs.List.{list_all}
 use Rattle.scc_base.specs.Calls.{DataCall}
 use Rattle.scc_base.specs.Calls.DataCall.{Recv}
@@ -17,10 +17,10 @@ use Rattle.send_recv.specs.Turns.{StoresFromBuffer, is_no_draft}
 use Rattle.send_recv.specs.declared.answers.RecvTurn.{RecvTurn}
 use Rattle.send_recv.specs.declared.answers.RecvTurn.TheVariants as turn
 use Rattle.send_recv.proofs.Starts.{free_after_received, slot_after}
-use Rattle.coll_more.specs.Ops.{HasOwn, MoreAt, bytes_by, bytes_of, data_by, data_of, ended_calls, is_taking, table_of, window}
+use Rattle.coll_more.specs.Ops.{HasOwn, MoreAt, bytes_by, data_by, data_of, ended_calls, is_taking, table_of, window}
 use Rattle.coll_more.specs.Standing.{IsFit, IsRecvOf, MoreStands, Stands}
 use Rattle.coll_more.specs.Tables.{dst_len_of, has_own, src_len_of}
-use Rattle.coll_more.specs.Turns.{MetOther, Turns, left_from}
+use Rattle.coll_more.specs.Turns.{Turns, left_from}
 use Rattle.coll_more.specs.declared.kinds.PieceCall.{PieceCall}
 use Rattle.coll_more.specs.declared.kinds.Way.{Way}
 use Rattle.coll_more.specs.declared.kinds.Way.TheVariants.{Gives, Shares, Takes}

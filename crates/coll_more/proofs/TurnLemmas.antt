@@ -1,29 +1,26 @@
 -- Turns of a collective call that make no event: the own piece is copied, the next message begins, or nothing is left.
-use Rattle.std.proofs.Common.{◌≡◌, ◌≢◌, ℕ, ◌+◌, ◌*◌, ◌<◌, ◌≤◌, true, false, List, [], ◌++◌, length, map, take, drop, Option, Some, None, is_none, slice_get, refl, sym, ap, ◌∙◌, subst, arith, inl, sum_by}
+use Rattle.std.proofs.Common.{◌≡◌, ℕ, ◌+◌, ◌<◌, ◌≤◌, false, List, [], ◌++◌, length, map, take, Option, Some, None, is_none, slice_get, refl, sym, ap, ◌∙◌, subst, arith, inl}
 use Rattle.scc_base.specs.Calls.{DataCall}
 use Rattle.scc_base.specs.Heads.{IsHead, plain_head}
-use Rattle.scc_base.specs.declared.layouts.Layout.{Layout}
-use Rattle.scc_proto.specs.Ports.{Seat, Sight, record_in}
+use Rattle.scc_proto.specs.Ports.{Sight}
 use Rattle.scc_proto.specs.Records.{chunk_of}
 use Rattle.scc_proto.proofs.PortLaws.{did_nothing}
 use Rattle.scc_proto.proofs.Tests.{peers_from}
 use Rattle.put_get.specs.Cores.{Private}
 use Rattle.send_recv.specs.Calling.{IsInNoCall}
-use Rattle.send_recv.specs.Ops.{SlotAt, new_receive, new_send}
-use Rattle.send_recv.specs.Receiving.{recv_left}
-use Rattle.send_recv.specs.Sending.{send_left}
-use Rattle.send_recv.specs.Turns.{LastHeld, NoLoad}
+use Rattle.send_recv.specs.Ops.{SlotAt}
+use Rattle.send_recv.specs.Turns.{NoLoad}
 use Rattle.send_recv.specs.declared.answers.RecvTurn.TheVariants as turn
 use Rattle.send_recv.proofs.Starts.{new_receive_left, new_send_left, receive_starts, send_starts}
 use Rattle.sync_flags.specs.Tries.{NoTry}
 use Rattle.coll_more.specs.Ops.{HasOwn, MoreAt, begun_at, begun_by, bytes_by, bytes_of, data_of, ended_calls, is_taking, table_of, window}
 use Rattle.coll_more.specs.Standing.{IsFit, MoreStands, Stands, StandsAt}
 use Rattle.coll_more.specs.Tables.{dst_len_of, has_own, src_len_of}
-use Rattle.coll_more.specs.Turns.{MoreTurned, Turns, call_bound, left_by, left_from, message_bound, more_left}
+use Rattle.coll_more.specs.Turns.{Turns, call_bound, left_by, left_from}
 use Rattle.coll_more.specs.declared.kinds.PieceCall.{PieceCall}
 use Rattle.coll_more.specs.declared.kinds.Way.{Way}
 use Rattle.coll_more.specs.declared.kinds.Way.TheVariants.{Gives, Shares, Takes}
-use Rattle.coll_more.specs.declared.ops.Stage.TheVariants.{Own, Between, Sending, Receiving}
+use Rattle.coll_more.specs.declared.ops.Stage.TheVariants.{Own, Between}
 use Rattle.coll_more.proofs.GoodLemmas.{IsGood, each_at, good_calls, room_by}
 use Rattle.coll_more.proofs.ListLemmas.{next_left}
 use Rattle.coll_more.proofs.WindowLemmas.{window_long}

@@ -1,5 +1,5 @@
 -- Where a collective call stands at a rank (this project's profile).
-use Rattle.std.specs.Prelude.{◌≡◌, ℕ, ◌+◌, ◌*◌, Bool, true, false, List, drop, length, map, take}
+use Rattle.std.specs.Prelude.{◌≡◌, ℕ, ◌*◌, Bool, true, false, List, drop, map, take}
 use Rattle.scc_base.specs.Calls.{DataCall}
 use Rattle.scc_base.specs.Calls.DataCall.{Send, Recv}
 use Rattle.scc_base.specs.Heads.{plain_head}
@@ -11,7 +11,7 @@ use Rattle.coll_more.specs.declared.kinds.PieceCall.{PieceCall}
 use Rattle.coll_more.specs.declared.kinds.Way.{Way}
 use Rattle.coll_more.specs.declared.kinds.Way.TheVariants.{Gives, Shares, Takes}
 use Rattle.coll_more.specs.declared.ops.Stage.{Stage}
-use Rattle.coll_more.specs.declared.ops.Stage.TheVariants.{Own, Between, Sending, Receiving}
+use Rattle.coll_more.specs.declared.ops.Stage.TheVariants.{Own, Sending, Receiving}
 
 -- a collective call of a rank: which one, how long a piece is, how many of its messages have ended, and what comes next
 pub record MoreAt : Type 0 where

@@ -1,6 +1,6 @@
 -- How a collective call and the record of its rank fit together: the record has gained the calls of the table that have ended,
 -- with the bytes of src and dst, and stands where the op stands in its message.
-use Rattle.std.specs.Prelude.{◌≡◌, ℕ, ◌≤◌, true, false, List, ◌++◌, length, Option, Some, None, slice_get}
+use Rattle.std.specs.Prelude.{◌≡◌, ℕ, ◌≤◌, true, false, List, ◌++◌, length, Some, slice_get}
 use Rattle.scc_base.specs.Calls.{DataCall}
 use Rattle.scc_base.specs.Heads.{plain_head}
 use Rattle.scc_proto.specs.Ports.{Sight, record_in}

@@ -1,4 +1,4 @@
-use Rattle.std.proofs.Common.{◌≡◌, ◌-◌, ◌*◌, sym, arith}
+use Rattle.std.proofs.Common.{◌-◌, ◌*◌, sym, arith}
 use Rattle.coll_more.specs.Tables.{gives, takes}
 use Rattle.coll_more.proofs.TableLemmas.{root_many}
 use Rattle.coll_more.proofs.tables.gathered.Goals as goal

@@ -1,4 +1,4 @@
-use Rattle.std.proofs.Common.{◌≡◌, subst}
+use Rattle.std.proofs.Common.{subst}
 use Rattle.send_recv.specs.declared.answers.RecvTurn.{RecvTurn}
 use Rattle.coll_more.specs.Turns.{MoreTurned}
 use Rattle.coll_more.proofs.EndLemmas.{has_ended}
