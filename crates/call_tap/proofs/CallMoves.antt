@@ -1,20 +1,20 @@
 -- What a watch holds after the moves that begin and end messages and barriers, and which calls they finish.
-use Rattle.std.proofs.Common.{◌≡◌, ◌≢◌, ℕ, zero, suc, ◌-◌, ◌%◌, ◌<◌, ◌≤◌, Bool, true, false, ◌&&◌, ◌==◌, if◌then◌else◌, List, [], ◌∷◌, ◌++◌, Option, Some, None, unwrap_or, slice_index, refl, sym, ◌∙◌, ap, subst, arith}
+use Rattle.std.proofs.Common.{◌≡◌, ◌≢◌, ℕ, suc, ◌-◌, ◌%◌, ◌<◌, ◌≤◌, Bool, true, false, ◌&&◌, ◌==◌, if◌then◌else◌, List, [], ◌∷◌, ◌++◌, Option, Some, None, unwrap_or, slice_index, refl, sym, ◌∙◌, ap, subst, arith}
 use Rattle.scc_base.specs.Heads.{MessageHead, IsHead, IsPostHead}
-use Rattle.scc_base.specs.Calls.{DataCall, Send, Recv, Post, Bar, call_of}
+use Rattle.scc_base.specs.Calls.{DataCall, Bar}
 use Rattle.scc_base.specs.declared.calls.Call.{Call}
 use Rattle.scc_base.specs.declared.calls.Call.TheVariants as call
 use Rattle.scc_proto.specs.Messages.{Notes, noted, StandsIn, has_all, head_of, is_head, is_post_head, Progress, begun, is_last, is_whole, is_padded, with_chunk, message_of, post_to, recv_from, send_to}
 use Rattle.scc_proto.specs.Moves.{is_posted, raise_sent, lower_sent, raise_ready, lower_ready, flip_gather, write_release, look_release, calls_raised, calls_received, calls_sent, calls_released, calls_let_go, finished_if}
-use Rattle.scc_proto.specs.Permission.{is_whole_header, is_post_word, says_head, is_drafted, may_raise, may_take, has_taken, may_go_on, may_release, is_idle}
-use Rattle.scc_proto.specs.Stages.{Part, Filling, Raised, Answered, Stage, Idle, Drafting, Sending, Between, Taking, Barrier, OnItsWay}
+use Rattle.scc_proto.specs.Permission.{is_whole_header, is_post_word, is_drafted, may_raise, may_take, has_taken, may_go_on, may_release, is_idle}
+use Rattle.scc_proto.specs.Stages.{Filling, Raised, Answered, Stage, Idle, Drafting, Sending, Between, Taking, Barrier, OnItsWay}
 use Rattle.scc_proto.specs.Tables.{put}
 use Rattle.scc_proto.proofs.NoteFacts.{has_all-at, none_stands}
-use Rattle.scc_proto.proofs.Tests.{same_or_other, same_by_eqb, eqb_same, eqb_other, both_first, both_second, put_here}
+use Rattle.scc_proto.proofs.Tests.{same_by_eqb, eqb_same, eqb_other, both_first, both_second, put_here}
 use Rattle.scc_proto.proofs.WordFacts.{head_is, post_head_is}
 use Rattle.call_tap.specs.declared.watches.Midst.{Midst}
 use Rattle.call_tap.specs.declared.watches.Midst.TheVariants as midst
-use Rattle.call_tap.specs.Watching.{IsOpen, Holds, IsTaken, bytes_of, Gains}
+use Rattle.call_tap.specs.Watching.{IsOpen, Holds, IsTaken, Gains}
 use Rattle.call_tap.specs.Watching.Holds.{AtIdle, AtDraft, AtSend, AtPause, AtTake, AtMeet}
 use Rattle.call_tap.proofs.WatchLaws.{begun_open, standing}
 

@@ -1,5 +1,5 @@
 -- What each event is to the record of its rank, where each flag has a line of its own.
-use Rattle.std.proofs.Common.{◌≡◌, ◌≢◌, ℕ, ◌<◌, Bool, true, false, ◌&&◌, ◌==◌, not, if◌then◌else◌, List, Option, Some, None, is_none, is_some, refl, sym, ◌∙◌, ap, subst, arith}
+use Rattle.std.proofs.Common.{◌≡◌, ◌≢◌, ℕ, ◌<◌, Bool, true, false, ◌&&◌, ◌==◌, not, if◌then◌else◌, Option, Some, None, is_none, is_some, refl, ◌∙◌, subst}
 use Rattle.scc_base.specs.Places.{WordAt, register_place}
 use Rattle.scc_base.specs.declared.events.Access.TheVariants.{Take, Free}
 use Rattle.scc_base.specs.Events.{load_of, store_of, take_of, free_of}

@@ -1,11 +1,9 @@
 -- A watch that has followed a rank through one more move.
-use Rattle.std.proofs.Common.{◌≡◌, ℕ, Bool, true, false, List, Option, Some, None, refl, sym, subst, slice_index}
-use Rattle.scc_base.specs.Calls.{DataCall}
+use Rattle.std.proofs.Common.{◌≡◌, ℕ, true, List, Option, None, refl, sym, subst}
 use Rattle.scc_base.specs.Heads.{MessageHead, IsHead, IsPostHead}
 use Rattle.std.proofs.Common.{arith}
 use Rattle.scc_base.specs.declared.calls.Call.{Call}
 use Rattle.scc_proto.specs.Moves.{Move, DraftHeader, DraftChunk, RaiseSent, LookSent, ReadHeader, ReadChunk, LowerSent, RaiseReady, LookReady, LowerReady, FlipGather, LookGather, WriteRelease, LookRelease, StoreHeap, NoMove, Misplaced, flips_after, notes_after, stage_after, calls_after}
-use Rattle.scc_proto.specs.Permission.{permits}
 use Rattle.scc_proto.specs.Stages.{Record, Stage}
 use Rattle.call_tap.specs.declared.watches.Midst.{Midst}
 use Rattle.call_tap.specs.declared.watches.Watch.{Watch}

@@ -1,5 +1,5 @@
 -- What a tap has read after one access more.
-use Rattle.std.proofs.Common.{◌≡◌, ◌≢◌, ℕ, ◌<◌, Bool, true, List, [], ◌∷◌, ◌++◌, Option, Some, None, refl, sym, ◌∙◌, ap, subst}
+use Rattle.std.proofs.Common.{◌≡◌, ◌≢◌, ℕ, ◌<◌, Bool, true, List, [], ◌∷◌, ◌++◌, Option, Some, None, sym, ◌∙◌, ap, subst}
 use Rattle.std.proofs.Math.Logic.{∥∥₁_map}
 use Rattle.scc_base.specs.Calls.{DataCall, call_of}
 use Rattle.scc_base.specs.Places.{WordAt}
@@ -10,8 +10,8 @@ use Rattle.scc_base.specs.declared.events.Event.{Event}
 use Rattle.scc_base.specs.declared.layouts.Layout.TheVariants.{LineFlags}
 use Rattle.scc_proto.specs.Moves.{Move, Misplaced, after, calls_after}
 use Rattle.scc_proto.specs.Permission.{permits}
-use Rattle.scc_proto.specs.Ports.{Sight, Did, and_then}
-use Rattle.scc_proto.specs.Records.{chunk_of, load_by, store_by, record_after, record_of, IsPermitted}
+use Rattle.scc_proto.specs.Ports.{Sight, Did}
+use Rattle.scc_proto.specs.Records.{chunk_of, load_by, store_by, record_of, IsPermitted}
 use Rattle.scc_proto.specs.Stages.{Record, blank}
 use Rattle.scc_proto.specs.Words.{Role, role_of}
 use Rattle.scc_proto.proofs.PortLaws.{record_of-nil, record_of-push}

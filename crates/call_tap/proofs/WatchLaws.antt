@@ -3,21 +3,19 @@ use Rattle.std.proofs.Common.{◌≡◌, ◌≢◌, ℕ, zero, suc, ◌+◌, ◌
 use Rattle.std.specs.List.{range_with_len}
 use Rattle.std.proofs.Math.Nat.{mul-suc}
 use Rattle.std.proofs.lemmas.List.FromFn.{length-map-range_with_len}
-use Rattle.scc_base.specs.Heads.{MessageHead, IsHead, IsPostHead}
-use Rattle.scc_base.specs.Calls.{DataCall, Send, Recv, Post, Bar, call_of}
-use Rattle.scc_base.specs.declared.calls.Call.{Call}
-use Rattle.scc_base.specs.declared.calls.Call.TheVariants as call
-use Rattle.scc_proto.specs.Messages.{Notes, noted, note_word, StandsIn, has_all, byte_at, bytes_from, head_of, is_head, is_post_head, Progress, begun, chunk_bytes, chunk_words, is_last, is_whole, is_padded, with_chunk, message_of, send_to, recv_from}
-use Rattle.scc_proto.specs.Moves.{Move, DraftHeader, DraftChunk, RaiseSent, LookSent, ReadHeader, ReadChunk, LowerSent, RaiseReady, LookReady, LowerReady, FlipGather, LookGather, WriteRelease, LookRelease, StoreHeap, NoMove, Misplaced, after, is_posted, draft_header, draft_chunk, raise_sent, read_chunk, lower_sent, raise_ready, look_ready, lower_ready, flip_gather, look_gather, write_release, look_release, notes_after, calls_after, calls_raised, calls_received, calls_sent, calls_released, calls_let_go, finished_if}
-use Rattle.scc_proto.specs.Permission.{drafts_header, drafts_chunk, is_whole_header, is_post_word, says_head, is_drafted, may_raise, may_take, has_taken, may_go_on, may_release, is_idle, permits}
-use Rattle.scc_proto.specs.Stages.{Part, Filling, Raised, Answered, Stage, Idle, Drafting, Sending, Between, Taking, Barrier, OnItsWay, Record}
+use Rattle.scc_base.specs.Heads.{MessageHead, IsHead}
+use Rattle.scc_base.specs.Calls.{DataCall}
+use Rattle.scc_proto.specs.Messages.{Notes, noted, note_word, StandsIn, has_all, byte_at, bytes_from, Progress, begun, chunk_bytes, chunk_words, is_last, is_whole, is_padded, with_chunk}
+use Rattle.scc_proto.specs.Moves.{draft_header, draft_chunk, raise_sent, read_chunk, look_ready, look_gather, calls_raised}
+use Rattle.scc_proto.specs.Permission.{drafts_header, drafts_chunk, is_drafted, may_raise}
+use Rattle.scc_proto.specs.Stages.{Filling, Raised, Answered, Stage, Sending, Taking, Barrier}
 use Rattle.scc_proto.specs.Tables.{put}
-use Rattle.scc_proto.proofs.NoteFacts.{note_stored, none_stands, noted_here, noted_there, has_all-at, chunk_within, length-bytes_from}
+use Rattle.scc_proto.proofs.NoteFacts.{note_stored, none_stands, noted_here, noted_there, has_all-at, chunk_within}
 use Rattle.scc_proto.proofs.Roles.{le_is, le_not}
-use Rattle.scc_proto.proofs.Tests.{same_or_other, same_by_eqb, eqb_same, eqb_other, both_first, both_second, put_here, put_there, true_not_false}
+use Rattle.scc_proto.proofs.Tests.{same_or_other, same_by_eqb, eqb_same, both_first, both_second, put_here, put_there}
 use Rattle.call_tap.specs.declared.watches.Midst.{Midst}
 use Rattle.call_tap.specs.declared.watches.Midst.TheVariants as midst
-use Rattle.call_tap.specs.Watching.{byte_of_word, chunk_text, IsOpen, IsUp, Holds, AreSaid, IsTaken, bytes_of, Gains}
+use Rattle.call_tap.specs.Watching.{byte_of_word, chunk_text, IsOpen, Holds, AreSaid, IsTaken}
 use Rattle.call_tap.specs.Watching.Holds.{AtIdle, AtDraft, AtSend, AtPause, AtTake, AtMeet}
 
 -- ---- words

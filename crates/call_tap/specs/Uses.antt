@@ -1,5 +1,5 @@
 -- What a tap takes a word of the buffers for.
-use Rattle.std.specs.Prelude.{◌≡◌, ◌≢◌, ℕ, ◌<◌, true}
+use Rattle.std.specs.Prelude.{◌≡◌, ◌≢◌, ℕ, ◌<◌}
 use Rattle.scc_base.specs.Communicators.{rule_of}
 use Rattle.scc_base.specs.Setups.{SetupView}
 use Rattle.scc_base.specs.declared.layouts.Layout.TheVariants.{BitFlags}

@@ -1,4 +1,4 @@
-use Rattle.std.proofs.Common.{◌≡◌, ℕ, ◌+◌, ◌/◌, ◌%◌, ◌∙◌, List, [], ◌∷◌, ◌++◌, length, slice_index, append_assoc, length-append, ap, sym, arith}
+use Rattle.std.proofs.Common.{ℕ, ◌/◌, ◌%◌, ◌∙◌, List, [], ◌∷◌, ◌++◌, length, slice_index, append_assoc, length-append, ap, sym, arith}
 use Rattle.std.proofs.lemmas.List.FromFn.{length-map-range_with_len, map-range_with_len_more}
 use Rattle.call_tap.specs.Watching.{byte_of_word, chunk_text}
 use Rattle.call_tap.proofs.bytes.push_bytes.Goals as goal

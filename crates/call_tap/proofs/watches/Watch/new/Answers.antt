@@ -1,4 +1,3 @@
-use Rattle.std.proofs.Common.{◌≡◌}
 use Rattle.call_tap.specs.Watching.Holds.{AtIdle}
 use Rattle.call_tap.proofs.watches.Watch.new.Goals as goal
 

@@ -1,4 +1,4 @@
-use Rattle.std.proofs.Common.{[], ◌∙◌, refl, sym}
+use Rattle.std.proofs.Common.{refl}
 use Rattle.scc_proto.specs.Moves.{RaiseReady}
 use Rattle.call_tap.specs.declared.watches.Midst.TheVariants as midst
 use Rattle.call_tap.proofs.CallMoves.{ready_raised}

@@ -1,4 +1,4 @@
-use Rattle.std.proofs.Common.{[], ℕ, ◌%◌, refl, sym, ◌∙◌}
+use Rattle.std.proofs.Common.{[], ◌%◌, refl, sym, ◌∙◌}
 use Rattle.scc_proto.specs.Moves.{WriteRelease}
 use Rattle.call_tap.specs.declared.watches.Midst.TheVariants as midst
 use Rattle.call_tap.proofs.CallMoves.{released}
