@@ -1,5 +1,6 @@
 pub mod CallMoves
 pub mod EventMoves
 pub mod FollowLaws
+pub mod PlannedLaws
 pub mod TapLaws
 pub mod WatchLaws

@@ -1,5 +1,6 @@
 pub mod Kept
 pub mod Moves
+pub mod Planned
 pub mod Taps
 pub mod Uses
 pub mod Watching

@@ -1,0 +1,40 @@
+-- Room for all calls that are planned is room for those that are made.
+use Rattle.std.proofs.Common.{◌≡◌, ℕ, ◌+◌, ◌≤◌, List, [], ◌∷◌, ◌++◌, length, map, length-append, refl, sym, ◌∙◌, ap, arith}
+use Rattle.std.specs.Prelude.{All, flat_map}
+use Rattle.std.proofs.lemmas.List.Elements.{All-head, All-tail}
+use Rattle.scc_base.specs.Calls.{DataCall, Send, Recv, Post, Bar, HasItsBytes, call_of}
+use Rattle.scc_base.specs.declared.calls.Call.{Call}
+use Rattle.call_tap.specs.Kept.{HasRoom}
+use Rattle.call_tap.specs.Planned.{HasRoomFor, bytes_asked, bytes_planned}
+use Rattle.call_tap.specs.Watching.{bytes_of}
+
+one_long : (call : DataCall) → HasItsBytes call → length (bytes_of call) ≡ bytes_asked (call_of call)
+one_long (Send to head bytes) long = long
+one_long (Recv from head bytes) long = long
+one_long (Post to head bytes) long = long
+one_long (Bar comm) long = refl
+
+all_long : (calls : List DataCall) → All HasItsBytes calls → length (flat_map bytes_of calls) ≡ bytes_planned (map call_of calls)
+all_long [] long = refl
+all_long (call ∷ calls) long =
+    let a = one_long call (All-head HasItsBytes call calls long) in
+    let b = all_long calls (All-tail HasItsBytes call calls long) in
+    length-append (bytes_of call) (flat_map bytes_of calls) ∙ omega (arith, a, b)
+
+planned_append : (one other : List Call) → bytes_planned (one ++ other) ≡ bytes_planned one + bytes_planned other
+planned_append [] other = omega arith
+planned_append (call ∷ one) other = let a = planned_append one other in omega (arith, a)
+
+length_calls : (calls : List DataCall) → length (map call_of calls) ≡ length calls
+length_calls [] = refl
+length_calls (call ∷ calls) = let a = length_calls calls in omega (arith, a)
+
+pub planned_room : (most_calls most_bytes : ℕ) (planned rest : List Call) (calls : List DataCall) → HasRoomFor most_calls most_bytes planned → planned ≡ map call_of calls ++ rest → All HasItsBytes calls → HasRoom most_calls most_bytes calls
+planned_room most_calls most_bytes planned rest calls room is long =
+    let a = ap length is ∙ length-append (map call_of calls) rest in
+    let b = length_calls calls in
+    let c = ap bytes_planned is ∙ planned_append (map call_of calls) rest in
+    let d = all_long calls long in
+    let e = room.calls_within in
+    let f = room.bytes_within in
+    record { calls_within = omega (arith, a, b, e); bytes_within = omega (arith, c, d, f) }
