@@ -2,7 +2,6 @@
 use Rattle.std.proofs.Common.{◌≡◌, ℕ, ◌⊎◌, List, codes, refl, sym, subst, ap, ◌∙◌, inl, inr, Bool, true, false, None, Result, Ok, Err}
 use Rattle.rcce_io.specs.Files.{FilesView}
 use Rattle.scc_mesh.specs.Scenes.{ChipView}
-use Rattle.script_reader.specs.Script.{Script}
 use Rattle.outcomes.specs.Coming.{ByTest, IsMeant}
 use Rattle.outcomes.specs.Complaints.{complaint_outcome, outcome_of}
 use Rattle.outcomes.specs.Delivery.{Delivers, Sinks}
@@ -16,12 +15,12 @@ use Rattle.outcomes.specs.declared.status.Status.{Status}
 use Rattle.rcce_words.specs.CommandLine.{parse_command}
 use Rattle.rcce_words.specs.declared.command.Job.{Job}
 use Rattle.rcce_words.specs.declared.command.WordFault.{WordFault}
-use Rattle.rccerun.specs.Asking.{ChipTells, WordsAskFor}
+use Rattle.rccerun.specs.Asking.{ChipTells, WordsAskFor, asked_ran}
 use Rattle.rccerun.specs.History.{Asked, HasRun}
 use Rattle.rccerun.specs.Loading as loading
 use Rattle.rccerun.specs.Loading.{ChipShows, Launches, LoadsBy, LoadsWords, asked_by}
 use Rattle.rccerun.specs.Program.{rccerun, words_plan}
-use Rattle.rccerun.specs.Reports.{run_ran}
+use Rattle.rccerun.specs.Reports.{Shown, shown_ran}
 use Rattle.rccerun.specs.declared.loaded.Loaded.{Loaded}
 
 -- what has run has a status with which texts stand on out
@@ -41,19 +40,19 @@ quiet name (complaint.ReadFault file) = refl
 quiet name (complaint.Refused file line kind) = refl
 
 -- the chip shows the outcome of a run that took place
-shows_run : (asked : Asked) (chip : ChipView) → HasRun asked chip → ChipShows asked chip (run_outcome (run_ran asked.script))
+shows_run : (asked : Asked) (chip : ChipView) → HasRun asked chip → ChipShows asked chip (run_outcome (asked_ran asked))
 shows_run asked chip has =
-    let o : Outcome = run_outcome (run_ran asked.script) in
+    let o : Outcome = run_outcome (asked_ran asked) in
     let P : Bool → Type 0 = λ b. ByTest b (chip ≡ None) ((o ≡ o) × HasRun asked chip) in
-    subst P (sym (loud (run_ran asked.script))) (refl, has)
+    subst P (sym (loud (asked_ran asked))) (refl, has)
 
 -- a run that took place, or for which there was no memory, was written
-pub ran_by : (asked : Asked) (chip : ChipView) (before after : Sinks) (s : Status) (answer : Result Script Complaint) → Launches asked chip answer
-    → Delivers (outcome_of (codes "rccerun") run_ran answer) before after s → loading.Ran asked chip before after s
-ran_by asked chip before after s (Ok script) launched delivers = (
-  run_outcome (run_ran asked.script),
+pub ran_by : (asked : Asked) (chip : ChipView) (before after : Sinks) (s : Status) (answer : Result Shown Complaint) → Launches asked chip answer
+    → Delivers (outcome_of (codes "rccerun") shown_ran answer) before after s → loading.Ran asked chip before after s
+ran_by asked chip before after s (Ok shown) launched delivers = (
+  run_outcome (asked_ran asked),
   inl refl,
-  subst (λ (x : Script). Delivers (run_outcome (run_ran x)) before after s) launched.0 delivers,
+  subst (λ (x : Shown). Delivers (run_outcome (shown_ran x)) before after s) launched.0 delivers,
   shows_run asked chip launched.1,
 )
 ran_by asked chip before after s (Err why) launched delivers =
@@ -61,14 +60,14 @@ ran_by asked chip before after s (Err why) launched delivers =
 
 -- the words ask for the run that was loaded
 tells_by : (test : Bool) (asks : Asked → Type 0) (asked : Asked) (chip : ChipView) (o : Outcome) → asks asked
-    → ByTest test (chip ≡ None) ((o ≡ run_outcome (run_ran asked.script)) × HasRun asked chip)
-    → ByTest test (chip ≡ None) ((a : Asked) × asks a × (o ≡ run_outcome (run_ran a.script)) × HasRun a chip)
+    → ByTest test (chip ≡ None) ((o ≡ run_outcome (asked_ran asked)) × HasRun asked chip)
+    → ByTest test (chip ≡ None) ((a : Asked) × asks a × (o ≡ run_outcome (asked_ran a)) × HasRun a chip)
 tells_by true asks asked chip o asks_for shows = shows
 tells_by false asks asked chip o asks_for shows = (asked, asks_for, shows.0, shows.1)
 
 -- a run was loaded for a plan, and carried out
 meant_by : (plan : Result Plan (List ℕ)) (asks : Asked → Type 0) (before after : FilesView) (loaded : Loaded) (o : Outcome) → LoadsBy plan asks before after (Ok loaded)
-    → (o ≡ run_outcome (run_ran loaded.script)) ⊎ (o ≡ no_memory (codes "rccerun")) → IsMeant (codes "rccerun") plan before after o × asks (asked_by loaded)
+    → (o ≡ run_outcome (asked_ran (asked_by loaded))) ⊎ (o ≡ no_memory (codes "rccerun")) → IsMeant (codes "rccerun") plan before after o × asks (asked_by loaded)
 meant_by (Ok plan) asks before after loaded o leads came = (leads.goes o (refl, came), leads.asked)
 meant_by (Err text) asks before after loaded o leads came = absurd leads
 
@@ -93,6 +92,6 @@ pub ends_refused : (words : List (List ℕ)) (files files_after : FilesView) (be
 ends_refused words files files_after before after s chip why leads delivers blank =
     let command = parse_command words in
     let o : Outcome = complaint_outcome (codes "rccerun") why in
-    let Rest : Type 0 = (asked : Asked) × WordsAskFor words command files.told asked × (o ≡ run_outcome (run_ran asked.script)) × HasRun asked chip in
+    let Rest : Type 0 = (asked : Asked) × WordsAskFor words command files.told asked × (o ≡ run_outcome (asked_ran asked)) × HasRun asked chip in
     let P : Bool → Type 0 = λ b. ByTest b (chip ≡ None) Rest in
     (o, refused_by (words_plan words command) (WordsAskFor words command files.told) files files_after why leads, delivers, subst P (sym (quiet (codes "rccerun") why)) blank)

@@ -3,5 +3,6 @@ pub mod LoadLemmas
 pub mod PlanLemmas
 pub mod ReportLemmas
 pub mod RunLemmas
+pub mod SentLemmas
 pub mod TextLemmas
 pub mod ValueLemmas

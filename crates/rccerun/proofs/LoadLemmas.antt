@@ -12,7 +12,10 @@ use Rattle.outcomes.specs.Plans.{Plan}
 use Rattle.outcomes.specs.Plans.Plan.{Runs, Reads}
 use Rattle.outcomes.specs.declared.complaint.Complaint.{Complaint}
 use Rattle.script_reader.specs.Reading.{parse_script}
+use Rattle.script_reader.specs.declared.fault.ReadFault.{ReadFault}
 use Rattle.script_reader.specs.Script.{Script}
+use Rattle.script_gen.specs.Scripts.{gen_script_of}
+use Rattle.script_gen.specs.Texts.{gen_text}
 use Rattle.rcce_words.specs.FaultTexts.{fault_text, word_at}
 use Rattle.rcce_words.specs.HostFile.{default_hosts, host_kind_name, parse_hosts}
 use Rattle.rcce_words.specs.declared.command.Job.{Job}
@@ -20,12 +23,18 @@ use Rattle.rcce_words.specs.declared.command.Work.{Work}
 use Rattle.rcce_words.specs.declared.command.Work.TheVariants as works
 use Rattle.rcce_words.specs.declared.command.WordFault.{WordFault}
 use Rattle.rcce_words.specs.declared.host_file.HostFault.{HostFault}
-use Rattle.rccerun.specs.Asking.{AsksFor, IsScript, setup_by}
+use Rattle.rccerun.specs.Asking.{AreHosts, AsksFor, IsScript, hosts_asked, seed_of, setup_by}
 use Rattle.rccerun.specs.History.{Asked}
-use Rattle.rccerun.specs.Loading.{AsksBehind, AsksListed, AsksOn, LoadsBy, LoadsPlan, LoadsWords, asked_by}
-use Rattle.rccerun.specs.Program.{file_plan, hosts_plan, listed_plan, plan_behind, script_plan, work_plan}
+use Rattle.rccerun.specs.Loading.{AsksBehind, AsksListed, AsksMade, AsksOn, LoadsBy, LoadsPlan, LoadsWords, asked_by}
+use Rattle.rccerun.specs.Program.{file_plan, hosts_plan, listed_plan, made_plan, plan_behind, script_plan, work_plan}
+use Rattle.rccerun.specs.Reports.{made_ran, ran_by}
+use Rattle.rccerun.specs.Runs.{IsMadeOf}
 use Rattle.rccerun.specs.declared.loaded.Loaded.{Loaded}
+use Rattle.scc_base.specs.Setups.{SetupView}
 use Rattle.rccerun.proofs.PlanLemmas.{comes_parsed}
+
+abbrev said : Script → Result Script ReadFault
+said script = Ok script
 
 -- a plan that shows the bytes that were read
 abbrev shown : List ℕ → Ran
@@ -99,14 +108,40 @@ loads_read file limit next asks before between after bytes (Err why) reads came 
 
 -- a script that was read, and its setup
 pub loads_script : (file : List ℕ) (told : Option (List NamedFile)) (job : Job) (hosts bytes : List ℕ) (files : FilesView) (script : Script) (loaded : Loaded)
-    → parse_script bytes job.nue ≡ Ok script → loaded.script ≡ script → loaded.setup ≡ setup_by job hosts script → length bytes ≤ 4194304 → Holds told file bytes
+    → parse_script bytes job.nue ≡ Ok script → loaded.script ≡ script → loaded.setup ≡ setup_by job hosts script → loaded.seed ≡ None → length bytes ≤ 4194304 → Holds told file bytes
     → LoadsPlan (script_plan file job.nue bytes) (AsksOn file told job hosts) files files (Ok loaded)
-loads_script file told job hosts bytes files script loaded gives same setup few holds =
+loads_script file told job hosts bytes files script loaded gives same setup none few holds =
     let is : parse_script bytes job.nue ≡ Ok loaded.script = gives ∙ ap Ok (sym same) in
     record {
-      goes = λ o came. comes_parsed (codes "rccerun") file _ (Ok loaded.script) files o is came;
-      asked = record { script = (bytes, few, holds, is); setup = setup ∙ ap (setup_by job hosts) (sym same) };
+      goes = λ o came. comes_parsed (codes "rccerun") file _ (Ok loaded.script) files o is
+          (subst (λ (seed : Option ℕ). Comes (codes "rccerun") (Runs (ran_by loaded.script seed)) files files o) none came);
+      asked = record { script = (bytes, few, holds, is); setup = setup ∙ ap (setup_by job hosts) (sym same); seed = none };
     }
+
+-- the script that is read in the text of a number is the one of this number
+pub is_made : (nue seed : ℕ) (text : List ℕ) (script : Script) → text ≡ gen_text nue seed → parse_script (gen_text nue seed) nue ≡ Ok (gen_script_of nue seed) → parse_script text nue ≡ Ok script → script ≡ gen_script_of nue seed
+is_made nue seed text script made law gives =
+    same_Ok script (gen_script_of nue seed) (sym gives ∙ ap (λ (t : List ℕ). parse_script t nue) made ∙ law)
+  where
+    same_Ok : (one other : Script) → said one ≡ said other → one ≡ other
+    same_Ok one other is = cc
+
+-- a script that was made of a number and read, and its setup
+pub loads_read_made : (job : Job) (seed : ℕ) (files : FilesView) (script : Script) (loaded : Loaded)
+    → script ≡ gen_script_of job.nue seed → loaded.script ≡ script → loaded.setup ≡ setup_by job default_hosts script → loaded.seed ≡ Some seed
+    → LoadsPlan (made_plan job.nue seed) (AsksMade seed job) files files (Ok loaded)
+loads_read_made job seed files script loaded gives same setup some =
+    let is : loaded.script ≡ gen_script_of job.nue seed = same ∙ gives in
+    record {
+      goes = λ o came. subst (λ (x : Script). Comes (codes "rccerun") (Runs (made_ran seed x)) files files o) is
+          (subst (λ (s : Option ℕ). Comes (codes "rccerun") (Runs (ran_by loaded.script s)) files files o) some came);
+      asked = record { script = is; setup = setup ∙ ap (setup_by job default_hosts) (sym same); seed = some };
+    }
+
+-- no memory for it
+pub loads_unmade : (job : Job) (seed : ℕ) (files : FilesView) (why : Complaint) → complaint_outcome (codes "rccerun") why ≡ no_memory (codes "rccerun")
+    → LoadsPlan (made_plan job.nue seed) (AsksMade seed job) files files (Err why)
+loads_unmade job seed files why is = (refl, inr is)
 
 -- what was loaded asks for less too
 loads_less : (plan : Plan) (asks less : Asked → Type 0) (before after : FilesView) (answer : Result Loaded Complaint) → ((asked : Asked) → asks asked → less asked)
@@ -156,17 +191,27 @@ loads_work words told job work at before after answer same is leads =
     (loads_less _ (AsksBehind words told job job.hosts (word_at words at)) (AsksFor words told job) before after answer
     (λ asked all. record {
       hosts = all.hosts;
-      are_hosts = all.are_hosts;
+      are_hosts = subst (λ (x : Work). AreHosts words told job.nue (hosts_asked x job.hosts) all.hosts) (sym here) all.are_hosts;
       script = subst (λ (x : Work). IsScript words told job.nue x asked.script) (sym here) all.on.script;
       setup = all.on.setup;
+      seed = subst (λ (x : Work). asked.seed ≡ seed_of x) (sym here) all.on.seed;
     }) leads)
 
--- a script that is made is not built yet
-pub loads_made : (words : List (List ℕ)) (told : Option (List NamedFile)) (job : Job) (seed : ℕ) (files : FilesView) (why : Complaint)
-    → job.work ≡ works.Gen seed → complaint_outcome (codes "rccerun") why ≡ words_refused (codes "rccerun") (codes "unknown word: -gen")
-    → LoadsBy (work_plan words job job.work) (AsksFor words told job) files files (Err why)
-loads_made words told job seed files why is meant =
-    subst (λ (x : Work). LoadsBy (work_plan words job x) (AsksFor words told job) files files (Err why)) (sym is) (refl, meant)
+-- a job that asks for a script which is made of a number
+pub loads_made : (words : List (List ℕ)) (told : Option (List NamedFile)) (job : Job) (work : Work) (seed : ℕ) (files : FilesView) (answer : Result Loaded Complaint)
+    → job.work ≡ work → work ≡ works.Gen seed → LoadsPlan (made_plan job.nue seed) (AsksMade seed job) files files answer
+    → LoadsBy (work_plan words job job.work) (AsksFor words told job) files files answer
+loads_made words told job work seed files answer same is leads =
+    let here : job.work ≡ works.Gen seed = same ∙ is in
+    subst (λ (x : Work). LoadsBy (work_plan words job x) (AsksFor words told job) files files answer) (sym here)
+    (loads_less (made_plan job.nue seed) (AsksMade seed job) (AsksFor words told job) files files answer
+    (λ asked made. record {
+      hosts = default_hosts;
+      are_hosts = subst (λ (x : Work). AreHosts words told job.nue (hosts_asked x job.hosts) default_hosts) (sym here) refl;
+      script = subst (λ (x : Work). IsScript words told job.nue x asked.script) (sym here) made.script;
+      setup = made.setup;
+      seed = subst (λ (x : Work). asked.seed ≡ seed_of x) (sym here) made.seed;
+    }) leads)
 
 -- what words ask for
 pub loads_words : (words : List (List ℕ)) (command : Result Job WordFault) (job : Job) (before after : FilesView) (answer : Result Loaded Complaint)
@@ -177,3 +222,26 @@ loads_words words command job before after answer is leads = subst (λ (c : Resu
 pub loads_nothing : (words : List (List ℕ)) (command : Result Job WordFault) (fault : WordFault) (files : FilesView) (why : Complaint)
     → Err fault ≡ command → complaint_outcome (codes "rccerun") why ≡ words_refused (codes "rccerun") (fault_text words fault) → LoadsWords words command files files (Err why)
 loads_nothing words command fault files why is meant = subst (λ (c : Result Job WordFault). LoadsWords words c files files (Err why)) is (refl, meant)
+
+-- a run that was loaded for a job: a script that is made of a number is the one of this number
+made_by : (words : List (List ℕ)) (told : Option (List NamedFile)) (job : Job) (loaded : Loaded) (work : Work) → job.work ≡ work → AsksFor words told job (asked_by loaded)
+    → IsMadeOf loaded.script loaded.seed
+made_by words told job loaded (works.Script at) is asked =
+    let none : loaded.seed ≡ None = asked.seed ∙ ap seed_of is in
+    subst (λ (seed : Option ℕ). IsMadeOf loaded.script seed) (sym none) tt
+made_by words told job loaded (works.Gen seed) is asked =
+    let some : loaded.seed ≡ Some seed = asked.seed ∙ ap seed_of is in
+    let made : loaded.script ≡ gen_script_of job.nue seed = subst (λ (x : Work). IsScript words told job.nue x loaded.script) is asked.script in
+    let ranks : job.nue ≡ loaded.script.nue = sym (ap (λ (s : SetupView). s.nue) asked.setup) ∙ loaded.ranks in
+    subst (λ (s : Option ℕ). IsMadeOf loaded.script s) (sym some) (made ∙ ap (λ (n : ℕ). gen_script_of n seed) ranks)
+
+asked_for : (words : List (List ℕ)) (told : Option (List NamedFile)) (job : Job) (work : Work) (before after : FilesView) (loaded : Loaded)
+    → LoadsBy (work_plan words job work) (AsksFor words told job) before after (Ok loaded) → AsksFor words told job (asked_by loaded)
+asked_for words told job (works.Script at) before after loaded leads = leads.asked
+asked_for words told job (works.Gen seed) before after loaded leads = leads.asked
+
+-- and for words
+pub made_words : (words : List (List ℕ)) (command : Result Job WordFault) (before after : FilesView) (loaded : Loaded) → LoadsWords words command before after (Ok loaded)
+    → IsMadeOf loaded.script loaded.seed
+made_words words (Ok job) before after loaded leads = made_by words before.told job loaded job.work refl (asked_for words before.told job job.work before after loaded leads)
+made_words words (Err fault) before after loaded leads = absurd leads

@@ -1,5 +1,5 @@
 -- The units of execution of a run, before its start and at its end.
-use Rattle.std.proofs.Common.{◌≡◌, ◌≢◌, ◌⊎◌, inl, inr, ℕ, ◌+◌, ◌<◌, ◌≤◌, Bool, true, false, ◌&&◌, List, [], ◌∷◌, ◌++◌, length, refl, sym, subst, ap, ◌∙◌, arith, slice_index_or, suc, Some}
+use Rattle.std.proofs.Common.{◌≡◌, ◌≢◌, ◌⊎◌, inl, inr, ℕ, ◌+◌, ◌<◌, ◌≤◌, Bool, true, false, ◌&&◌, List, [], ◌∷◌, ◌++◌, length, refl, sym, subst, ap, ◌∙◌, arith, slice_index_or, suc, Option, Some, None}
 use Rattle.std.specs.List.{list_all, range_with_len}
 use Rattle.std.proofs.Math.Nat.{eq-or-lt_of_le}
 use Rattle.std.proofs.lemmas.List.{get_or_append_left, get_or_default, get_or_push, length-map}
@@ -15,7 +15,8 @@ use Rattle.script_plain.proofs.PlainLaws.{length-plain_end}
 use Rattle.rcce_run.specs.Crews.{EndsAs}
 use Rattle.rcce_run.specs.declared.ends.RunEnd.TheVariants as run_end
 use Rattle.rcce_ue.specs.Ues.{UeView}
-use Rattle.rccerun.specs.Reports.{all_finished, is_finished}
+use Rattle.rccerun.specs.Reports.{all_finished, by_rank, is_finished, ran_by, unfinished_text}
+use Rattle.rcce_run.specs.Sent.{CountsSends}
 use Rattle.rcce_run.specs.UeRuns.{AreHome, HasPlainCalls, IsFreshCrew, IsFreshUe, IsSameChip, ShowsEnd, WaitsOpen}
 use Rattle.rcce_run.specs.declared.ends.RunEnd.{RunEnd}
 use Rattle.scc_base.specs.Calls.{DataCall}
@@ -24,6 +25,7 @@ use Rattle.rcce_run.specs.declared.members.Member.{Member}
 use Rattle.scc_mesh.specs.Scenes.{ChipView, IsNew, about_in, records_in}
 use Rattle.rccerun.specs.History.{Asked}
 use Rattle.rccerun.specs.Runs.{HaveEnded, IsAtStart, IsFresh, IsOver}
+use Rattle.rccerun.proofs.SentLemmas.{counts_plain}
 
 -- one end for each rank
 pub plain_count : (script : Script) → length (plain_ends script) ≡ script.nue
@@ -88,6 +90,15 @@ module _ (script view : Script) (same : script ≡ view) (crew : List (Member Ue
       subst (λ (m : Member UeView). ShowsEnd (ended_at (plain_ends script) number) m.worker) (sym is) (ended.each number member low) in
       subst (λ (s : Script). ShowsEnd (ended_at (plain_ends s) rank) member.worker) same (subst (λ (r : ℕ). ShowsEnd (ended_at (plain_ends script) r) member.worker) named here)
 
+-- however the script came, the run finished where all ranks have, and tells where those stand that have not
+pub ran_finished : (script : Script) (seed : Option ℕ) → (ran_by script seed).finished ≡ all_finished (plain_ends script)
+ran_finished script None = refl
+ran_finished script (Some seed) = refl
+
+pub ran_err : (script : Script) (seed : Option ℕ) → (ran_by script seed).err ≡ by_rank unfinished_text 0 (plain_ends script)
+ran_err script None = refl
+ran_err script (Some seed) = refl
+
 -- a crew that is fresh for a new chip
 pub fresh_crew : (script : Script) (setup : SetupView) (chip : ChipView) (crew : List (Member UeView)) → IsNew setup chip → IsFresh script setup crew → IsFreshCrew script chip crew
 fresh_crew script setup chip crew new fresh = record {
@@ -103,10 +114,15 @@ pub run_over : (asked : Asked) (chip now : ChipView) (crew later : List (Member 
     → IsSameChip chip now → AreHome crew later → EndsAs end asked.script
     → ((k : ℕ) (d : Member UeView) → k < asked.script.nue → ShowsEnd (ended_at (plain_ends asked.script) k) (slice_index_or later k d).worker)
     → ((k : ℕ) → k < asked.script.nue → HasPlainCalls asked.script k (records_in now k))
+    → ((k : ℕ) (d : Member UeView) → k < asked.script.nue → CountsSends asked.script k (records_in now k) (slice_index_or later k d).worker)
     → ((k : ℕ) (call : DataCall) → k < asked.script.nue → open_call (about_in now) (records_in now k) ≡ Some call → WaitsOpen asked.script k call)
     → IsOver asked now later end
-run_over asked chip now crew later end ranks new each stands home answer ends calls opened = record {
+run_over asked chip now crew later end ranks new each stands home answer ends calls sent opened = record {
   ended = record { count = home.count ∙ each ∙ ranks; each = ends };
+  sent = record {
+    count = home.count ∙ each ∙ ranks;
+    each = λ k d low. counts_plain asked.script k (records_in now k) (slice_index_or later k d).worker (calls k low) (sent k d low);
+  };
   answer = answer;
   history = record { setup = stands.about ∙ new.about; whole = stands.whole; finished = calls; opened = opened };
 }

@@ -1,5 +1,5 @@
 -- What a run leaves on the chip (this project's profile).
-use Rattle.std.specs.Prelude.{◌≡◌, ℕ, ◌<◌, ◌≤◌, Some}
+use Rattle.std.specs.Prelude.{◌≡◌, ℕ, ◌<◌, ◌≤◌, Option, Some}
 use Rattle.scc_base.specs.Calls.{DataCall}
 use Rattle.scc_base.specs.Setups.{SetupView, setup_key}
 use Rattle.scc_proto.specs.Legality.{IsLegal}
@@ -10,10 +10,11 @@ use Rattle.scc_mesh.specs.Scenes.{ChipView, IsWhole, about_in, records_in}
 use Rattle.script_reader.specs.Script.{Script}
 use Rattle.rcce_run.specs.UeRuns.{HasPlainCalls, WaitsOpen}
 
--- a run on a chip: its setup, and the script that its ranks run
+-- a run on a chip: its setup, the script that its ranks run, and the number that the script was made of, if it was
 pub record Asked : Type 0 where
   pub setup : SetupView
   pub script : Script
+  pub seed : Option ℕ
 
 -- The chip history of a run: all ranks are at home on a chip of the run's setup. The finished calls of each rank's record are
 -- those that the plain meaning did for it, in order and with their bytes. A call is open in a record only where the plain

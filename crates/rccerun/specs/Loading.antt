@@ -7,6 +7,7 @@ use Rattle.script_reader.specs.declared.fault.ReadStop.{ReadStop}
 use Rattle.script_reader.specs.declared.fault.ReadStop.TheVariants as stop
 use Rattle.script_reader.specs.Faults.{kind_name}
 use Rattle.script_reader.specs.Script.{Script}
+use Rattle.script_gen.specs.Scripts.{gen_script_of}
 use Rattle.outcomes.specs.Coming.{ByTest, Comes, IsMeant}
 use Rattle.outcomes.specs.Complaints.{complaint_outcome}
 use Rattle.outcomes.specs.Delivery.{Delivers, Sinks}
@@ -16,12 +17,13 @@ use Rattle.outcomes.specs.Plans.Plan.{Runs}
 use Rattle.outcomes.specs.Statuses.{is_quiet}
 use Rattle.outcomes.specs.declared.complaint.Complaint.{Complaint}
 use Rattle.outcomes.specs.declared.status.Status.{Status}
+use Rattle.rcce_words.specs.HostFile.{default_hosts}
 use Rattle.rcce_words.specs.declared.command.Job.{Job}
 use Rattle.rcce_words.specs.declared.command.WordFault.{WordFault}
-use Rattle.rccerun.specs.Asking.{AreHosts, HostsIn, ScriptIn, WordsAskFor, setup_by}
+use Rattle.rccerun.specs.Asking.{AreHosts, HostsIn, ScriptIn, WordsAskFor, asked_ran, setup_by}
 use Rattle.rccerun.specs.History.{Asked, HasRun}
 use Rattle.rccerun.specs.Program.{words_plan}
-use Rattle.rccerun.specs.Reports.{run_ran}
+use Rattle.rccerun.specs.Reports.{Shown}
 use Rattle.rccerun.specs.declared.loaded.Loaded.{Loaded}
 
 -- a script that is refused, and a reading that stopped
@@ -34,11 +36,11 @@ stop_outcome program file stop.Memory = no_memory program
 
 -- the run that was loaded
 abbrev pub asked_by : Loaded → Asked
-asked_by loaded = record { setup = loaded.setup; script = loaded.script }
+asked_by loaded = record { setup = loaded.setup; script = loaded.script; seed = loaded.seed }
 
 -- a run was loaded as the plan says, and the plan comes to what it comes to
 pub record Leads (plan : Plan) (asks : Asked → Type 0) (before after : FilesView) (loaded : Loaded) : Type 0 where
-  pub goes : (o : Outcome) → Comes (codes "rccerun") (Runs (run_ran loaded.script)) after after o → Comes (codes "rccerun") plan before after o
+  pub goes : (o : Outcome) → Comes (codes "rccerun") (Runs (asked_ran (asked_by loaded))) after after o → Comes (codes "rccerun") plan before after o
   pub asked : asks (asked_by loaded)
 
 -- what loading says to a plan that asks for such a run
@@ -60,6 +62,7 @@ LoadsWords words command before after answer = LoadsBy (words_plan words command
 pub record AsksOn (file : List ℕ) (told : Option (List NamedFile)) (job : Job) (hosts : List ℕ) (asked : Asked) : Type 0 where
   pub script : ScriptIn file told job.nue asked.script
   pub setup : asked.setup ≡ setup_by job hosts asked.script
+  pub seed : asked.seed ≡ None
 
 -- on the hosts in a file
 pub record AsksListed (list file : List ℕ) (told : Option (List NamedFile)) (job : Job) (asked : Asked) : Type 0 where
@@ -73,16 +76,26 @@ pub record AsksBehind (words : List (List ℕ)) (told : Option (List NamedFile))
   pub are_hosts : AreHosts words told job.nue at hosts
   pub on : AsksOn file told job hosts asked
 
+-- a run of the script that is made of a number
+pub record AsksMade (number : ℕ) (job : Job) (asked : Asked) : Type 0 where
+  pub script : asked.script ≡ gen_script_of job.nue number
+  pub setup : asked.setup ≡ setup_by job default_hosts asked.script
+  pub seed : asked.seed ≡ Some number
+
 -- what is on the chip where a loaded run came to this outcome
 abbrev pub ChipShows : Asked → ChipView → Outcome → Type 0
-ChipShows asked chip o = ByTest (is_quiet o.status) (chip ≡ None) ((o ≡ run_outcome (run_ran asked.script)) × HasRun asked chip)
+ChipShows asked chip o = ByTest (is_quiet o.status) (chip ≡ None) ((o ≡ run_outcome (asked_ran asked)) × HasRun asked chip)
 
 -- the loaded run was carried out and written, or there was no memory for it
 abbrev pub Ran : Asked → ChipView → Sinks → Sinks → Status → Type 0
-Ran asked chip before after s = (o : Outcome) × ((o ≡ run_outcome (run_ran asked.script)) ⊎ (o ≡ no_memory (codes "rccerun")))
+Ran asked chip before after s = (o : Outcome) × ((o ≡ run_outcome (asked_ran asked)) ⊎ (o ≡ no_memory (codes "rccerun")))
     × Delivers o before after s × ChipShows asked chip o
 
+-- the script that was run, and what it was made of
+abbrev pub shown_by : Asked → Shown
+shown_by asked = record { script = asked.script; seed = asked.seed }
+
 -- a run took place, or there was no memory for it
-abbrev pub Launches : Asked → ChipView → Result Script Complaint → Type 0
-Launches asked chip (Ok script) = (script ≡ asked.script) × HasRun asked chip
+abbrev pub Launches : Asked → ChipView → Result Shown Complaint → Type 0
+Launches asked chip (Ok shown) = (shown ≡ shown_by asked) × HasRun asked chip
 Launches asked chip (Err why) = (complaint_outcome (codes "rccerun") why ≡ no_memory (codes "rccerun")) × (chip ≡ None)

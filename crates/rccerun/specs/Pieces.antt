@@ -1,11 +1,12 @@
 -- The text of a piece of a line.
 use Rattle.std.specs.Prelude.{ℕ, List, decimal}
 use Rattle.rccerun.specs.declared.pieces.Piece.{Piece}
-use Rattle.rccerun.specs.declared.pieces.Piece.TheVariants.{Text, Number, Hex, Values}
+use Rattle.rccerun.specs.declared.pieces.Piece.TheVariants.{Text, Number, Count, Hex, Values}
 use Rattle.rccerun.specs.Texts.{hex_text, values_text}
 
 abbrev pub piece_text : Piece → List ℕ
 piece_text (Text text) = text.now
 piece_text (Number n) = decimal n
+piece_text (Count n) = decimal n
 piece_text (Hex bytes) = hex_text bytes.now
 piece_text (Values ty bytes) = values_text ty bytes.now

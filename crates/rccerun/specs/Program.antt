@@ -4,6 +4,7 @@ use Rattle.script_reader.specs.declared.fault.ReadFault.{ReadFault}
 use Rattle.script_reader.specs.Faults.{kind_name}
 use Rattle.script_reader.specs.Reading.{parse_script}
 use Rattle.script_reader.specs.Script.{Script}
+use Rattle.script_gen.specs.Scripts.{gen_script_of}
 use Rattle.outcomes.specs.Plans.{Plan, Program}
 use Rattle.outcomes.specs.Plans.Plan.{Runs, Refuses, Reads}
 use Rattle.rcce_words.specs.CommandLine.{parse_command}
@@ -14,7 +15,7 @@ use Rattle.rcce_words.specs.declared.command.Work.{Work}
 use Rattle.rcce_words.specs.declared.command.Work.TheVariants as work
 use Rattle.rcce_words.specs.declared.command.WordFault.{WordFault}
 use Rattle.rcce_words.specs.declared.host_file.HostFault.{HostFault}
-use Rattle.rccerun.specs.Reports.{run_ran}
+use Rattle.rccerun.specs.Reports.{made_ran, run_ran}
 
 -- a script that was read runs to its plain end, and its first fault refuses its file
 abbrev pub parsed_plan : List ℕ → Result Script ReadFault → Plan
@@ -43,10 +44,14 @@ abbrev pub plan_behind : List (List ℕ) → ℕ → Plan → Option ℕ → Pla
 plan_behind words nue next None = next
 plan_behind words nue next (Some at) = Reads (word_at words at) 65536 (hosts_plan (word_at words at) nue next)
 
--- the script of a file, after the host file. (A script that is made from a seed is not built yet.)
+-- the run of the script that is made of a number: no file is asked for
+abbrev pub made_plan : ℕ → ℕ → Plan
+made_plan nue seed = Runs (made_ran seed (gen_script_of nue seed))
+
+-- the script of a file, after the host file; or one that is made of a number
 abbrev pub work_plan : List (List ℕ) → Job → Work → Result Plan (List ℕ)
 work_plan words job (work.Script at) = Ok (plan_behind words job.nue (file_plan (word_at words at) job.nue) job.hosts)
-work_plan words job (work.Gen seed) = Err (codes "unknown word: -gen")
+work_plan words job (work.Gen seed) = Ok (made_plan job.nue seed)
 
 -- the words: refused, or a job
 abbrev pub words_plan : List (List ℕ) → Result Job WordFault → Result Plan (List ℕ)

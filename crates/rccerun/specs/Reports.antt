@@ -1,5 +1,5 @@
 -- What a run of `rccerun` writes (this project's profile).
-use Rattle.std.specs.Prelude.{ℕ, ◌+◌, Bool, List, [], ◌∷◌, ◌++◌, map, slice_index_or, true, false}
+use Rattle.std.specs.Prelude.{ℕ, ◌+◌, Bool, List, [], ◌∷◌, ◌++◌, map, slice_index_or, true, false, Option, Some, None}
 use Rattle.std.specs.List.{list_all}
 use Rattle.script_plain.specs.declared.ends.UeEnd.{UeEnd}
 use Rattle.script_plain.specs.declared.ends.UeEnd.TheVariants as ue_end
@@ -9,6 +9,7 @@ use Rattle.script_plain.specs.Meaning.{plain_ends}
 use Rattle.script_reader.specs.Script.{Script}
 use Rattle.rcce_io.specs.Sending.{joined}
 use Rattle.outcomes.specs.Outcomes.{Ran}
+use Rattle.script_gen.specs.Outcome.{script_line}
 use Rattle.rccerun.specs.Texts.{item_line, call_pieces, waiting_line, mismatch_line}
 
 -- the lines of each unit of execution, by rank from `rank` on
@@ -56,3 +57,24 @@ ran_of names ues = record {
 -- what the run of a script comes to, by its plain meaning
 abbrev pub run_ran : Script → Ran
 run_ran script = ran_of script.names (plain_ends script)
+
+-- what the run of a script that was made of a number comes to: one line, of the messages that came and of what was printed
+abbrev pub made_ran : ℕ → Script → Ran
+made_ran seed script = record {
+  finished = all_finished (plain_ends script);
+  out = script_line seed script;
+  err = by_rank unfinished_text 0 (plain_ends script);
+}
+
+-- a script that was run, and the number that it was made of, if it was
+pub record Shown : Type 0 where
+  pub script : Script
+  pub seed : Option ℕ
+
+-- what its run comes to
+abbrev pub ran_by : Script → Option ℕ → Ran
+ran_by script None = run_ran script
+ran_by script (Some seed) = made_ran seed script
+
+abbrev pub shown_ran : Shown → Ran
+shown_ran shown = ran_by shown.script shown.seed

@@ -9,7 +9,7 @@ ghost use Rattle.rccerun.specs.Asking.{ChipTells};
 ghost use Rattle.rccerun.specs.History.{AreLegal};
 ghost use Rattle.rccerun.specs.Loading.{Launches, Ran, asked_by};
 ghost use Rattle.rccerun.specs.Program.{rccerun};
-ghost use Rattle.rccerun.specs.Runs.{IsFresh, IsOver};
+ghost use Rattle.rccerun.specs.Runs.{IsFresh, IsMadeOf, IsOver};
 
 use crate::crew::crew_of;
 use crate::loaded::Loaded;
@@ -23,8 +23,8 @@ use scc_mesh::Chip;
 use std::alloc::Global;
 use std::thread::Threads;
 
-/// Runs the script that the words ask for over the chip, from its file to its output. The words are those after the
-/// program's name.
+/// Runs the script that the words ask for over the chip, from its file, or from the number that it is made of, to its output.
+/// The words are those after the program's name.
 ///
 /// The checks go in this order, and the first that refuses counts: the words, the reading of the host file, its grammar,
 /// the reading of the script's file, its grammar, memory for the run, the run, the writing of out, the writing of err.
@@ -70,6 +70,7 @@ fn run_loaded<R: Threads + Sync, O: Sink, E: Sink, G: Gate + Sync>(
     gate: &G,
 ) -> Status
     requires blank { chip.old ≡ None }
+    requires made { IsMadeOf loaded.now.script loaded.now.seed }
     ensures ran { Ran (asked_by loaded.now) chip.new (sinks (O.seen out.old) (E.seen err.old))
         (sinks (O.seen out.new) (E.seen err.new)) result }
     ensures legal { IsOpen chip.new → AreLegal chip.new }
@@ -87,6 +88,7 @@ fn launch<'s, R: Threads + Sync, G: Gate + Sync>(
     gate: &G,
 ) -> Result<Run<'s>, Complaint<'s>>
     requires blank { chip.old ≡ None }
+    requires made { IsMadeOf loaded.now.script loaded.now.seed }
     ensures ran { Launches (asked_by loaded.now) chip.new result }
     ensures legal { IsOpen chip.new → AreLegal chip.new }
 {
@@ -98,7 +100,7 @@ fn launch<'s, R: Threads + Sync, G: Gate + Sync>(
     }
     let end = run_crew(rt, loaded, chip, crew.as_mut_slice(), gate);
     chip.agrees();
-    Ok(Run::new(&loaded.script, crew, end))
+    Ok(Run::new(&loaded.script, crew, end, loaded.seed))
 }
 
 // Runs the units of execution, each in a thread of its own, or all on one thread where the words ask for that.

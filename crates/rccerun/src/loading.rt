@@ -1,19 +1,19 @@
-//! From words to a run that can begin: the words, the host file, the script's file and its grammar.
+//! From words to a run that can begin: the words, the host file, the script's file or the number that it is made of, and its
+//! grammar.
 
-ghost use Rattle.std.specs.Prelude.{◌≡◌, ◌≤◌, map, string_bytes, length, IfOk, List, ℕ, Option};
+ghost use Rattle.std.specs.Prelude.{◌≡◌, ◌≤◌, map, string_bytes, length, List, ℕ, Option};
 ghost use Rattle.rcce_io.specs.Files.{FilesView, NamedFile};
 ghost use Rattle.scc_base.specs.Setups.{AreApart};
-ghost use Rattle.script_reader.specs.Faults.{Gives};
-ghost use Rattle.script_reader.specs.Reading.{parse_script};
 ghost use Rattle.outcomes.specs.Coming.{Holds};
 ghost use Rattle.outcomes.specs.Complaints.{complaint_outcome};
 ghost use Rattle.outcomes.specs.Outcomes.{file_refused};
 ghost use Rattle.outcomes.specs.Plans.Plan.{Reads};
-ghost use Rattle.rcce_words.specs.CommandLine.{parse_command};
+ghost use Rattle.rcce_words.specs.CommandLine.{IsSeedInRange, parse_command};
 ghost use Rattle.rcce_words.specs.HostFile.{host_kind_name};
 ghost use Rattle.rccerun.specs.Asking.{AsksFor, layout_by, setup_by};
-ghost use Rattle.rccerun.specs.Loading.{AsksBehind, AsksListed, AsksOn, LoadsBy, LoadsPlan, LoadsWords, fault_outcome, stop_outcome};
-ghost use Rattle.rccerun.specs.Program.{file_plan, hosts_plan, plan_behind, script_plan, work_plan};
+ghost use Rattle.script_gen.specs.Texts.{gen_text};
+ghost use Rattle.rccerun.specs.Loading.{AsksBehind, AsksListed, AsksMade, AsksOn, LoadsBy, LoadsPlan, LoadsWords, fault_outcome, stop_outcome};
+ghost use Rattle.rccerun.specs.Program.{file_plan, hosts_plan, made_plan, plan_behind, script_plan, work_plan};
 
 use crate::loaded::Loaded;
 use outcomes::{Complaint, read_file};
@@ -22,6 +22,7 @@ use rcce_words::{
     HostFault, Job, Work, complaint, default_hosts, parse_words, read_hosts, word_at,
 };
 use scc_base::{CoreId, Layout};
+use script_gen::{gen_script, generated_scripts_are_read};
 use script_reader::{ReadFault, ReadStop, Scripts, read_script};
 use std::alloc::Global;
 
@@ -54,12 +55,42 @@ fn load_job<'a, F: Files>(
 ) -> Result<Loaded, Complaint<'a>>
     requires some { 1 ≤ job.nue }
     requires most { job.nue ≤ 48 }
+    requires seed { IsSeedInRange job.work }
     ensures { LoadsBy (work_plan (map string_bytes words.now) job job.work) (AsksFor (map string_bytes words.now) (F.seen files.old).told job)
         (F.seen files.old) (F.seen files.new) result }
 {
     match job.work {
         Work::Script(at) => load_behind(alloc, words, files, job, word_at(words, at)),
-        Work::Gen(_) => Err(Complaint::words("unknown word: -gen")),
+        Work::Gen(seed) => load_made(alloc, job, seed),
+    }
+}
+
+// Makes the script of a number, and goes on with its text. No file is asked for.
+fn load_made<'a>(alloc: Global, job: Job, seed: u32) -> Result<Loaded, Complaint<'a>>
+    requires some { 1 ≤ job.nue }
+    requires most { job.nue ≤ 48 }
+    requires short { seed ≤ 65535 }
+    ensures { (files : FilesView) → LoadsPlan (made_plan job.nue seed) (AsksMade seed job) files files result }
+{
+    match gen_script(alloc, job.nue, seed) {
+        Ok(text) => read_made(alloc, job, seed, text.as_slice()),
+        Err(_) => Err(Complaint::Memory),
+    }
+}
+
+// Reads the script of a number. The reader refuses none.
+fn read_made<'a>(alloc: Global, job: Job, seed: u32, text: &[u8]) -> Result<Loaded, Complaint<'a>>
+    requires some { 1 ≤ job.nue }
+    requires most { job.nue ≤ 48 }
+    requires short { seed ≤ 65535 }
+    requires made { text.now ≡ gen_text job.nue seed }
+    ensures { (files : FilesView) → LoadsPlan (made_plan job.nue seed) (AsksMade seed job) files files result }
+{
+    generated_scripts_are_read();
+    match read_script(alloc, text, job.nue) {
+        Ok(script) => Ok(with_setup(job, script, default_hosts(), Some(seed))),
+        Err(ReadStop::Memory) => Err(Complaint::Memory),
+        Err(ReadStop::Fault(_)) => unreachable!(),
     }
 }
 
@@ -156,37 +187,27 @@ fn load_bytes<'a>(
     ensures { (files : FilesView) (told : Option (List NamedFile)) → Holds told file.now bytes.now
         → LoadsPlan (script_plan file.now job.nue bytes.now) (AsksOn file.now told job hosts) files files result }
 {
-    match read_for(alloc, bytes, job.nue) {
-        Ok(script) => Ok(with_setup(job, script, hosts)),
+    match read_script(alloc, bytes, job.nue) {
+        Ok(script) => Ok(with_setup(job, script, hosts, None)),
         Err(stop) => Err(stopped(file, stop)),
     }
 }
 
-// Reads a script for so many ranks. It has as many, which the reader's contract does not say: another number would be
-// answered as want of memory is.
-fn read_for(alloc: Global, bytes: &[u8], nue: u8) -> Result<Scripts, ReadStop>
-    requires some { 1 ≤ nue }
-    requires most { nue ≤ 48 }
-    ensures gives { Gives (λ script. script) result (parse_script bytes.now nue) }
-    ensures ranks { IfOk result (λ script. script.nue ≡ nue) }
-{
-    let script = read_script(alloc, bytes, nue)?;
-    if script.nue() == nue {
-        Ok(script)
-    } else {
-        Err(ReadStop::Memory)
-    }
-}
-
 // The script with its setup on these hosts.
-fn with_setup(job: Job, script: Scripts, hosts: [CoreId; 48]) -> Loaded
+fn with_setup(job: Job, script: Scripts, hosts: [CoreId; 48], seed: Option<u32>) -> Loaded
     requires ranks { script.nue ≡ job.nue }
     requires apart { AreApart job.nue hosts }
     ensures script { result.script ≡ script }
     ensures setup { result.setup ≡ setup_by job hosts script }
+    ensures seed { result.seed ≡ seed }
 {
     let setup = script.setup(layout_of(job.bits), hosts);
-    Loaded { job, script, setup }
+    Loaded {
+        job,
+        script,
+        setup,
+        seed,
+    }
 }
 
 fn layout_of(bits: bool) -> Layout

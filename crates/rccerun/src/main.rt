@@ -3,6 +3,7 @@
 
 #[cfg(test)]
 mod asked;
+mod counts;
 mod crew;
 mod endings;
 #[cfg(test)]

@@ -18,6 +18,8 @@ const HEX_BLOCK: usize = 512;
 pub enum Piece<'a> {
     Text(&'a str),
     Number(u32),
+    /// A number that may be long.
+    Count(u64),
     /// Bytes as hex digits in lower case, and `-` for none.
     Hex(&'a [u8]),
     /// Bytes as values of a type, each behind a blank.
@@ -33,6 +35,7 @@ impl TextSource for Piece<'_> {
         match self {
             Piece::Text(text) => write_all(sink, text.as_bytes()),
             Piece::Number(n) => write_number(sink, *n),
+            Piece::Count(n) => write_count(sink, *n),
             Piece::Hex(bytes) => write_hex(sink, bytes),
             Piece::Values(ty, bytes) => write_values(sink, *ty, bytes),
         }
@@ -40,6 +43,13 @@ impl TextSource for Piece<'_> {
 }
 
 fn write_number<S: Sink>(sink: &mut S, n: u32) -> Result<(), WriteFault>
+    ensures { Sends (decimal n) (S.seen sink.old) (S.seen sink.new) result }
+{
+    let mut buffer = itoa::Buffer::new();
+    write_all(sink, buffer.format(n).as_bytes())
+}
+
+fn write_count<S: Sink>(sink: &mut S, n: u64) -> Result<(), WriteFault>
     ensures { Sends (decimal n) (S.seen sink.old) (S.seen sink.new) result }
 {
     let mut buffer = itoa::Buffer::new();

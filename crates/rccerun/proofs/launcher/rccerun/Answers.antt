@@ -4,7 +4,14 @@ use Rattle.scc_mesh.specs.Scenes.{is_open}
 use Rattle.outcomes.proofs.PromiseLemmas.{keeps_promises}
 use Rattle.rccerun.specs.Program.{rccerun}
 use Rattle.rccerun.proofs.ChipLemmas.{ends_loaded, ends_refused}
+use Rattle.rccerun.proofs.LoadLemmas.{made_words}
+use Rattle.rcce_words.specs.CommandLine.{parse_command}
 use Rattle.rccerun.proofs.launcher.rccerun.Goals as goal
+
+pub run_loaded-requires-clause-made : goal.run_loaded-requires-clause-made
+run_loaded-requires-clause-made g c = λ lifetimes outlive.
+    let words = map string_bytes c.args.words.now in
+    made_words words (parse_command words) _ _ c.in-Ok.loaded c.in-Ok.ensures
 
 pub returns-in-Ok : goal.returns-in-Ok
 returns-in-Ok g c =

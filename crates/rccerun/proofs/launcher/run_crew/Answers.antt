@@ -12,4 +12,4 @@ returns g c =
     let loaded = c.args.loaded.now in
     let fresh = fresh_crew loaded.script loaded.setup _ _ c.requires.chip c.requires.fresh in
     run_over (asked_by loaded) _ _ _ _ _ loaded.ranks c.requires.chip c.requires.fresh.count c.run.ensures.stands c.run.ensures.home
-    (c.run.ensures.answer loaded.script fresh) (c.run.ensures.ends loaded.script fresh) (c.run.ensures.calls loaded.script fresh) (c.run.ensures.opened loaded.script fresh)
+    (c.run.ensures.answer loaded.script fresh) (c.run.ensures.ends loaded.script fresh) (c.run.ensures.calls loaded.script fresh) (c.run.ensures.sent loaded.script fresh) (c.run.ensures.opened loaded.script fresh)

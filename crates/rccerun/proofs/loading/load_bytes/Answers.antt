@@ -9,7 +9,7 @@ use Rattle.rccerun.proofs.loading.load_bytes.Goals as goal
 pub returns-in-Ok : goal.returns-in-Ok
 returns-in-Ok c = λ files told holds.
     loads_script c.args.file.now told c.args.job c.args.hosts c.args.bytes.now files _ c.with_setup.result c.in-Ok.ensures.gives
-    c.with_setup.ensures.script c.with_setup.ensures.setup c.requires.within holds
+    c.with_setup.ensures.script c.with_setup.ensures.setup c.with_setup.ensures.seed c.requires.within holds
 
 pub returns-in-Err : goal.returns-in-Err
 returns-in-Err c = λ files told holds.

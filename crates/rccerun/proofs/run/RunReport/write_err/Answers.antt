@@ -1,7 +1,13 @@
-use Rattle.std.proofs.Common.{ap, sym, ◌∙◌}
-use Rattle.script_reader.specs.Script.{Script}
-use Rattle.rccerun.proofs.RunLemmas.{plain_count}
+use Rattle.std.proofs.Common.{ap, sym, subst, List, ℕ, ◌∙◌}
+use Rattle.rcce_io.specs.Sending.{Sends}
+use Rattle.script_plain.specs.Meaning.{plain_ends}
+use Rattle.rccerun.specs.Reports.{Shown}
+use Rattle.rccerun.proofs.RunLemmas.{plain_count, ran_err}
 use Rattle.rccerun.proofs.run.RunReport.write_err.Goals as goal
 
 pub write_unfinished-requires : goal.write_unfinished-requires
-write_unfinished-requires g c = record { ranked = plain_count c.args.self.now ∙ ap (λ (s : Script). s.nue) (sym c.self.view_is) }
+write_unfinished-requires g c = record { ranked = plain_count c.args.self.now.script ∙ ap (λ (s : Shown). s.script.nue) (sym c.self.view_is) }
+
+pub returns : goal.returns
+returns g c =
+    subst (λ (text : List ℕ). Sends text (g.S.Sink.seen c.args.sink.now) (g.S.Sink.seen c.write_unfinished.new.sink) c.write_unfinished.result) (sym (ran_err c.args.self.now.script c.args.self.now.seed)) c.write_unfinished.ensures
