@@ -49,6 +49,22 @@ fn words_are_refused_with_their_text(rt: HostRuntime) -> Result<(), Fail> {
             err: b"rccerun: value missing after -nue\n",
         },
         Refused {
+            words: &["-nue", "2", "-gen", "3", "s.rcce"],
+            err: b"rccerun: word out of place: s.rcce\n",
+        },
+        Refused {
+            words: &["-serial", "1", "-nue", "2", "-gen", "3"],
+            err: b"rccerun: word out of place: -gen\n",
+        },
+        Refused {
+            words: &["-nue", "2", "-gen", "3", "-bits"],
+            err: b"rccerun: word out of place: -bits\n",
+        },
+        Refused {
+            words: &["-nue", "2", "-gen", "65536"],
+            err: b"rccerun: bad number after -gen: 65536\n",
+        },
+        Refused {
             words: &["-nue", "2", "--help"],
             err: b"rccerun: unknown word: --help\n",
         },

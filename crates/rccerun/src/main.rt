@@ -12,6 +12,8 @@ mod launcher;
 mod lines;
 mod loaded;
 mod loading;
+#[cfg(test)]
+mod made;
 mod pieces;
 mod report;
 mod run;
