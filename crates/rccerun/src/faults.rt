@@ -39,7 +39,7 @@ struct Calls {
     err: u64,
 }
 
-/// Runs a case whose sinks take one byte at a time.
+/// Runs a case whose files give one byte at a time, and whose sinks take one.
 fn run_case<R: Threads + Sync + Alloc<A = Global>>(
     rt: &R,
     case: &Case,
@@ -50,6 +50,7 @@ fn run_case<R: Threads + Sync + Alloc<A = Global>>(
     let mut files = MemFiles::new(alloc);
     files.add("h", case.hosts)?;
     files.add("s", case.script)?;
+    files.piece(1);
     let mut out = MemSink::new(alloc, 256, 1)?;
     let mut err = MemSink::new(alloc, 256, 1)?;
     match fault {
