@@ -63,7 +63,7 @@ fn a_script_of_a_number_asks_for_no_file(rt: HostRuntime) -> Result<(), Fail> {
         &Open,
     );
     assert_eq!(rt; files.calls_made(), 0);
-    assert_eq!(rt; out.bytes(), b"gen 0 ues 2 ".as_slice());
+    assert_eq!(rt; out.bytes(), b"gen 0".as_slice());
     assert_eq!(rt; err.bytes(), b"".as_slice());
     assert_eq!(rt; status, Status::Write);
     Ok(())
