@@ -1,3 +1,2 @@
-pub mod ApartLemmas
 pub mod RunnerLemmas
 pub mod TeamLemmas
