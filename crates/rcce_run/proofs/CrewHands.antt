@@ -1,5 +1,5 @@
 -- Between turns no rank of a crew holds a test-and-set register.
-use Rattle.std.proofs.Common.{◌≡◌, ◌≢◌, ℕ, ◌<◌, List, length, slice_index_or, sym, subst}
+use Rattle.std.proofs.Common.{ℕ, ◌<◌, List, slice_index_or, sym, subst}
 use Rattle.scc_base.specs.Setups.{SetupView}
 use Rattle.scc_base.specs.declared.events.Event.{Event}
 use Rattle.scc_mesh.specs.Scenes.{ChipView, about_in, events_in, records_in}

@@ -1,11 +1,9 @@
 -- What a run of UEs leaves: where all of them rest, each shows the end of its rank in the plain meaning.
-use Rattle.std.proofs.Common.{◌≡◌, ◌≢◌, ◌⊎◌, inl, inr, ⊎_elim, ℕ, ◌<◌, ◌≤◌, Bool, true, false, List, length, if◌then◌else◌, slice_get, slice_index_or, Option, Some, None, is_none, option_map, option_and_then, refl, sym, ◌∙◌, ap, subst, arith}
+use Rattle.std.proofs.Common.{◌≡◌, ◌⊎◌, inl, inr, ℕ, ◌<◌, ◌≤◌, Bool, true, false, List, length, if◌then◌else◌, slice_get, slice_index_or, Option, Some, None, is_none, option_map, option_and_then, refl, sym, ◌∙◌, ap, subst, arith}
 use Rattle.std.proofs.lemmas.Bool.{cases_lt}
 use Rattle.scc_base.specs.Calls.{DataCall}
 use Rattle.scc_base.specs.Calls as calls
 use Rattle.scc_base.specs.Setups.{SetupView}
-use Rattle.scc_base.specs.declared.calls.Call.{Call}
-use Rattle.scc_base.specs.declared.events.Event.{Event}
 use Rattle.scc_proto.specs.Agreement.{Agrees}
 use Rattle.scc_proto.specs.Passed.{open_call}
 use Rattle.scc_proto.specs.Ports.{record_in}
@@ -17,7 +15,7 @@ use Rattle.script_reader.specs.Script.{Script}
 use Rattle.script_plain.specs.declared.posts.Posted.{Posted}
 use Rattle.script_plain.specs.Collectives.{started}
 use Rattle.script_plain.specs.Ends.{Ended, ended, ended_at}
-use Rattle.script_plain.specs.Local.{Local, end_of, local_next, local_start}
+use Rattle.script_plain.specs.Local.{Local, local_next}
 use Rattle.script_plain.specs.Machine.{MachineView}
 use Rattle.script_plain.specs.Meaning.{State, next_of, plain_end, plain_ends, recorded}
 use Rattle.script_plain.specs.Moves.{is_ended, is_stopped}
@@ -27,8 +25,8 @@ use Rattle.send_recv.specs.Ops.{SlotAt}
 use Rattle.rcce_ue.specs.Standing.{Tied}
 use Rattle.rcce_ue.specs.Ues.{UeView, in_slot}
 use Rattle.rcce_run.specs.declared.members.Member.{Member}
-use Rattle.rcce_run.specs.Crews.{AllRest, AllRun, IsCrew, locals_of}
-use Rattle.rcce_run.specs.UeRuns.{HasPlainCalls, IsFreshCrew, IsFreshUe, ShowsEnd, WaitsOpen, member_seen, member_tied}
+use Rattle.rcce_run.specs.Crews.{AllRest, AllRun, IsCrew}
+use Rattle.rcce_run.specs.UeRuns.{HasPlainCalls, IsFreshCrew, ShowsEnd, WaitsOpen, member_seen, member_tied}
 use Rattle.rcce_run.specs.Scripts.{IsSwept}
 use Rattle.rcce_run.specs.Sweep.{Holds, SlotWaits, Stood, slots_by}
 use Rattle.rcce_run.specs.Turns.{RestsAt, state_of}
@@ -36,7 +34,7 @@ use Rattle.rcce_run.proofs.Holding.{at_below}
 use Rattle.rcce_run.proofs.OpenCalls.{open_is_next}
 use Rattle.rcce_run.proofs.PlainEnds.{call_waits, end_same, plain_ended_at}
 use Rattle.rcce_run.proofs.RunEnds.{is_swept, vain_stays}
-use Rattle.rcce_run.proofs.ScriptSweep.{script_calls, script_empty, script_ends, script_waits}
+use Rattle.rcce_run.proofs.ScriptSweep.{script_empty, script_ends, script_waits}
 use Rattle.rcce_run.proofs.UeFits.{some_sight, tied_stood, ue_stands}
 use Rattle.rcce_run.proofs.VainLike.{slot_like}
 

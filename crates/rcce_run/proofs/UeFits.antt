@@ -1,8 +1,6 @@
 -- The state of a UE fits the record of its rank.
 use Rattle.std.proofs.Common.{◌≡◌, ℕ, ◌<◌, ◌++◌, [], ◌∷◌, List, Option, refl, sym, ap, ◌∙◌, subst}
-use Rattle.scc_base.specs.Calls.{DataCall}
 use Rattle.scc_base.specs.Calls.DataCall.{Recv}
-use Rattle.scc_base.specs.Heads.{MessageHead}
 use Rattle.scc_base.specs.Setups.{SetupView}
 use Rattle.scc_base.specs.declared.events.Event.{Event}
 use Rattle.scc_proto.specs.Messages.{has_all, head_of, is_head}
@@ -15,7 +13,7 @@ use Rattle.script_reader.specs.Script.{Script}
 use Rattle.script_reader.specs.Settled.{IsWhole}
 use Rattle.script_plain.specs.declared.posts.Posted.{Posted}
 use Rattle.script_plain.specs.Collectives.{started}
-use Rattle.script_plain.specs.Local.{Local, local_next}
+use Rattle.script_plain.specs.Local.{Local}
 use Rattle.script_plain.specs.Meaning.{State, next_of, recorded}
 use Rattle.script_plain.specs.Next.{Next}
 use Rattle.script_plain.specs.Next.Next.{Recvs}

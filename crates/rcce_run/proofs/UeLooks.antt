@@ -1,12 +1,10 @@
 -- What the vain try of a UE that waits tells, by the call that stands next and its stage.
-use Rattle.std.proofs.Common.{◌≡◌, ◌≢◌, ◌⊎◌, inl, inr, ⊎_elim, ℕ, zero, suc, ◌+◌, ◌-◌, ◌%◌, ◌<◌, ◌==◌, Bool, true, false, not, ◌&&◌, if◌then◌else◌, List, Option, Some, None, is_none, is_some, option_map, slice_get, slice_index, refl, sym, ap, ◌∙◌, subst, arith}
+use Rattle.std.proofs.Common.{◌≡◌, ◌≢◌, ◌⊎◌, inl, inr, ⊎_elim, ℕ, suc, ◌+◌, ◌%◌, ◌<◌, ◌==◌, Bool, true, false, not, ◌&&◌, if◌then◌else◌, List, Option, Some, None, is_none, is_some, option_map, slice_get, refl, sym, ap, ◌∙◌, subst, arith}
 use Rattle.std.specs.Int.{bit_at}
 use Rattle.std.proofs.lemmas.Option.{get_or_from_slice_get, same_Some}
-use Rattle.scc_base.specs.Calls.{DataCall}
-use Rattle.scc_base.specs.Heads.{MessageHead}
-use Rattle.scc_base.specs.Layouts.{gather_at, ready_at, release_at, sent_at}
+use Rattle.scc_base.specs.Layouts.{ready_at, sent_at}
 use Rattle.scc_base.specs.Places.{FlagPlace, WordAt, flag_word}
-use Rattle.scc_base.specs.Setups.{SetupView, IsMemberAt, host_of, members_of, place_of, setup_key, size_of}
+use Rattle.scc_base.specs.Setups.{SetupView, IsMemberAt, host_of, members_of, setup_key, size_of}
 use Rattle.scc_base.specs.Communicators.{rule_of}
 use Rattle.scc_base.specs.declared.communicators.CommRule.TheVariants.{Absent}
 use Rattle.scc_base.specs.declared.events.Spot.{Spot}
@@ -22,7 +20,7 @@ use Rattle.scc_proto.specs.Messages.{Progress}
 use Rattle.scc_proto.specs.Ports.{Seat}
 use Rattle.scc_proto.specs.Records.{chunk_of}
 use Rattle.scc_proto.specs.Registers.{Holder, Nobody, HeldBy}
-use Rattle.scc_proto.specs.Stages.{Part, Raised, Answered, Stage, Idle, Between, OnItsWay, Record}
+use Rattle.scc_proto.specs.Stages.{Idle, Between, OnItsWay, Record}
 use Rattle.scc_proto.specs.Views.{View, flag_in, view_of, word_of_flag}
 use Rattle.scc_proto.specs.Words.{IsStep, IsStepBy, Memory, are_peers, word_at}
 use Rattle.scc_proto.proofs.Tests.{both_first, both_second, eqb_same, not_true, peers_swap, same_by_eqb, same_or_other}

@@ -1,7 +1,6 @@
 -- A turn of a UE is a turn of a worker.
-use Rattle.std.proofs.Common.{◌≡◌, ◌≢◌, ◌⊎◌, inl, inr, ⊎_elim, ℕ, ◌%◌, ◌<◌, ◌==◌, ◌&&◌, ◌||◌, not, if◌then◌else◌, Bool, true, false, List, [], ◌∷◌, ◌++◌, Option, Some, None, is_none, option_map, refl, sym, ap, ◌∙◌, subst, take, length, append-nil, arith, length-append}
+use Rattle.std.proofs.Common.{◌≡◌, ◌⊎◌, inl, inr, ⊎_elim, ℕ, ◌%◌, ◌&&◌, ◌||◌, not, if◌then◌else◌, Bool, true, false, List, [], ◌∷◌, ◌++◌, Option, Some, None, is_none, option_map, refl, sym, ap, ◌∙◌, subst, take, length, arith, length-append}
 use Rattle.std.specs.List.{list_all}
-use base.Stored.{Gv}
 use Rattle.scc_base.specs.Calls.{DataCall}
 use Rattle.scc_base.specs.Heads.{MessageHead}
 use Rattle.scc_base.specs.Setups.{SetupView}
@@ -23,23 +22,20 @@ use Rattle.scc_proto.proofs.PortLaws.{made_left, record_in-and_then}
 use Rattle.scc_proto.proofs.RestLaw.{resting_part}
 use Rattle.scc_proto.proofs.Tests.{both_first, both_second}
 use Rattle.put_get.specs.Accesses.{WereSteps}
-use Rattle.put_get.specs.Cores.{MadeSteps, Private}
-use Rattle.sync_flags.specs.Tries.{Aim, Fruitful, NoTry, Tried, Vain, changing_after, is_take, spot_of}
-use Rattle.sync_flags.specs.Turns.{at_port}
-use Rattle.send_recv.specs.Ops.{RecvAt, SendAt, SlotAt}
-use Rattle.send_recv.specs.Sending.{SlotStands}
+use Rattle.put_get.specs.Cores.{MadeSteps}
+use Rattle.sync_flags.specs.Tries.{Aim, Fruitful, NoTry, Tried, Vain, changing_after, is_take}
+use Rattle.send_recv.specs.Ops.{RecvAt, SendAt}
 use Rattle.send_recv.specs.Turns as sr
 use Rattle.barrier.specs.Flags.{IsParityOf}
 use Rattle.barrier.specs.Stages.{BarAt}
 use Rattle.script_plain.specs.Local.{Local, local_next}
-use Rattle.script_plain.specs.Meaning.{State, next_of, recorded}
+use Rattle.script_plain.specs.Meaning.{recorded}
 use Rattle.script_plain.specs.Moves.{bytes_out, is_ended, is_stopped, length_in}
 use Rattle.script_plain.specs.Next.{Next}
 use Rattle.script_plain.specs.Next.Next.{Ends, Goes, Posts, Sends, Recvs, Bars}
 use Rattle.rcce_ue.specs.Left.{left_of}
-use Rattle.rcce_ue.specs.Standing as ue
-use Rattle.rcce_ue.specs.Standing.{IsBarOf, IsNoCall, IsRecvOf, IsSendOf, OpStands, Tied}
-use Rattle.rcce_ue.specs.Turns.{UeMeans, UeTurned, aim_by, is_over, slot_aim, ue_aim}
+use Rattle.rcce_ue.specs.Standing.{IsBarOf, IsRecvOf, IsSendOf, OpStands, Tied}
+use Rattle.rcce_ue.specs.Turns.{UeTurned, aim_by, ue_aim}
 use Rattle.rcce_ue.specs.Ues.{UeView}
 use Rattle.rcce_ue.specs.declared.calls.Open.{Open}
 use Rattle.rcce_ue.specs.declared.calls.Open.TheVariants.{Nothing, Sending, Receiving, Meeting}
@@ -47,7 +43,7 @@ use Rattle.rcce_ue.proofs.OtherPort.{tied_there}
 use Rattle.rcce_ue.proofs.PathLemmas.{stopped_ends}
 use Rattle.rcce_ue.proofs.WaitLemmas.{VainStep, found}
 use Rattle.rcce_run.specs.Sweep.{BarWaits, RaiseWaits, SlotWaits, TakeWaits}
-use Rattle.rcce_run.specs.Turns.{HasWaited, IsDone, IsOver, LookedAt, NoneElseHolds, TurnMeans, Turned, Waits, state_of}
+use Rattle.rcce_run.specs.Turns.{HasWaited, IsDone, NoneElseHolds, TurnMeans, Turned, Waits}
 use Rattle.rcce_run.specs.Ues.{UeStands, ue_seen}
 use Rattle.rcce_run.proofs.HomeTurns.{both_pass, record_split}
 use Rattle.rcce_run.proofs.Looks.{waits_same}
