@@ -1,12 +1,12 @@
 -- Where nobody posts, what ranks have sent are the messages that came.
-use Rattle.std.proofs.Common.{◌≡◌, ◌≢◌, ℕ, zero, suc, ◌+◌, ◌<◌, ◌≤◌, Bool, true, false, cond, List, [], ◌∷◌, ◌++◌, drop, length, get_or, map, set, Option, Some, None, refl, sym, ap, ◌∙◌, subst, arith, sum_by, slice_get}
+use Rattle.std.proofs.Common.{◌≡◌, ◌≢◌, ℕ, zero, suc, ◌+◌, ◌<◌, Bool, true, false, cond, List, [], ◌∷◌, ◌++◌, drop, length, get_or, set, Option, Some, None, refl, sym, ap, ◌∙◌, subst, arith, sum_by, slice_get}
 use Rattle.std.specs.Prelude.{is_some}
 use Rattle.std.specs.List.{range_with_len}
 use Rattle.std.specs.Option.{option_map_or, option_or}
 use Rattle.std.proofs.lemmas.List.Sums.{sum_by-append, sum_by-cons, sum_by-set}
 use Rattle.std.proofs.lemmas.Option.{get_or_from_slice_get, slice_get_within}
 use Rattle.scc_base.specs.Calls.{DataCall}
-use Rattle.scc_base.specs.Calls.DataCall.{Send, Recv, Post, Bar}
+use Rattle.scc_base.specs.Calls.DataCall.{Send, Recv, Bar}
 use Rattle.scc_base.specs.Groups.{is_with}
 use Rattle.scc_base.specs.Heads.{MessageHead}
 use Rattle.script_reader.specs.Script.{Script}
@@ -20,7 +20,7 @@ use Rattle.script_plain.specs.Matches.{brought, brought_by, line_at, line_of, lo
 use Rattle.script_plain.specs.Meaning.{State, keys_of, next_of, plain_end, recorded, start_of, steps_left}
 use Rattle.script_plain.specs.Next.{Next, is_at_barrier, past_barrier}
 use Rattle.script_plain.specs.Next.Next.{Ends, Goes, Posts, Sends, Recvs, Bars}
-use Rattle.script_plain.specs.Program.{Act, Prim, program_of}
+use Rattle.script_plain.specs.Program.{Act, Prim}
 use Rattle.script_plain.specs.Step.{Configuration, all_at_barrier, by_rank, lowest, lowest_step, next_at, past_if, run_on, slot_at, step_of}
 use Rattle.script_plain.proofs.CameDid.{logged}
 use Rattle.script_plain.proofs.KeptLaws.{AllKept, KeepsNext, kept_runs}
