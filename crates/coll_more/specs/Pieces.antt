@@ -30,6 +30,6 @@ pub record HasMade (more : More) (nue len rank : ℕ) (src dst : List ℕ) (call
   pub dst_is : length dst ≡ dst_len_of more rank nue len
   pub own : HasOwn more rank len src dst
 
--- each rank has
+-- each rank has made one such call, and holds what its messages brought
 abbrev pub HaveMade : More → (nue len : ℕ) → (srcs dsts : ℕ → List ℕ) → (ℕ → List DataCall) → Type 0
 HaveMade more nue len srcs dsts calls = (rank : ℕ) → rank < nue → HasMade more nue len rank (srcs rank) (dsts rank) (calls rank)

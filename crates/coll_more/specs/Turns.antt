@@ -46,6 +46,7 @@ left_by seat op slot Between = left_from seat op op.ended
 left_by seat op slot (Sending call send) = (1 + send_left seat.setup.layout (chunk_of seat.setup) send slot) + left_from seat op (op.ended + 1)
 left_by seat op slot (Receiving call receive) = (1 + recv_left (chunk_of seat.setup) receive) + left_from seat op (op.ended + 1)
 
+-- how many turns that do not wait a collective call has left at most
 abbrev pub more_left : Seat → MoreAt → SlotAt → ℕ
 more_left seat op slot = left_by seat op slot op.stage
 

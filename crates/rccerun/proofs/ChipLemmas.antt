@@ -1,5 +1,5 @@
 -- What a run leaves on the chip, by the outcome that was delivered.
-use Rattle.std.proofs.Common.{◌≡◌, ℕ, ◌⊎◌, List, codes, refl, sym, subst, ap, ◌∙◌, inl, inr, Bool, true, false, None, Result, Ok, Err}
+use Rattle.std.proofs.Common.{◌≡◌, ℕ, ◌⊎◌, List, codes, refl, sym, subst, inl, inr, Bool, true, false, None, Result, Ok, Err}
 use Rattle.rcce_io.specs.Files.{FilesView}
 use Rattle.scc_mesh.specs.Scenes.{ChipView}
 use Rattle.outcomes.specs.Coming.{ByTest, IsMeant}
@@ -13,8 +13,6 @@ use Rattle.outcomes.specs.declared.complaint.Complaint.{Complaint}
 use Rattle.outcomes.specs.declared.complaint.Complaint.TheVariants as complaint
 use Rattle.outcomes.specs.declared.status.Status.{Status}
 use Rattle.rcce_words.specs.CommandLine.{parse_command}
-use Rattle.rcce_words.specs.declared.command.Job.{Job}
-use Rattle.rcce_words.specs.declared.command.WordFault.{WordFault}
 use Rattle.rccerun.specs.Asking.{ChipTells, WordsAskFor, asked_ran}
 use Rattle.rccerun.specs.History.{Asked, HasRun}
 use Rattle.rccerun.specs.Loading as loading

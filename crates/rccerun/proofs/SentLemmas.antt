@@ -1,6 +1,6 @@
 -- What the ranks of a run have sent and printed, one rank after another.
-use Rattle.std.proofs.Common.{◌≡◌, ℕ, zero, suc, ◌+◌, ◌-◌, ◌*◌, ◌%◌, ◌^◌, ◌<◌, ◌≤◌, Bool, true, false, cond, List, [], ◌∷◌, ◌++◌, get_or, length, map, min, slice_get, slice_index_or, take, Option, Some, None, refl, sym, ap, ◌∙◌, subst, arith, sum_by}
-use Rattle.std.specs.List.{count_by, range_with_len, sum}
+use Rattle.std.proofs.Common.{◌≡◌, ℕ, suc, ◌+◌, ◌-◌, ◌*◌, ◌%◌, ◌^◌, ◌<◌, ◌≤◌, cond, List, [], ◌∷◌, get_or, length, min, slice_get, slice_index_or, take, Option, Some, None, refl, sym, ap, ◌∙◌, subst, arith, sum_by}
+use Rattle.std.specs.List.{count_by, sum}
 use Rattle.std.specs.Option.{option_map}
 use Rattle.std.proofs.Math.Nat.{mod-add-mod, mul-suc}
 use Rattle.std.proofs.lemmas.List.{length-map, take_all}

@@ -6,7 +6,6 @@ use Rattle.script_reader.specs.declared.fault.ReadFault.{ReadFault}
 use Rattle.script_reader.specs.declared.fault.ReadStop.{ReadStop}
 use Rattle.script_reader.specs.declared.fault.ReadStop.TheVariants as stop
 use Rattle.script_reader.specs.Faults.{kind_name}
-use Rattle.script_reader.specs.Script.{Script}
 use Rattle.script_gen.specs.Scripts.{gen_script_of}
 use Rattle.outcomes.specs.Coming.{ByTest, Comes, IsMeant}
 use Rattle.outcomes.specs.Complaints.{complaint_outcome}

@@ -40,7 +40,7 @@ pub record CountsPlain (script : Script) (rank : ℕ) (ue : UeView) : Type 0 whe
   pub few : sum_by sends_of state.matched ≤ cost_of (local_start script rank)
   pub short : sum_by sent_bytes_of state.matched ≤ 65536 * sum_by sends_of state.matched
 
--- each rank's has
+-- each unit of execution has counted what its rank sent
 pub record HaveSent (script : Script) (crew : List (Member UeView)) : Type 0 where
   pub count : length crew ≡ script.nue
   pub each : (rank : ℕ) (d : Member UeView) → rank < script.nue → CountsPlain script rank (slice_index_or crew rank d).worker

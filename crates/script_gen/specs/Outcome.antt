@@ -23,10 +23,11 @@ sent_bytes_of (Send to head bytes) = length bytes
 sent_bytes_of (Post to head bytes) = length bytes
 sent_bytes_of _ = 0
 
--- the messages that all ranks have sent, and their bytes
+-- how many messages all ranks have sent
 abbrev pub all_sends : Configuration State → ℕ
 all_sends c = sum_by (λ u. sum_by sends_of u.matched) c.cells
 
+-- how many bytes all ranks have sent
 abbrev pub all_sent_bytes : Configuration State → ℕ
 all_sent_bytes c = sum_by (λ u. sum_by sent_bytes_of u.matched) c.cells
 
@@ -38,7 +39,7 @@ message_bytes matches = sum_by (λ m. m.head.len) matches
 abbrev pub item_bytes : Ended → ℕ
 item_bytes ue = sum_by (λ item. sum item.bytes) ue.printed
 
--- and in those of all ranks, modulo 2 ^ 32
+-- the sum of all bytes in the items that all ranks printed, modulo 2 ^ 32
 abbrev pub printed_sum : List Ended → ℕ
 printed_sum ends = sum_by item_bytes ends % 2 ^ 32
 

@@ -1,4 +1,3 @@
-use Rattle.std.proofs.Common.{refl}
 use Rattle.script_plain.specs.Ends.{ended_at}
 use Rattle.rccerun.proofs.SentLemmas.{items_more}
 use Rattle.rccerun.proofs.counts.with_items.Goals as goal

@@ -1,6 +1,5 @@
 use Rattle.std.proofs.Common.{ap, sym, subst, List, ℕ, ◌∙◌}
 use Rattle.rcce_io.specs.Sending.{Sends}
-use Rattle.script_plain.specs.Meaning.{plain_ends}
 use Rattle.rccerun.specs.Reports.{Shown}
 use Rattle.rccerun.proofs.RunLemmas.{plain_count, ran_err}
 use Rattle.rccerun.proofs.run.RunReport.write_err.Goals as goal
