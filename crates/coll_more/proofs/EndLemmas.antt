@@ -15,7 +15,7 @@ use Rattle.sync_flags.specs.Turns.{at_port}
 use Rattle.sync_flags.proofs.TurnLemmas.{record_at_port}
 use Rattle.coll_more.specs.Ops.{MoreAt, bytes_of, data_of, is_copied, new_more, table_of, window}
 use Rattle.coll_more.specs.Standing.{HasEnded, IsFit, MoreStands, StandsAt}
-use Rattle.coll_more.specs.Turns.{MoreTurned, call_bound, is_over_by, message_bound, more_left}
+use Rattle.coll_more.specs.Turns.{MoreTurned, call_bound, is_over_by, more_left, piece_bound}
 use Rattle.coll_more.specs.declared.kinds.More.{More}
 use Rattle.coll_more.specs.declared.kinds.PieceCall.{PieceCall}
 use Rattle.coll_more.specs.declared.ops.Stage.{Stage}
@@ -61,16 +61,16 @@ pub begins : (s : Sight) (c : Private) (slot : SlotAt) (more : More) (len : ℕ)
 begins s c slot more len src dst free fits =
     record { fits = fits; calls = sym (append-nil (record_in s).calls); own = λ is. absurd (cc); at = (refl, free) }
 
-all_bounds : (layout : Layout) (calls : List PieceCall) → sum_by (call_bound layout) calls ≡ sum_by (message_bound layout) calls + 2 * length calls
+all_bounds : (layout : Layout) (calls : List PieceCall) → sum_by (call_bound layout) calls ≡ sum_by (piece_bound layout) calls + 2 * length calls
 all_bounds layout [] = refl
 all_bounds layout (call ∷ calls) =
     let rest = all_bounds layout calls in
     let one = sum_by-cons (call_bound layout) call calls in
-    let other = sum_by-cons (message_bound layout) call calls in
+    let other = sum_by-cons (piece_bound layout) call calls in
     omega (arith, rest, one, other)
 
 pub start_left : (seat : Seat) (more : More) (len : ℕ) (slot : SlotAt)
-    → more_left seat (new_more more len) slot ≤ sum_by (message_bound seat.setup.layout) (table_of seat (new_more more len)) + 2 * length (table_of seat (new_more more len)) + 2
+    → more_left seat (new_more more len) slot ≤ sum_by (piece_bound seat.setup.layout) (table_of seat (new_more more len)) + 2 * length (table_of seat (new_more more len)) + 2
 start_left seat more len slot = let all = all_bounds seat.setup.layout (table_of seat (new_more more len)) in omega (arith, all)
 
 -- ---- at another port

@@ -6,13 +6,12 @@ use Rattle.scc_base.specs.Heads.{MessageHead, plain_head}
 use Rattle.scc_base.specs.declared.events.Event.{Event}
 use Rattle.scc_base.specs.declared.events.Spot.{Spot}
 use Rattle.scc_base.specs.declared.layouts.Layout.{Layout}
-use Rattle.scc_base.specs.Layouts.{chunk_size}
 use Rattle.scc_proto.specs.Messages.{Notes}
 use Rattle.scc_proto.specs.Ports.{Did, Seat, Sight, record_in}
 use Rattle.scc_proto.specs.Records.{chunk_of}
 use Rattle.scc_proto.specs.Stages.{Record}
 use Rattle.put_get.specs.Cores.{Private}
-use Rattle.send_recv.specs.Chunks.{chunk_count, lines_of}
+use Rattle.send_recv.specs.Chunks.{message_bound}
 use Rattle.send_recv.specs.Ops.{SlotAt}
 use Rattle.send_recv.specs.Receiving.{SaysHead, recv_left, recv_spot, recv_waits}
 use Rattle.send_recv.specs.Sending.{send_left, send_spot}
@@ -27,13 +26,13 @@ use Rattle.coll_more.specs.declared.kinds.PieceCall.{PieceCall}
 use Rattle.coll_more.specs.declared.ops.Stage.{Stage}
 use Rattle.coll_more.specs.declared.ops.Stage.TheVariants.{Own, Between, Sending, Receiving}
 
--- the bound of a message: 4 + 5c + l turns for c chunks of l lines
-abbrev pub message_bound : Layout → PieceCall → ℕ
-message_bound layout call = 4 + 5 * chunk_count (chunk_size layout) call.len + lines_of call.len
+-- the bound of the message of a call
+abbrev pub piece_bound : Layout → PieceCall → ℕ
+piece_bound layout call = message_bound layout call.len
 
 -- a message counts two more: the turn that begins it, and the one that ends it
 abbrev pub call_bound : Layout → PieceCall → ℕ
-call_bound layout call = 2 + message_bound layout call
+call_bound layout call = 2 + piece_bound layout call
 
 -- what is left of the messages from this place of the table on
 abbrev pub left_from : Seat → MoreAt → ℕ → ℕ

@@ -12,7 +12,7 @@ ghost use Rattle.sync_flags.specs.Turns.{at_port};
 ghost use Rattle.coll_more.specs.Ops.{MoreAt, new_more, table_of};
 ghost use Rattle.coll_more.specs.Pieces.{HaveMade, pieces_for};
 ghost use Rattle.coll_more.specs.Standing.{IsFit, MoreStands};
-ghost use Rattle.coll_more.specs.Turns.{message_bound, more_left};
+ghost use Rattle.coll_more.specs.Turns.{more_left, piece_bound};
 ghost use Rattle.coll_more.specs.declared.kinds.More.{More};
 
 /// At a rank that is in no call any collective call can begin, with src and dst of their lengths.
@@ -25,7 +25,7 @@ pub fn begins_law()
 pub fn turns_law()
     ensures bound { (seat : Seat) (more : More) (len : ℕ) (slot : SlotAt)
         → more_left seat (new_more more len) slot
-        ≤ sum_by (message_bound seat.setup.layout) (table_of seat (new_more more len)) + 2 * length (table_of seat (new_more more len)) + 2 }
+        ≤ sum_by (piece_bound seat.setup.layout) (table_of seat (new_more more len)) + 2 * length (table_of seat (new_more more len)) + 2 }
 {}
 
 /// Where the calls of all ranks are legal and each rank has made one such call, dst has the pieces: of gather and allgather all

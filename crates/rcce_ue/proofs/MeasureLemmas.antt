@@ -12,7 +12,7 @@ use Rattle.scc_base.specs.Setups.{SetupView, place_of, setup_key, size_of}
 use Rattle.scc_base.specs.declared.layouts.Layout.{Layout}
 use Rattle.scc_base.specs.declared.layouts.Layout.TheVariants.{LineFlags, BitFlags}
 use Rattle.scc_base.proofs.GroupFacts.{place_below}
-use Rattle.send_recv.specs.Chunks.{chunk_count, lines_from, lines_of}
+use Rattle.send_recv.specs.Chunks.{chunk_count, lines_from, lines_of, message_bound}
 use Rattle.send_recv.specs.Ops.{SlotAt, new_send, slot_left}
 use Rattle.send_recv.specs.Sending.{of_chunk}
 use Rattle.send_recv.proofs.Starts.{new_receive_left}
@@ -29,7 +29,7 @@ use Rattle.script_plain.specs.Next.{Next}
 use Rattle.script_plain.specs.Next.Next.{Ends, Goes, Posts, Sends, Recvs, Bars}
 use Rattle.script_plain.specs.Program.{Act, Prim}
 use Rattle.script_plain.proofs.LengthPaths.{folded_length}
-use Rattle.rcce_ue.specs.Left.{barrier_bound, bound_of, bounds_left, message_bound, next_bound, open_left, rest_of}
+use Rattle.rcce_ue.specs.Left.{barrier_bound, bound_of, bounds_left, next_bound, open_left, rest_of}
 use Rattle.rcce_ue.specs.Ues.{opened}
 use Rattle.rcce_ue.specs.declared.calls.Open.TheVariants.{Sending}
 

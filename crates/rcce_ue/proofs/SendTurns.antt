@@ -11,6 +11,7 @@ use Rattle.scc_proto.specs.Ports.{Seat, Sight, record_in}
 use Rattle.scc_proto.specs.Records.{chunk_of}
 use Rattle.scc_proto.proofs.PortLaws.{seat_kept}
 use Rattle.put_get.specs.Cores.{Private}
+use Rattle.send_recv.specs.Chunks.{message_bound}
 use Rattle.send_recv.specs.Ops.{SendAt, SlotAt, is_sent, slot_left}
 use Rattle.send_recv.specs.Sending.{IsAtSendStage, IsSameOrEmpty, SendStands, SendTurned, send_call, send_left, slot_after}
 use Rattle.send_recv.specs.declared.stages.SendStage.{SendStage}
@@ -21,7 +22,7 @@ use Rattle.script_plain.specs.Machine.{on_its_way}
 use Rattle.script_plain.specs.Moves.{bytes_out, is_ended, is_stopped, passed}
 use Rattle.script_plain.specs.Next.{Next, is_going}
 use Rattle.script_plain.specs.Next.Next.{Ends, Goes, Posts, Sends, Recvs, Bars}
-use Rattle.rcce_ue.specs.Left.{at_end, left_of, message_bound, next_bound, rest_of}
+use Rattle.rcce_ue.specs.Left.{at_end, left_of, next_bound, rest_of}
 use Rattle.rcce_ue.specs.Standing.{IsSendOf, Tied}
 use Rattle.rcce_ue.specs.Turns.{IsStill, Turns}
 use Rattle.rcce_ue.specs.Ues.{UeView, counted, entered, posted_by}

@@ -1,9 +1,8 @@
 -- How many turns of a UE that do not wait are left (this project's profile).
 use Rattle.std.specs.Prelude.{ℕ, ◌+◌, ◌-◌, ◌*◌, Bool, true, false, min, if◌then◌else◌, List, [], ◌∷◌, length}
-use Rattle.scc_base.specs.Layouts.{chunk_size}
 use Rattle.scc_base.specs.Setups.{SetupView, place_of, size_of}
 use Rattle.scc_base.specs.declared.layouts.Layout.{Layout}
-use Rattle.send_recv.specs.Chunks.{chunk_count, lines_of}
+use Rattle.send_recv.specs.Chunks.{message_bound}
 use Rattle.send_recv.specs.Ops.{SlotAt, slot_left}
 use Rattle.send_recv.specs.Receiving.{recv_left}
 use Rattle.send_recv.specs.Sending.{send_left}
@@ -17,10 +16,6 @@ use Rattle.script_plain.specs.Program.{Act, Prim}
 use Rattle.rcce_ue.specs.Ues.{UeView}
 use Rattle.rcce_ue.specs.declared.calls.Open.{Open}
 use Rattle.rcce_ue.specs.declared.calls.Open.TheVariants.{Nothing, Sending, Receiving, Meeting}
-
--- the bound of a message of so many bytes: 4 + 5c + l turns for c chunks of l lines
-abbrev pub message_bound : Layout → ℕ → ℕ
-message_bound layout len = 4 + 5 * chunk_count (chunk_size layout) len + lines_of len
 
 -- the bound of a barrier: two turns for each member of the group, and one more
 abbrev pub barrier_bound : SetupView → ℕ → ℕ → ℕ
