@@ -16,6 +16,13 @@ same_line-sym a b t =
     and_from (b.core == a.core) (b.line == a.line) (eq-eqb b.core a.core (sym (eqb-true a.core b.core p.0)))
     (eq-eqb b.line a.line (sym (eqb-true a.line b.line p.1)))
 
+same_line-is : (a b : LineAt) → same_line a b ≡ true → a ≡ b
+same_line-is a b t =
+    let p = and_parts (a.core == b.core) (a.line == b.line) t in
+    let cores : a.core ≡ b.core = eqb-true a.core b.core p.0 in
+    let lines : a.line ≡ b.line = eqb-true a.line b.line p.1 in
+    λ i. record { core = cores i; line = lines i }
+
 pub other_line-sym : (a b : LineAt) → same_line a b ≡ false → same_line b a ≡ false
 other_line-sym a b f = by (same_line b a) refl
   where
@@ -36,19 +43,27 @@ not_held e es line h = by (same_line e.line line) refl h
 none_held : (e : Entry) (es : List Entry) (line : LineAt) → same_line e.line line ≡ false → held es line ≡ None → held (e ∷ es) line ≡ None
 none_held e es line f h = rw f h
 
--- looking a line up place by place
-pub held_here : (es : List Entry) (i : ℕ) (line : LineAt) (e : Entry) → i < length es → e ≡ get_or es i e
-    → held es line ≡ held (drop i es) line → same_line e.line line ≡ true → Some e.words ≡ held es line
-held_here es i line e h is w t =
-    let d : drop i es ≡ e ∷ drop (suc i) es = drop-cons es i e h ∙ ap (λ x. x ∷ drop (suc i) es) (sym is) in
-    sym (w ∙ rw (d, t) refl)
+-- the words of a line that stands at a place are those that are held of it, since no line is held twice
+pub held_at : (es : List Entry) (i : ℕ) (line : LineAt) (e : Entry) → AreDistinct es → i < length es → e ≡ get_or es i e
+    → same_line e.line line ≡ true → Some e.words ≡ held es line
+held_at [] i line e s h is t = elim h [ ]
+held_at (x ∷ xs) zero line e s h is t = rw (← is, t) refl
+held_at (x ∷ xs) (suc i) line e s h is t = by (held_at xs i line e s.1 (omega arith) is t) (same_line x.line line) refl
+  where
+    by : Some e.words ≡ held xs line → (q : Bool) → same_line x.line line ≡ q → Some e.words ≡ held (x ∷ xs) line
+    by behind true q =
+        let none : held xs line ≡ None = subst (λ a. held xs a ≡ None) (same_line-is x.line line q) s.0 in
+        absurd (cc)
+    by behind false q = rw q behind
 
-pub held_on : (es : List Entry) (i : ℕ) (line : LineAt) (e : Entry) → i < length es → e ≡ get_or es i e
-    → held es line ≡ held (drop i es) line → same_line e.line line ≡ false → held es line ≡ held (drop (i + 1) es) line
-held_on es i line e h is w f =
+-- looking a line up place by place, from the last entry back
+pub none_from : (es : List Entry) (i : ℕ) (line : LineAt) (e : Entry) → i < length es → e ≡ get_or es i e
+    → held (drop (i + 1) es) line ≡ None → same_line e.line line ≡ false → held (drop i es) line ≡ None
+none_from es i line e h is w f =
     let d : drop i es ≡ e ∷ drop (suc i) es = drop-cons es i e h ∙ ap (λ x. x ∷ drop (suc i) es) (sym is) in
-    let next : suc i ≡ i + 1 = omega arith in
-    subst (λ k. held es line ≡ held (drop k es) line) next (w ∙ rw (d, f) refl)
+    let next : i + 1 ≡ suc i = omega arith in
+    let behind : held (drop (suc i) es) line ≡ None = subst (λ k. held (drop k es) line ≡ None) next w in
+    rw (d, f) behind
 
 -- the entries before a place were written, those from there on are as they were
 pub noted_on : (p : WordAt) (v : ℕ) (old now : List Entry) (i : ℕ) (e : Entry) → i < length now → e ≡ get_or now i e

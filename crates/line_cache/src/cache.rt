@@ -1,7 +1,7 @@
 //! The cache of message passing lines.
 
 ghost use Rattle.std.specs.Prelude.{◌≡◌};
-ghost use Rattle.line_cache.specs.Lines.{held, noted};
+ghost use Rattle.line_cache.specs.Lines.{held, noted, AreDistinct};
 
 use arrayvec::ArrayVec;
 use scc_base::{CoreId, Line, Place};
@@ -133,11 +133,16 @@ impl Cache {
     }
 }
 
-/// The words of the first entry of a line.
+/// The words of the entry of a line.
+///
+/// A core reads the words of a line one after another, so the line is mostly the newest: the search goes from
+/// the last entry back.
 fn look_in(entries: &[Entry], line: Line) -> Option<[u64; 4]>
+    requires { AreDistinct entries.now }
     ensures { result ≡ held entries.now line }
 {
-    for entry in entries {
+    for i in (0..entries.len()).rev() {
+        let entry = &entries[i];
         if entry.line.is(line) {
             return Some(entry.words);
         }
