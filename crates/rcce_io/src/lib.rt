@@ -5,6 +5,7 @@
 mod buffer;
 mod bytes;
 mod calls;
+mod digits;
 mod files;
 mod host;
 mod memory_files;
@@ -16,6 +17,7 @@ mod writing;
 
 pub use buffer::Buffer;
 pub use bytes::Bytes;
+pub use digits::write_hex;
 pub use files::{Files, Got, Opened};
 pub use host::{HostFiles, StdSink};
 pub use memory_files::MemFiles;

@@ -4,5 +4,4 @@ pub mod PlanLemmas
 pub mod ReportLemmas
 pub mod RunLemmas
 pub mod SentLemmas
-pub mod TextLemmas
 pub mod ValueLemmas

@@ -2,7 +2,8 @@
 use Rattle.std.specs.Prelude.{ℕ, List, decimal}
 use Rattle.rccerun.specs.declared.pieces.Piece.{Piece}
 use Rattle.rccerun.specs.declared.pieces.Piece.TheVariants.{Text, Number, Count, Hex, Values}
-use Rattle.rccerun.specs.Texts.{hex_text, values_text}
+use Rattle.rcce_io.specs.Digits.{hex_text}
+use Rattle.rccerun.specs.Texts.{values_text}
 
 abbrev pub piece_text : Piece → List ℕ
 piece_text (Text text) = text.now

@@ -3,15 +3,11 @@
 ghost use Rattle.std.specs.Prelude.{◌≡◌, ◌≤◌, ◌<◌, ◌*◌, ◌/◌, ◌++◌, codes, length, flat_map, decimal};
 ghost use Rattle.std.specs.Fmt.{signed_decimal};
 ghost use Rattle.groups.specs.Folds.{bytes_in, value_of};
-ghost use Rattle.hex.specs.Hex.{encode_lower};
 ghost use Rattle.rcce_io.specs.Sending.{Sends};
-ghost use Rattle.rccerun.specs.Texts.{hex_text, value_text, values_text};
+ghost use Rattle.rccerun.specs.Texts.{value_text, values_text};
 
 use groups::Ty;
-use rcce_io::{Buffer, Sink, TextSource, WriteFault, write_all};
-
-/// How many bytes go to the sink as hex digits at a time.
-const HEX_BLOCK: usize = 512;
+use rcce_io::{Buffer, Sink, TextSource, WriteFault, write_all, write_hex};
 
 /// A piece of a line.
 #[derive(Clone, Copy, Debug)]
@@ -54,40 +50,6 @@ fn write_count<S: Sink>(sink: &mut S, n: u64) -> Result<(), WriteFault>
 {
     let mut buffer = itoa::Buffer::new();
     write_all(sink, buffer.format(n).as_bytes())
-}
-
-fn write_hex<S: Sink>(sink: &mut S, bytes: &[u8]) -> Result<(), WriteFault>
-    ensures { Sends (hex_text bytes.now) (S.seen sink.old) (S.seen sink.new) result }
-{
-    if bytes.is_empty() {
-        write_all(sink, b"-")
-    } else {
-        write_digits(sink, bytes)
-    }
-}
-
-fn write_digits<S: Sink>(sink: &mut S, bytes: &[u8]) -> Result<(), WriteFault>
-    ensures { Sends (encode_lower bytes.now) (S.seen sink.old) (S.seen sink.new) result }
-{
-    let mut done = 0;
-    while done < bytes.len() {
-        let end = bytes.len().min(done + HEX_BLOCK);
-        write_block(sink, &bytes[done..end])?;
-        done = end;
-    }
-    Ok(())
-}
-
-fn write_block<S: Sink>(sink: &mut S, bytes: &[u8]) -> Result<(), WriteFault>
-    requires { length bytes.now ≤ HEX_BLOCK }
-    ensures { Sends (encode_lower bytes.now) (S.seen sink.old) (S.seen sink.new) result }
-{
-    let mut digits = [0u8; 2 * HEX_BLOCK];
-    let text = &mut digits[..2 * bytes.len()];
-    match hex::encode_to_slice(bytes, text) {
-        Ok(()) => write_all(sink, text),
-        Err(_) => unreachable!(),
-    }
 }
 
 /// Writes bytes as values of a type.

@@ -1,8 +1,8 @@
 use Rattle.std.proofs.Common.{◌≤◌, arith, sym}
 use Rattle.hex.specs.Hex.{encode_with}
 use Rattle.rcce_io.proofs.SendingLemmas.{cut_within, sends_err, text_none, whole_within}
-use Rattle.rccerun.proofs.TextLemmas.{encode_lower-part, encode_lower-parts}
-use Rattle.rccerun.proofs.pieces.write_digits.Goals as goal
+use Rattle.rcce_io.proofs.DigitLemmas.{encode_lower-part, encode_lower-parts}
+use Rattle.rcce_io.proofs.digits.write_digits.Goals as goal
 
 pub loop-done-init : goal.loop-done-init
 unfolding encode_with

@@ -1,7 +1,7 @@
 use Rattle.std.proofs.Common.{◌≡◌, ◌≤◌, ◌-◌, length, take}
 use Rattle.hex.specs.Hex.{encode_lower}
 use Rattle.rcce_io.specs.Sending.{with_text}
-use Rattle.rccerun.proofs.pieces.write_digits.Given as goal
+use Rattle.rcce_io.proofs.digits.write_digits.Given as goal
 
 abbrev pub invariant-loop-done : goal.invariant-loop-done
 invariant-loop-done g l = record {
