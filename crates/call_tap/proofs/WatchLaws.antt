@@ -15,7 +15,8 @@ use Rattle.scc_proto.proofs.Roles.{le_is, le_not}
 use Rattle.scc_proto.proofs.Tests.{same_or_other, same_by_eqb, eqb_same, both_first, both_second, put_here, put_there}
 use Rattle.call_tap.specs.declared.watches.Midst.{Midst}
 use Rattle.call_tap.specs.declared.watches.Midst.TheVariants as midst
-use Rattle.call_tap.specs.Watching.{byte_of_word, chunk_text, IsOpen, Holds, AreSaid, IsTaken}
+use Rattle.scc_base.specs.Bytes.{byte_of_word}
+use Rattle.call_tap.specs.Watching.{chunk_text, IsOpen, Holds, AreSaid, IsTaken}
 use Rattle.call_tap.specs.Watching.Holds.{AtIdle, AtDraft, AtSend, AtPause, AtTake, AtMeet}
 
 -- ---- words

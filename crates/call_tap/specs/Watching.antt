@@ -1,6 +1,7 @@
 -- What a tap holds of what its rank is in the midst of, and of the calls that it has finished.
-use Rattle.std.specs.Prelude.{◌≡◌, Bool, true, false, ℕ, ◌+◌, ◌*◌, ◌/◌, ◌%◌, ◌^◌, ◌<◌, ◌≤◌, List, [], ◌∷◌, ◌++◌, length, map, Option, None, Some, slice_index}
+use Rattle.std.specs.Prelude.{◌≡◌, Bool, true, false, ℕ, ◌+◌, ◌*◌, ◌/◌, ◌%◌, ◌<◌, ◌≤◌, List, [], ◌∷◌, ◌++◌, length, map, Option, None, Some, slice_index}
 use Rattle.std.specs.List.{range_with_len}
+use Rattle.scc_base.specs.Bytes.{byte_of_word}
 use Rattle.scc_base.specs.Heads.{MessageHead, IsHead, IsPostHead}
 use Rattle.scc_base.specs.Calls.{DataCall, Send, Recv, Post, Bar, call_of}
 use Rattle.scc_base.specs.declared.calls.Call.{Call}
@@ -12,10 +13,6 @@ use Rattle.scc_proto.specs.Stages.{Part, Filling, Raised, Answered, Stage, Idle,
 use Rattle.call_tap.specs.declared.watches.Midst.{Midst}
 use Rattle.call_tap.specs.declared.watches.Midst.TheVariants as midst
 use Rattle.call_tap.specs.declared.watches.Watch.{Watch}
-
--- a byte of a word, the lowest first
-abbrev pub byte_of_word : ℕ → ℕ → ℕ
-byte_of_word word at = word / 256 ^ at % 256
 
 -- the first bytes of some words
 abbrev pub chunk_text : List ℕ → ℕ → List ℕ

@@ -2,6 +2,7 @@
 //! the message passing buffer, communicators and the setup of a run.
 #![tactic(auto)]
 
+mod bytes;
 mod calls;
 mod communicators;
 mod events;
@@ -16,6 +17,7 @@ mod setups;
 #[cfg(test)]
 mod tests;
 
+pub use bytes::byte_of;
 pub use calls::Call;
 pub use communicators::CommRule;
 pub use events::{Access, Event, Spot, Stalled, Turn};

@@ -1,6 +1,7 @@
 -- Messages, their chunks, and the words of a buffer that a rank has noted (this project's profile of
 -- RCCE's messages: a header line, and chunks of the size of the chunk buffer).
-use Rattle.std.specs.Prelude.{◌≡◌, ℕ, zero, suc, ◌+◌, ◌-◌, ◌*◌, ◌/◌, ◌%◌, ◌^◌, min, Bool, true, ◌&&◌, ◌==◌, nat_lt, nat_le, if◌then◌else◌, List, [], ◌∷◌, ◌++◌, Option, Some, None, unwrap_or, is_some}
+use Rattle.std.specs.Prelude.{◌≡◌, ℕ, zero, suc, ◌+◌, ◌-◌, ◌*◌, ◌/◌, ◌%◌, min, Bool, true, ◌&&◌, ◌==◌, nat_lt, nat_le, if◌then◌else◌, List, [], ◌∷◌, ◌++◌, Option, Some, None, unwrap_or, is_some}
+use Rattle.scc_base.specs.Bytes.{byte_of_word}
 use Rattle.scc_base.specs.Heads.{MessageHead}
 use Rattle.scc_base.specs.Calls.{DataCall, Send, Recv, Post, Bar}
 
@@ -32,7 +33,7 @@ has_all notes (suc n) = is_some (noted notes n) && has_all notes n
 
 -- byte b of the noted words, 0 where its word is not noted
 abbrev pub byte_at : Notes → ℕ → ℕ
-byte_at notes b = unwrap_or (noted notes (b / 8)) 0 / 256 ^ (b % 8) % 256
+byte_at notes b = byte_of_word (unwrap_or (noted notes (b / 8)) 0) (b % 8)
 
 -- n bytes of the noted words, from byte `start` on
 unfoldable pub bytes_from : Notes → ℕ → ℕ → List ℕ

@@ -1,6 +1,7 @@
 -- The words of a message's bytes: eight bytes a word, the lowest first (SCC External Architecture
 -- Specification: the cores are little-endian).
-use Rattle.std.specs.Prelude.{ℕ, ◌+◌, ◌*◌, ◌/◌, ◌%◌, ◌^◌, List, [], ◌∷◌, slice_index}
+use Rattle.std.specs.Prelude.{ℕ, ◌+◌, ◌*◌, ◌/◌, ◌%◌, List, [], ◌∷◌, slice_index}
+use Rattle.scc_base.specs.Bytes.{byte_of_word}
 
 -- the word of the eight bytes from one on; bytes past the end are 0
 abbrev pub word_at : List ℕ → ℕ → ℕ
@@ -11,10 +12,6 @@ word_at bytes at =
 -- the words of the line of 32 bytes from one on
 abbrev pub words_at : List ℕ → ℕ → List ℕ
 words_at bytes at = word_at bytes at ∷ word_at bytes (at + 8) ∷ word_at bytes (at + 16) ∷ word_at bytes (at + 24) ∷ []
-
--- a byte of a word
-abbrev pub byte_of_word : ℕ → ℕ → ℕ
-byte_of_word word at = word / 256 ^ at % 256
 
 -- a byte of a line
 abbrev pub byte_of_line : List ℕ → ℕ → ℕ

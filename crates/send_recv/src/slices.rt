@@ -1,7 +1,9 @@
 //! The words of a message's bytes.
 
-ghost use Rattle.std.specs.Prelude.{◌≡◌, ◌+◌, ◌-◌, ◌*◌, ◌/◌, ◌%◌, ◌^◌, ◌<◌, ◌≤◌, ℕ, length, slice_index};
-ghost use Rattle.send_recv.specs.Bytes.{word_at, words_at, byte_of_word, byte_of_line};
+ghost use Rattle.std.specs.Prelude.{◌≡◌, ◌+◌, ◌*◌, ◌^◌, ◌<◌, ◌≤◌, ℕ, length, slice_index};
+ghost use Rattle.send_recv.specs.Bytes.{word_at, words_at, byte_of_line};
+
+use scc_base::byte_of;
 
 /// Does nothing. It tells a proof that each place of a slice has a byte.
 pub(crate) fn known_bytes(bytes: &[u8])
@@ -47,24 +49,6 @@ pub(crate) fn line_from(bytes: &[u8], at: usize) -> [u64; 4]
     let third = word_from(bytes, at + 16);
     let fourth = word_from(bytes, at + 24);
     [first, second, third, fourth]
-}
-
-// A byte of a word, the lowest first.
-fn byte_of(word: u64, at: usize) -> u8
-    requires below { at < 8 }
-    ensures gives { result ≡ byte_of_word word at }
-{
-    let byte = match at {
-        0 => word % 256,
-        1 => word / 0x100 % 256,
-        2 => word / 0x1_0000 % 256,
-        3 => word / 0x100_0000 % 256,
-        4 => word / 0x1_0000_0000 % 256,
-        5 => word / 0x100_0000_0000 % 256,
-        6 => word / 0x1_0000_0000_0000 % 256,
-        _ => word / 0x100_0000_0000_0000 % 256,
-    };
-    byte as u8
 }
 
 /// Writes the 32 bytes of a line into a message, from byte `at` on, up to the message's end.

@@ -1,6 +1,7 @@
 use Rattle.std.proofs.Common.{ℕ, ◌/◌, ◌%◌, ◌∙◌, List, [], ◌∷◌, ◌++◌, length, slice_index, append_assoc, length-append, ap, sym, arith}
 use Rattle.std.proofs.lemmas.List.FromFn.{length-map-range_with_len, map-range_with_len_more}
-use Rattle.call_tap.specs.Watching.{byte_of_word, chunk_text}
+use Rattle.scc_base.specs.Bytes.{byte_of_word}
+use Rattle.call_tap.specs.Watching.{chunk_text}
 use Rattle.call_tap.proofs.bytes.push_bytes.Goals as goal
 
 pub returns-then-len-ge-MOST-clause-items : goal.returns-then-len-ge-MOST-clause-items
