@@ -15,6 +15,7 @@ use Rattle.script_reader.specs.declared.script.Item.{Item}
 use Rattle.script_reader.specs.declared.script.Stmt.{Stmt}
 use Rattle.script_reader.specs.declared.script.Stmt.TheVariants as stmt
 use Rattle.script_reader.specs.Checks.{comm_needed, cost_of, has_no_root, has_split, is_misshapen, is_not_split, is_overworked, is_split_of, is_to_self, is_too_deep, is_unset, length_at, open_of, opened, operations, posts_too_much, printed, prints, prints_too_much, refuses, run_of, set_by, sets_to, turns_in}
+use Rattle.script_reader.specs.Closed.{AreMatched, Closes}
 use Rattle.script_reader.specs.Ends.{with_ends}
 use Rattle.scc_base.specs.Communicators.{AreRules, rule_of}
 use Rattle.script_reader.specs.Script.{IsSized, first_split, has_rank, or_rule, rules_of, split_rule}
@@ -22,14 +23,14 @@ use Rattle.script_reader.specs.Settled.{AreInLine, ArePassed, IsInLine}
 use Rattle.script_reader.proofs.EndLemmas.{with_ends-keeps}
 
 -- a statement without the place of its end
-abbrev bare : Stmt → Stmt
+abbrev pub bare : Stmt → Stmt
 bare (stmt.Repeat times end) = stmt.Repeat times 0
 bare s = s
 
-abbrev bared : Item → Item
+abbrev pub bared : Item → Item
 bared item = record item { stmt = bare item.stmt }
 
-abbrev all_bared : List Item → List Item
+abbrev pub all_bared : List Item → List Item
 all_bared items = map bared items
 
 bare-same : {X : Type 0} (f : Stmt → X) → ((times end : ℕ) → f (stmt.Repeat times 0) ≡ f (stmt.Repeat times end)) → (s : Stmt) → f (bare s) ≡ f s
@@ -60,7 +61,7 @@ bared-set [] start place item times end found is = refl
 bared-set (first ∷ items) zero place item times end found is = ap (λ (i : Item). i ∷ all_bared items) (bared-told first item times end place found is)
 bared-set (first ∷ items) (suc start) place item times end found is = ap (λ (list : List Item). bared first ∷ list) (bared-set items start place item times end found is)
 
-bared-with_ends : (n : ℕ) (items : List Item) → all_bared (with_ends n items) ≡ all_bared items
+pub bared-with_ends : (n : ℕ) (items : List Item) → all_bared (with_ends n items) ≡ all_bared items
 bared-with_ends n items =
     with_ends-keeps (λ list. all_bared list ≡ all_bared items)
     (record { keeps = λ list start place item times end found is p. bared-set list start place item times end found is ∙ p }) n items refl
@@ -72,6 +73,9 @@ bared-reverse (item ∷ items) =
     ∙ map-append bared (reverse items) (item ∷ [])
     ∙ ap (λ (list : List Item). list ++ bared item ∷ []) (bared-reverse items)
     ∙ sym (reverse-append (bared item ∷ []) (all_bared items))
+
+bared-reverse-ends : (n : ℕ) (items : List Item) → all_bared (reverse items) ≡ all_bared (reverse (with_ends n items))
+bared-reverse-ends n items = bared-reverse items ∙ ap reverse (sym (bared-with_ends n items)) ∙ sym (bared-reverse (with_ends n items))
 
 -- what the checks ask of the statements so far
 first-bared : (items : List Item) (comm : ℕ) → first_split (all_bared items) comm ≡ first_split items comm
@@ -176,7 +180,7 @@ pub passed-with_ends : (nue n : ℕ) (items : List Item) → ArePassed nue (reve
 passed-with_ends nue n items passed =
     passed-whole nue (reverse (with_ends n items))
     (subst (λ (past : List Item). ArePassed nue past)
-    (bared-reverse items ∙ ap reverse (sym (bared-with_ends n items)) ∙ sym (bared-reverse (with_ends n items)))
+    (bared-reverse-ends n items)
     (passed-bare nue (reverse items) passed))
 
 -- what the checks of a line leave does not look there either
@@ -229,5 +233,32 @@ pub lines-with_ends : (nue n : ℕ) (items : List Item) → AreInLine nue (rever
 lines-with_ends nue n items lines =
     lines-whole nue (reverse (with_ends n items))
     (subst (λ (past : List Item). AreInLine nue past)
-    (bared-reverse items ∙ ap reverse (sym (bared-with_ends n items)) ∙ sym (bared-reverse (with_ends n items)))
+    (bared-reverse-ends n items)
     (lines-bare nue (reverse items) lines))
+
+-- the repeats that are open do not look there, nor does the matching of ends
+pub open-with_ends : (n : ℕ) (items : List Item) → open_of (reverse (with_ends n items)) ≡ open_of (reverse items)
+open-with_ends n items = sym (open-bared (reverse (with_ends n items))) ∙ ap open_of (sym (bared-reverse-ends n items)) ∙ open-bared (reverse items)
+
+closes-bare : (repeats : List Open) (s : Stmt) → Closes repeats s → Closes repeats (bare s)
+closes-bare repeats (stmt.Repeat times end) closes = tt
+closes-bare repeats s closes = closes
+
+closes-whole : (repeats : List Open) (s : Stmt) → Closes repeats (bare s) → Closes repeats s
+closes-whole repeats (stmt.Repeat times end) closes = tt
+closes-whole repeats s closes = closes
+
+matched-bare : (past : List Item) → AreMatched past → AreMatched (all_bared past)
+matched-bare [] matched = tt
+matched-bare (item ∷ past) matched =
+    (matched-bare past matched.0, subst (λ (repeats : List Open). Closes repeats (bare item.stmt)) (sym (open-bared past)) (closes-bare (open_of past) item.stmt matched.1))
+
+matched-whole : (past : List Item) → AreMatched (all_bared past) → AreMatched past
+matched-whole [] matched = tt
+matched-whole (item ∷ past) matched =
+    (matched-whole past matched.0, closes-whole (open_of past) item.stmt (subst (λ (repeats : List Open). Closes repeats (bare item.stmt)) (open-bared past) matched.1))
+
+pub matched-with_ends : (n : ℕ) (items : List Item) → AreMatched (reverse items) → AreMatched (reverse (with_ends n items))
+matched-with_ends n items matched =
+    matched-whole (reverse (with_ends n items))
+    (subst (λ (past : List Item). AreMatched past) (bared-reverse-ends n items) (matched-bare (reverse items) matched))

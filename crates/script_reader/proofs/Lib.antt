@@ -1,6 +1,8 @@
 pub mod AcceptanceLemmas
 pub mod BareLemmas
 pub mod CheckLemmas
+pub mod ClosedLemmas
+pub mod DecimalLemmas
 pub mod EndLemmas
 pub mod RankLemmas
 pub mod ReaderLemmas
@@ -8,4 +10,5 @@ pub mod RuleLemmas
 pub mod SettledLemmas
 pub mod TallyLemmas
 pub mod VersionLemmas
+pub mod WalkLemmas
 pub mod WordLemmas

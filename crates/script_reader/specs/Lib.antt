@@ -1,5 +1,6 @@
 pub mod Acceptance
 pub mod Checks
+pub mod Closed
 pub mod Ends
 pub mod Faults
 pub mod Progress

@@ -1,10 +1,11 @@
-//! The laws of the versions of the language.
+//! The laws of the versions of the language, of a script's names and repeats, and of numbers.
 
-ghost use Rattle.std.specs.Prelude.{◌≡◌, ℕ, IfOk, List};
+ghost use Rattle.std.specs.Prelude.{◌≡◌, ◌≤◌, ℕ, IfOk, List, Some, decimal, length};
 ghost use Rattle.script_reader.specs.declared.version.Version.TheVariants.{One, Two};
-ghost use Rattle.script_reader.specs.Reading.{read_as, read_file, version_of};
+ghost use Rattle.script_reader.specs.Closed.{IsClosed};
+ghost use Rattle.script_reader.specs.Reading.{parse_script, read_as, read_file, version_of};
 ghost use Rattle.script_reader.specs.Settled.{SplitsWorldAlone};
-ghost use Rattle.script_reader.specs.Words.{lines_of};
+ghost use Rattle.script_reader.specs.Words.{lines_of, number_of};
 
 /// A file is read by the grammar of version 1, but where its first line that has words is `rcce 2`.
 /// A script of version 1 has no parent but the world.
@@ -12,4 +13,16 @@ pub fn version_law()
     ensures first { (bytes : List ℕ) (nue : ℕ) → version_of (lines_of bytes) ≡ One → read_file bytes nue ≡ read_as One bytes nue }
     ensures second { (bytes : List ℕ) (nue : ℕ) → version_of (lines_of bytes) ≡ Two → read_file bytes nue ≡ read_as Two bytes nue }
     ensures flat { (bytes : List ℕ) (nue : ℕ) → version_of (lines_of bytes) ≡ One → IfOk (read_file bytes nue) SplitsWorldAlone }
+{}
+
+/// A script that was read names at most 64 registers. None of its repeats is open at its end, and each repeat has the place
+/// of its end.
+pub fn script_law()
+    ensures few { (bytes : List ℕ) (nue : ℕ) → IfOk (parse_script bytes nue) (λ script. length script.names ≤ 64) }
+    ensures closed { (bytes : List ℕ) (nue : ℕ) → IfOk (parse_script bytes nue) IsClosed }
+{}
+
+/// The decimal text of a number is read as the number.
+pub fn decimal_law()
+    ensures reads { (n : ℕ) → n ≤ 4294967295 → number_of (decimal n) ≡ Some n }
 {}

@@ -23,7 +23,7 @@ mod words;
 pub use bytes::Bytes;
 pub use checks::RankCheck;
 pub use fault::{FaultKind, ReadFault, ReadStop};
-pub use laws::version_law;
+pub use laws::{decimal_law, script_law, version_law};
 pub use reading::read_script;
 pub use script::{Form, Item, Peer, Scripts, Stmt, Who};
 pub use version::Version;

@@ -1,0 +1,34 @@
+-- How the repeats of a script that was read are closed (this project's profile).
+use Rattle.std.specs.Prelude.{◌≡◌, ℕ, ◌<◌, ◌≤◌, List, [], ◌∷◌, length, reverse, slice_get, Option, Some}
+use Rattle.std.specs.Option.{option_map}
+use Rattle.script_reader.specs.declared.repeats.Open.{Open}
+use Rattle.script_reader.specs.declared.script.Item.{Item}
+use Rattle.script_reader.specs.declared.script.Stmt.{Stmt}
+use Rattle.script_reader.specs.declared.script.Stmt.TheVariants as stmt
+use Rattle.script_reader.specs.Checks.{innermost, open_of}
+use Rattle.script_reader.specs.Script.{Script}
+
+-- where repeats are open, a statement that is an end names the innermost one; where none is, it is no end
+abbrev pub Closes : List Open → Stmt → Type 0
+Closes repeats (stmt.End start) = (1 ≤ length repeats) × (start ≡ innermost repeats)
+Closes repeats _ = Unit {0}
+
+-- each end among these statements, the latest first, names the innermost repeat that is open before it
+abbrev pub AreMatched : List Item → Type 0
+AreMatched [] = Unit {0}
+AreMatched (item ∷ past) = AreMatched past × Closes (open_of past) item.stmt
+
+-- the statement at a place, if there is one
+abbrev pub stmt_at : List Item → ℕ → Option Stmt
+stmt_at items place = option_map (λ item. item.stmt) (slice_get items place)
+
+-- each repeat has the place of an end that stands behind it and names it
+abbrev pub HaveEnds : List Item → Type 0
+HaveEnds items = (place times end : ℕ) → stmt_at items place ≡ Some (stmt.Repeat times end) → (place < end) × (stmt_at items end ≡ Some (stmt.End place))
+
+-- no repeat is open behind the last statement of a script, each end is that of the innermost repeat that is open before it,
+-- and each repeat has the place of its end
+pub record IsClosed (script : Script) : Type 0 where
+  pub none_open : open_of (reverse script.items) ≡ []
+  pub matched : AreMatched (reverse script.items)
+  pub ended : HaveEnds script.items
