@@ -1,20 +1,19 @@
 -- Words of a log's lines: a word says what it is the text of, and no word of a text has a blank.
-use Rattle.std.proofs.Common.{◌≡◌, ◌≢◌, ◌⊎◌, ℕ, zero, suc, ◌+◌, ◌-◌, ◌*◌, ◌/◌, ◌%◌, ◌^◌, ◌<◌, ◌≤◌, Bool, true, false, cond, eqb, ◌&&◌, ◌||◌, not, List, [], ◌∷◌, ◌++◌, length, Option, Some, None, Result, Ok, Err, option_and_then, decimal, codes, inl, inr, ⊎_elim, refl, sym, ◌∙◌, ap, subst, arith, rules}
-use Rattle.std.specs.Prelude.{◌==◌, nat_le, slice_index, All}
-use Rattle.std.specs.List.{list_all}
+use Rattle.std.proofs.Common.{◌≡◌, ◌⊎◌, ℕ, zero, suc, ◌-◌, ◌≤◌, Bool, true, false, cond, ◌&&◌, not, List, [], ◌∷◌, length, Option, Some, None, Result, Ok, Err, decimal, codes, inl, inr, ⊎_elim, refl, sym, ◌∙◌, ap, subst, arith}
+use Rattle.std.specs.Prelude.{◌==◌, nat_le}
 use Rattle.std.specs.Result.{result_ok}
 use Rattle.std.specs.Str.{bytes_eq}
-use Rattle.std.proofs.lemmas.Bool.{and_parts, cases_Bool, leb-true, le-leb, eqb-false, not-true, cond-true, cond-false, false_from_ne_true}
+use Rattle.std.proofs.lemmas.Bool.{and_parts, leb-true, eqb-false, not-true, cond-true, cond-false, false_from_ne_true}
 use Rattle.std.proofs.lemmas.Bool.Decides.{nat_tests}
-use Rattle.std.proofs.lemmas.Fmt.{decimal_by_steps, decimal_nonempty, length-decimal-le}
-use Rattle.std.proofs.lemmas.Option.{cond_some, option_and_then_some}
+use Rattle.std.proofs.lemmas.Option.{cond_some}
 use Rattle.std.proofs.lemmas.Slice.Eq.{bytes_eq-Decides}
 use Rattle.hex.specs.Hex.{IsBytes, decode_of, encode_lower, encode_with, lower_digits}
-use Rattle.hex.proofs.HexLemmas.{decode_of-encode_lower, decode_of-ok, length-encode_with}
-use Rattle.rcce_audit.proofs.HexTextLemmas.{lower_byte, lower_text, text_lower}
+use Rattle.hex.proofs.HexLemmas.{decode_of-encode_lower, length-encode_with}
+use Rattle.rcce_audit.proofs.HexTextLemmas.{lower_text, text_lower}
 use Rattle.scc_base.specs.declared.kinds.Kind.{Kind}
 use Rattle.scc_base.specs.declared.kinds.Kind.TheVariants.{Plain, Bcast, Reduce, AllUp, AllDown}
-use Rattle.script_reader.specs.Words.{number_of, decimal_of, digits_value, is_digit}
+use Rattle.script_reader.specs.Words.{number_of}
+use Rattle.script_reader.proofs.DecimalLemmas.{number_of-decimal}
 use Rattle.rcce_audit.specs.Texts.{hex_text, kind_text}
 use Rattle.rcce_audit.specs.Words.{◌>>=◌, only_if, spelled, number_said, range_said, kind_said, is_lower, hex_said}
 
@@ -65,44 +64,7 @@ range_word low high word n said =
       most = omega (arith, leb-true m high bounds.1, value);
     }
 
-passed : (t : Bool) (a b c : Option ℕ) (n : ℕ) → (a ≡ Some n → b ≡ c) → cond t a None ≡ Some n → cond t b None ≡ c
-passed true a b c n more is = more is
-passed false a b c n more is = absurd cc
-
--- the decimal text of a number has the number's value
-digits-append : (limit front : ℕ) (xs ys : List ℕ) (n : ℕ) → digits_value limit front xs ≡ Some n → digits_value limit front (xs ++ ys) ≡ digits_value limit n ys
-digits-append limit front [] ys n is = ap (λ (m : ℕ). digits_value limit m ys) cc
-digits-append limit front (b ∷ xs) ys n is =
-    passed (is_digit b && nat_le (front * 10 + (b - 48)) limit) (digits_value limit (front * 10 + (b - 48)) xs) (digits_value limit (front * 10 + (b - 48)) (xs ++ ys)) (digits_value limit n ys) n
-    (λ e. digits-append limit (front * 10 + (b - 48)) xs ys n e) is
-
-digit_passes : (limit front b : ℕ) → 48 ≤ b → b ≤ 57 → front * 10 + (b - 48) ≤ limit → digits_value limit front (b ∷ []) ≡ Some (front * 10 + (b - 48))
-digit_passes limit front b low high within = grind (arith, nat_tests)
-
-abbrev Reads : ℕ → ℕ → List ℕ → Type 0
-Reads limit n ds = n ≤ limit → digits_value limit 0 ds ≡ Some n
-
-reads_one : (limit n : ℕ) → n < 10 → Reads limit n ((48 + n) ∷ [])
-reads_one limit n small within =
-    digit_passes limit 0 (48 + n) (omega arith) (omega arith) (omega arith) ∙ ap Some (omega arith)
-
-reads_more : (limit n : ℕ) (ds : List ℕ) → 10 ≤ n → Reads limit (n / 10) ds → Reads limit n (ds ++ (48 + n % 10) ∷ [])
-reads_more limit n ds large front within =
-    digits-append limit 0 ds ((48 + n % 10) ∷ []) (n / 10) (front (omega arith))
-    ∙ digit_passes limit (n / 10) (48 + n % 10) (omega arith) (omega arith) (omega arith) ∙ ap Some (omega arith)
-
-number_of-decimal : (n : ℕ) → n ≤ 4294967295 → number_of (decimal n) ≡ Some n
-unfolding number_of
-number_of-decimal n within =
-    let nonempty : 1 ≤ length (decimal n) = decimal_nonempty n (omega arith) in
-    let short : length (decimal n) ≤ 10 = length-decimal-le 10 n (omega arith) (omega arith) (omega arith) in
-    cond-true _ _ _ (both _ _ (le-leb 1 (length (decimal n)) nonempty) (le-leb (length (decimal n)) 10 short))
-    ∙ decimal_by_steps (Reads 4294967295) (reads_one 4294967295) (reads_more 4294967295) n (omega arith) within
-  where
-    both : (a b : Bool) → a ≡ true → b ≡ true → (a && b) ≡ true
-    both true b is also = also
-    both false b is also = absurd cc
-
+-- and the decimal text of a number says it
 pub number_said-decimal : (n : ℕ) → n ≤ 4294967295 → number_said (decimal n) ≡ Some n
 number_said-decimal n within =
     ap (λ (o : Option ℕ). o >>= spelled (decimal n)) (number_of-decimal n within)

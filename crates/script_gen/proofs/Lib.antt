@@ -3,7 +3,6 @@ pub mod Facts
 pub mod GenLaws
 pub mod Lines
 pub mod Lone
-pub mod Numbers
 pub mod Others
 pub mod Reading
 pub mod Ring

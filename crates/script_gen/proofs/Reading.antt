@@ -16,9 +16,9 @@ use Rattle.script_reader.specs.Reading.{at_line, begun, read_line, read_lines, r
 use Rattle.script_reader.specs.Said.{said_of}
 use Rattle.script_reader.specs.Script.{Script}
 use Rattle.script_reader.specs.Words.{number_of}
+use Rattle.script_reader.proofs.DecimalLemmas.{number_of-decimal}
 use Rattle.script_gen.specs.Texts.{text_of_lines}
 use Rattle.script_gen.proofs.Lines.{AreWords, line_of, text_line, words_of_line}
-use Rattle.script_gen.proofs.Numbers.{number_of-decimal}
 
 -- a line of words
 one_line : (n : ℕ) (p q : Progress) (w : List ℕ) (ws : List (List ℕ)) → AreWords (w ∷ ws) → (said_of p.version p.opening w ws >>= after n (begun p)) ≡ Ok q → read_line n p (line_of (w ∷ ws)) ≡ Ok q
