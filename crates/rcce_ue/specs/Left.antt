@@ -1,5 +1,6 @@
 -- How many turns of a UE that do not wait are left (this project's profile).
 use Rattle.std.specs.Prelude.{ℕ, ◌+◌, ◌-◌, ◌*◌, Bool, true, false, min, if◌then◌else◌, List, [], ◌∷◌, length}
+use Rattle.scc_base.specs.Layouts.{chunk_size}
 use Rattle.scc_base.specs.Setups.{SetupView, place_of, size_of}
 use Rattle.scc_base.specs.declared.layouts.Layout.{Layout}
 use Rattle.send_recv.specs.Chunks.{message_bound}

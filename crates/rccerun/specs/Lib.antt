@@ -1,4 +1,5 @@
 pub mod Asking
+pub mod Evictors
 pub mod History
 pub mod Loading
 pub mod Pieces

@@ -2,6 +2,7 @@
 
 ghost use Rattle.std.specs.Prelude.{◌≡◌, IfOk};
 ghost use Rattle.script_reader.specs.Script.{rules_of};
+ghost use Rattle.rccerun.specs.Evictors.{evictor_of};
 ghost use Rattle.rccerun.specs.Runs.{IsFresh};
 
 use line_cache::{Choice, Seeded};
@@ -37,7 +38,9 @@ pub fn crew_of<'s>(
 }
 
 /// The evictor of a rank: one that the seed and the rank start, and without a seed one that never evicts.
-fn evictor(seed: Option<u32>, rank: u8) -> Choice {
+fn evictor(seed: Option<u32>, rank: u8) -> Choice
+    ensures { result ≡ evictor_of seed rank }
+{
     match seed {
         Some(seed) => Choice::Seeded(Seeded::new(u64::from(seed) + u64::from(rank))),
         None => Choice::Never,
