@@ -1,23 +1,13 @@
 -- The lines of `rccecheck` (this project's profile).
 use Rattle.std.specs.Prelude.{ℕ, List, [], ◌∷◌, ◌++◌, codes, decimal, map}
 use Rattle.rcce_io.specs.Sending.{joined}
-use Rattle.scc_base.specs.declared.kinds.Kind.{Kind}
-use Rattle.scc_base.specs.declared.kinds.Kind.TheVariants.{Plain, Bcast, Reduce, AllUp, AllDown}
-use Rattle.scc_base.specs.Heads.{kind_at}
+use Rattle.scc_base.specs.Heads.{kind_at, kind_text}
 use Rattle.script_plain.specs.declared.matches.Match.{Match}
 use Rattle.rccecheck.specs.declared.cause.Cause.{Cause}
 use Rattle.rccecheck.specs.declared.cause.Cause.TheVariants as cause
 use Rattle.rccecheck.specs.declared.trouble.Found.{Found}
 use Rattle.rccecheck.specs.declared.trouble.Trouble.{Trouble}
 use Rattle.rccecheck.specs.declared.trouble.Trouble.TheVariants as trouble
-
--- the name of a kind of message
-abbrev pub kind_text : Kind → List ℕ
-kind_text Plain = codes "plain"
-kind_text Bcast = codes "bcast"
-kind_text Reduce = codes "reduce"
-kind_text AllUp = codes "allup"
-kind_text AllDown = codes "alldown"
 
 -- a message that came: the sender and its line, the receiver and its line, and the head
 abbrev pub match_line : Match → List ℕ

@@ -1,28 +1,14 @@
 //! The lines: of a message that came, and of a rank that has not finished.
 
 ghost use Rattle.std.specs.Prelude.{◌≡◌};
-ghost use Rattle.scc_base.specs.Heads.{kind_at};
-ghost use Rattle.rccecheck.specs.Texts.{cause_name, cause_rank, kind_text};
+ghost use Rattle.rccecheck.specs.Texts.{cause_name, cause_rank};
 
 use crate::cause::Cause;
 use crate::trouble::{Found, Trouble};
 use outcomes::Piece::{Number, Text};
 use rcce_io::{Sink, TextSource, WriteFault, write_texts};
-use scc_base::{Head, Kind, Rank};
+use scc_base::Rank;
 use script_plain::Match;
-
-/// The name of a message's kind.
-fn kind_text(head: Head) -> &'static str
-    ensures { result.now ≡ kind_text (kind_at head.kind) }
-{
-    match head.kind() {
-        Kind::Plain => "plain",
-        Kind::Bcast => "bcast",
-        Kind::Reduce => "reduce",
-        Kind::AllUp => "allup",
-        Kind::AllDown => "alldown",
-    }
-}
 
 /// The line of a message.
 #[derive(Clone, Copy)]
@@ -48,7 +34,7 @@ impl TextSource for MatchLine<'_> {
                 Text(":"),
                 Number(one.recv_line),
                 Text(" "),
-                Text(kind_text(one.head)),
+                Text(one.head.kind_text()),
                 Text(" "),
                 Number(one.head.comm() as u32),
                 Text(" "),

@@ -7,21 +7,11 @@ use Rattle.groups.specs.declared.operations.Ty.TheVariants.{Int, Long}
 use Rattle.groups.specs.Folds.{bytes_in, value_at}
 use Rattle.rcce_io.specs.Digits.{hex_text}
 use Rattle.rcce_io.specs.Sending.{joined}
-use Rattle.scc_base.specs.declared.kinds.Kind.{Kind}
-use Rattle.scc_base.specs.declared.kinds.Kind.TheVariants.{Plain, Bcast, Reduce, AllUp, AllDown}
-use Rattle.scc_base.specs.Heads.{MessageHead, kind_at}
+use Rattle.scc_base.specs.Heads.{MessageHead, kind_at, kind_text}
 use Rattle.script_reader.specs.declared.script.Form.{Form}
 use Rattle.script_reader.specs.declared.script.Form.TheVariants as form
 use Rattle.scc_base.specs.declared.calls.Call.{Call}
 use Rattle.scc_base.specs.declared.calls.Call.TheVariants as call
-
--- the name of a kind of message
-abbrev pub kind_text : Kind → List ℕ
-kind_text Plain = codes "plain"
-kind_text Bcast = codes "bcast"
-kind_text Reduce = codes "reduce"
-kind_text AllUp = codes "allup"
-kind_text AllDown = codes "alldown"
 
 -- a head: its kind, its communicator and its length
 abbrev pub head_pieces : MessageHead → List (List ℕ)

@@ -2,29 +2,15 @@
 
 ghost use Rattle.std.specs.Prelude.{◌≡◌, ◌≤◌, [], ◌∷◌, codes, decimal};
 ghost use Rattle.rcce_io.specs.Sending.{Sends};
-ghost use Rattle.scc_base.specs.Heads.{kind_at};
 ghost use Rattle.rccerun.specs.Reports.{end_text, is_finished};
-ghost use Rattle.rccerun.specs.Texts.{call_pieces, item_line, kind_text, message_pieces, mismatch_line, type_text, waiting_line};
+ghost use Rattle.rccerun.specs.Texts.{call_pieces, item_line, message_pieces, mismatch_line, type_text, waiting_line};
 
 use crate::pieces::Piece::{Hex, Number, Text, Values};
 use groups::Ty;
 use rcce_io::{Sink, TextSource, WriteFault, write_texts};
-use scc_base::{Call, Head, Kind, Rank};
+use scc_base::{Call, Head, Rank};
 use script_plain::{PrintedItem, UeEnd};
 use script_reader::Form;
-
-/// The name of a message's kind.
-fn kind_text(head: Head) -> &'static str
-    ensures { result.now ≡ kind_text (kind_at head.kind) }
-{
-    match head.kind() {
-        Kind::Plain => "plain",
-        Kind::Bcast => "bcast",
-        Kind::Reduce => "reduce",
-        Kind::AllUp => "allup",
-        Kind::AllDown => "alldown",
-    }
-}
 
 /// The name of a type of values.
 fn type_text(ty: Ty) -> &'static str
@@ -140,7 +126,7 @@ fn write_message<S: Sink>(
             Text(does),
             Number(peer.number() as u32),
             Text(" "),
-            Text(kind_text(head)),
+            Text(head.kind_text()),
             Text(" "),
             Number(head.comm() as u32),
             Text(" "),
@@ -188,13 +174,13 @@ fn write_mismatch<S: Sink>(
             Text(": from "),
             Number(from.number() as u32),
             Text(" sent "),
-            Text(kind_text(sent)),
+            Text(sent.kind_text()),
             Text(" "),
             Number(sent.comm() as u32),
             Text(" "),
             Number(sent.len()),
             Text(", asked "),
-            Text(kind_text(asked)),
+            Text(asked.kind_text()),
             Text(" "),
             Number(asked.comm() as u32),
             Text(" "),

@@ -1,5 +1,5 @@
 -- What the head of a message says, as numbers (this project's profile: RCCE itself sends no head).
-use Rattle.std.specs.Prelude.{◌≡◌, refl, ℕ, zero, suc, ◌<◌, ◌≤◌}
+use Rattle.std.specs.Prelude.{◌≡◌, refl, ℕ, zero, suc, ◌<◌, ◌≤◌, List, codes}
 use Rattle.scc_base.specs.declared.kinds.Kind.{Kind}
 use Rattle.scc_base.specs.declared.kinds.Kind.TheVariants.{Plain, Bcast, Reduce, AllUp, AllDown}
 
@@ -32,6 +32,14 @@ kind_at-kind_number Bcast = refl
 kind_at-kind_number Reduce = refl
 kind_at-kind_number AllUp = refl
 kind_at-kind_number AllDown = refl
+
+-- the name of a kind, as scripts' lines and logs write it
+abbrev pub kind_text : Kind → List ℕ
+kind_text Plain = codes "plain"
+kind_text Bcast = codes "bcast"
+kind_text Reduce = codes "reduce"
+kind_text AllUp = codes "allup"
+kind_text AllDown = codes "alldown"
 
 -- a head that a message may have: one of five kinds, one of sixteen communicators, at most 65,536 bytes,
 -- and the world where the message is plain

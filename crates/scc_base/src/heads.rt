@@ -28,7 +28,7 @@ impl Model for Head {
 
 impl Head {
     ghost use Rattle.std.specs.Prelude.{◌≡◌, ◌≤◌, SomeIff};
-    ghost use Rattle.scc_base.specs.Heads.{IsHead, kind_number, plain_head};
+    ghost use Rattle.scc_base.specs.Heads.{IsHead, kind_at, kind_number, kind_text, plain_head};
 
     /// The longest message, in bytes.
     pub const MOST: u32 = 65_536;
@@ -58,6 +58,19 @@ impl Head {
         ensures valid { IsHead self.now }
     {
         self.kind
+    }
+
+    /// The name of the message's kind.
+    pub fn kind_text(&self) -> &'static str
+        ensures { result.now ≡ kind_text (kind_at self.now.kind) }
+    {
+        match self.kind {
+            Kind::Plain => "plain",
+            Kind::Bcast => "bcast",
+            Kind::Reduce => "reduce",
+            Kind::AllUp => "allup",
+            Kind::AllDown => "alldown",
+        }
     }
 
     pub fn comm(&self) -> u8
