@@ -1,9 +1,11 @@
 -- Small runs, event by event.
-use Rattle.std.specs.Prelude.{ℕ, zero, suc, true, ◌+◌, ◌/◌, ◌%◌, ◌^◌, List, [], ◌∷◌, ◌++◌, map}
+use Rattle.std.specs.Prelude.{ℕ, zero, suc, true, ◌+◌, ◌*◌, ◌/◌, ◌%◌, ◌^◌, List, [], ◌∷◌, ◌++◌, map}
 use Rattle.std.specs.List.{range_with_len}
 use Rattle.scc_base.specs.Events.{load_of, store_of, take_of, free_of}
+use Rattle.scc_base.specs.Layouts.{first_chunk, chunk_lines, chunk_size}
 use Rattle.scc_base.specs.Setups.{SetupView}
 use Rattle.scc_base.specs.declared.communicators.CommRule.TheVariants.{Absent, World, Mod, Div}
+use Rattle.scc_base.specs.declared.layouts.Layout.{Layout}
 use Rattle.scc_base.specs.declared.layouts.Layout.TheVariants.{LineFlags, BitFlags}
 use Rattle.scc_proto.specs.Stages.{Record}
 use Rattle.scc_proto.specs.Moves.{Move, after}
@@ -25,9 +27,13 @@ takes rank core = record { rank = rank; event = take_of core true }
 abbrev pub frees : ℕ → ℕ → RankEvent
 frees rank core = record { rank = rank; event = free_of core }
 
--- two ranks with line flags, each on the core of its number
+-- two ranks, each on the core of its number
+abbrev pub two_ranks_by : Layout → SetupView
+two_ranks_by layout = record { nue = 2; layout = layout; hosts = 0 ∷ 1 ∷ []; comms = World ∷ [] }
+
+-- two ranks with line flags
 abbrev pub two_ranks : SetupView
-two_ranks = record { nue = 2; layout = LineFlags; hosts = 0 ∷ 1 ∷ []; comms = World ∷ [] }
+two_ranks = two_ranks_by LineFlags
 
 -- rank 0 drafts a header of four bytes and a chunk line with 01 02 03 04, and raises `sent` at rank 1
 abbrev pub sends_four : List RankEvent
@@ -91,7 +97,7 @@ posts_four = stores 0 0 0 3 1 ∷ stores 0 0 0 2 4 ∷ stores 0 0 0 1 0 ∷ stor
 
 -- two ranks with bit flags
 abbrev pub two_ranks_bits : SetupView
-two_ranks_bits = record { nue = 2; layout = BitFlags; hosts = 0 ∷ 1 ∷ []; comms = World ∷ [] }
+two_ranks_bits = two_ranks_by BitFlags
 
 -- a rank changes a word of line 1 of a core, under the core's register
 abbrev pub changes : (rank core sent ready word new : ℕ) → List RankEvent
@@ -124,30 +130,57 @@ for_each of zero = []
 for_each of (suc n) = for_each of n ++ of n ∷ []
 
 -- rank 0 stores, or rank 1 loads, word k of the chunk buffer of rank 0
-abbrev pub drafts_word : (ℕ → ℕ) → ℕ → RankEvent
-drafts_word word k = stores 0 0 (113 + k / 4) (k % 4) (word k)
+abbrev pub drafts_word : Layout → (ℕ → ℕ) → ℕ → RankEvent
+drafts_word layout word k = stores 0 0 (first_chunk layout + k / 4) (k % 4) (word k)
 
-abbrev pub loads_word : (ℕ → ℕ) → ℕ → RankEvent
-loads_word word k = loads 1 0 (113 + k / 4) (k % 4) (word k)
+abbrev pub loads_word : Layout → (ℕ → ℕ) → ℕ → RankEvent
+loads_word layout word k = loads 1 0 (first_chunk layout + k / 4) (k % 4) (word k)
 
--- 3,585 bytes go from rank 0 to rank 1: a first chunk of 448 words, and a second one whose one byte is 07.
--- Rank 0 drafts the header and the first chunk; rank 1 sees it, loads the head and the chunk, and answers;
--- rank 0 drafts the second chunk, and so on.
-abbrev pub drafts_head : List RankEvent
-drafts_head = stores 0 0 0 3 0 ∷ stores 0 0 0 2 3585 ∷ stores 0 0 0 1 0 ∷ stores 0 0 0 0 0 ∷ []
+-- the flags of a message from rank 0 to rank 1: rank 0 raises `sent`, and rank 1 lowers it
+abbrev pub raises_sent : Layout → List RankEvent
+raises_sent LineFlags = stores 0 1 1 0 1 ∷ []
+raises_sent BitFlags = changes 0 1 0 0 0 1
 
-abbrev pub begins_first : List RankEvent
-begins_first = stores 0 1 1 0 1 ∷ loads 1 1 1 0 1 ∷ loads 1 0 0 0 0 ∷ loads 1 0 0 1 0 ∷ loads 1 0 0 2 3585 ∷ stores 1 1 1 0 0 ∷ []
+abbrev pub lowers_sent : Layout → List RankEvent
+lowers_sent LineFlags = stores 1 1 1 0 0 ∷ []
+lowers_sent BitFlags = changes 1 1 1 0 0 0
 
-abbrev pub goes_on : List RankEvent
-goes_on = stores 1 0 50 0 1 ∷ loads 0 0 50 0 1 ∷ stores 0 0 50 0 0
-    ∷ stores 0 0 113 3 0 ∷ stores 0 0 113 2 0 ∷ stores 0 0 113 1 0 ∷ stores 0 0 113 0 7 ∷ stores 0 1 1 0 1
-    ∷ loads 1 1 1 0 1 ∷ stores 1 1 1 0 0 ∷ loads 1 0 113 0 7 ∷ loads 1 0 113 1 0 ∷ loads 1 0 113 2 0 ∷ loads 1 0 113 3 0 ∷ stores 1 0 50 0 1
-    ∷ loads 0 0 50 0 1 ∷ stores 0 0 50 0 0 ∷ []
+-- rank 1 raises `ready`, and rank 0 sees and lowers it
+abbrev pub raises_ready : Layout → List RankEvent
+raises_ready LineFlags = stores 1 0 50 0 1 ∷ []
+raises_ready BitFlags = changes 1 0 0 0 1 2
+
+abbrev pub lowers_ready : Layout → List RankEvent
+lowers_ready LineFlags = loads 0 0 50 0 1 ∷ stores 0 0 50 0 0 ∷ []
+lowers_ready BitFlags = loads 0 0 1 1 2 ∷ changes 0 0 0 2 1 0
+
+-- a message of one byte more than a whole chunk goes from rank 0 to rank 1: the first chunk has any words, and the one
+-- byte of the second one is 07. Rank 0 drafts the header and the first chunk; rank 1 sees it, loads the head and the
+-- chunk, and answers; rank 0 drafts the second chunk, and so on.
+abbrev pub drafts_head : Layout → List RankEvent
+drafts_head layout = stores 0 0 0 3 0 ∷ stores 0 0 0 2 (chunk_size layout + 1) ∷ stores 0 0 0 1 0 ∷ stores 0 0 0 0 0 ∷ []
+
+abbrev pub begins_first : Layout → List RankEvent
+begins_first layout = raises_sent layout ++ loads 1 1 1 0 1 ∷ loads 1 0 0 0 0 ∷ loads 1 0 0 1 0 ∷ loads 1 0 0 2 (chunk_size layout + 1) ∷ lowers_sent layout
+
+abbrev pub goes_second : Layout → List RankEvent
+goes_second layout = lowers_ready layout
+    ++ stores 0 0 (first_chunk layout) 3 0 ∷ stores 0 0 (first_chunk layout) 2 0 ∷ stores 0 0 (first_chunk layout) 1 0 ∷ stores 0 0 (first_chunk layout) 0 7 ∷ raises_sent layout
+    ++ loads 1 1 1 0 1 ∷ lowers_sent layout
+    ++ loads 1 0 (first_chunk layout) 0 7 ∷ loads 1 0 (first_chunk layout) 1 0 ∷ loads 1 0 (first_chunk layout) 2 0 ∷ loads 1 0 (first_chunk layout) 3 0 ∷ raises_ready layout
+    ++ lowers_ready layout
+
+abbrev pub two_chunks_by : Layout → (ℕ → ℕ) → List RankEvent
+two_chunks_by layout word = drafts_head layout ++ (for_each (drafts_word layout word) (4 * chunk_lines layout)
+    ++ (begins_first layout ++ (for_each (loads_word layout word) (4 * chunk_lines layout) ++ (raises_ready layout ++ goes_second layout))))
 
 -- a message of 3,585 bytes from rank 0 to rank 1, of two chunks, whatever its words are
 abbrev pub two_chunks : (ℕ → ℕ) → List RankEvent
-two_chunks word = drafts_head ++ (for_each (drafts_word word) 448 ++ (begins_first ++ (for_each (loads_word word) 448 ++ goes_on)))
+two_chunks word = two_chunks_by LineFlags word
+
+-- the same by bit flags, with which two chunks have 6,625 bytes
+abbrev pub two_chunks_bits : (ℕ → ℕ) → List RankEvent
+two_chunks_bits word = two_chunks_by BitFlags word
 
 -- the first n bytes of words of eight bytes, the lowest first
 unfoldable pub bytes_of : (ℕ → ℕ) → ℕ → List ℕ

@@ -9,7 +9,7 @@ ghost use Rattle.scc_proto.specs.Words.{IsRun, zeros};
 ghost use Rattle.scc_proto.specs.Histories.{IsPermittedRun, records_of};
 ghost use Rattle.scc_proto.specs.Passed.{open_call, passed_calls, slot_of};
 ghost use Rattle.scc_proto.specs.Ports.{MayMake, Did, record_in};
-ghost use Rattle.scc_proto.specs.Examples.{two_ranks, four_bytes, no_bytes, three_ranks, barrier_of_three, four_bytes_elsewhere, posts_four, takes_four, two_ranks_bits, one_byte_bits, byte_by_bits, two_chunks, bytes_of, sends_four, begins_four, nested_ranks, two_meet, stores};
+ghost use Rattle.scc_proto.specs.Examples.{two_ranks, four_bytes, no_bytes, three_ranks, barrier_of_three, four_bytes_elsewhere, posts_four, takes_four, two_ranks_bits, one_byte_bits, byte_by_bits, two_chunks, two_chunks_bits, bytes_of, sends_four, begins_four, nested_ranks, two_meet, stores};
 
 use crate::ports::Port;
 use scc_base::Place;
@@ -48,6 +48,14 @@ pub fn two_chunks_arrive()
     ensures permitted { (word : ℕ → ℕ) → ((k : ℕ) → word k < 2 ^ 64) → IsPermittedRun two_ranks (λ r. blank) (two_chunks word) }
     ensures received { (word : ℕ → ℕ) → (records_of two_ranks (two_chunks word) 1).calls ≡ Recv 0 (plain_head 3585) (bytes_of word 3584 ++ 7 ∷ []) ∷ [] }
     ensures sent { (word : ℕ → ℕ) → (records_of two_ranks (two_chunks word) 0).calls ≡ Send 1 (plain_head 3585) (bytes_of word 3584 ++ 7 ∷ []) ∷ [] }
+{}
+
+/// The same by bit flags, each change under its register: a whole chunk has 6,624 bytes there.
+pub fn two_chunks_arrive_by_bits()
+    ensures is_run { (word : ℕ → ℕ) → IsRun zeros (two_chunks_bits word) }
+    ensures permitted { (word : ℕ → ℕ) → ((k : ℕ) → word k < 2 ^ 64) → IsPermittedRun two_ranks_bits (λ r. blank) (two_chunks_bits word) }
+    ensures received { (word : ℕ → ℕ) → (records_of two_ranks_bits (two_chunks_bits word) 1).calls ≡ Recv 0 (plain_head 6625) (bytes_of word 6624 ++ 7 ∷ []) ∷ [] }
+    ensures sent { (word : ℕ → ℕ) → (records_of two_ranks_bits (two_chunks_bits word) 0).calls ≡ Send 1 (plain_head 6625) (bytes_of word 6624 ++ 7 ∷ []) ∷ [] }
 {}
 
 /// A barrier of three ranks that are not on the cores of their numbers.
