@@ -1,6 +1,7 @@
 -- Small runs, event by event.
-use Rattle.std.specs.Prelude.{ℕ, zero, suc, true, ◌+◌, ◌*◌, ◌/◌, ◌%◌, ◌^◌, List, [], ◌∷◌, ◌++◌, map}
+use Rattle.std.specs.Prelude.{ℕ, zero, suc, true, ◌+◌, ◌*◌, ◌/◌, ◌%◌, List, [], ◌∷◌, ◌++◌, map}
 use Rattle.std.specs.List.{range_with_len}
+use Rattle.scc_base.specs.Bytes.{byte_of_word}
 use Rattle.scc_base.specs.Events.{load_of, store_of, take_of, free_of}
 use Rattle.scc_base.specs.Layouts.{first_chunk, chunk_lines, chunk_size}
 use Rattle.scc_base.specs.Setups.{SetupView}
@@ -184,4 +185,4 @@ two_chunks_bits word = two_chunks_by BitFlags word
 
 -- the first n bytes of words of eight bytes, the lowest first
 unfoldable pub bytes_of : (ℕ → ℕ) → ℕ → List ℕ
-bytes_of word n = map (λ b. word (b / 8) / 256 ^ (b % 8) % 256) (range_with_len 0 n)
+bytes_of word n = map (λ b. byte_of_word (word (b / 8)) (b % 8)) (range_with_len 0 n)
