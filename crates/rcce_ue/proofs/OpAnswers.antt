@@ -1,5 +1,5 @@
 -- The turns of a UE, as its functions spell the UEs before and after.
-use Rattle.std.proofs.Common.{◌≡◌, ℕ, ◌+◌, ◌≤◌, Bool, true, false, List, length, take, refl, ap, ◌∙◌, subst, arith}
+use Rattle.std.proofs.Common.{◌≡◌, ℕ, ◌+◌, ◌≤◌, Bool, true, false, List, length, take, refl, sym, ap, ◌∙◌, subst, arith}
 use Rattle.std.specs.Prelude.{IsTrue}
 use Rattle.scc_base.specs.Heads.{MessageHead}
 use Rattle.scc_base.specs.declared.events.Spot.{Spot}
@@ -67,37 +67,48 @@ module _ (ue old now : UeView) (s t : Sight) where
     there_recv : Tied (record ue { op = Receiving op }) s
     there_recv = subst (λ (x : UeView). Tied x s) before tied
 
-    fits_by : (n : Next Local) → IsRecvOf op n → op.head.len ≤ 65536 → length_in n ≤ 65536
-    fits_by Ends of short = absurd of
-    fits_by (Goes after) of short = absurd of
-    fits_by (Posts message after) of short = absurd of
-    fits_by (Sends to head bytes after) of short = absurd of
-    fits_by (Recvs from head take_in refuse) of short = let same = ap (λ (h : MessageHead). h.len) of.1 in omega (arith, same, short)
-    fits_by (Bars comm after) of short = absurd of
+    asked_by : (n : Next Local) → IsRecvOf op n → op.head.len ≡ length_in n
+    asked_by Ends of = absurd of
+    asked_by (Goes after) of = absurd of
+    asked_by (Posts message after) of = absurd of
+    asked_by (Sends to head bytes after) of = absurd of
+    asked_by (Recvs from head take_in refuse) of = ap (λ (h : MessageHead). h.len) of.1
+    asked_by (Bars comm after) of = absurd of
+
+    asked : op.head.len ≡ length_in (local_next ue.machine.local)
+    asked = asked_by (local_next ue.machine.local) there_recv.stands.1
+
+    pub head_fits : op.head.len ≤ length ue.inbox
+    head_fits =
+        let room = there_recv.room in
+        let within = there_recv.stands.0.head.len_within in
+        omega (arith, room, within)
 
     pub recv_fits : length_in (local_next ue.machine.local) ≤ length ue.inbox
-    recv_fits =
-        let room = there_recv.room in
-        let fits = fits_by (local_next ue.machine.local) there_recv.stands.1 there_recv.stands.0.head.len_within in
-        omega (arith, room, fits)
+    recv_fits = subst (λ (n : ℕ). n ≤ length ue.inbox) asked head_fits
 
-    module _ (next : RecvAt) (d : Private) (inbox : List ℕ) (len : ℕ) (asked : len ≡ length_in (local_next ue.machine.local)) (room : length inbox ≡ length ue.inbox)
-        (stands : RecvStands t d next (take len inbox)) where
+    pub recv_before : RecvStands s ue.core op (take op.head.len ue.inbox)
+    recv_before = subst (λ (n : ℕ). RecvStands s ue.core op (take n ue.inbox)) (sym asked) there_recv.stands.0
+
+    module _ (next : RecvAt) (d : Private) (inbox : List ℕ) (room : length inbox ≡ length ue.inbox) (stands : RecvStands t d next (take op.head.len inbox)) where
       recv_stands : RecvStands t d next (take (length_in (local_next ue.machine.local)) inbox)
       recv_stands = subst (λ (n : ℕ). RecvStands t d next (take n inbox)) asked stands
 
-      recv_turned : (answer : RecvTurn) → RecvTurned s ue.core op (take len ue.inbox) t d next (take len inbox) answer
+      abbrev TurnedIn : RecvTurn → Type 0
+      TurnedIn answer = RecvTurned s ue.core op (take op.head.len ue.inbox) t d next (take op.head.len inbox) answer
+
+      recv_turned : (answer : RecvTurn) → TurnedIn answer
           → RecvTurned s ue.core op (take (length_in (local_next ue.machine.local)) ue.inbox) t d next (take (length_in (local_next ue.machine.local)) inbox) answer
       recv_turned answer r = subst (λ (n : ℕ). RecvTurned s ue.core op (take n ue.inbox) t d next (take n inbox) answer) asked r
 
       large : length inbox ≡ 65536
       large = room ∙ there_recv.room
 
-      pub receiving_moved : now ≡ record ue { core = d; op = Receiving next; inbox = inbox } → RecvTurned s ue.core op (take len ue.inbox) t d next (take len inbox) receive.Moved → Turns old s now t turn.Moved
+      pub receiving_moved : now ≡ record ue { core = d; op = Receiving next; inbox = inbox } → TurnedIn receive.Moved → Turns old s now t turn.Moved
       receiving_moved is r = carry old (record ue { op = Receiving op }) now (record ue { core = d; op = Receiving next; inbox = inbox }) s t turn.Moved before is tied
           (λ there. recv_moved ue s t op there d next inbox large recv_stands (recv_turned receive.Moved r))
 
-      pub receiving_waited : (spot : Spot) → now ≡ record ue { core = d; op = Receiving next; inbox = inbox } → RecvTurned s ue.core op (take len ue.inbox) t d next (take len inbox) (receive.Waiting spot)
+      pub receiving_waited : (spot : Spot) → now ≡ record ue { core = d; op = Receiving next; inbox = inbox } → TurnedIn (receive.Waiting spot)
           → Turns old s now t (turn.Waiting spot)
       receiving_waited spot is r = carry old (record ue { op = Receiving op }) now (record ue { core = d; op = Receiving next; inbox = inbox }) s t (turn.Waiting spot) before is tied
           (λ there. recv_waited ue s t op there d next inbox large recv_stands spot (recv_turned (receive.Waiting spot) r))
@@ -111,14 +122,14 @@ module _ (ue old now : UeView) (s t : Sight) where
             inbox = inbox;
           })
 
-      pub receiving_done : now ≡ got_ue → RecvTurned s ue.core op (take len ue.inbox) t d next (take len inbox) receive.Done → Turns old s now t turn.Moved
+      pub receiving_done : now ≡ got_ue → TurnedIn receive.Done → Turns old s now t turn.Moved
       receiving_done is r = carry old (record ue { op = Receiving op }) now got_ue s t turn.Moved before is tied
           (λ there. recv_done ue s t op there d next inbox large recv_stands (recv_turned receive.Done r))
 
       abbrev stopped_ue : MessageHead → UeView
       stopped_ue sent = entered (record ue { machine = record ue.machine { local = refused (local_next ue.machine.local) sent ue.machine.local }; core = d; inbox = inbox })
 
-      pub receiving_refused : (sent : MessageHead) → now ≡ stopped_ue sent → RecvTurned s ue.core op (take len ue.inbox) t d next (take len inbox) (receive.Mismatch sent) → Turns old s now t turn.Moved
+      pub receiving_refused : (sent : MessageHead) → now ≡ stopped_ue sent → TurnedIn (receive.Mismatch sent) → Turns old s now t turn.Moved
       receiving_refused sent is r = carry old (record ue { op = Receiving op }) now (stopped_ue sent) s t turn.Moved before is tied
           (λ there. recv_refused ue s t op there d next inbox large recv_stands sent (recv_turned (receive.Mismatch sent) r))
 

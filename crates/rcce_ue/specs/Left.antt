@@ -2,7 +2,6 @@
 use Rattle.std.specs.Prelude.{ℕ, ◌+◌, ◌-◌, ◌*◌, Bool, true, false, min, if◌then◌else◌, List, [], ◌∷◌, length}
 use Rattle.scc_base.specs.Layouts.{chunk_size}
 use Rattle.scc_base.specs.Setups.{SetupView, place_of, size_of}
-use Rattle.scc_base.specs.declared.layouts.Layout.{Layout}
 use Rattle.send_recv.specs.Chunks.{message_bound}
 use Rattle.send_recv.specs.Ops.{SlotAt, slot_left}
 use Rattle.send_recv.specs.Receiving.{recv_left}

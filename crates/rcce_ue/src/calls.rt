@@ -3,9 +3,10 @@
 ghost use Rattle.std.specs.Prelude.{◌≡◌};
 ghost use Rattle.rcce_ue.specs.Ues.{open_for};
 
+use crate::receiving::OpenReceive;
 use barrier::BarOp;
 use scc_base::Call;
-use send_recv::{RecvOp, SendOp};
+use send_recv::SendOp;
 
 /// The call at which a rank stands, as far as it has come.
 #[derive(Drop)]
@@ -15,7 +16,7 @@ pub enum Open {
     /// A send or a post.
     Sending(SendOp),
     /// A receive.
-    Receiving(RecvOp),
+    Receiving(OpenReceive),
     /// A barrier.
     Meeting(BarOp),
 }
@@ -28,7 +29,7 @@ pub(crate) fn begin(call: &Option<Call>) -> Open
         None => Open::Nothing,
         Some(Call::Send { to, head }) => Open::Sending(SendOp::new(*to, *head)),
         Some(Call::Post { to, head }) => Open::Sending(SendOp::post(*to, *head)),
-        Some(Call::Recv { from, head }) => Open::Receiving(RecvOp::new(*from, *head)),
+        Some(Call::Recv { from, head }) => Open::Receiving(OpenReceive::new(*from, *head)),
         Some(Call::Bar { comm }) => Open::Meeting(BarOp::new(*comm)),
     }
 }

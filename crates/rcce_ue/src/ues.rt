@@ -5,7 +5,7 @@ ghost use Rattle.script_plain.specs.Local.{local_next};
 ghost use Rattle.rcce_ue.specs.Ues.{posted_by};
 
 use crate::calls::{Open, begin};
-use crate::receiving::{front_of, take_turn};
+use crate::receiving::front_of;
 use barrier::Parity;
 use line_cache::Evict;
 use put_get::Core;
@@ -159,10 +159,9 @@ impl<'s, V: Evict> Ue<'s, V> {
         ensures turns { Turns self.old (P.sight port.old) self.new (P.sight port.new) result }
         ensures steps { (spot : Spot) → waits_at result ≡ Some spot → MadeSteps P.stepped (P.sight port.old) (P.sight port.new) }
     {
-        let len = self.machine.asked();
         match &mut self.op {
             Open::Receiving(op) => {
-                match take_turn(op, &mut self.core, port, self.inbox.as_mut_slice(), len) {
+                match op.turn(&mut self.core, port, self.inbox.as_mut_slice()) {
                     RecvTurn::Moved => Turn::Moved,
                     RecvTurn::Waiting(spot) => Turn::Waiting(spot),
                     RecvTurn::Done => {
