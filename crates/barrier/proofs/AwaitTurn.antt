@@ -14,7 +14,7 @@ use Rattle.put_get.proofs.FillLemmas.{fills_out}
 use Rattle.barrier.specs.declared.stages.BarStage.{BarStage}
 use Rattle.barrier.specs.declared.stages.BarStage.TheVariants.{Await, Finished}
 use Rattle.barrier.specs.Flags.{value_at, release_word}
-use Rattle.barrier.specs.Stages.{BarAt, BarStands, IsAtStage, aim_at, is_gather}
+use Rattle.barrier.specs.Stages.{BarAt, BarStands, IsAtStage, aim_at, is_gather, meeting}
 use Rattle.sync_flags.specs.Flags.{flag_value}
 use Rattle.sync_flags.specs.Tries.{AtWord}
 use Rattle.sync_flags.specs.Looks.{LooksAt}
@@ -84,7 +84,7 @@ module _ (s : Sight) (c : Private) (op : BarAt) (values : List Bool) (value : �
   seat_same : t.seat ≡ s.seat
   seat_same = seat_kept s (loads_of (line_of_word (release_word s.seat op.comm s.seat.rank)) saw.words) t saw.looks.did
 
-  await_waited : slice_index saw.words (op.comm / 8) ≢ value → BarStands t d op values × BarTurned s c op t d op values (turn.Waiting (Flag (release_word s.seat op.comm s.seat.rank) 0))
+  await_waited : slice_index saw.words (op.comm / 8) ≢ value → BarStands t d op values × BarTurned (meeting s c op values) (meeting t d op values) (turn.Waiting (Flag (release_word s.seat op.comm s.seat.rank) 0))
   await_waited other =
       let small = l.stands.below in
       let rec = vain_record other in
@@ -106,7 +106,7 @@ module _ (s : Sight) (c : Private) (op : BarAt) (values : List Bool) (value : �
       )
 
   await_saw : (now : BarAt) → now.comm ≡ op.comm → now.stage ≡ Finished → slice_index saw.words (op.comm / 8) ≡ value
-      → BarStands t d now values × BarTurned s c op t d now values turn.Done
+      → BarStands t d now values × BarTurned (meeting s c op values) (meeting t d now values) turn.Done
   await_saw now comm stage eq =
       let small = l.stands.below in
       let rec = found_record eq in
@@ -129,17 +129,17 @@ module _ (s : Sight) (c : Private) (op : BarAt) (values : List Bool) (value : �
 
 pub await_waits : {s t : Sight} {c d : Private} {op : BarAt} {values : List Bool} {value : ℕ} → Awaiting s c op values value → (k own : ℕ) → k ≡ op.comm → own ≡ s.seat.rank
     → (place : WordAt) → place ≡ release_word s.seat k own → (got : ℕ) → LooksAt s c place got t d → got ≢ value
-    → BarStands t d op values × BarTurned s c op t d op values (turn.Waiting (Flag place 0))
+    → BarStands t d op values × BarTurned (meeting s c op values) (meeting t d op values) (turn.Waiting (Flag place 0))
 await_waits {s} {t} {c} {d} {op} {values} {value} l k own e r place at got saw other =
     let there = at ∙ (λ i. release_word s.seat (e i) (r i)) in
     let h = look_here (release_word s.seat op.comm s.seat.rank) got there saw in
-    subst (λ (p : WordAt). BarStands t d op values × BarTurned s c op t d op values (turn.Waiting (Flag p 0))) (sym there)
+    subst (λ (p : WordAt). BarStands t d op values × BarTurned (meeting s c op values) (meeting t d op values) (turn.Waiting (Flag p 0))) (sym there)
     (await_waited s c op values value l t d got h (λ q. other (h.is ∙ q)))
 
 pub await_sees : {s t : Sight} {c d : Private} {op : BarAt} {values : List Bool} {value : ℕ} → Awaiting s c op values value → (k own : ℕ) → k ≡ op.comm → own ≡ s.seat.rank
     → (place : WordAt) → place ≡ release_word s.seat k own → (got : ℕ) → LooksAt s c place got t d → got ≡ value
     → (now : BarAt) → now.comm ≡ op.comm → now.stage ≡ Finished
-    → BarStands t d now values × BarTurned s c op t d now values turn.Done
+    → BarStands t d now values × BarTurned (meeting s c op values) (meeting t d now values) turn.Done
 await_sees {s} {t} {c} {d} {op} {values} {value} l k own e r place at got saw eq now comm stage =
     let there = at ∙ (λ i. release_word s.seat (e i) (r i)) in
     let h = look_here (release_word s.seat op.comm s.seat.rank) got there saw in

@@ -22,7 +22,7 @@ use Rattle.barrier.specs.declared.barriers.BarStop.TheVariants.{Stalled}
 use Rattle.barrier.specs.declared.stages.BarStage.{BarStage}
 use Rattle.barrier.specs.declared.stages.BarStage.TheVariants.{Flip, Gather, Release, Await, Finished}
 use Rattle.barrier.specs.Flags.{value_at, member_at, gather_word, release_word}
-use Rattle.barrier.specs.Stages.{BarAt, BarStands, IsAtStage, own_place, is_finished, is_gather, bar_left, bar_call, aim_at}
+use Rattle.barrier.specs.Stages.{BarAt, BarStands, IsAtStage, own_place, is_finished, is_gather, bar_left, bar_call, aim_at, meeting, with_parity}
 use Rattle.barrier.specs.Turns.{KeepsRest, Does, BarTurned, flips_by}
 use Rattle.barrier.specs.Calls.{MayEndAt, Finishes, Stalls}
 use Rattle.barrier.proofs.RestLemmas.{none_changed, kept_both, flips_moved, flips_looking}
@@ -110,7 +110,7 @@ calls_open : (op : BarAt) → is_finished op.stage ≡ false → bar_call op ≡
 calls_open op e = if_no (is_finished op.stage) [] (Bar op.comm ∷ []) e
 
 pub underway_moved : {s m t : Sight} {b d : Private} {op cur now : BarAt} {vain : ℕ} {values later : List Bool} → Underway s op vain m b cur values
-    → BarStands t d now later → BarTurned m b cur t d now later turn.Moved → Underway s op 0 t d now later
+    → BarStands t d now later → BarTurned (meeting m b cur values) (meeting t d now later) turn.Moved → Underway s op 0 t d now later
 underway_moved {s} {m} {t} {b} {d} {op} {cur} {now} {vain} {values} {later} u st turned = record {
   events = u.events ++ turned.events;
   did = did_both s u.events m turned.events t u.did turned.did;
@@ -134,7 +134,7 @@ same_value {t = t} {cur = cur} {later = later} x y e rec =
     ∙ (λ i. (rec i).flips cur.comm % 2) ∙ sym (x.parity cur.comm x.below)
 
 pub underway_waited : {s m t : Sight} {b d : Private} {op cur now : BarAt} {vain : ℕ} {values later : List Bool} {spot : Spot} → Underway s op vain m b cur values
-    → BarStands t d now later → BarTurned m b cur t d now later (turn.Waiting spot) → Underway s op (vain + 1) t d now later
+    → BarStands t d now later → BarTurned (meeting m b cur values) (meeting t d now later) (turn.Waiting spot) → Underway s op (vain + 1) t d now later
 underway_waited {s} {m} {t} {b} {d} {op} {cur} {now} {vain} {values} {later} {spot} u st turned =
     let e = turned.means.0 in
     let seat : m.seat ≡ s.seat = seat_kept s u.events m u.did in
@@ -170,9 +170,9 @@ underway_waited {s} {m} {t} {b} {d} {op} {cur} {now} {vain} {values} {later} {sp
     not_over seat comm Await value aim at over = absurd (cc)
     not_over seat comm Finished value aim at over = absurd (cc)
 
-pub underway_ends : {s m t : Sight} {b d : Private} {op cur now : BarAt} {vain : ℕ} {values later : List Bool} → Underway s op vain m b cur values
-    → BarStands t d now later → BarTurned m b cur t d now later turn.Done → Finishes s op t d later
-underway_ends {s} {m} {t} {b} {d} {op} {cur} {now} {vain} {values} {later} u st turned =
+pub underway_ends : {s m t : Sight} {c b d : Private} {op cur now : BarAt} {vain : ℕ} {before values later : List Bool} → Underway s op vain m b cur values
+    → BarStands t d now later → BarTurned (meeting m b cur values) (meeting t d now later) turn.Done → Finishes (meeting s c op before) (with_parity t d later)
+underway_ends {s} {m} {t} {b = b} {d = d} {op = op} {cur = cur} {now = now} {later = later} u st turned =
     let seat : m.seat ≡ s.seat = seat_kept s u.events m u.did in
     record {
       events = u.events ++ turned.events;
@@ -194,9 +194,9 @@ underway_ends {s} {m} {t} {b} {d} {op} {cur} {now} {vain} {values} {later} u st 
           (vain_tries (AtWord place value) u.events) (λ f. ap (λ (es : List Event). vain_tries (AtWord place value) es) (u.quiet f));
     }
 
-pub underway_stalls : {s m t : Sight} {b d : Private} {op cur now : BarAt} {vain : ℕ} {values later : List Bool} {spot : Spot} → Underway s op vain m b cur values
-    → BarStands t d now later → BarTurned m b cur t d now later (turn.Waiting spot) → (polls : ℕ) → polls ≤ vain + 1 → Stalls s op polls t d later (Stalled now spot polls)
-underway_stalls {s} {m} {t} {b} {d} {op} {cur} {now} {vain} {values} {later} {spot} u st turned polls enough =
+pub underway_stalls : {s m t : Sight} {c b d : Private} {op cur now : BarAt} {vain : ℕ} {before values later : List Bool} {spot : Spot} → Underway s op vain m b cur values
+    → BarStands t d now later → BarTurned (meeting m b cur values) (meeting t d now later) (turn.Waiting spot) → (polls : ℕ) → polls ≤ vain + 1 → Stalls (meeting s c op before) polls (with_parity t d later) (Stalled now spot polls)
+underway_stalls {s} {m} {t} {cur = cur} {now = now} {vain = vain} {later = later} u st turned polls enough =
     let w = underway_waited u st turned in
     let e = turned.means.0 in
     let seat : m.seat ≡ s.seat = seat_kept s u.events m u.did in
@@ -223,6 +223,6 @@ underway_stalls {s} {m} {t} {b} {d} {op} {cur} {now} {vain} {values} {later} {sp
 
 -- what is left of the barrier falls by each move
 pub left_falls : {s m t : Sight} {b d : Private} {op cur now : BarAt} {vain : ℕ} {values later : List Bool} → Underway s op vain m b cur values
-    → BarTurned m b cur t d now later turn.Moved → bar_left s.seat cur ≡ bar_left s.seat now + 1
+    → BarTurned (meeting m b cur values) (meeting t d now later) turn.Moved → bar_left s.seat cur ≡ bar_left s.seat now + 1
 left_falls {s} {m} {cur = cur} {now = now} u turned =
     subst (λ (x : Seat). bar_left x cur ≡ bar_left x now + 1) (seat_kept s u.events m u.did) turned.means.0

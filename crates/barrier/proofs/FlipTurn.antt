@@ -21,7 +21,7 @@ use Rattle.put_get.specs.Cores.{Private}
 use Rattle.barrier.specs.declared.stages.BarStage.{BarStage}
 use Rattle.barrier.specs.declared.stages.BarStage.TheVariants.{Flip, Gather, Await, Finished}
 use Rattle.barrier.specs.Flags.{IsParityOf, value_at, gather_word}
-use Rattle.barrier.specs.Stages.{BarAt, BarStands, IsAtStage, aim_at, group_size, own_place, is_finished, is_gather, after_flip}
+use Rattle.barrier.specs.Stages.{BarAt, BarStands, IsAtStage, aim_at, group_size, own_place, is_finished, is_gather, after_flip, meeting}
 use Rattle.sync_flags.specs.Flags.{flag_value}
 use Rattle.sync_flags.specs.Tries.{NoTry}
 use Rattle.sync_flags.specs.Writes.{StoresWord}
@@ -140,7 +140,7 @@ module _ (s : Sight) (c : Private) (op : BarAt) (values later : List Bool) (valu
     seat_same = seat_kept s (store_of (gather_word s.seat op.comm s.seat.rank) value ∷ []) t stores.did
 
     flipped_alone : (now : BarAt) → now.comm ≡ op.comm → now.stage ≡ after_flip (group_size s.seat op.comm) (own_place s.seat op.comm) → group_size s.seat op.comm ≡ 1
-        → BarStands t d now later × BarTurned s c op t d now later turn.Done
+        → BarStands t d now later × BarTurned (meeting s c op values) (meeting t d now later) turn.Done
     flipped_alone now comm stage one =
         let e = same_by (group_size s.seat op.comm) 1 one in
         let rec = late_is true e in
@@ -163,7 +163,7 @@ module _ (s : Sight) (c : Private) (op : BarAt) (values later : List Bool) (valu
         )
 
     flipped_more : (now : BarAt) → now.comm ≡ op.comm → now.stage ≡ after_flip (group_size s.seat op.comm) (own_place s.seat op.comm) → group_size s.seat op.comm ≢ 1
-        → BarStands t d now later × BarTurned s c op t d now later turn.Moved
+        → BarStands t d now later × BarTurned (meeting s c op values) (meeting t d now later) turn.Moved
     flipped_more now comm stage one =
         let m = some in
         let more : 1 < group_size s.seat op.comm = omega (arith, one, m) in
@@ -206,14 +206,14 @@ flip_may {s} {c} {op} {values} {later} {value} l place at =
 
 pub flip_ends : {s t : Sight} {c d : Private} {op : BarAt} {values later : List Bool} {value : ℕ} {place : WordAt} {size own : ℕ} → Flipping s c op values later value
     → FlipPlace s op place size own → StoresWord s c place value t d → (now : BarAt) → now.comm ≡ op.comm → now.stage ≡ after_flip size own → size ≡ 1
-    → BarStands t d now later × BarTurned s c op t d now later turn.Done
+    → BarStands t d now later × BarTurned (meeting s c op values) (meeting t d now later) turn.Done
 flip_ends {s} {t} {c} {d} {op} {values} {later} {value} l p stores now comm stage one =
     flipped_alone s c op values later value l t d (subst (λ (x : WordAt). StoresWord s c x value t d) p.at stores)
     now comm (stage ∙ (λ i. after_flip (p.size_is i) (p.own_is i))) (sym p.size_is ∙ one)
 
 pub flip_goes : {s t : Sight} {c d : Private} {op : BarAt} {values later : List Bool} {value : ℕ} {place : WordAt} {size own : ℕ} → Flipping s c op values later value
     → FlipPlace s op place size own → StoresWord s c place value t d → (now : BarAt) → now.comm ≡ op.comm → now.stage ≡ after_flip size own → size ≢ 1
-    → BarStands t d now later × BarTurned s c op t d now later turn.Moved
+    → BarStands t d now later × BarTurned (meeting s c op values) (meeting t d now later) turn.Moved
 flip_goes {s} {t} {c} {d} {op} {values} {later} {value} l p stores now comm stage one =
     flipped_more s c op values later value l t d (subst (λ (x : WordAt). StoresWord s c x value t d) p.at stores)
     now comm (stage ∙ (λ i. after_flip (p.size_is i) (p.own_is i))) (λ q. one (p.size_is ∙ q))

@@ -13,7 +13,7 @@ use Rattle.put_get.proofs.FillLemmas.{fills_out}
 use Rattle.barrier.specs.declared.stages.BarStage.{BarStage}
 use Rattle.barrier.specs.declared.stages.BarStage.TheVariants.{Gather}
 use Rattle.barrier.specs.Flags.{value_at, member_at, gather_word}
-use Rattle.barrier.specs.Stages.{BarAt, BarStands, IsAtStage, aim_at, group_size, is_finished, after_seen}
+use Rattle.barrier.specs.Stages.{BarAt, BarStands, IsAtStage, aim_at, group_size, is_finished, after_seen, meeting}
 use Rattle.sync_flags.specs.Flags.{flag_value}
 use Rattle.sync_flags.specs.Tries.{AtWord}
 use Rattle.sync_flags.specs.Looks.{LooksAt}
@@ -89,7 +89,7 @@ module _ (s : Sight) (c : Private) (op : BarAt) (values : List Bool) (seen m val
   seat_same : t.seat ≡ s.seat
   seat_same = seat_kept s (loads_of (line_of_word (gather_word s.seat op.comm m)) saw.words) t saw.looks.did
 
-  gather_waited : slice_index saw.words (op.comm / 8) ≢ value → BarStands t d op values × BarTurned s c op t d op values (turn.Waiting (Flag (gather_word s.seat op.comm m) 0))
+  gather_waited : slice_index saw.words (op.comm / 8) ≢ value → BarStands t d op values × BarTurned (meeting s c op values) (meeting t d op values) (turn.Waiting (Flag (gather_word s.seat op.comm m) 0))
   gather_waited other =
       let small = l.stands.below in
       let rec = vain_record other in
@@ -111,7 +111,7 @@ module _ (s : Sight) (c : Private) (op : BarAt) (values : List Bool) (seen m val
       )
 
   gather_saw : (now : BarAt) → now.comm ≡ op.comm → now.stage ≡ after_seen (group_size s.seat op.comm) seen → slice_index saw.words (op.comm / 8) ≡ value
-      → BarStands t d now values × BarTurned s c op t d now values turn.Moved
+      → BarStands t d now values × BarTurned (meeting s c op values) (meeting t d now values) turn.Moved
   gather_saw now comm stage eq =
       let small = l.stands.below in
       let rec = found_record eq in
@@ -144,17 +144,17 @@ look_here {s} {t} {c} {d} to got e h = subst (λ (p : WordAt). LooksAt s c p got
 
 pub gather_waits : {s t : Sight} {c d : Private} {op : BarAt} {values : List Bool} {seen m value : ℕ} → Looking s c op values seen m value → (k : ℕ) → k ≡ op.comm
     → (place : WordAt) → place ≡ gather_word s.seat k m → (got : ℕ) → LooksAt s c place got t d → got ≢ value
-    → BarStands t d op values × BarTurned s c op t d op values (turn.Waiting (Flag place 0))
+    → BarStands t d op values × BarTurned (meeting s c op values) (meeting t d op values) (turn.Waiting (Flag place 0))
 gather_waits {s} {t} {c} {d} {op} {values} {seen} {m} {value} l k e place at got saw other =
     let there = at ∙ ap (λ (x : ℕ). gather_word s.seat x m) e in
     let h = look_here (gather_word s.seat op.comm m) got there saw in
-    subst (λ (p : WordAt). BarStands t d op values × BarTurned s c op t d op values (turn.Waiting (Flag p 0))) (sym there)
+    subst (λ (p : WordAt). BarStands t d op values × BarTurned (meeting s c op values) (meeting t d op values) (turn.Waiting (Flag p 0))) (sym there)
     (gather_waited s c op values seen m value l t d got h (λ q. other (h.is ∙ q)))
 
 pub gather_sees : {s t : Sight} {c d : Private} {op : BarAt} {values : List Bool} {seen m value : ℕ} → Looking s c op values seen m value → (k : ℕ) → k ≡ op.comm
     → (place : WordAt) → place ≡ gather_word s.seat k m → (got : ℕ) → LooksAt s c place got t d → got ≡ value
     → (now : BarAt) → now.comm ≡ op.comm → (size : ℕ) → size ≡ group_size s.seat op.comm → now.stage ≡ after_seen size seen
-    → BarStands t d now values × BarTurned s c op t d now values turn.Moved
+    → BarStands t d now values × BarTurned (meeting s c op values) (meeting t d now values) turn.Moved
 gather_sees {s} {t} {c} {d} {op} {values} {seen} {m} {value} l k e place at got saw eq now comm size sized stage =
     let there = at ∙ ap (λ (x : ℕ). gather_word s.seat x m) e in
     let h = look_here (gather_word s.seat op.comm m) got there saw in

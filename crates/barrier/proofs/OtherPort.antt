@@ -11,7 +11,7 @@ use Rattle.sync_flags.proofs.TurnLemmas.{record_at_port, record_at_start}
 use Rattle.barrier.specs.declared.stages.BarStage.{BarStage}
 use Rattle.barrier.specs.declared.stages.BarStage.TheVariants.{Flip, Gather, Release, Await, Finished}
 use Rattle.barrier.specs.Flags.{IsParityOf, value_at}
-use Rattle.barrier.specs.Stages.{BarAt, BarStands, IsAtStage, IsBetweenCalls}
+use Rattle.barrier.specs.Stages.{BarAt, BarStands, IsAtStage, IsBetweenCalls, meeting}
 use Rattle.barrier.specs.Turns.{BarTurned}
 
 abbrev seat_at : Seat → Gv → Gv → ℕ → Seat
@@ -54,6 +54,6 @@ idle_at : (seat : Seat) (rec : Record) (comm : ℕ) (stage : BarStage) → stage
 idle_at seat rec comm stage is at = subst (λ (x : BarStage). IsAtStage seat rec comm x) is at
 
 -- after the turn that ends a barrier it is in no call
-pub between_after : {s t : Sight} {c d : Private} {op now : BarAt} {later : List Bool} → BarTurned s c op t d now later turn.Done → BarStands t d now later → IsBetweenCalls t d later
+pub between_after : {s t : Sight} {c d : Private} {op now : BarAt} {values later : List Bool} → BarTurned (meeting s c op values) (meeting t d now later) turn.Done → BarStands t d now later → IsBetweenCalls t d later
 between_after {t = t} {now = now} turned st =
     record { stage = idle_at t.seat (record_in t) now.comm now.stage turned.means.0 st.at; empty = st.empty; parity = st.parity }

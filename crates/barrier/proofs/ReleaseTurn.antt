@@ -19,7 +19,7 @@ use Rattle.put_get.specs.Cores.{Private}
 use Rattle.barrier.specs.declared.stages.BarStage.{BarStage}
 use Rattle.barrier.specs.declared.stages.BarStage.TheVariants.{Release, Finished}
 use Rattle.barrier.specs.Flags.{value_at, member_at, release_word}
-use Rattle.barrier.specs.Stages.{BarAt, BarStands, IsAtStage, aim_at, group_size, is_finished, is_gather, after_release}
+use Rattle.barrier.specs.Stages.{BarAt, BarStands, IsAtStage, aim_at, group_size, is_finished, is_gather, after_release, meeting}
 use Rattle.sync_flags.specs.Flags.{flag_value}
 use Rattle.sync_flags.specs.Tries.{NoTry}
 use Rattle.sync_flags.specs.Writes.{StoresWord}
@@ -105,7 +105,7 @@ module _ (s : Sight) (c : Private) (op : BarAt) (values : List Bool) (released m
     seat_same = seat_kept s (store_of (release_word s.seat op.comm m) value ∷ []) t stores.did
 
     released_last : (now : BarAt) → now.comm ≡ op.comm → now.stage ≡ after_release (group_size s.seat op.comm) released → released + 2 ≡ group_size s.seat op.comm
-        → BarStands t d now values × BarTurned s c op t d now values turn.Done
+        → BarStands t d now values × BarTurned (meeting s c op values) (meeting t d now values) turn.Done
     released_last now comm stage size =
         let e = same_by (released + 2) (group_size s.seat op.comm) size in
         let rec = late_is true e in
@@ -127,7 +127,7 @@ module _ (s : Sight) (c : Private) (op : BarAt) (values : List Bool) (released m
         )
 
     released_more : (now : BarAt) → now.comm ≡ op.comm → now.stage ≡ after_release (group_size s.seat op.comm) released → released + 2 ≢ group_size s.seat op.comm
-        → BarStands t d now values × BarTurned s c op t d now values turn.Moved
+        → BarStands t d now values × BarTurned (meeting s c op values) (meeting t d now values) turn.Moved
     released_more now comm stage size =
         let fits = here.1 in
         let more : released + 2 < group_size s.seat op.comm = omega (arith, size, fits) in
@@ -166,7 +166,7 @@ release_may {s} {c} {op} {values} {released} {m} {value} l k e place at =
 pub release_ends : {s t : Sight} {c d : Private} {op : BarAt} {values : List Bool} {released m value : ℕ} → Releasing s c op values released m value → (k : ℕ) → k ≡ op.comm
     → (place : WordAt) → place ≡ release_word s.seat k m → StoresWord s c place value t d
     → (now : BarAt) → now.comm ≡ op.comm → (size : ℕ) → size ≡ group_size s.seat op.comm → now.stage ≡ after_release size released → released + 2 ≡ size
-    → BarStands t d now values × BarTurned s c op t d now values turn.Done
+    → BarStands t d now values × BarTurned (meeting s c op values) (meeting t d now values) turn.Done
 release_ends {s} {t} {c} {d} {op} {values} {released} {m} {value} l k e place at stores now comm size sized stage fits =
     released_last s c op values released m value l t d
     (subst (λ (p : WordAt). StoresWord s c p value t d) (at ∙ ap (λ (x : ℕ). release_word s.seat x m) e) stores)
@@ -175,7 +175,7 @@ release_ends {s} {t} {c} {d} {op} {values} {released} {m} {value} l k e place at
 pub release_goes : {s t : Sight} {c d : Private} {op : BarAt} {values : List Bool} {released m value : ℕ} → Releasing s c op values released m value → (k : ℕ) → k ≡ op.comm
     → (place : WordAt) → place ≡ release_word s.seat k m → StoresWord s c place value t d
     → (now : BarAt) → now.comm ≡ op.comm → (size : ℕ) → size ≡ group_size s.seat op.comm → now.stage ≡ after_release size released → released + 2 ≢ size
-    → BarStands t d now values × BarTurned s c op t d now values turn.Moved
+    → BarStands t d now values × BarTurned (meeting s c op values) (meeting t d now values) turn.Moved
 release_goes {s} {t} {c} {d} {op} {values} {released} {m} {value} l k e place at stores now comm size sized stage fits =
     released_more s c op values released m value l t d
     (subst (λ (p : WordAt). StoresWord s c p value t d) (at ∙ ap (λ (x : ℕ). release_word s.seat x m) e) stores)

@@ -13,7 +13,7 @@ use Rattle.barrier.specs.declared.barriers.BarStop.{BarStop}
 use Rattle.barrier.specs.declared.stages.BarStage.{BarStage}
 use Rattle.barrier.specs.declared.stages.BarStage.TheVariants.{Flip, Gather, Release, Await, Finished}
 use Rattle.barrier.specs.Flags.{value_at}
-use Rattle.barrier.specs.Stages.{BarAt, BarStands, IsAtStage, IsBetweenCalls, group_size, own_place, left_by, bar_left, bar_call, aim_at, new_barrier}
+use Rattle.barrier.specs.Stages.{BarAt, BarStands, IsAtStage, IsBetweenCalls, group_size, own_place, left_by, bar_left, bar_call, aim_at, new_barrier, meeting, with_parity}
 use Rattle.barrier.specs.Turns.{KeepsRest, flips_by}
 use Rattle.barrier.specs.Calls.{Finishes, Stalls}
 use Rattle.barrier.proofs.StageLemmas.{same_by}
@@ -74,14 +74,14 @@ pub barrier_starts : {s : Sight} {c : Private} {values : List Bool} → IsBetwee
     → BarStands s c (new_barrier comm) values
 barrier_starts free comm below present = record { below = below; present = present; empty = free.empty; parity = free.parity; at = free.stage }
 
-pub free_after_barrier : {s t : Sight} {d : Private} {op : BarAt} {values : List Bool} → Finishes s op t d values → IsBetweenCalls t d values
+pub free_after_barrier : {s t : Sight} {c d : Private} {op : BarAt} {before values : List Bool} → Finishes (meeting s c op before) (with_parity t d values) → IsBetweenCalls t d values
 free_after_barrier f = record { stage = f.stage; empty = f.empty; parity = f.parity }
 
-pub calls_of_both : {s m t : Sight} {b d : Private} {op : BarAt} {polls : ℕ} {values later : List Bool} {stop : BarStop} → (first : Stalls s op polls m b values stop)
-    → Finishes m first.now t d later → (record_in t).calls ≡ (record_in s).calls ++ bar_call op
+pub calls_of_both : {s m t : Sight} {c b d : Private} {op : BarAt} {polls : ℕ} {before values later : List Bool} {stop : BarStop} → (first : Stalls (meeting s c op before) polls (with_parity m b values) stop)
+    → Finishes (meeting m b first.now values) (with_parity t d later) → (record_in t).calls ≡ (record_in s).calls ++ bar_call op
 calls_of_both first second = second.calls ∙ (λ i. first.calls i ++ first.call_left i)
 
-pub flips_of_both : {s m t : Sight} {b d : Private} {op : BarAt} {polls : ℕ} {values later : List Bool} {stop : BarStop} → (first : Stalls s op polls m b values stop)
-    → Finishes m first.now t d later → (record_in t).flips ≡ flips_by op.comm op.stage (record_in s).flips
+pub flips_of_both : {s m t : Sight} {c b d : Private} {op : BarAt} {polls : ℕ} {before values later : List Bool} {stop : BarStop} → (first : Stalls (meeting s c op before) polls (with_parity m b values) stop)
+    → Finishes (meeting m b first.now values) (with_parity t d later) → (record_in t).flips ≡ flips_by op.comm op.stage (record_in s).flips
 flips_of_both {s} {m} {values = values} first second =
     second.flips ∙ flips_looking s.seat first.now (flag_value (value_at values first.now.comm)) first.aim (record_in m).flips first.looks ∙ first.flips

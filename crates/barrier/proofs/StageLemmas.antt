@@ -13,7 +13,7 @@ use Rattle.put_get.specs.Cores.{Private}
 use Rattle.barrier.specs.declared.stages.BarStage.{BarStage}
 use Rattle.barrier.specs.declared.stages.BarStage.TheVariants.{Gather, Release, Finished}
 use Rattle.barrier.specs.Flags.{IsParityOf, value_at}
-use Rattle.barrier.specs.Stages.{BarAt, BarStands, IsAtStage, group_size, own_place, is_finished, is_gather, aim_at, left_by, bar_left, bar_call, after_seen}
+use Rattle.barrier.specs.Stages.{BarAt, BarStands, IsAtStage, group_size, own_place, is_finished, is_gather, aim_at, left_by, bar_left, bar_call, after_seen, meeting}
 use Rattle.barrier.specs.Turns.{KeepsRest, Does, BarTurned, flips_by}
 use Rattle.sync_flags.specs.Flags.{flag_value}
 use Rattle.sync_flags.specs.Tries.{NoTry}
@@ -92,7 +92,7 @@ left_is seat op now before stage comm e f left =
     ∙ (λ i. left_by (group_size seat (sym comm i)) (own_place seat (sym comm i)) (sym f i) + 1)
 
 -- a barrier that is at its end stays there
-pub turn_nothing : {s : Sight} {c : Private} {op : BarAt} {values : List Bool} → BarStands s c op values → op.stage ≡ Finished → BarTurned s c op s c op values turn.Done
+pub turn_nothing : {s : Sight} {c : Private} {op : BarAt} {values : List Bool} → BarStands s c op values → op.stage ≡ Finished → BarTurned (meeting s c op values) (meeting s c op values) turn.Done
 turn_nothing {s} {c} {op} {values} st e = record {
   events = [];
   did = did_nothing s;

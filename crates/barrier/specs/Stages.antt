@@ -19,6 +19,25 @@ pub record BarAt : Type 0 where
   pub comm : ℕ
   pub stage : BarStage
 
+-- a member of a barrier: what its port and its core show, where the barrier stands, and its parity
+pub record Member : Type 0 where
+  pub sight : Sight
+  pub core : Private
+  pub op : BarAt
+  pub parity : List Bool
+
+abbrev pub meeting : Sight → Private → BarAt → List Bool → Member
+meeting sight core op parity = record { sight = sight; core = core; op = op; parity = parity }
+
+-- a rank with its parity
+pub record ParityHolder : Type 0 where
+  pub sight : Sight
+  pub core : Private
+  pub parity : List Bool
+
+abbrev pub with_parity : Sight → Private → List Bool → ParityHolder
+with_parity sight core parity = record { sight = sight; core = core; parity = parity }
+
 -- a barrier that is not yet entered
 abbrev pub new_barrier : ℕ → BarAt
 new_barrier comm = record { comm = comm; stage = Flip }

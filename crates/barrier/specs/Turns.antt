@@ -1,5 +1,5 @@
 -- What one turn of a barrier does and comes to (this project's profile of RCCE's barrier).
-use Rattle.std.specs.Prelude.{◌≡◌, ℕ, suc, ◌+◌, Bool, false, List, ◌++◌, Option, Some, None}
+use Rattle.std.specs.Prelude.{◌≡◌, ℕ, suc, ◌+◌, false, List, ◌++◌, Option, Some, None}
 use Rattle.std.specs.List.{list_any}
 use Rattle.scc_base.specs.declared.events.Event.{Event}
 use Rattle.scc_base.specs.declared.events.Spot.{Spot}
@@ -17,7 +17,7 @@ use Rattle.sync_flags.specs.Writes.{StoresWord}
 use Rattle.barrier.specs.declared.stages.BarStage.{BarStage}
 use Rattle.barrier.specs.declared.stages.BarStage.TheVariants.{Flip, Gather, Release, Await, Finished}
 use Rattle.barrier.specs.Flags.{value_at, member_at, gather_word, release_word}
-use Rattle.barrier.specs.Stages.{BarAt, is_finished, is_gather, bar_left, aim_at, bar_call}
+use Rattle.barrier.specs.Stages.{Member, is_finished, is_gather, bar_left, aim_at, bar_call}
 
 -- where a turn waits
 abbrev pub waits_at : Turn → Option Spot
@@ -45,22 +45,22 @@ pub record KeepsRest (rec new : Record) : Type 0 where
   pub heap : new.heap ≡ rec.heap
 
 -- what each answer means for the barrier and the record
-abbrev pub BarMeans : Seat → Record → BarAt → Record → BarAt → Turn → Type 0
-BarMeans seat rec op new now turn.Moved = (bar_left seat op ≡ bar_left seat now + 1) × (new.calls ≡ rec.calls)
-    × (is_finished op.stage ≡ false) × (is_finished now.stage ≡ false)
-BarMeans seat rec op new now (turn.Waiting spot) = (now ≡ op) × (new ≡ rec)
-BarMeans seat rec op new now turn.Done = (now.stage ≡ Finished) × (new.calls ≡ rec.calls ++ bar_call op) × (is_gather op.stage ≡ false)
+abbrev pub BarMeans : Member → Member → Turn → Type 0
+BarMeans old now turn.Moved = (bar_left old.sight.seat old.op ≡ bar_left old.sight.seat now.op + 1) × ((record_in now.sight).calls ≡ (record_in old.sight).calls)
+    × (is_finished old.op.stage ≡ false) × (is_finished now.op.stage ≡ false)
+BarMeans old now (turn.Waiting spot) = (now.op ≡ old.op) × (record_in now.sight ≡ record_in old.sight)
+BarMeans old now turn.Done = (now.op.stage ≡ Finished) × ((record_in now.sight).calls ≡ (record_in old.sight).calls ++ bar_call old.op) × (is_gather old.op.stage ≡ false)
 
 -- one turn of a barrier
-pub record BarTurned (s : Sight) (c : Private) (op : BarAt) (t : Sight) (d : Private) (now : BarAt) (values : List Bool) (answer : Turn) : Type 0 where
+pub record BarTurned (old now : Member) (answer : Turn) : Type 0 where
   pub events : List Event
-  pub did : Did s events t
-  pub does : Does s.seat op.comm op.stage (flag_value (value_at values op.comm)) s c t d
+  pub did : Did old.sight events now.sight
+  pub does : Does old.sight.seat old.op.comm old.op.stage (flag_value (value_at now.parity old.op.comm)) old.sight old.core now.sight now.core
   -- it waits exactly where its one look was vain
-  pub tried : Tried (aim_at s.seat op.comm op.stage (flag_value (value_at values op.comm))) events (waits_at answer)
-  pub same : now.comm ≡ op.comm
-  pub means : BarMeans s.seat (record_in s) op (record_in t) now answer
-  pub flips : (record_in t).flips ≡ flips_by op.comm op.stage (record_in s).flips
-  pub rest : KeepsRest (record_in s) (record_in t)
+  pub tried : Tried (aim_at old.sight.seat old.op.comm old.op.stage (flag_value (value_at now.parity old.op.comm))) events (waits_at answer)
+  pub same : now.op.comm ≡ old.op.comm
+  pub means : BarMeans old now answer
+  pub flips : (record_in now.sight).flips ≡ flips_by old.op.comm old.op.stage (record_in old.sight).flips
+  pub rest : KeepsRest (record_in old.sight) (record_in now.sight)
   -- no header or chunk word is stored
-  pub no_draft : list_any (is_draft s.seat.setup) events ≡ false
+  pub no_draft : list_any (is_draft old.sight.seat.setup) events ≡ false

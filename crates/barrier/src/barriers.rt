@@ -1,7 +1,7 @@
 //! A whole barrier, with a bound on the looks that find nothing.
 
 ghost use Rattle.std.specs.Prelude.{◌≤◌};
-ghost use Rattle.barrier.specs.Stages.{BarStands};
+ghost use Rattle.barrier.specs.Stages.{BarStands, meeting, with_parity};
 ghost use Rattle.barrier.specs.Calls.{Ends};
 
 use crate::ops::BarOp;
@@ -28,7 +28,7 @@ pub fn barrier<V: Evict, P: Port>(
 ) -> Result<(), BarStop>
     requires some { 1 ≤ polls }
     requires stands { BarStands (P.sight port.old) core.old op parity.old }
-    ensures ends { Ends (P.sight port.old) op polls (P.sight port.new) core.new parity.new result }
+    ensures ends { Ends (meeting (P.sight port.old) core.old op parity.old) polls (with_parity (P.sight port.new) core.new parity.new) result }
 {
     let mut op = op;
     let mut vain: u32 = 0;

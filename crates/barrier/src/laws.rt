@@ -13,7 +13,7 @@ ghost use Rattle.sync_flags.specs.Turns.{at_port};
 ghost use Rattle.barrier.specs.declared.barriers.BarStop.{BarStop};
 ghost use Rattle.barrier.specs.declared.stages.BarStage.TheVariants.{Flip};
 ghost use Rattle.barrier.specs.Flags.{IsParityOf, value_at};
-ghost use Rattle.barrier.specs.Stages.{BarAt, BarStands, IsBetweenCalls, new_barrier, bar_call, left_by};
+ghost use Rattle.barrier.specs.Stages.{BarAt, BarStands, IsBetweenCalls, new_barrier, bar_call, left_by, meeting, with_parity};
 ghost use Rattle.barrier.specs.Turns.{KeepsRest, BarTurned, flips_by};
 ghost use Rattle.barrier.specs.Calls.{Finishes, Stalls};
 
@@ -32,18 +32,18 @@ pub fn begins_law()
 
 /// After a barrier that answered Ok the rank is in no call again, at its seat. What it keeps besides is in `Finishes`.
 pub fn ends_law()
-    ensures between { (s t : Sight) (d : Private) (op : BarAt) (values : List Bool) → Finishes s op t d values → IsBetweenCalls t d values }
-    ensures seat { (s t : Sight) (d : Private) (op : BarAt) (values : List Bool) → Finishes s op t d values → t.seat ≡ s.seat }
+    ensures between { (s t : Sight) (c d : Private) (op : BarAt) (before values : List Bool) → Finishes (meeting s c op before) (with_parity t d values) → IsBetweenCalls t d values }
+    ensures seat { (s t : Sight) (c d : Private) (op : BarAt) (before values : List Bool) → Finishes (meeting s c op before) (with_parity t d values) → t.seat ≡ s.seat }
 {}
 
 /// A call that stalled, and one that went on with the barrier handed back and answered Ok, come to one barrier.
 pub fn goes_on_law()
-    ensures calls { (s m t : Sight) (b d : Private) (op : BarAt) (polls : ℕ) (values later : List Bool) (stop : BarStop) (first : Stalls s op polls m b values stop)
-        → Finishes m first.now t d later → (record_in t).calls ≡ (record_in s).calls ++ bar_call op }
-    ensures flips { (s m t : Sight) (b d : Private) (op : BarAt) (polls : ℕ) (values later : List Bool) (stop : BarStop) (first : Stalls s op polls m b values stop)
-        → Finishes m first.now t d later → (record_in t).flips ≡ flips_by op.comm op.stage (record_in s).flips }
-    ensures rest { (s m t : Sight) (b d : Private) (op : BarAt) (polls : ℕ) (values later : List Bool) (stop : BarStop) (first : Stalls s op polls m b values stop)
-        → Finishes m first.now t d later → KeepsRest (record_in s) (record_in t) }
+    ensures calls { (s m t : Sight) (c b d : Private) (op : BarAt) (polls : ℕ) (before values later : List Bool) (stop : BarStop) (first : Stalls (meeting s c op before) polls (with_parity m b values) stop)
+        → Finishes (meeting m b first.now values) (with_parity t d later) → (record_in t).calls ≡ (record_in s).calls ++ bar_call op }
+    ensures flips { (s m t : Sight) (c b d : Private) (op : BarAt) (polls : ℕ) (before values later : List Bool) (stop : BarStop) (first : Stalls (meeting s c op before) polls (with_parity m b values) stop)
+        → Finishes (meeting m b first.now values) (with_parity t d later) → (record_in t).flips ≡ flips_by op.comm op.stage (record_in s).flips }
+    ensures rest { (s m t : Sight) (c b d : Private) (op : BarAt) (polls : ℕ) (before values later : List Bool) (stop : BarStop) (first : Stalls (meeting s c op before) polls (with_parity m b values) stop)
+        → Finishes (meeting m b first.now values) (with_parity t d later) → KeepsRest (record_in s) (record_in t) }
 {}
 
 /// What stands at a port stands at every port of the same rank: the same setup, rank and events.
@@ -62,6 +62,6 @@ pub fn start_law()
 
 /// After the turn that ends a barrier the rank is in no call.
 pub fn done_law()
-    ensures between { (s t : Sight) (c d : Private) (op now : BarAt) (later : List Bool) → BarTurned s c op t d now later Done
+    ensures between { (s t : Sight) (c d : Private) (op now : BarAt) (values later : List Bool) → BarTurned (meeting s c op values) (meeting t d now later) Done
         → BarStands t d now later → IsBetweenCalls t d later }
 {}

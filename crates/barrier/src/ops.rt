@@ -41,7 +41,7 @@ impl BarOp {
     ghost use Rattle.barrier.specs.declared.stages.BarStage.TheVariants.{Flip, Gather, Release, Await, Finished};
     ghost use Rattle.sync_flags.specs.Flags.{flag_value};
     ghost use Rattle.barrier.specs.Flags.{value_at, gather_word, release_word, member_at};
-    ghost use Rattle.barrier.specs.Stages.{BarStands, new_barrier, group_size, own_place, after_flip, after_seen, after_release};
+    ghost use Rattle.barrier.specs.Stages.{BarStands, new_barrier, group_size, own_place, after_flip, after_seen, after_release, meeting};
     ghost use Rattle.barrier.specs.Turns.{BarTurned, waits_at};
 
     /// A barrier that is not yet entered.
@@ -64,7 +64,7 @@ impl BarOp {
         requires stage { self.old.stage ≡ Flip }
         requires stands { BarStands (P.sight port.old) core.old self.old parity.old }
         ensures stands { BarStands (P.sight port.new) core.new self.new parity.new }
-        ensures turned { BarTurned (P.sight port.old) core.old self.old (P.sight port.new) core.new self.new parity.new result }
+        ensures turned { BarTurned (meeting (P.sight port.old) core.old self.old parity.old) (meeting (P.sight port.new) core.new self.new parity.new) result }
         ensures goes_on { waits_at result ≡ None }
     {
         let own = port.rank();
@@ -93,7 +93,7 @@ impl BarOp {
         requires stage { self.old.stage ≡ Gather seen }
         requires stands { BarStands (P.sight port.old) core.old self.old parity.now }
         ensures stands { BarStands (P.sight port.new) core.new self.new parity.now }
-        ensures turned { BarTurned (P.sight port.old) core.old self.old (P.sight port.new) core.new self.new parity.now result }
+        ensures turned { BarTurned (meeting (P.sight port.old) core.old self.old parity.now) (meeting (P.sight port.new) core.new self.new parity.now) result }
         ensures steps { MadeSteps P.stepped (P.sight port.old) (P.sight port.new) }
     {
         let own = port.rank();
@@ -123,7 +123,7 @@ impl BarOp {
         requires stage { self.old.stage ≡ Release released }
         requires stands { BarStands (P.sight port.old) core.old self.old parity.now }
         ensures stands { BarStands (P.sight port.new) core.new self.new parity.now }
-        ensures turned { BarTurned (P.sight port.old) core.old self.old (P.sight port.new) core.new self.new parity.now result }
+        ensures turned { BarTurned (meeting (P.sight port.old) core.old self.old parity.now) (meeting (P.sight port.new) core.new self.new parity.now) result }
         ensures goes_on { waits_at result ≡ None }
     {
         let own = port.rank();
@@ -150,7 +150,7 @@ impl BarOp {
         requires stage { self.old.stage ≡ Await }
         requires stands { BarStands (P.sight port.old) core.old self.old parity.now }
         ensures stands { BarStands (P.sight port.new) core.new self.new parity.now }
-        ensures turned { BarTurned (P.sight port.old) core.old self.old (P.sight port.new) core.new self.new parity.now result }
+        ensures turned { BarTurned (meeting (P.sight port.old) core.old self.old parity.now) (meeting (P.sight port.new) core.new self.new parity.now) result }
         ensures steps { MadeSteps P.stepped (P.sight port.old) (P.sight port.new) }
     {
         let own = port.rank();
@@ -176,7 +176,7 @@ impl BarOp {
     ) -> Turn
         requires stands { BarStands (P.sight port.old) core.old self.old parity.old }
         ensures stands { BarStands (P.sight port.new) core.new self.new parity.new }
-        ensures turned { BarTurned (P.sight port.old) core.old self.old (P.sight port.new) core.new self.new parity.new result }
+        ensures turned { BarTurned (meeting (P.sight port.old) core.old self.old parity.old) (meeting (P.sight port.new) core.new self.new parity.new) result }
         ensures steps { (spot : Spot) → waits_at result ≡ Some spot → MadeSteps P.stepped (P.sight port.old) (P.sight port.new) }
     {
         match self.stage {

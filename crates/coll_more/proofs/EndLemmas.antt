@@ -13,7 +13,7 @@ use Rattle.send_recv.specs.declared.answers.RecvTurn.TheVariants as turn
 use Rattle.send_recv.proofs.OtherPort.{free_there, receive_there, send_there, slot_there}
 use Rattle.sync_flags.specs.Turns.{at_port}
 use Rattle.sync_flags.proofs.TurnLemmas.{record_at_port}
-use Rattle.coll_more.specs.Ops.{MoreAt, bytes_of, data_of, is_copied, new_more, table_of, window}
+use Rattle.coll_more.specs.Ops.{MoreAt, bytes_of, data_of, is_copied, new_more, table_of, window, taking_part}
 use Rattle.coll_more.specs.Standing.{HasEnded, IsFit, MoreStands, StandsAt}
 use Rattle.coll_more.specs.Turns.{MoreTurned, call_bound, is_over_by, more_left, piece_bound}
 use Rattle.coll_more.specs.declared.kinds.More.{More}
@@ -34,7 +34,7 @@ past_all (x ∷ xs) zero none = absurd (cc)
 past_all (x ∷ xs) (suc k) none = ap (λ (l : List PieceCall). x ∷ l) (past_all xs k none)
 
 module _ (base : List DataCall) (s : Sight) (c : Private) (m : MoreAt) (slot : SlotAt) (src dst : List ℕ) where
-  ended_by : (stage : Stage) → m.stage ≡ stage → is_over_by (table_of s.seat m) m.ended stage ≡ true → MoreStands base s c m slot src dst → HasEnded base s c m slot src dst
+  ended_by : (stage : Stage) → m.stage ≡ stage → is_over_by (table_of s.seat m) m.ended stage ≡ true → MoreStands base (taking_part s c m slot src dst) → HasEnded base (taking_part s c m slot src dst)
   ended_by Own is over st = absurd (cc)
   ended_by Between is over st = record {
     calls = st.calls ∙ ap (λ (xs : List PieceCall). base ++ map (data_of src dst) xs) (past_all (table_of s.seat m) m.ended (none_past (slice_get (table_of s.seat m) m.ended) over));
@@ -44,20 +44,20 @@ module _ (base : List DataCall) (s : Sight) (c : Private) (m : MoreAt) (slot : S
   ended_by (Sending call op) is over st = absurd (cc)
   ended_by (Receiving call op) is over st = absurd (cc)
 
-  pub has_ended : (t : Sight) (d : Private) (now : MoreAt) (after : SlotAt) (later : List ℕ) → MoreStands base s c m slot src dst → MoreTurned s c m slot dst t d now after later turn.Done
-      → HasEnded base t d now after src later
+  pub has_ended : (t : Sight) (d : Private) (now : MoreAt) (after : SlotAt) (later : List ℕ) → MoreStands base (taking_part s c m slot src dst) → MoreTurned (taking_part s c m slot src dst) (taking_part t d now after src later) turn.Done
+      → HasEnded base (taking_part t d now after src later)
   has_ended t d now after later st r =
-      subst (λ (x : Sight). HasEnded base x d now after src later) (sym r.means.3)
-      (subst (λ (x : Private). HasEnded base s x now after src later) (sym r.means.4)
-      (subst (λ (x : MoreAt). HasEnded base s c x after src later) (sym r.means.0)
-      (subst (λ (x : SlotAt). HasEnded base s c m x src later) (sym r.means.1)
-      (subst (λ (x : List ℕ). HasEnded base s c m slot src x) (sym r.means.2)
+      subst (λ (x : Sight). HasEnded base (taking_part x d now after src later)) (sym r.means.3)
+      (subst (λ (x : Private). HasEnded base (taking_part s x now after src later)) (sym r.means.4)
+      (subst (λ (x : MoreAt). HasEnded base (taking_part s c x after src later)) (sym r.means.0)
+      (subst (λ (x : SlotAt). HasEnded base (taking_part s c m x src later)) (sym r.means.1)
+      (subst (λ (x : List ℕ). HasEnded base (taking_part s c m slot src x)) (sym r.means.2)
       (ended_by m.stage refl r.means.5 st)))))
 
 -- ---- at its start
 
 pub begins : (s : Sight) (c : Private) (slot : SlotAt) (more : More) (len : ℕ) (src dst : List ℕ) → IsInNoCall s c slot → IsFit more s.seat.rank s.seat.setup.nue len src dst
-    → MoreStands (record_in s).calls s c (new_more more len) slot src dst
+    → MoreStands (record_in s).calls (taking_part s c (new_more more len) slot src dst)
 begins s c slot more len src dst free fits =
     record { fits = fits; calls = sym (append-nil (record_in s).calls); own = λ is. absurd (cc); at = (refl, free) }
 
@@ -83,7 +83,7 @@ module _ (s : Sight) (m r : Gv) (h : ℕ) where
   at_there c slot table ended src dst (Sending call op) st = (st.0, st.1, send_there s m r h c op slot (bytes_of call src dst) st.2)
   at_there c slot table ended src dst (Receiving call op) st = (st.0, st.1, slot_there s m r h slot st.2, receive_there s m r h c op (window call.first call.len dst) st.3)
 
-  pub stands_there : (base : List DataCall) (c : Private) (op : MoreAt) (slot : SlotAt) (src dst : List ℕ) → MoreStands base s c op slot src dst → MoreStands base (at_port s m r h) c op slot src dst
+  pub stands_there : (base : List DataCall) (c : Private) (op : MoreAt) (slot : SlotAt) (src dst : List ℕ) → MoreStands base (taking_part s c op slot src dst) → MoreStands base (taking_part (at_port s m r h) c op slot src dst)
   stands_there base c op slot src dst st = record {
     fits = st.fits;
     calls = ap (λ (rec : Record). rec.calls) (record_at_port s m r h) ∙ st.calls;

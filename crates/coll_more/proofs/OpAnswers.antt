@@ -12,7 +12,8 @@ use Rattle.send_recv.specs.Receiving.{RecvStands, RecvTurned}
 use Rattle.send_recv.specs.Sending.{SendStands, SendTurned}
 use Rattle.send_recv.specs.declared.answers.RecvTurn.{RecvTurn}
 use Rattle.send_recv.specs.declared.answers.RecvTurn.TheVariants as receive
-use Rattle.coll_more.specs.Ops.{HasOwn, MoreAt, begun_at, bytes_by, bytes_of, is_taking, table_of, window}
+use Rattle.send_recv.specs.Ranks.{receiving, sending}
+use Rattle.coll_more.specs.Ops.{HasOwn, MoreAt, begun_at, bytes_by, bytes_of, is_taking, table_of, window, taking_part}
 use Rattle.coll_more.specs.Standing.{IsFit, Stands}
 use Rattle.coll_more.specs.Tables.{calls_of, dst_len_of, has_own, src_len_of}
 use Rattle.coll_more.specs.Turns.{Turns, is_between, is_own}
@@ -47,61 +48,61 @@ at_between m is = λ i. record m { stage = between_by m.stage is i }
 
 module _ (s t : Sight) (c d : Private) (old a now b : MoreAt) (slot after : SlotAt) (src dst later : List ℕ) (answer : RecvTurn) where
   -- a turn of ops that are spelled in another way
-  carry : old ≡ a → now ≡ b → Stands s c old slot src dst → (Stands s c a slot src dst → Turns s c a slot src dst t d b after later answer) → Turns s c old slot src dst t d now after later answer
+  carry : old ≡ a → now ≡ b → Stands (taking_part s c old slot src dst) → (Stands (taking_part s c a slot src dst) → Turns (taking_part s c a slot src dst) (taking_part t d b after src later) answer) → Turns (taking_part s c old slot src dst) (taking_part t d now after src later) answer
   carry before behind fit turns =
-      subst (λ (x : MoreAt). Turns s c x slot src dst t d now after later answer) (sym before)
-      (subst (λ (y : MoreAt). Turns s c a slot src dst t d y after later answer) (sym behind) (turns (subst (λ (x : MoreAt). Stands s c x slot src dst) before fit)))
+      subst (λ (x : MoreAt). Turns (taking_part s c x slot src dst) (taking_part t d now after src later) answer) (sym before)
+      (subst (λ (y : MoreAt). Turns (taking_part s c a slot src dst) (taking_part t d y after src later) answer) (sym behind) (turns (subst (λ (x : MoreAt). Stands (taking_part s c x slot src dst)) before fit)))
 
-module _ (m old now : MoreAt) (s : Sight) (c : Private) (slot : SlotAt) (src dst : List ℕ) (fit : Stands s c old slot src dst) where
+module _ (m old now : MoreAt) (s : Sight) (c : Private) (slot : SlotAt) (src dst : List ℕ) (fit : Stands (taking_part s c old slot src dst)) where
   pub owned : (later : List ℕ) → old ≡ record m { stage = Own } → now ≡ record m { stage = Between } → length later ≡ length dst → HasOwn m.more s.seat.rank m.len src later
-      → Turns s c old slot src dst s c now slot later receive.Moved
+      → Turns (taking_part s c old slot src dst) (taking_part s c now slot src later) receive.Moved
   owned later before behind long has = carry s s c c old _ now _ slot slot src dst later receive.Moved before behind fit (λ there. own_turns m s c slot src dst later there long has)
 
   pub begun_next : s.seat.setup.nue ≤ 48 → s.seat.rank < s.seat.setup.nue → (call : PieceCall) → slice_get (table_of s.seat m) m.ended ≡ Some call
-      → old ≡ record m { stage = Between } → now ≡ record m { stage = begun_at call } → Turns s c old slot src dst s c now slot dst receive.Moved
+      → old ≡ record m { stage = Between } → now ≡ record m { stage = begun_at call } → Turns (taking_part s c old slot src dst) (taking_part s c now slot src dst) receive.Moved
   begun_next few low call at before behind = carry s s c c old _ now _ slot slot src dst dst receive.Moved before behind fit (λ there. begun_turns m s c slot src dst few low call at there.1.fits)
 
-  pub nothing_left : slice_get (table_of s.seat m) m.ended ≡ None → old ≡ record m { stage = Between } → now ≡ record m { stage = Between } → Turns s c old slot src dst s c now slot dst receive.Done
+  pub nothing_left : slice_get (table_of s.seat m) m.ended ≡ None → old ≡ record m { stage = Between } → now ≡ record m { stage = Between } → Turns (taking_part s c old slot src dst) (taking_part s c now slot src dst) receive.Done
   nothing_left none before behind = carry s s c c old _ now _ slot slot src dst dst receive.Done before behind fit (λ there. over_turns m s c slot src dst there none)
 
-module _ (m old now : MoreAt) (s t : Sight) (c d : Private) (call : PieceCall) (slot : SlotAt) (src dst : List ℕ) (fit : Stands s c old slot src dst) where
+module _ (m old now : MoreAt) (s t : Sight) (c d : Private) (call : PieceCall) (slot : SlotAt) (src dst : List ℕ) (fit : Stands (taking_part s c old slot src dst)) where
   module _ (op next : SendAt) (after : SlotAt) (bytes : List ℕ) (before : old ≡ record m { stage = Sending call op }) (out : bytes ≡ bytes_of call src dst) (stands : SendStands t d next after bytes) where
     there_send : SendStands t d next after (bytes_of call src dst)
     there_send = subst (λ (x : List ℕ). SendStands t d next after x) out stands
 
-    turned_send : (answer : Turn) → SendTurned s c op slot bytes t d next after answer → SendTurned s c op slot (bytes_of call src dst) t d next after answer
-    turned_send answer r = subst (λ (x : List ℕ). SendTurned s c op slot x t d next after answer) out r
+    turned_send : (answer : Turn) → SendTurned (sending s c op slot bytes) (sending t d next after bytes) answer → SendTurned (sending s c op slot (bytes_of call src dst)) (sending t d next after (bytes_of call src dst)) answer
+    turned_send answer r = subst (λ (x : List ℕ). SendTurned (sending s c op slot x) (sending t d next after x) answer) out r
 
-    pub sending_moved : now ≡ record m { stage = Sending call next } → SendTurned s c op slot bytes t d next after turn.Moved → Turns s c old slot src dst t d now after dst receive.Moved
+    pub sending_moved : now ≡ record m { stage = Sending call next } → SendTurned (sending s c op slot bytes) (sending t d next after bytes) turn.Moved → Turns (taking_part s c old slot src dst) (taking_part t d now after src dst) receive.Moved
     sending_moved is r = carry s t c d old _ now _ slot after src dst dst receive.Moved before is fit (λ there. send_moved m s t c d call op next slot after src dst there there_send (turned_send turn.Moved r))
 
-    pub sending_waited : (spot : Spot) → now ≡ record m { stage = Sending call next } → SendTurned s c op slot bytes t d next after (turn.Waiting spot)
-        → Turns s c old slot src dst t d now after dst (receive.Waiting spot)
+    pub sending_waited : (spot : Spot) → now ≡ record m { stage = Sending call next } → SendTurned (sending s c op slot bytes) (sending t d next after bytes) (turn.Waiting spot)
+        → Turns (taking_part s c old slot src dst) (taking_part t d now after src dst) (receive.Waiting spot)
     sending_waited spot is r =
         carry s t c d old _ now _ slot after src dst dst (receive.Waiting spot) before is fit (λ there. send_waited m s t c d call op next slot after src dst there there_send spot (turned_send (turn.Waiting spot) r))
 
-    pub sending_done : now ≡ record m { ended = m.ended + 1; stage = Between } → SendTurned s c op slot bytes t d next after turn.Done → Turns s c old slot src dst t d now after dst receive.Moved
+    pub sending_done : now ≡ record m { ended = m.ended + 1; stage = Between } → SendTurned (sending s c op slot bytes) (sending t d next after bytes) turn.Done → Turns (taking_part s c old slot src dst) (taking_part t d now after src dst) receive.Moved
     sending_done is r = carry s t c d old _ now _ slot after src dst dst receive.Moved before is fit (λ there. send_done m s t c d call op next slot after src dst there there_send (turned_send turn.Done r))
 
   module _ (few : s.seat.setup.nue ≤ 48) (low : s.seat.rank < s.seat.setup.nue) (op next : RecvAt) (later : List ℕ) (before : old ≡ record m { stage = Receiving call op })
       (stands : RecvStands t d next (window call.first call.len later)) (long : length later ≡ length dst) (front : take call.first later ≡ take call.first dst)
       (behind : drop (call.first + call.len) later ≡ drop (call.first + call.len) dst) where
     abbrev Got : RecvTurn → Type 0
-    Got answer = RecvTurned s c op (window call.first call.len dst) t d next (window call.first call.len later) answer
+    Got answer = RecvTurned (receiving s c op (window call.first call.len dst)) (receiving t d next (window call.first call.len later)) answer
 
-    pub receiving_moved : now ≡ record m { stage = Receiving call next } → Got receive.Moved → Turns s c old slot src dst t d now slot later receive.Moved
+    pub receiving_moved : now ≡ record m { stage = Receiving call next } → Got receive.Moved → Turns (taking_part s c old slot src dst) (taking_part t d now slot src later) receive.Moved
     receiving_moved is r =
         carry s t c d old _ now _ slot slot src dst later receive.Moved before is fit (λ there. recv_moved m s t c d call op next slot src dst later few low there stands long front behind r)
 
-    pub receiving_waited : (spot : Spot) → now ≡ record m { stage = Receiving call next } → Got (receive.Waiting spot) → Turns s c old slot src dst t d now slot later (receive.Waiting spot)
+    pub receiving_waited : (spot : Spot) → now ≡ record m { stage = Receiving call next } → Got (receive.Waiting spot) → Turns (taking_part s c old slot src dst) (taking_part t d now slot src later) (receive.Waiting spot)
     receiving_waited spot is r =
         carry s t c d old _ now _ slot slot src dst later (receive.Waiting spot) before is fit (λ there. recv_waited m s t c d call op next slot src dst later few low there stands long front behind spot r)
 
-    pub receiving_refused : (sent : MessageHead) → now ≡ record m { stage = Receiving call next } → Got (receive.Mismatch sent) → Turns s c old slot src dst t d now slot later (receive.Mismatch sent)
+    pub receiving_refused : (sent : MessageHead) → now ≡ record m { stage = Receiving call next } → Got (receive.Mismatch sent) → Turns (taking_part s c old slot src dst) (taking_part t d now slot src later) (receive.Mismatch sent)
     receiving_refused sent is r =
         carry s t c d old _ now _ slot slot src dst later (receive.Mismatch sent) before is fit (λ there. recv_refused m s t c d call op next slot src dst later few low there stands long front behind sent r)
 
-    pub receiving_done : now ≡ record m { ended = m.ended + 1; stage = Between } → Got receive.Done → Turns s c old slot src dst t d now slot later receive.Moved
+    pub receiving_done : now ≡ record m { ended = m.ended + 1; stage = Between } → Got receive.Done → Turns (taking_part s c old slot src dst) (taking_part t d now slot src later) receive.Moved
     receiving_done is r =
         carry s t c d old _ now _ slot slot src dst later receive.Moved before is fit (λ there. recv_done m s t c d call op next slot src dst later few low there stands long front behind r)
 
@@ -145,10 +146,10 @@ into_dst Gives src dst is = absurd (cc)
 into_dst Shares src dst is = absurd (cc)
 into_dst Takes src dst is = refl
 
-module _ (m old : MoreAt) (s : Sight) (c : Private) (call : PieceCall) (slot : SlotAt) (src dst : List ℕ) (few : s.seat.setup.nue ≤ 48) (low : s.seat.rank < s.seat.setup.nue) (fit : Stands s c old slot src dst) where
+module _ (m old : MoreAt) (s : Sight) (c : Private) (call : PieceCall) (slot : SlotAt) (src dst : List ℕ) (few : s.seat.setup.nue ≤ 48) (low : s.seat.rank < s.seat.setup.nue) (fit : Stands (taking_part s c old slot src dst)) where
   module _ (op : SendAt) (before : old ≡ record m { stage = Sending call op }) where
-    there_sending : Stands s c (record m { stage = Sending call op }) slot src dst
-    there_sending = subst (λ (x : MoreAt). Stands s c x slot src dst) before fit
+    there_sending : Stands (taking_part s c (record m { stage = Sending call op }) slot src dst)
+    there_sending = subst (λ (x : MoreAt). Stands (taking_part s c x slot src dst)) before fit
 
     pub sending_room : call.first + call.len ≤ length (bytes_by call.way src dst)
     sending_room = inside_here m s c slot src dst few low call there_sending.1.at.0 there_sending.1.fits
@@ -157,8 +158,8 @@ module _ (m old : MoreAt) (s : Sight) (c : Private) (call : PieceCall) (slot : S
     sending_fits = next_fits m.more s.seat.rank s.seat.setup.nue m.len m.ended call low few there_sending.1.at.0
 
   module _ (op : RecvAt) (before : old ≡ record m { stage = Receiving call op }) where
-    there_receiving : Stands s c (record m { stage = Receiving call op }) slot src dst
-    there_receiving = subst (λ (x : MoreAt). Stands s c x slot src dst) before fit
+    there_receiving : Stands (taking_part s c (record m { stage = Receiving call op }) slot src dst)
+    there_receiving = subst (λ (x : MoreAt). Stands (taking_part s c x slot src dst)) before fit
 
     pub receiving_room : call.first + call.len ≤ length dst
     receiving_room =

@@ -16,8 +16,9 @@ use Rattle.send_recv.specs.Receiving.{RecvStands, RecvTurned, recv_call, recv_le
 use Rattle.send_recv.specs.Turns.{StoresFromBuffer, is_no_draft}
 use Rattle.send_recv.specs.declared.answers.RecvTurn.{RecvTurn}
 use Rattle.send_recv.specs.declared.answers.RecvTurn.TheVariants as turn
+use Rattle.send_recv.specs.Ranks.{receiving}
 use Rattle.send_recv.proofs.Starts.{free_after_received, slot_after}
-use Rattle.coll_more.specs.Ops.{HasOwn, MoreAt, bytes_by, data_by, data_of, ended_calls, is_taking, table_of, window}
+use Rattle.coll_more.specs.Ops.{HasOwn, MoreAt, bytes_by, data_by, data_of, ended_calls, is_taking, table_of, window, taking_part}
 use Rattle.coll_more.specs.Standing.{IsFit, IsRecvOf, MoreStands, Stands}
 use Rattle.coll_more.specs.Tables.{dst_len_of, has_own, src_len_of}
 use Rattle.coll_more.specs.Turns.{Turns, left_from}
@@ -52,12 +53,12 @@ old_bytes src dst later call y Takes before same = sym (window_front dst later y
 
 module _ (m : MoreAt) (s t : Sight) (c d : Private) (call : PieceCall) (op next : RecvAt) (slot : SlotAt) (src dst later : List ℕ) where
   abbrev Turned : RecvTurn → Type 0
-  Turned answer = RecvTurned s c op (window call.first call.len dst) t d next (window call.first call.len later) answer
+  Turned answer = RecvTurned (receiving s c op (window call.first call.len dst)) (receiving t d next (window call.first call.len later)) answer
 
   later_of : IsRecvOf call op → (next.from ≡ op.from) × (next.head ≡ op.head) → is_received next.stage ≡ false → IsRecvOf call next
   later_of of same unended = record { way = of.way; from = same.0 ∙ of.from; head = same.1 ∙ of.head; unended = unended }
 
-  module _ (few : s.seat.setup.nue ≤ 48) (low : s.seat.rank < s.seat.setup.nue) (fit : Stands s c (record m { stage = Receiving call op }) slot src dst)
+  module _ (few : s.seat.setup.nue ≤ 48) (low : s.seat.rank < s.seat.setup.nue) (fit : Stands (taking_part s c (record m { stage = Receiving call op }) slot src dst))
       (there : RecvStands t d next (window call.first call.len later)) (long : length later ≡ length dst) (front : take call.first later ≡ take call.first dst)
       (behind : drop (call.first + call.len) later ≡ drop (call.first + call.len) dst) where
     here : IsRecvOf call op
@@ -95,8 +96,8 @@ module _ (m : MoreAt) (s t : Sight) (c d : Private) (call : PieceCall) (op next 
       own_there : HasOwn m.more s.seat.rank m.len src dst → HasOwn m.more t.seat.rank m.len src later
       own_there old = subst (λ (x : Seat). HasOwn m.more x.rank m.len src later) (sym seat) (kept_own old)
 
-      kept : is_received next.stage ≡ false → (record_in t).calls ≡ (record_in s).calls → (base : List DataCall) → MoreStands base s c (record m { stage = Receiving call op }) slot src dst
-          → MoreStands base t d (record m { stage = Receiving call next }) slot src later
+      kept : is_received next.stage ≡ false → (record_in t).calls ≡ (record_in s).calls → (base : List DataCall) → MoreStands base (taking_part s c (record m { stage = Receiving call op }) slot src dst)
+          → MoreStands base (taking_part t d (record m { stage = Receiving call next }) slot src later)
       kept unended calls base st = record {
         fits = fits_there st.fits;
         calls = calls ∙ st.calls ∙ ap (λ (x : List DataCall). base ++ x) kept_calls ∙ ap (λ (x : Seat). base ++ ended_calls x m src later) (sym seat);
@@ -104,7 +105,7 @@ module _ (m : MoreAt) (s t : Sight) (c d : Private) (call : PieceCall) (op next 
         at = (subst (λ (x : Seat). slice_get (table_of x m) m.ended ≡ Some call) (sym seat) st.at.0, later_of st.at.1 r.same unended, slot_after r.events r.did r.post st.at.2, there);
       }
 
-    pub recv_moved : Turned turn.Moved → Turns s c (record m { stage = Receiving call op }) slot src dst t d (record m { stage = Receiving call next }) slot later turn.Moved
+    pub recv_moved : Turned turn.Moved → Turns (taking_part s c (record m { stage = Receiving call op }) slot src dst) (taking_part t d (record m { stage = Receiving call next }) slot src later) turn.Moved
     recv_moved r = record {
       stands = kept turn.Moved r r.means.3 r.means.1;
       turned = record {
@@ -126,7 +127,7 @@ module _ (m : MoreAt) (s t : Sight) (c d : Private) (call : PieceCall) (op next 
         less = let fewer = r.means.0 in omega (arith, fewer)
 
     pub recv_waited : (spot : Spot) → Turned (turn.Waiting spot)
-        → Turns s c (record m { stage = Receiving call op }) slot src dst t d (record m { stage = Receiving call next }) slot later (turn.Waiting spot)
+        → Turns (taking_part s c (record m { stage = Receiving call op }) slot src dst) (taking_part t d (record m { stage = Receiving call next }) slot src later) (turn.Waiting spot)
     recv_waited spot r = record {
       stands = kept (turn.Waiting spot) r (ap (λ (x : RecvAt). is_received x.stage) r.means.0 ∙ here.unended) r.means.2.calls;
       turned = record {
@@ -145,7 +146,7 @@ module _ (m : MoreAt) (s t : Sight) (c d : Private) (call : PieceCall) (op next 
     }
 
     pub recv_refused : (sent : MessageHead) → Turned (turn.Mismatch sent)
-        → Turns s c (record m { stage = Receiving call op }) slot src dst t d (record m { stage = Receiving call next }) slot later (turn.Mismatch sent)
+        → Turns (taking_part s c (record m { stage = Receiving call op }) slot src dst) (taking_part t d (record m { stage = Receiving call next }) slot src later) (turn.Mismatch sent)
     recv_refused sent r = record {
       stands = kept (turn.Mismatch sent) r (ap (λ (x : RecvAt). is_received x.stage) r.means.0 ∙ here.unended) r.means.3.calls;
       turned = record {
@@ -168,7 +169,7 @@ module _ (m : MoreAt) (s t : Sight) (c d : Private) (call : PieceCall) (op next 
     }
 
     pub recv_done : Turned turn.Done
-        → Turns s c (record m { stage = Receiving call op }) slot src dst t d (record m { ended = m.ended + 1; stage = Between }) slot later turn.Moved
+        → Turns (taking_part s c (record m { stage = Receiving call op }) slot src dst) (taking_part t d (record m { ended = m.ended + 1; stage = Between }) slot src later) turn.Moved
     recv_done r = record {
       stands = λ base st. record {
         fits = fits_there turn.Done r st.fits;
@@ -200,7 +201,7 @@ module _ (m : MoreAt) (s t : Sight) (c d : Private) (call : PieceCall) (op next 
             ∙ ap (λ (x : List ℕ). Recv call.peer (plain_head call.len) x ∷ []) (sym r.means.1)
             ∙ ap (λ (x : DataCall). x ∷ []) (got_data call.way call.peer call.len call.first src later here.way)
 
-        more : (base : List DataCall) → MoreStands base s c (record m { stage = Receiving call op }) slot src dst
+        more : (base : List DataCall) → MoreStands base (taking_part s c (record m { stage = Receiving call op }) slot src dst)
             → (record_in t).calls ≡ base ++ ended_calls t.seat (record m { ended = m.ended + 1 }) src later
         more base st =
             r.means.2

@@ -13,8 +13,9 @@ use Rattle.put_get.specs.Cores.{Private}
 use Rattle.send_recv.specs.Ops.{SendAt, SlotAt, is_sent}
 use Rattle.send_recv.specs.Sending.{SendStands, SendTurned, send_call, send_left}
 use Rattle.send_recv.specs.declared.answers.RecvTurn.TheVariants as receive
+use Rattle.send_recv.specs.Ranks.{sending}
 use Rattle.send_recv.proofs.Starts.{free_after_sent}
-use Rattle.coll_more.specs.Ops.{HasOwn, MoreAt, bytes_of, data_by, data_of, ended_calls, is_taking, table_of}
+use Rattle.coll_more.specs.Ops.{HasOwn, MoreAt, bytes_of, data_by, data_of, ended_calls, is_taking, table_of, taking_part}
 use Rattle.coll_more.specs.Standing.{IsFit, IsSendOf, MoreStands, Stands}
 use Rattle.coll_more.specs.Turns.{Turns, left_from}
 use Rattle.coll_more.specs.declared.kinds.PieceCall.{PieceCall}
@@ -34,12 +35,12 @@ sent_data Takes peer len bytes is = absurd (cc)
 
 module _ (m : MoreAt) (s t : Sight) (c d : Private) (call : PieceCall) (op next : SendAt) (slot after : SlotAt) (src dst : List ℕ) where
   abbrev Turned : Turn → Type 0
-  Turned answer = SendTurned s c op slot (bytes_of call src dst) t d next after answer
+  Turned answer = SendTurned (sending s c op slot (bytes_of call src dst)) (sending t d next after (bytes_of call src dst)) answer
 
   later_of : IsSendOf call op → (next.to ≡ op.to) × (next.head ≡ op.head) × (next.posted ≡ op.posted) → is_sent next.stage ≡ false → IsSendOf call next
   later_of of same unended = record { way = of.way; to = same.0 ∙ of.to; head = same.1 ∙ of.head; plain = same.2 ∙ of.plain; unended = unended }
 
-  module _ (fit : Stands s c (record m { stage = Sending call op }) slot src dst) (there : SendStands t d next after (bytes_of call src dst)) where
+  module _ (fit : Stands (taking_part s c (record m { stage = Sending call op }) slot src dst)) (there : SendStands t d next after (bytes_of call src dst)) where
     here : IsSendOf call op
     here = fit.1.at.1
 
@@ -53,8 +54,8 @@ module _ (m : MoreAt) (s t : Sight) (c d : Private) (call : PieceCall) (op next 
       own_there : HasOwn m.more s.seat.rank m.len src dst → HasOwn m.more t.seat.rank m.len src dst
       own_there old = subst (λ (x : Seat). HasOwn m.more x.rank m.len src dst) (sym seat) old
 
-      kept : is_sent next.stage ≡ false → (record_in t).calls ≡ (record_in s).calls → (base : List DataCall) → MoreStands base s c (record m { stage = Sending call op }) slot src dst
-          → MoreStands base t d (record m { stage = Sending call next }) after src dst
+      kept : is_sent next.stage ≡ false → (record_in t).calls ≡ (record_in s).calls → (base : List DataCall) → MoreStands base (taking_part s c (record m { stage = Sending call op }) slot src dst)
+          → MoreStands base (taking_part t d (record m { stage = Sending call next }) after src dst)
       kept unended calls base st = record {
         fits = fits_there st.fits;
         calls = calls ∙ st.calls ∙ ap (λ (x : Seat). base ++ ended_calls x m src dst) (sym seat);
@@ -62,7 +63,7 @@ module _ (m : MoreAt) (s t : Sight) (c d : Private) (call : PieceCall) (op next 
         at = (subst (λ (x : Seat). slice_get (table_of x m) m.ended ≡ Some call) (sym seat) st.at.0, later_of st.at.1 r.same unended, there);
       }
 
-    pub send_moved : Turned turn.Moved → Turns s c (record m { stage = Sending call op }) slot src dst t d (record m { stage = Sending call next }) after dst receive.Moved
+    pub send_moved : Turned turn.Moved → Turns (taking_part s c (record m { stage = Sending call op }) slot src dst) (taking_part t d (record m { stage = Sending call next }) after src dst) receive.Moved
     send_moved r = record {
       stands = kept turn.Moved r r.means.3 r.means.1;
       turned = record {
@@ -85,7 +86,7 @@ module _ (m : MoreAt) (s t : Sight) (c d : Private) (call : PieceCall) (op next 
         less = let fewer = r.means.0 in omega (arith, fewer)
 
     pub send_waited : (spot : Spot) → Turned (turn.Waiting spot)
-        → Turns s c (record m { stage = Sending call op }) slot src dst t d (record m { stage = Sending call next }) after dst (receive.Waiting spot)
+        → Turns (taking_part s c (record m { stage = Sending call op }) slot src dst) (taking_part t d (record m { stage = Sending call next }) after src dst) (receive.Waiting spot)
     send_waited spot r = record {
       stands = kept (turn.Waiting spot) r (ap (λ (x : SendAt). is_sent x.stage) r.means.0 ∙ here.unended) r.means.2.calls;
       turned = record {
@@ -104,7 +105,7 @@ module _ (m : MoreAt) (s t : Sight) (c d : Private) (call : PieceCall) (op next 
     }
 
     pub send_done : Turned turn.Done
-        → Turns s c (record m { stage = Sending call op }) slot src dst t d (record m { ended = m.ended + 1; stage = Between }) after dst receive.Moved
+        → Turns (taking_part s c (record m { stage = Sending call op }) slot src dst) (taking_part t d (record m { ended = m.ended + 1; stage = Between }) after src dst) receive.Moved
     send_done r = record {
       stands = λ base st. record {
         fits = fits_there turn.Done r st.fits;
@@ -130,7 +131,7 @@ module _ (m : MoreAt) (s t : Sight) (c d : Private) (call : PieceCall) (op next 
         less : left_from s.seat m (m.ended + 1) < (1 + send_left s.seat.setup.layout (chunk_of s.seat.setup) op slot) + left_from s.seat m (m.ended + 1)
         less = omega arith
 
-        more : (base : List DataCall) → MoreStands base s c (record m { stage = Sending call op }) slot src dst
+        more : (base : List DataCall) → MoreStands base (taking_part s c (record m { stage = Sending call op }) slot src dst)
             → (record_in t).calls ≡ base ++ ended_calls t.seat (record m { ended = m.ended + 1 }) src dst
         more base st =
             r.means.2

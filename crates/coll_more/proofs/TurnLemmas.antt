@@ -13,7 +13,7 @@ use Rattle.send_recv.specs.Turns.{NoLoad}
 use Rattle.send_recv.specs.declared.answers.RecvTurn.TheVariants as turn
 use Rattle.send_recv.proofs.Starts.{new_receive_left, new_send_left, receive_starts, send_starts}
 use Rattle.sync_flags.specs.Tries.{NoTry}
-use Rattle.coll_more.specs.Ops.{HasOwn, MoreAt, begun_at, begun_by, bytes_by, bytes_of, data_of, ended_calls, is_taking, table_of, window}
+use Rattle.coll_more.specs.Ops.{HasOwn, MoreAt, begun_at, begun_by, bytes_by, bytes_of, data_of, ended_calls, is_taking, table_of, window, taking_part}
 use Rattle.coll_more.specs.Standing.{IsFit, MoreStands, Stands, StandsAt}
 use Rattle.coll_more.specs.Tables.{dst_len_of, has_own, src_len_of}
 use Rattle.coll_more.specs.Turns.{Turns, call_bound, left_by, left_from}
@@ -30,8 +30,8 @@ plain_valid len short = record { kind_below = omega arith; comm_below = omega ar
 
 -- a turn without events
 module _ (m : MoreAt) (s : Sight) (c : Private) (slot : SlotAt) (src dst : List ℕ) where
-  pub own_turns : (later : List ℕ) → Stands s c (record m { stage = Own }) slot src dst → length later ≡ length dst → HasOwn m.more s.seat.rank m.len src later
-      → Turns s c (record m { stage = Own }) slot src dst s c (record m { stage = Between }) slot later turn.Moved
+  pub own_turns : (later : List ℕ) → Stands (taking_part s c (record m { stage = Own }) slot src dst) → length later ≡ length dst → HasOwn m.more s.seat.rank m.len src later
+      → Turns (taking_part s c (record m { stage = Own }) slot src dst) (taking_part s c (record m { stage = Between }) slot src later) turn.Moved
   own_turns later fit long has = record {
     stands = λ base st. record {
       fits = record { short = st.fits.short; src_is = st.fits.src_is; dst_is = long ∙ st.fits.dst_is };
@@ -60,8 +60,8 @@ module _ (m : MoreAt) (s : Sight) (c : Private) (slot : SlotAt) (src dst : List 
       less : left_from s.seat m m.ended < 1 + left_from s.seat m m.ended
       less = omega arith
 
-  pub over_turns : Stands s c (record m { stage = Between }) slot src dst → slice_get (table_of s.seat m) m.ended ≡ None
-      → Turns s c (record m { stage = Between }) slot src dst s c (record m { stage = Between }) slot dst turn.Done
+  pub over_turns : Stands (taking_part s c (record m { stage = Between }) slot src dst) → slice_get (table_of s.seat m) m.ended ≡ None
+      → Turns (taking_part s c (record m { stage = Between }) slot src dst) (taking_part s c (record m { stage = Between }) slot src dst) turn.Done
   over_turns fit none = record {
     stands = λ base st. st;
     turned = record {
@@ -121,10 +121,10 @@ module _ (m : MoreAt) (s : Sight) (c : Private) (slot : SlotAt) (src dst : List 
     begun_left Shares = let most = new_send_left s.seat.setup.layout (chunk_of s.seat.setup) call.peer (plain_head call.len) false slot in omega (arith, most)
     begun_left Takes = let most = new_receive_left (chunk_of s.seat.setup) call.peer (plain_head call.len) in omega (arith, most)
 
-    begun_copied : (base : List DataCall) → MoreStands base s c (record m { stage = Between }) slot src dst → MoreStands base s c (record m { stage = begun_at call }) slot src dst
+    begun_copied : (base : List DataCall) → MoreStands base (taking_part s c (record m { stage = Between }) slot src dst) → MoreStands base (taking_part s c (record m { stage = begun_at call }) slot src dst)
     begun_copied base st = record { fits = st.fits; calls = st.calls; own = λ is. st.own refl; at = begun_stands call.way refl st.at }
 
-    pub begun_turns : Turns s c (record m { stage = Between }) slot src dst s c (record m { stage = begun_at call }) slot dst turn.Moved
+    pub begun_turns : Turns (taking_part s c (record m { stage = Between }) slot src dst) (taking_part s c (record m { stage = begun_at call }) slot src dst) turn.Moved
     begun_turns = record {
       stands = begun_copied;
       turned = record {

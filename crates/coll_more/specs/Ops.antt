@@ -3,8 +3,9 @@ use Rattle.std.specs.Prelude.{◌≡◌, ℕ, ◌*◌, Bool, true, false, List, 
 use Rattle.scc_base.specs.Calls.{DataCall}
 use Rattle.scc_base.specs.Calls.DataCall.{Send, Recv}
 use Rattle.scc_base.specs.Heads.{plain_head}
-use Rattle.scc_proto.specs.Ports.{Seat}
-use Rattle.send_recv.specs.Ops.{new_receive, new_send}
+use Rattle.scc_proto.specs.Ports.{Seat, Sight}
+use Rattle.put_get.specs.Cores.{Private}
+use Rattle.send_recv.specs.Ops.{SlotAt, new_receive, new_send}
 use Rattle.coll_more.specs.Tables.{calls_of, has_own}
 use Rattle.coll_more.specs.declared.kinds.More.{More}
 use Rattle.coll_more.specs.declared.kinds.PieceCall.{PieceCall}
@@ -19,6 +20,19 @@ pub record MoreAt : Type 0 where
   pub len : ℕ
   pub ended : ℕ
   pub stage : Stage
+
+-- a rank that takes part in a collective call: what its port and its core show, where the call stands, its slot, and the caller's
+-- bytes
+pub record Participant : Type 0 where
+  pub sight : Sight
+  pub core : Private
+  pub op : MoreAt
+  pub slot : SlotAt
+  pub src : List ℕ
+  pub dst : List ℕ
+
+abbrev pub taking_part : Sight → Private → MoreAt → SlotAt → (src dst : List ℕ) → Participant
+taking_part sight core op slot src dst = record { sight = sight; core = core; op = op; slot = slot; src = src; dst = dst }
 
 -- a collective call at its start
 abbrev pub new_more : More → ℕ → MoreAt

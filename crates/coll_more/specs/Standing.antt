@@ -9,7 +9,7 @@ use Rattle.send_recv.specs.Calling.{IsInNoCall}
 use Rattle.send_recv.specs.Ops.{RecvAt, SendAt, SlotAt, is_received, is_sent}
 use Rattle.send_recv.specs.Receiving.{RecvStands}
 use Rattle.send_recv.specs.Sending.{SendStands, SlotStands}
-use Rattle.coll_more.specs.Ops.{HasOwn, MoreAt, bytes_of, data_calls, ended_calls, is_copied, is_taking, table_of, window}
+use Rattle.coll_more.specs.Ops.{HasOwn, Participant, bytes_of, data_calls, ended_calls, is_copied, is_taking, table_of, window}
 use Rattle.coll_more.specs.Tables.{dst_len_of, src_len_of}
 use Rattle.coll_more.specs.declared.kinds.More.{More}
 use Rattle.coll_more.specs.declared.kinds.PieceCall.{PieceCall}
@@ -46,19 +46,19 @@ StandsAt s c slot table ended src dst (Receiving call op) = (slice_get table end
     × RecvStands s c op (window call.first call.len dst)
 
 -- a collective call fits the record, the core, the slot and the bytes at its rank; these calls had the record before it
-pub record MoreStands (base : List DataCall) (s : Sight) (c : Private) (op : MoreAt) (slot : SlotAt) (src dst : List ℕ) : Type 0 where
-  pub fits : IsFit op.more s.seat.rank s.seat.setup.nue op.len src dst
-  pub calls : (record_in s).calls ≡ base ++ ended_calls s.seat op src dst
-  pub own : is_copied op.stage ≡ true → HasOwn op.more s.seat.rank op.len src dst
-  pub at : StandsAt s c slot (table_of s.seat op) op.ended src dst op.stage
+pub record MoreStands (base : List DataCall) (r : Participant) : Type 0 where
+  pub fits : IsFit r.op.more r.sight.seat.rank r.sight.seat.setup.nue r.op.len r.src r.dst
+  pub calls : (record_in r.sight).calls ≡ base ++ ended_calls r.sight.seat r.op r.src r.dst
+  pub own : is_copied r.op.stage ≡ true → HasOwn r.op.more r.sight.seat.rank r.op.len r.src r.dst
+  pub at : StandsAt r.sight r.core r.slot (table_of r.sight.seat r.op) r.op.ended r.src r.dst r.op.stage
 
 -- a collective call fits, whatever calls were made before it
-abbrev pub Stands : Sight → Private → MoreAt → SlotAt → (src dst : List ℕ) → Type 0
-Stands s c op slot src dst = (base : List DataCall) × MoreStands base s c op slot src dst
+abbrev pub Stands : Participant → Type 0
+Stands r = (base : List DataCall) × MoreStands base r
 
 -- a collective call is at its end: the record has gained exactly the calls of its table, with the bytes of src and dst, the own
 -- piece stands in dst, and the rank is in no call
-pub record HasEnded (base : List DataCall) (s : Sight) (c : Private) (op : MoreAt) (slot : SlotAt) (src dst : List ℕ) : Type 0 where
-  pub calls : (record_in s).calls ≡ base ++ data_calls op.more s.seat.rank s.seat.setup.nue op.len src dst
-  pub own : HasOwn op.more s.seat.rank op.len src dst
-  pub no_call : IsInNoCall s c slot
+pub record HasEnded (base : List DataCall) (r : Participant) : Type 0 where
+  pub calls : (record_in r.sight).calls ≡ base ++ data_calls r.op.more r.sight.seat.rank r.sight.seat.setup.nue r.op.len r.src r.dst
+  pub own : HasOwn r.op.more r.sight.seat.rank r.op.len r.src r.dst
+  pub no_call : IsInNoCall r.sight r.core r.slot

@@ -7,10 +7,9 @@ use Rattle.scc_base.specs.declared.events.Event.{Event}
 use Rattle.scc_base.specs.declared.events.Spot.{Spot}
 use Rattle.scc_base.specs.declared.layouts.Layout.{Layout}
 use Rattle.scc_proto.specs.Messages.{Notes}
-use Rattle.scc_proto.specs.Ports.{Did, Seat, Sight, record_in}
+use Rattle.scc_proto.specs.Ports.{Did, Seat, record_in}
 use Rattle.scc_proto.specs.Records.{chunk_of}
 use Rattle.scc_proto.specs.Stages.{Record}
-use Rattle.put_get.specs.Cores.{Private}
 use Rattle.send_recv.specs.Chunks.{message_bound}
 use Rattle.send_recv.specs.Ops.{SlotAt}
 use Rattle.send_recv.specs.Receiving.{SaysHead, recv_left, recv_spot, recv_waits}
@@ -20,7 +19,7 @@ use Rattle.send_recv.specs.Turns.{IsAtRest, KeepsRest, LastHeld, OnlyTries, Stor
 use Rattle.send_recv.specs.declared.answers.RecvTurn.{RecvTurn}
 use Rattle.send_recv.specs.declared.answers.RecvTurn.TheVariants as turn
 use Rattle.sync_flags.specs.Tries.{Aim, Tried, changing_after}
-use Rattle.coll_more.specs.Ops.{MoreAt, table_of}
+use Rattle.coll_more.specs.Ops.{MoreAt, Participant, table_of}
 use Rattle.coll_more.specs.Standing.{MoreStands}
 use Rattle.coll_more.specs.declared.kinds.PieceCall.{PieceCall}
 use Rattle.coll_more.specs.declared.ops.Stage.{Stage}
@@ -70,48 +69,46 @@ MetOther rec sent (Receiving call receive) = (sent ≢ plain_head call.len) × (
 MetOther rec sent stage = ⊥
 
 -- the op, the slot and dst are as before, and the record but for what it has seen
-pub record IsStill (rec : Record) (op : MoreAt) (slot : SlotAt) (dst : List ℕ) (new : Record) (now : MoreAt) (after : SlotAt) (later : List ℕ) : Type 0 where
-  pub same_op : now ≡ op
-  pub same_slot : after ≡ slot
-  pub same_dst : later ≡ dst
-  pub rest : IsAtRest rec new
+pub record IsStill (old now : Participant) : Type 0 where
+  pub same_op : now.op ≡ old.op
+  pub same_slot : now.slot ≡ old.slot
+  pub same_dst : now.dst ≡ old.dst
+  pub rest : IsAtRest (record_in old.sight) (record_in now.sight)
 
 -- what each answer means: Moved alone lowers the number of turns left; Waiting and Mismatch leave all as it was; and Done comes
 -- exactly where nothing was left before, and then nothing is done
-abbrev pub MoreMeans : Sight → Private → MoreAt → SlotAt → List ℕ → Sight → Private → MoreAt → SlotAt → List ℕ → RecvTurn → Type 0
-MoreMeans s c op slot dst t d now after later turn.Moved = (more_left s.seat now after < more_left s.seat op slot) × (is_over s.seat op ≡ false)
-MoreMeans s c op slot dst t d now after later (turn.Waiting spot) = IsStill (record_in s) op slot dst (record_in t) now after later × (is_over s.seat op ≡ false)
-MoreMeans s c op slot dst t d now after later turn.Done = (now ≡ op) × (after ≡ slot) × (later ≡ dst) × (t ≡ s) × (d ≡ c) × (is_over s.seat op ≡ true)
-MoreMeans s c op slot dst t d now after later (turn.Mismatch sent) = IsStill (record_in s) op slot dst (record_in t) now after later × (is_over s.seat op ≡ false)
-    × MetOther (record_in t) sent op.stage
+abbrev pub MoreMeans : Participant → Participant → RecvTurn → Type 0
+MoreMeans old now turn.Moved = (more_left old.sight.seat now.op now.slot < more_left old.sight.seat old.op old.slot) × (is_over old.sight.seat old.op ≡ false)
+MoreMeans old now (turn.Waiting spot) = IsStill old now × (is_over old.sight.seat old.op ≡ false)
+MoreMeans old now turn.Done = (now.op ≡ old.op) × (now.slot ≡ old.slot) × (now.dst ≡ old.dst) × (now.sight ≡ old.sight) × (now.core ≡ old.core)
+    × (is_over old.sight.seat old.op ≡ true)
+MoreMeans old now (turn.Mismatch sent) = IsStill old now × (is_over old.sight.seat old.op ≡ false) × MetOther (record_in now.sight) sent old.op.stage
 
 -- one turn of a collective call: what it did, and what it came to
-pub record MoreTurned (s : Sight) (c : Private) (op : MoreAt) (slot : SlotAt) (dst : List ℕ) (t : Sight) (d : Private) (now : MoreAt) (after : SlotAt) (later : List ℕ)
-    (answer : RecvTurn) : Type 0 where
+pub record MoreTurned (old now : Participant) (answer : RecvTurn) : Type 0 where
   pub events : List Event
   -- each event was permitted
-  pub did : Did s events t
+  pub did : Did old.sight events now.sight
   -- it waits exactly where its one try was vain, at the spot of its message
-  pub tried : Tried (aim_by s.seat slot op.stage) events (recv_waits answer)
+  pub tried : Tried (aim_by old.sight.seat old.slot old.op.stage) events (recv_waits answer)
   -- it has freed the register that it took
   pub freed : changing_after false events ≡ false
   -- where it waits, each of its events was a load or a vain take
   pub rests : (spot : Spot) → answer ≡ turn.Waiting spot → list_all is_resting events ≡ true
   -- where it waits, it made that one try and nothing else
-  pub only : OnlyTries (aim_at s.seat.setup.layout (recv_waits answer)) events
-  pub same : (now.more ≡ op.more) × (now.len ≡ op.len)
-  pub means : MoreMeans s c op slot dst t d now after later answer
-  pub rest : KeepsRest (record_in s) (record_in t)
+  pub only : OnlyTries (aim_at old.sight.seat.setup.layout (recv_waits answer)) events
+  pub same : (now.op.more ≡ old.op.more) × (now.op.len ≡ old.op.len)
+  pub means : MoreMeans old now answer
+  pub rest : KeepsRest (record_in old.sight) (record_in now.sight)
   -- each header or chunk word that it stored stood in the buffer before
-  pub drafts : StoresFromBuffer s.seat.setup c events
+  pub drafts : StoresFromBuffer old.sight.seat.setup old.core events
   -- the line that was loaded last stands in the cache, unless lines were evicted
-  pub held : LastHeld events c.evictions d
+  pub held : LastHeld events old.core.evictions now.core
 
 -- a turn, after which the op and its rank fit together again
-pub record Turns (s : Sight) (c : Private) (op : MoreAt) (slot : SlotAt) (src dst : List ℕ) (t : Sight) (d : Private) (now : MoreAt) (after : SlotAt) (later : List ℕ)
-    (answer : RecvTurn) : Type 0 where
-  pub stands : (base : List DataCall) → MoreStands base s c op slot src dst → MoreStands base t d now after src later
-  pub turned : MoreTurned s c op slot dst t d now after later answer
+pub record Turns (old now : Participant) (answer : RecvTurn) : Type 0 where
+  pub stands : (base : List DataCall) → MoreStands base old → MoreStands base now
+  pub turned : MoreTurned old now answer
 
 -- the own piece is copied next
 abbrev pub is_own : Stage → Bool

@@ -9,7 +9,7 @@ ghost use Rattle.put_get.specs.Cores.{Private};
 ghost use Rattle.send_recv.specs.Calling.{IsInNoCall};
 ghost use Rattle.send_recv.specs.Ops.{SlotAt};
 ghost use Rattle.sync_flags.specs.Turns.{at_port};
-ghost use Rattle.coll_more.specs.Ops.{MoreAt, new_more, table_of};
+ghost use Rattle.coll_more.specs.Ops.{MoreAt, new_more, table_of, taking_part};
 ghost use Rattle.coll_more.specs.Pieces.{HaveMade, pieces_for};
 ghost use Rattle.coll_more.specs.Standing.{IsFit, MoreStands};
 ghost use Rattle.coll_more.specs.Turns.{more_left, piece_bound};
@@ -18,7 +18,7 @@ ghost use Rattle.coll_more.specs.declared.kinds.More.{More};
 /// At a rank that is in no call any collective call can begin, with src and dst of their lengths.
 pub fn begins_law()
     ensures begins { (s : Sight) (c : Private) (slot : SlotAt) (more : More) (len : ℕ) (src dst : List ℕ) → IsInNoCall s c slot
-        → IsFit more s.seat.rank s.seat.setup.nue len src dst → MoreStands (record_in s).calls s c (new_more more len) slot src dst }
+        → IsFit more s.seat.rank s.seat.setup.nue len src dst → MoreStands (record_in s).calls (taking_part s c (new_more more len) slot src dst) }
 {}
 
 /// At its start a collective call has at most the bounds of its messages left, and two for each of them, and two.
@@ -39,5 +39,5 @@ pub fn pieces_law()
 /// What stands at a port stands at every port of the same rank: the same setup, rank and events.
 pub fn other_port_law()
     ensures stands { (base : List DataCall) (s : Sight) (mark rest : Gv) (hold : ℕ) (c : Private) (op : MoreAt) (slot : SlotAt) (src dst : List ℕ)
-        → MoreStands base s c op slot src dst → MoreStands base (at_port s mark rest hold) c op slot src dst }
+        → MoreStands base (taking_part s c op slot src dst) → MoreStands base (taking_part (at_port s mark rest hold) c op slot src dst) }
 {}

@@ -81,7 +81,7 @@ impl MoreOp {
     ghost use Rattle.send_recv.specs.Ops.{SlotAt};
     ghost use Rattle.send_recv.specs.Receiving.{recv_waits};
     ghost use Rattle.send_recv.specs.declared.answers.RecvTurn.TheVariants as turn;
-    ghost use Rattle.coll_more.specs.Ops.{new_more};
+    ghost use Rattle.coll_more.specs.Ops.{new_more, taking_part};
     ghost use Rattle.coll_more.specs.Standing.{HasEnded, MoreStands, Stands};
     ghost use Rattle.coll_more.specs.Turns.{MoreTurned, Turns, is_between, is_own, is_receiving, is_sending};
 
@@ -100,9 +100,9 @@ impl MoreOp {
     // Copies the own piece, where there is one.
     fn copy_own<P: Port>(&mut self, port: &P, src: &[u8], dst: &mut [u8]) -> RecvTurn
         requires own { IsTrue (is_own self.old.stage) }
-        requires stands { (c : Private) × (slot : SlotAt) × Stands (P.sight port.now) c self.old slot src.now dst.old }
-        ensures turns { (c : Private) (slot : SlotAt) → Stands (P.sight port.now) c self.old slot src.now dst.old
-            → Turns (P.sight port.now) c self.old slot src.now dst.old (P.sight port.now) c self.new slot dst.new result }
+        requires stands { (c : Private) × (slot : SlotAt) × Stands (taking_part (P.sight port.now) c self.old slot src.now dst.old) }
+        ensures turns { (c : Private) (slot : SlotAt) → Stands (taking_part (P.sight port.now) c self.old slot src.now dst.old)
+            → Turns (taking_part (P.sight port.now) c self.old slot src.now dst.old) (taking_part (P.sight port.now) c self.new slot src.now dst.new) result }
         ensures moves { result ≡ turn.Moved }
     {
         known(port);
@@ -123,8 +123,8 @@ impl MoreOp {
     fn begin_next<P: Port>(&mut self, port: &P) -> RecvTurn
         requires between { IsTrue (is_between self.old.stage) }
         requires short { self.old.len ≤ 1024 }
-        ensures turns { (c : Private) (slot : SlotAt) (src dst : List ℕ) → Stands (P.sight port.now) c self.old slot src dst
-            → Turns (P.sight port.now) c self.old slot src dst (P.sight port.now) c self.new slot dst result }
+        ensures turns { (c : Private) (slot : SlotAt) (src dst : List ℕ) → Stands (taking_part (P.sight port.now) c self.old slot src dst)
+            → Turns (taking_part (P.sight port.now) c self.old slot src dst) (taking_part (P.sight port.now) c self.new slot src dst) result }
         ensures goes { recv_waits result ≡ None }
     {
         known(port);
@@ -153,8 +153,8 @@ impl MoreOp {
         dst: &[u8],
     ) -> RecvTurn
         requires sending { IsTrue (is_sending self.old.stage) }
-        requires stands { Stands (P.sight port.old) core.old self.old slot.old src.now dst.now }
-        ensures turns { Turns (P.sight port.old) core.old self.old slot.old src.now dst.now (P.sight port.new) core.new self.new slot.new dst.now result }
+        requires stands { Stands (taking_part (P.sight port.old) core.old self.old slot.old src.now dst.now) }
+        ensures turns { Turns (taking_part (P.sight port.old) core.old self.old slot.old src.now dst.now) (taking_part (P.sight port.new) core.new self.new slot.new src.now dst.now) result }
         ensures steps { (spot : Spot) → recv_waits result ≡ Some spot → MadeSteps P.stepped (P.sight port.old) (P.sight port.new) }
     {
         known(port);
@@ -182,9 +182,9 @@ impl MoreOp {
         dst: &mut [u8],
     ) -> RecvTurn
         requires receiving { IsTrue (is_receiving self.old.stage) }
-        requires stands { (slot : SlotAt) × (src : List ℕ) × Stands (P.sight port.old) core.old self.old slot src dst.old }
-        ensures turns { (slot : SlotAt) (src : List ℕ) → Stands (P.sight port.old) core.old self.old slot src dst.old
-            → Turns (P.sight port.old) core.old self.old slot src dst.old (P.sight port.new) core.new self.new slot dst.new result }
+        requires stands { (slot : SlotAt) × (src : List ℕ) × Stands (taking_part (P.sight port.old) core.old self.old slot src dst.old) }
+        ensures turns { (slot : SlotAt) (src : List ℕ) → Stands (taking_part (P.sight port.old) core.old self.old slot src dst.old)
+            → Turns (taking_part (P.sight port.old) core.old self.old slot src dst.old) (taking_part (P.sight port.new) core.new self.new slot src dst.new) result }
         ensures steps { (spot : Spot) → recv_waits result ≡ Some spot → MadeSteps P.stepped (P.sight port.old) (P.sight port.new) }
     {
         known(port);
@@ -215,14 +215,14 @@ impl MoreOp {
         src: &[u8],
         dst: &mut [u8],
     ) -> RecvTurn
-        requires stands { Stands (P.sight port.old) core.old self.old slot.old src.now dst.old }
+        requires stands { Stands (taking_part (P.sight port.old) core.old self.old slot.old src.now dst.old) }
         // The op and the rank fit together as before, over the same earlier calls.
-        ensures stands { (base : List DataCall) → MoreStands base (P.sight port.old) core.old self.old slot.old src.now dst.old
-            → MoreStands base (P.sight port.new) core.new self.new slot.new src.now dst.new }
-        ensures turned { MoreTurned (P.sight port.old) core.old self.old slot.old dst.old (P.sight port.new) core.new self.new slot.new dst.new result }
+        ensures stands { (base : List DataCall) → MoreStands base (taking_part (P.sight port.old) core.old self.old slot.old src.now dst.old)
+            → MoreStands base (taking_part (P.sight port.new) core.new self.new slot.new src.now dst.new) }
+        ensures turned { MoreTurned (taking_part (P.sight port.old) core.old self.old slot.old src.now dst.old) (taking_part (P.sight port.new) core.new self.new slot.new src.now dst.new) result }
         // Done: the record has gained exactly the calls of the table, with the bytes of src and dst.
-        ensures ended { (base : List DataCall) → MoreStands base (P.sight port.old) core.old self.old slot.old src.now dst.old → result ≡ turn.Done
-            → HasEnded base (P.sight port.new) core.new self.new slot.new src.now dst.new }
+        ensures ended { (base : List DataCall) → MoreStands base (taking_part (P.sight port.old) core.old self.old slot.old src.now dst.old) → result ≡ turn.Done
+            → HasEnded base (taking_part (P.sight port.new) core.new self.new slot.new src.now dst.new) }
         ensures steps { (spot : Spot) → recv_waits result ≡ Some spot → MadeSteps P.stepped (P.sight port.old) (P.sight port.new) }
     {
         match &self.stage {

@@ -4,6 +4,7 @@ ghost use Rattle.std.specs.Prelude.{◌≡◌, ◌+◌, ◌≤◌, true, Some, d
 ghost use Rattle.scc_base.specs.declared.events.Spot.{Spot};
 ghost use Rattle.put_get.specs.Cores.{MadeSteps};
 ghost use Rattle.send_recv.specs.Receiving.{RecvStands, RecvTurned, recv_waits};
+ghost use Rattle.send_recv.specs.Ranks.{receiving};
 ghost use Rattle.coll_more.specs.Ops.{window};
 
 use line_cache::Evict;
@@ -54,7 +55,7 @@ pub(crate) fn take_turn<V: Evict, P: Port>(
     requires within { first + len ≤ length dst.old }
     requires stands { RecvStands (P.sight port.old) core.old op.old (window first len dst.old) }
     ensures stands { RecvStands (P.sight port.new) core.new op.new (window first len dst.new) }
-    ensures turned { RecvTurned (P.sight port.old) core.old op.old (window first len dst.old) (P.sight port.new) core.new op.new (window first len dst.new) result }
+    ensures turned { RecvTurned (receiving (P.sight port.old) core.old op.old (window first len dst.old)) (receiving (P.sight port.new) core.new op.new (window first len dst.new)) result }
     ensures steps { (spot : Spot) → recv_waits result ≡ Some spot → MadeSteps P.stepped (P.sight port.old) (P.sight port.new) }
     ensures before { take first dst.new ≡ take first dst.old }
     ensures behind { drop (first + len) dst.new ≡ drop (first + len) dst.old }

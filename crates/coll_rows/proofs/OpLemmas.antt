@@ -10,7 +10,7 @@ use Rattle.send_recv.specs.Ops.{SlotAt, empty_slot}
 use Rattle.send_recv.proofs.OtherPort.{free_there}
 use Rattle.send_recv.proofs.Starts.{free_at_start}
 use Rattle.sync_flags.specs.Turns.{at_port}
-use Rattle.coll_more.specs.Ops.{MoreAt, new_more}
+use Rattle.coll_more.specs.Ops.{MoreAt, new_more, taking_part}
 use Rattle.coll_more.specs.Standing.{IsFit, Stands}
 use Rattle.coll_more.specs.declared.kinds.More.{More}
 use Rattle.coll_more.proofs.EndLemmas.{begins, stands_there}
@@ -32,7 +32,7 @@ op_alone s c slot src dst op st = at_there s gnil gnil 0 c slot src dst op st
 
 -- which call is under way at a port that shows the events
 pub op_stands : (s : Sight) (c : Private) (slot : SlotAt) (src dst : List ℕ) (op : MoreAt) (now : Option MoreAt) → IsAtOp (sight_alone s.seat.setup s.seat.rank s.events) c slot src dst now
-    → now ≡ Some op → Stands s c op slot src dst
+    → now ≡ Some op → Stands (taking_part s c op slot src dst)
 op_stands s c slot src dst op now st is = subst (λ (x : Option MoreAt). IsAtOp s c slot src dst x) is (op_shown s c slot src dst now st)
 
 pub op_free : (s : Sight) (c : Private) (slot : SlotAt) (src dst : List ℕ) (now : Option MoreAt) → IsAtOp (sight_alone s.seat.setup s.seat.rank s.events) c slot src dst now
@@ -45,9 +45,9 @@ op_starts s r c slot empty new = subst (λ (x : SlotAt). IsInNoCall (sight_alone
 
 -- a rank that is in no call begins one whose bytes fit
 pub op_begins : (s : Sight) (c : Private) (slot : SlotAt) (src dst : List ℕ) (op : MoreAt) (more : More) (len : ℕ) → IsInNoCall s c slot
-    → IsFit more s.seat.rank s.seat.setup.nue len src dst → op ≡ new_more more len → Stands s c op slot src dst
+    → IsFit more s.seat.rank s.seat.setup.nue len src dst → op ≡ new_more more len → Stands (taking_part s c op slot src dst)
 op_begins s c slot src dst op more len free fits is =
-    subst (λ (x : MoreAt). Stands s c x slot src dst) (sym is) ((record_in s).calls, begins s c slot more len src dst free fits)
+    subst (λ (x : MoreAt). Stands (taking_part s c x slot src dst)) (sym is) ((record_in s).calls, begins s c slot more len src dst free fits)
 
 -- the same for a list of events that is empty
 pub op_starts_there : (s : SetupView) (r : ℕ) (events : List Event) (c : Private) (slot : SlotAt) (src dst : List ℕ) (op : Option MoreAt) → events ≡ []

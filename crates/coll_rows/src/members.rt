@@ -127,6 +127,7 @@ impl<V: Evict + Drop> Member<V> {
     ghost use Rattle.scc_proto.specs.Ports.{Did};
     ghost use Rattle.send_recv.specs.Calling.{IsInNoCall};
     ghost use Rattle.coll_more.specs.Standing.{Stands};
+    ghost use Rattle.coll_more.specs.Ops.{taking_part};
     ghost use Rattle.coll_rows.specs.Members.{IsAtOp};
     ghost use Rattle.coll_rows.specs.Teams.{sight_alone};
 
@@ -169,7 +170,7 @@ impl<V: Evict + Drop> Member<V> {
     // One turn of a call.
     fn go_on<P: Port>(&mut self, port: &mut P, mut op: MoreOp) -> RecvTurn
         requires no_op { self.old.op ≡ None }
-        requires stands { Stands (P.sight port.old) self.old.core op self.old.slot self.old.src.items self.old.dst.items }
+        requires stands { Stands (taking_part (P.sight port.old) self.old.core op self.old.slot self.old.src.items self.old.dst.items) }
         ensures stands { IsAtOp (P.sight port.new) self.new.core self.new.slot self.new.src.items self.new.dst.items self.new.op }
         ensures did { (events : List Event) × Did (P.sight port.old) events (P.sight port.new) }
     {

@@ -16,6 +16,7 @@ use Rattle.send_recv.specs.Ops.{SlotAt, slot_left, slot_left_by}
 use Rattle.send_recv.specs.Sending.{IsSameOrEmpty, SlotStands, SlotTurned, slot_spot_by}
 use Rattle.send_recv.specs.Tries.{aim_at}
 use Rattle.send_recv.specs.Turns.{NoLoad, waits_at}
+use Rattle.send_recv.specs.Ranks.{with_slot}
 use Rattle.script_plain.specs.Collectives.{started}
 use Rattle.script_plain.specs.Local.{Local, local_next}
 use Rattle.script_plain.specs.Moves.{is_ended, is_stopped, went}
@@ -161,7 +162,7 @@ module _ (ue : UeView) (s : Sight) (tied : Tied (record ue { op = Nothing }) s) 
       abbrev pub slot_ue : UeView
       slot_ue = record ue { core = d; slot = now; op = Nothing }
 
-      module _ (answer : Turn) (r : SlotTurned s ue.core ue.slot t d now answer) where
+      module _ (answer : Turn) (r : SlotTurned (with_slot s ue.core ue.slot) (with_slot t d now) answer) where
         tried_slot : Tried (slot_aim s.seat ue.machine.local ue.slot) r.events (waits_at answer)
         tried_slot = subst (λ (aim : Option Aim). Tried aim r.events (waits_at answer)) (sym (aim_of_slot (is_stopped ue.machine.local) (is_ended (local_next ue.machine.local)) _ on ended)) r.tried
 
@@ -170,7 +171,7 @@ module _ (ue : UeView) (s : Sight) (tied : Tied (record ue { op = Nothing }) s) 
             kept_tied (record ue { op = Nothing }) s t tied (seat_kept s r.events t r.did) on r.calls r.rest.hold d now ue.parity Nothing ue.inbox slot same
             (parity_kept (record_in s) (record_in t) ue.parity r.rest.flips tied.parity_is) tied.room (r.stage ∙ tied.stands.0, r.buffer, tied.stands.2)
 
-      pub slot_moved : SlotTurned s ue.core ue.slot t d now turn.Moved → Turns (record ue { op = Nothing }) s slot_ue t turn.Moved
+      pub slot_moved : SlotTurned (with_slot s ue.core ue.slot) (with_slot t d now) turn.Moved → Turns (record ue { op = Nothing }) s slot_ue t turn.Moved
       slot_moved r =
           let fewer = r.means.0 in
           record {
@@ -190,7 +191,7 @@ module _ (ue : UeView) (s : Sight) (tied : Tied (record ue { op = Nothing }) s) 
             };
           }
 
-      pub slot_waited : (spot : Spot) → SlotTurned s ue.core ue.slot t d now (turn.Waiting spot) → Turns (record ue { op = Nothing }) s slot_ue t (turn.Waiting spot)
+      pub slot_waited : (spot : Spot) → SlotTurned (with_slot s ue.core ue.slot) (with_slot t d now) (turn.Waiting spot) → Turns (record ue { op = Nothing }) s slot_ue t (turn.Waiting spot)
       slot_waited spot r =
           let still : IsStill (record ue { op = Nothing }) slot_ue = (λ i. record ue { core = d; slot = r.means i; op = Nothing }) in
           record {
@@ -214,7 +215,7 @@ module _ (ue : UeView) (s : Sight) (tied : Tied (record ue { op = Nothing }) s) 
             };
           }
 
-      pub slot_done : SlotTurned s ue.core ue.slot t d now turn.Done → Turns (record ue { op = Nothing }) s slot_ue t turn.Done
+      pub slot_done : SlotTurned (with_slot s ue.core ue.slot) (with_slot t d now) turn.Done → Turns (record ue { op = Nothing }) s slot_ue t turn.Done
       slot_done r =
           let nothing = r.nothing refl in
           record {
@@ -237,7 +238,7 @@ module _ (ue : UeView) (s : Sight) (tied : Tied (record ue { op = Nothing }) s) 
           }
 
       -- a turn of the slot, whatever it answers
-      pub slot_turns : (answer : Turn) → SlotTurned s ue.core ue.slot t d now answer → Turns (record ue { op = Nothing }) s slot_ue t answer
+      pub slot_turns : (answer : Turn) → SlotTurned (with_slot s ue.core ue.slot) (with_slot t d now) answer → Turns (record ue { op = Nothing }) s slot_ue t answer
       slot_turns turn.Moved r = slot_moved r
       slot_turns (turn.Waiting spot) r = slot_waited spot r
       slot_turns turn.Done r = slot_done r

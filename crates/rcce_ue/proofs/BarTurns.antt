@@ -25,7 +25,7 @@ use Rattle.send_recv.specs.Sending.{SlotStands}
 use Rattle.send_recv.specs.Turns.{IsAtRest, IsSamePost, Last, LastHeld, NoLoad, StoresFromBuffer, is_no_draft, is_resting}
 use Rattle.send_recv.proofs.Starts.{slot_stays}
 use Rattle.barrier.specs.Flags.{value_at}
-use Rattle.barrier.specs.Stages.{BarAt, BarStands, IsAtStage, aim_at, bar_call, is_finished, left_by}
+use Rattle.barrier.specs.Stages.{BarAt, BarStands, IsAtStage, aim_at, bar_call, is_finished, left_by, meeting}
 use Rattle.barrier.specs.Turns.{BarTurned, Does}
 use Rattle.barrier.specs.declared.stages.BarStage.{BarStage}
 use Rattle.barrier.specs.declared.stages.BarStage.TheVariants as stage
@@ -161,7 +161,7 @@ module _ (ue : UeView) (s t : Sight) (op : BarAt) (tied : Tied (record ue { op =
 
   module _ (d : Private) (now : BarAt) (values : List Bool) (stands : BarStands t d now values) where
     abbrev Turned : Turn → Type 0
-    Turned answer = BarTurned s ue.core op t d now values answer
+    Turned answer = BarTurned (meeting s ue.core op ue.parity) (meeting t d now values) answer
 
     abbrev pub later_bar : UeView
     later_bar = record ue { core = d; parity = values; op = Meeting now }

@@ -12,7 +12,8 @@ use Rattle.send_recv.specs.Receiving.{RecvStands, RecvTurned}
 use Rattle.send_recv.specs.Sending.{SendStands, SendTurned, SlotStands, SlotTurned}
 use Rattle.send_recv.specs.declared.answers.RecvTurn.{RecvTurn}
 use Rattle.send_recv.specs.declared.answers.RecvTurn.TheVariants as receive
-use Rattle.barrier.specs.Stages.{BarAt, BarStands}
+use Rattle.send_recv.specs.Ranks.{receiving, sending, with_slot}
+use Rattle.barrier.specs.Stages.{BarAt, BarStands, meeting}
 use Rattle.barrier.specs.Turns.{BarTurned}
 use Rattle.script_plain.specs.Local.{Local, local_next}
 use Rattle.script_plain.specs.Moves.{bytes_out, is_stopped, length_in, passed, refused, taken, went}
@@ -35,14 +36,14 @@ module _ (ue old now : UeView) (s t : Sight) where
     send_stands : SendStands t d next after (bytes_out (local_next ue.machine.local))
     send_stands = subst (λ (x : List ℕ). SendStands t d next after x) out stands
 
-    send_turned : (answer : Turn) → SendTurned s ue.core op ue.slot bytes t d next after answer → SendTurned s ue.core op ue.slot (bytes_out (local_next ue.machine.local)) t d next after answer
-    send_turned answer r = subst (λ (x : List ℕ). SendTurned s ue.core op ue.slot x t d next after answer) out r
+    send_turned : (answer : Turn) → SendTurned (sending s ue.core op ue.slot bytes) (sending t d next after bytes) answer → SendTurned (sending s ue.core op ue.slot (bytes_out (local_next ue.machine.local))) (sending t d next after (bytes_out (local_next ue.machine.local))) answer
+    send_turned answer r = subst (λ (x : List ℕ). SendTurned (sending s ue.core op ue.slot x) (sending t d next after x) answer) out r
 
-    pub sending_moved : now ≡ record ue { core = d; slot = after; op = Sending next } → SendTurned s ue.core op ue.slot bytes t d next after turn.Moved → Turns old s now t turn.Moved
+    pub sending_moved : now ≡ record ue { core = d; slot = after; op = Sending next } → SendTurned (sending s ue.core op ue.slot bytes) (sending t d next after bytes) turn.Moved → Turns old s now t turn.Moved
     sending_moved is r = carry old (record ue { op = Sending op }) now (record ue { core = d; slot = after; op = Sending next }) s t turn.Moved before is tied
         (λ there. send_moved ue s t op there d next after send_stands (send_turned turn.Moved r))
 
-    pub sending_waited : (spot : Spot) → now ≡ record ue { core = d; slot = after; op = Sending next } → SendTurned s ue.core op ue.slot bytes t d next after (turn.Waiting spot) → Turns old s now t (turn.Waiting spot)
+    pub sending_waited : (spot : Spot) → now ≡ record ue { core = d; slot = after; op = Sending next } → SendTurned (sending s ue.core op ue.slot bytes) (sending t d next after bytes) (turn.Waiting spot) → Turns old s now t (turn.Waiting spot)
     sending_waited spot is r = carry old (record ue { op = Sending op }) now (record ue { core = d; slot = after; op = Sending next }) s t (turn.Waiting spot) before is tied
         (λ there. send_waited ue s t op there d next after send_stands spot (send_turned (turn.Waiting spot) r))
 
@@ -58,7 +59,7 @@ module _ (ue old now : UeView) (s t : Sight) where
           sent_bytes = counted (ue.sent_bytes + length (bytes_out (local_next ue.machine.local)));
         })
 
-    pub sending_done : now ≡ sent_ue → SendTurned s ue.core op ue.slot bytes t d next after turn.Done → Turns old s now t turn.Moved
+    pub sending_done : now ≡ sent_ue → SendTurned (sending s ue.core op ue.slot bytes) (sending t d next after bytes) turn.Done → Turns old s now t turn.Moved
     sending_done is r = carry old (record ue { op = Sending op }) now sent_ue s t turn.Moved before is tied
         (λ there. send_done ue s t op there d next after send_stands (send_turned turn.Done r))
 
@@ -95,11 +96,11 @@ module _ (ue old now : UeView) (s t : Sight) where
       recv_stands = subst (λ (n : ℕ). RecvStands t d next (take n inbox)) asked stands
 
       abbrev TurnedIn : RecvTurn → Type 0
-      TurnedIn answer = RecvTurned s ue.core op (take op.head.len ue.inbox) t d next (take op.head.len inbox) answer
+      TurnedIn answer = RecvTurned (receiving s ue.core op (take op.head.len ue.inbox)) (receiving t d next (take op.head.len inbox)) answer
 
       recv_turned : (answer : RecvTurn) → TurnedIn answer
-          → RecvTurned s ue.core op (take (length_in (local_next ue.machine.local)) ue.inbox) t d next (take (length_in (local_next ue.machine.local)) inbox) answer
-      recv_turned answer r = subst (λ (n : ℕ). RecvTurned s ue.core op (take n ue.inbox) t d next (take n inbox) answer) asked r
+          → RecvTurned (receiving s ue.core op (take (length_in (local_next ue.machine.local)) ue.inbox)) (receiving t d next (take (length_in (local_next ue.machine.local)) inbox)) answer
+      recv_turned answer r = subst (λ (n : ℕ). RecvTurned (receiving s ue.core op (take n ue.inbox)) (receiving t d next (take n inbox)) answer) asked r
 
       large : length inbox ≡ 65536
       large = room ∙ there_recv.room
@@ -134,18 +135,18 @@ module _ (ue old now : UeView) (s t : Sight) where
           (λ there. recv_refused ue s t op there d next inbox large recv_stands sent (recv_turned (receive.Mismatch sent) r))
 
   module _ (op next : BarAt) (d : Private) (values : List Bool) (before : old ≡ record ue { op = Meeting op }) (tied : Tied old s) (stands : BarStands t d next values) where
-    pub meeting_moved : now ≡ record ue { core = d; parity = values; op = Meeting next } → BarTurned s ue.core op t d next values turn.Moved → Turns old s now t turn.Moved
+    pub meeting_moved : now ≡ record ue { core = d; parity = values; op = Meeting next } → BarTurned (meeting s ue.core op ue.parity) (meeting t d next values) turn.Moved → Turns old s now t turn.Moved
     meeting_moved is r = carry old (record ue { op = Meeting op }) now (record ue { core = d; parity = values; op = Meeting next }) s t turn.Moved before is tied
         (λ there. bar_moved ue s t op there d next values stands r)
 
-    pub meeting_waited : (spot : Spot) → now ≡ record ue { core = d; parity = values; op = Meeting next } → BarTurned s ue.core op t d next values (turn.Waiting spot) → Turns old s now t (turn.Waiting spot)
+    pub meeting_waited : (spot : Spot) → now ≡ record ue { core = d; parity = values; op = Meeting next } → BarTurned (meeting s ue.core op ue.parity) (meeting t d next values) (turn.Waiting spot) → Turns old s now t (turn.Waiting spot)
     meeting_waited spot is r = carry old (record ue { op = Meeting op }) now (record ue { core = d; parity = values; op = Meeting next }) s t (turn.Waiting spot) before is tied
         (λ there. bar_waited ue s t op there d next values stands spot r)
 
     abbrev met_ue : UeView
     met_ue = entered (record ue { machine = record ue.machine { local = passed (local_next ue.machine.local) ue.machine.local }; core = d; parity = values })
 
-    pub meeting_done : now ≡ met_ue → BarTurned s ue.core op t d next values turn.Done → Turns old s now t turn.Moved
+    pub meeting_done : now ≡ met_ue → BarTurned (meeting s ue.core op ue.parity) (meeting t d next values) turn.Done → Turns old s now t turn.Moved
     meeting_done is r = carry old (record ue { op = Meeting op }) now met_ue s t turn.Moved before is tied
         (λ there. bar_done ue s t op there d next values stands r)
 
@@ -173,6 +174,6 @@ module _ (ue old now : UeView) (s : Sight) (before : old ≡ record ue { op = No
   alone_stopped is stopped = carry old (record ue { op = Nothing }) now (record ue { op = Nothing }) s s turn.Done before is tied (λ there. stopped_done ue s there stopped)
 
   pub alone_slot : (t : Sight) (d : Private) (slot : SlotAt) (answer : Turn) → now ≡ record ue { core = d; slot = slot; op = Nothing } → is_going (local_next ue.machine.local) ≡ false → is_stopped ue.machine.local ≡ false
-      → SlotStands t.seat (record_in t) slot → SlotTurned s ue.core ue.slot t d slot answer → Turns old s now t answer
+      → SlotStands t.seat (record_in t) slot → SlotTurned (with_slot s ue.core ue.slot) (with_slot t d slot) answer → Turns old s now t answer
   alone_slot t d slot answer is idle on stands r = carry old (record ue { op = Nothing }) now (record ue { core = d; slot = slot; op = Nothing }) s t answer before is tied
       (λ there. slot_turns ue s there idle on t d slot stands answer r)

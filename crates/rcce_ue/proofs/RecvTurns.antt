@@ -19,6 +19,7 @@ use Rattle.send_recv.specs.Turns.{StoresFromBuffer, is_no_draft}
 use Rattle.send_recv.specs.declared.answers.RecvTurn.{RecvTurn}
 use Rattle.send_recv.specs.declared.answers.RecvTurn.TheVariants as receive
 use Rattle.send_recv.specs.declared.stages.RecvStage.{RecvStage}
+use Rattle.send_recv.specs.Ranks.{receiving}
 use Rattle.send_recv.proofs.Starts.{slot_stays}
 use Rattle.std.specs.List.{count_by, list_all}
 use Rattle.script_plain.specs.Collectives.{started}
@@ -99,7 +100,7 @@ module _ (ue : UeView) (s t : Sight) (op : RecvAt) (tied : Tied (record ue { op 
 
   module _ (d : Private) (now : RecvAt) (inbox : List ℕ) (room : length inbox ≡ 65536) (stands : RecvStands t d now (front_of inbox)) where
     abbrev Turned : RecvTurn → Type 0
-    Turned answer = RecvTurned s ue.core op (front_of ue.inbox) t d now (front_of inbox) answer
+    Turned answer = RecvTurned (receiving s ue.core op (front_of ue.inbox)) (receiving t d now (front_of inbox)) answer
 
     abbrev pub later_recv : UeView
     later_recv = record ue { core = d; op = Receiving now; inbox = inbox }

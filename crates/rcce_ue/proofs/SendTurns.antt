@@ -15,6 +15,7 @@ use Rattle.send_recv.specs.Chunks.{message_bound}
 use Rattle.send_recv.specs.Ops.{SendAt, SlotAt, is_sent, slot_left}
 use Rattle.send_recv.specs.Sending.{IsAtSendStage, IsSameOrEmpty, SendStands, SendTurned, send_call, send_left, slot_after}
 use Rattle.send_recv.specs.declared.stages.SendStage.{SendStage}
+use Rattle.send_recv.specs.Ranks.{sending}
 use Rattle.send_recv.proofs.Starts.{slot_left_most}
 use Rattle.script_plain.specs.Collectives.{started}
 use Rattle.script_plain.specs.Local.{Local, local_next}
@@ -98,7 +99,7 @@ module _ (ue : UeView) (s t : Sight) (op : SendAt) (tied : Tied (record ue { op 
 
   module _ (d : Private) (now : SendAt) (after : SlotAt) (stands : SendStands t d now after (bytes_out (local_next ue.machine.local))) where
     abbrev Turned : Turn → Type 0
-    Turned answer = SendTurned s ue.core op ue.slot (bytes_out (local_next ue.machine.local)) t d now after answer
+    Turned answer = SendTurned (sending s ue.core op ue.slot (bytes_out (local_next ue.machine.local))) (sending t d now after (bytes_out (local_next ue.machine.local))) answer
 
     -- the UE after a turn that does not end the call
     abbrev pub later_send : UeView

@@ -34,6 +34,7 @@ impl OpenReceive {
     ghost use Rattle.put_get.specs.Cores.{MadeSteps};
     ghost use Rattle.send_recv.specs.Ops.{new_receive};
     ghost use Rattle.send_recv.specs.Receiving.{RecvStands, RecvTurned, recv_waits};
+    ghost use Rattle.send_recv.specs.Ranks.{receiving};
 
     /// A receive at the start of a message with this head.
     pub fn new(from: Rank, head: Head) -> OpenReceive
@@ -55,8 +56,8 @@ impl OpenReceive {
         requires within { self.old.head.len ≤ length inbox.old }
         requires stands { RecvStands (P.sight port.old) core.old self.old (take self.old.head.len inbox.old) }
         ensures stands { RecvStands (P.sight port.new) core.new self.new (take self.old.head.len inbox.new) }
-        ensures turned { RecvTurned (P.sight port.old) core.old self.old (take self.old.head.len inbox.old)
-            (P.sight port.new) core.new self.new (take self.old.head.len inbox.new) result }
+        ensures turned { RecvTurned (receiving (P.sight port.old) core.old self.old (take self.old.head.len inbox.old))
+            (receiving (P.sight port.new) core.new self.new (take self.old.head.len inbox.new)) result }
         ensures steps { (spot : Spot) → recv_waits result ≡ Some spot → MadeSteps P.stepped (P.sight port.old) (P.sight port.new) }
     {
         let (front, _) = inbox.split_at_mut(self.len);

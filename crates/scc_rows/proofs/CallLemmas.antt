@@ -5,11 +5,11 @@ use Rattle.scc_base.specs.declared.events.Spot.{Spot}
 use Rattle.scc_proto.specs.Words.{are_peers}
 use Rattle.scc_proto.specs.Ports.{Sight, record_in}
 use Rattle.put_get.specs.Cores.{Private}
-use Rattle.sync_flags.specs.Tries.{Aim}
 use Rattle.send_recv.specs.Ops.{RecvAt, SendAt, SlotAt}
 use Rattle.send_recv.specs.Receiving.{RecvStands}
 use Rattle.send_recv.specs.Sending.{SlotStands, SendStands}
 use Rattle.send_recv.specs.Calling.{Received, RecvStalled, RecvDiffers, FoundUnset, Sent, SendStalled}
+use Rattle.send_recv.specs.Ranks.{receiving, sending, with_bytes, with_slot}
 use Rattle.send_recv.proofs.Starts.{slot_after, free_after_receive, free_after_other_head, free_after_test, free_after_send}
 use Rattle.scc_rows.specs.Talkers.{IsTalking}
 use Rattle.scc_rows.proofs.TalkLemmas.{peers_kept}
@@ -19,25 +19,25 @@ pub other_bytes : {s : Sight} {c : Private} {slot : SlotAt} {peer : ℕ} {old by
 other_bytes st = record { peers = st.peers; at = st.at }
 
 module _ {s t : Sight} {peer : ℕ} (peers : are_peers s.seat.setup s.seat.rank peer ≡ true) where
-  pub sent_whole : {c d : Private} {op : SendAt} {slot after : SlotAt} {bytes : List ℕ} → SendStands s c op slot bytes → Sent s op bytes t d after → IsTalking t d after peer bytes None None
+  pub sent_whole : {c d : Private} {op : SendAt} {slot after : SlotAt} {bytes : List ℕ} → SendStands s c op slot bytes → Sent (sending s c op slot bytes) (with_slot t d after) → IsTalking t d after peer bytes None None
   sent_whole st r = record { peers = peers_kept peer r.events r.did peers; at = free_after_send st r }
 
-  pub send_stalled : {d : Private} {op now : SendAt} {after : SlotAt} {bytes : List ℕ} {polls : ℕ} {spot : Spot} {get : Option RecvAt} → SendStalled s op bytes polls t d now after spot
+  pub send_stalled : {c d : Private} {op now : SendAt} {slot after : SlotAt} {bytes : List ℕ} {polls : ℕ} {spot : Spot} {get : Option RecvAt} → SendStalled (sending s c op slot bytes) polls (sending t d now after bytes) spot
       → IsTalking t d after peer bytes (Some now) get
   send_stalled r = record { peers = peers_kept peer r.events r.did peers; at = r.stands }
 
   pub received_whole : {c d : Private} {op : RecvAt} {slot : SlotAt} {bytes after any : List ℕ} {polls : ℕ} → RecvStands s c op bytes → SlotStands s.seat (record_in s) slot
-      → Received s c op polls t d after → IsTalking t d slot peer any None None
+      → Received (receiving s c op bytes) polls (with_bytes t d after) → IsTalking t d slot peer any None None
   received_whole st slot r = record { peers = peers_kept peer r.events r.did peers; at = free_after_receive st.hands slot r }
 
-  pub receive_stalled : {d : Private} {op now : RecvAt} {slot : SlotAt} {bytes after : List ℕ} {polls : ℕ} {spot : Spot} → SlotStands s.seat (record_in s) slot
-      → RecvStalled s op bytes polls t d after now spot → IsTalking t d slot peer after None (Some now)
+  pub receive_stalled : {c d : Private} {op now : RecvAt} {slot : SlotAt} {bytes after : List ℕ} {polls : ℕ} {spot : Spot} → SlotStands s.seat (record_in s) slot
+      → RecvStalled (receiving s c op bytes) polls (receiving t d now after) spot → IsTalking t d slot peer after None (Some now)
   receive_stalled slot r = record { peers = peers_kept peer r.events r.did peers; at = (r.stands, slot_after r.events r.did r.post slot) }
 
   pub receive_differs_whole : {c d : Private} {op : RecvAt} {slot : SlotAt} {bytes after any : List ℕ} {polls : ℕ} {sent asked : MessageHead} → RecvStands s c op bytes
-      → SlotStands s.seat (record_in s) slot → RecvDiffers s op bytes polls t d after sent asked → IsTalking t d slot peer any None None
+      → SlotStands s.seat (record_in s) slot → RecvDiffers (receiving s c op bytes) polls (with_bytes t d after) sent asked → IsTalking t d slot peer any None None
   receive_differs_whole st slot r = record { peers = peers_kept peer r.events r.did peers; at = free_after_other_head st.hands slot r }
 
 module _ {s t : Sight} {c d : Private} {slot : SlotAt} {peer : ℕ} {old any : List ℕ} (talk : IsTalking s c slot peer old None None) where
-  pub found_nothing : {aim : Aim} {bytes after : List ℕ} → FoundUnset aim s bytes t d after → IsTalking t d slot peer any None None
+  pub found_nothing : {op : RecvAt} {bytes after : List ℕ} → FoundUnset (receiving s c op bytes) (with_bytes t d after) → IsTalking t d slot peer any None None
   found_nothing r = record { peers = peers_kept peer r.events r.did talk.peers; at = free_after_test talk.at r }

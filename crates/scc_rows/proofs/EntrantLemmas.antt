@@ -15,7 +15,7 @@ use Rattle.sync_flags.specs.Flags.{flag_value}
 use Rattle.barrier.specs.declared.stages.BarStage.{BarStage}
 use Rattle.barrier.specs.declared.stages.BarStage.TheVariants.{Flip, Gather, Release, Await, Finished}
 use Rattle.barrier.specs.Flags.{IsParityOf, value_at}
-use Rattle.barrier.specs.Stages.{BarAt, BarStands, IsAtStage}
+use Rattle.barrier.specs.Stages.{BarAt, BarStands, IsAtStage, meeting, with_parity}
 use Rattle.barrier.specs.Turns.{BarTurned}
 use Rattle.barrier.specs.Calls.{Finishes, Stalls}
 use Rattle.barrier.specs.declared.barriers.BarStop.{BarStop}
@@ -104,7 +104,7 @@ ready_next s ready same st = record { stands = alone st; same = same ∙ ready.s
 
 -- where the barrier is passed a further one of its communicator can be entered
 pub ready_anew : {s t : Sight} {c d : Private} {op now next : BarAt} {comm : ℕ} {values later : List Bool} → IsReady (sight_alone s.seat.setup s.seat.rank s.events) c comm op values
-    → BarStands t d now later → BarTurned s c op t d now later turn.Done → next ≡ record { comm = comm; stage = Flip }
+    → BarStands t d now later → BarTurned (meeting s c op values) (meeting t d now later) turn.Done → next ≡ record { comm = comm; stage = Flip }
     → IsReady (sight_alone t.seat.setup t.seat.rank t.events) d comm next later
 ready_anew {t = t} {d = d} {now = now} {next = next} {comm = comm} {later = later} ready st turned is =
     let same : now.comm ≡ comm = turned.same ∙ ready.same in
@@ -124,7 +124,7 @@ ready_anew {t = t} {d = d} {now = now} {next = next} {comm = comm} {later = late
 
 -- after a barrier that was passed a new one of its communicator can be entered
 pub passed_ready : {s t : Sight} {c d : Private} {op next : BarAt} {comm : ℕ} {values later : List Bool} → IsReady (sight_alone s.seat.setup s.seat.rank s.events) c comm op values
-    → Finishes s op t d later → next ≡ record { comm = comm; stage = Flip } → IsReady (sight_alone t.seat.setup t.seat.rank t.events) d comm next later
+    → Finishes (meeting s c op values) (with_parity t d later) → next ≡ record { comm = comm; stage = Flip } → IsReady (sight_alone t.seat.setup t.seat.rank t.events) d comm next later
 passed_ready {s} {t} {c} {d} {op} {next} {comm} {values} {later} ready f is =
     let seat = seat_kept s f.events t f.did in
     let small : comm < 16 = subst (λ (k : ℕ). k < 16) ready.same ready.stands.below in
@@ -136,7 +136,7 @@ passed_ready {s} {t} {c} {d} {op} {next} {comm} {values} {later} ready f is =
 
 -- a barrier that gave up can be gone on with
 pub stalled_ready : {s t : Sight} {c d : Private} {op now : BarAt} {comm polls : ℕ} {values later : List Bool} {spot : Spot} → IsReady (sight_alone s.seat.setup s.seat.rank s.events) c comm op values
-    → Stalls s op polls t d later (Stalled now spot polls) → IsReady (sight_alone t.seat.setup t.seat.rank t.events) d comm now later
+    → Stalls (meeting s c op values) polls (with_parity t d later) (Stalled now spot polls) → IsReady (sight_alone t.seat.setup t.seat.rank t.events) d comm now later
 stalled_ready {s} {t} {c} {d} {op} {now} {comm} {polls} {values} {later} {spot} ready stalls =
     let is : now ≡ stalls.now = ap (λ (x : BarStop). op_of x) stalls.is in record {
       stands = alone (subst (λ (o : BarAt). BarStands t d o later) (sym is) stalls.stands);

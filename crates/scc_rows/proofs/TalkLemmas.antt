@@ -26,6 +26,7 @@ use Rattle.send_recv.specs.Turns.{HoldsNone, IsSamePost}
 use Rattle.send_recv.specs.Receiving.{RecvStands, RecvTurned, IsReceiving, IsAtStage}
 use Rattle.send_recv.specs.Sending.{SlotStands, SlotTurned, SendStands, SendTurned, IsSending, IsAtSendStage, IsBeforeRaise, waiting, lines_in_hand}
 use Rattle.send_recv.specs.Calling.{IsInNoCall}
+use Rattle.send_recv.specs.Ranks.{receiving, sending, with_slot}
 use Rattle.send_recv.proofs.Starts.{receive_starts, send_starts, slot_stays}
 use Rattle.send_recv.proofs.LookTurn.{holds_kept}
 use Rattle.scc_rows.specs.Teams.{sight_alone}
@@ -208,11 +209,11 @@ written_back n xs ys long = ap (λ (k : ℕ). take k (xs ++ ys)) (sym long) ∙ 
 
 -- a call that goes on
 pub send_goes_on : {s t : Sight} {c d : Private} {op now : SendAt} {slot after : SlotAt} {bytes : List ℕ} {peer : ℕ} {answer : Turn} {get : Option RecvAt}
-    → are_peers s.seat.setup s.seat.rank peer ≡ true → SendTurned s c op slot bytes t d now after answer → SendStands t d now after bytes → IsTalking t d after peer bytes (Some now) get
+    → are_peers s.seat.setup s.seat.rank peer ≡ true → SendTurned (sending s c op slot bytes) (sending t d now after bytes) answer → SendStands t d now after bytes → IsTalking t d after peer bytes (Some now) get
 send_goes_on peers turned st = record { peers = peers_kept _ turned.events turned.did peers; at = st }
 
 pub receive_goes_on : {s t : Sight} {c d : Private} {op now : RecvAt} {slot : SlotAt} {bytes after : List ℕ} {peer : ℕ} {answer : RecvTurn}
-    → are_peers s.seat.setup s.seat.rank peer ≡ true → SlotStands s.seat (record_in s) slot → RecvTurned s c op bytes t d now after answer → RecvStands t d now after
+    → are_peers s.seat.setup s.seat.rank peer ≡ true → SlotStands s.seat (record_in s) slot → RecvTurned (receiving s c op bytes) (receiving t d now after) answer → RecvStands t d now after
     → IsTalking t d slot peer after None (Some now)
 receive_goes_on peers slot turned st = record { peers = peers_kept _ turned.events turned.did peers; at = (st, slot_there_after turned.events turned.did turned.post slot) }
 
@@ -221,7 +222,7 @@ sent_at : (seat : Seat) (rec : Record) (c : Private) (op : SendAt) (slot : SlotA
 sent_at seat rec c op slot bytes is st = subst (λ (x : SendStage). IsAtSendStage seat rec c op bytes x) is st.at
 
 pub send_is_over : {s t : Sight} {c d : Private} {op now : SendAt} {slot after : SlotAt} {bytes : List ℕ} {peer : ℕ}
-    → are_peers s.seat.setup s.seat.rank peer ≡ true → SendTurned s c op slot bytes t d now after turn.Done → SendStands t d now after bytes → IsTalking t d after peer bytes None None
+    → are_peers s.seat.setup s.seat.rank peer ≡ true → SendTurned (sending s c op slot bytes) (sending t d now after bytes) turn.Done → SendStands t d now after bytes → IsTalking t d after peer bytes None None
 send_is_over {t = t} {d = d} {now = now} {after = after} {bytes = bytes} peers turned st =
     let end = sent_at t.seat (record_in t) d now after bytes turned.means.0 st in
     record { peers = peers_kept _ turned.events turned.did peers; at = record { stage = end.0; empty = end.1; hands = st.hands; slot_stands = st.slot_stands } }
@@ -233,7 +234,7 @@ untaken_at : (seat : Seat) (rec : Record) (c : Private) (op : RecvAt) (bytes : L
 untaken_at seat rec c op bytes is st = (subst (λ (x : RecvStage). IsAtStage seat rec c op bytes x) is st.at).1
 
 pub receive_is_over : {s t : Sight} {c d : Private} {op now : RecvAt} {slot : SlotAt} {bytes after : List ℕ} {peer : ℕ}
-    → are_peers s.seat.setup s.seat.rank peer ≡ true → SlotStands s.seat (record_in s) slot → RecvTurned s c op bytes t d now after recv_turn.Done → RecvStands t d now after
+    → are_peers s.seat.setup s.seat.rank peer ≡ true → SlotStands s.seat (record_in s) slot → RecvTurned (receiving s c op bytes) (receiving t d now after) recv_turn.Done → RecvStands t d now after
     → IsTalking t d slot peer after None None
 receive_is_over {t = t} {d = d} {now = now} {after = after} peers slot turned st = record {
   peers = peers_kept _ turned.events turned.did peers;
@@ -246,7 +247,7 @@ receive_is_over {t = t} {d = d} {now = now} {after = after} peers slot turned st
 }
 
 pub receive_differs : {s t : Sight} {c d : Private} {op now : RecvAt} {slot : SlotAt} {bytes after : List ℕ} {peer : ℕ} {sent : MessageHead}
-    → are_peers s.seat.setup s.seat.rank peer ≡ true → SlotStands s.seat (record_in s) slot → RecvTurned s c op bytes t d now after (recv_turn.Mismatch sent) → RecvStands t d now after
+    → are_peers s.seat.setup s.seat.rank peer ≡ true → SlotStands s.seat (record_in s) slot → RecvTurned (receiving s c op bytes) (receiving t d now after) (recv_turn.Mismatch sent) → RecvStands t d now after
     → IsTalking t d slot peer after None None
 receive_differs {t = t} {d = d} {now = now} {after = after} peers slot turned st = record {
   peers = peers_kept _ turned.events turned.did peers;
@@ -260,7 +261,7 @@ receive_differs {t = t} {d = d} {now = now} {after = after} peers slot turned st
 
 -- a turn of the slot
 pub slot_goes_on : {s t : Sight} {c d : Private} {slot now : SlotAt} {bytes : List ℕ} {peer : ℕ} {answer : Turn} → IsTalking s c slot peer bytes None None
-    → SlotTurned s c slot t d now answer → SlotStands t.seat (record_in t) now → IsTalking t d now peer bytes None None
+    → SlotTurned (with_slot s c slot) (with_slot t d now) answer → SlotStands t.seat (record_in t) now → IsTalking t d now peer bytes None None
 slot_goes_on {s} {t} talk turned st = record {
   peers = peers_kept _ turned.events turned.did talk.peers;
   at = record {

@@ -27,6 +27,7 @@ use Rattle.send_recv.specs.Ops.{RecvAt, is_received}
 use Rattle.send_recv.specs.Receiving.{IsAtStage, IsReceiving, RecvStands, RecvTurned, between, progress_at, spot_by, recv_spot, recv_left, recv_left_by, lines_now, lines_left, lines_left_by, flag_lines, is_look, filled_to, filled_by}
 use Rattle.send_recv.specs.Steps.{own_core, core_of, sent_flag, flag_spot, after_look, recv_or_waits}
 use Rattle.send_recv.specs.Turns.{HoldsNone, IsSamePost, KeepsRest}
+use Rattle.send_recv.specs.Ranks.{receiving}
 use Rattle.send_recv.proofs.LookLemmas.{IsLooked, looks_at_sent}
 use Rattle.send_recv.proofs.TryLemmas.{look_tried, sent_spot, look_elsewhere, le_self, sent_word, look_held}
 use Rattle.put_get.proofs.FillLemmas.{fills_out, fills_evictions}
@@ -34,7 +35,7 @@ use Rattle.put_get.proofs.FillLemmas.{fills_out, fills_evictions}
 -- a turn of a receive, and where it stands afterwards
 pub record Turns (s : Sight) (c : Private) (op : RecvAt) (bytes : List ℕ) (t : Sight) (d : Private) (now : RecvAt) (after : List ℕ) (answer : RecvTurn) : Type 0 where
   pub stands : RecvStands t d now after
-  pub turned : RecvTurned s c op bytes t d now after answer
+  pub turned : RecvTurned (receiving s c op bytes) (receiving t d now after) answer
 
 -- ---- what a look leaves of a record
 

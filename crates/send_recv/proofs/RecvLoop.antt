@@ -30,6 +30,7 @@ use Rattle.send_recv.specs.Calling.{sent_aim, HasNotStalled, Received, RecvStall
 use Rattle.send_recv.specs.Steps.{own_core, core_of, flag_spot}
 use Rattle.send_recv.specs.Tries.{aim_of, aim_at}
 use Rattle.send_recv.specs.Turns.{IsSamePost, KeepsRest, IsAtRest, is_resting_by, is_resting, LoadsLines}
+use Rattle.send_recv.specs.Ranks.{receiving, with_bytes}
 use Rattle.send_recv.proofs.LookTurn.{at_look}
 use Rattle.send_recv.proofs.LinesTurn.{take_agree}
 use Rattle.send_recv.proofs.HeadTurn.{post_itself}
@@ -165,7 +166,7 @@ record Turn (seat : Seat) (m : Sight) (b : Private) (cur : RecvAt) (mid : List �
   fewer : lines_left seat.setup.layout (chunk_of seat.setup) now ≤ lines_left seat.setup.layout (chunk_of seat.setup) cur
   work : LoadsLines events b d ((lines_left seat.setup.layout (chunk_of seat.setup) cur - lines_left seat.setup.layout (chunk_of seat.setup) now) + extra_line cur.stage answer)
 
-turn_says : {m t : Sight} {b d : Private} {cur now : RecvAt} {mid after : List ℕ} {answer : RecvTurn} (seat : Seat) → m.seat ≡ seat → (u : RecvTurned m b cur mid t d now after answer)
+turn_says : {m t : Sight} {b d : Private} {cur now : RecvAt} {mid after : List ℕ} {answer : RecvTurn} (seat : Seat) → m.seat ≡ seat → (u : RecvTurned (receiving m b cur mid) (receiving t d now after) answer)
     → Turn seat m b cur mid t d now after answer u.events
 turn_says {m} {t} {b} {d} {cur} {now} {mid} {after} {answer} seat same u =
     subst (λ (x : Seat). Turn x m b cur mid t d now after answer u.events) same
@@ -173,7 +174,7 @@ turn_says {m} {t} {b} {d} {cur} {now} {mid} {after} {answer} seat same u =
 
 -- a turn that does not wait leaves no vain try at any spot of the receive
 pub none_vain : {s m t : Sight} {c b d : Private} {op cur now : RecvAt} {bytes mid after : List ℕ} {vain : ℕ} {answer : RecvTurn} (u : Underway s c op bytes vain m b cur mid)
-    → (v : RecvTurned m b cur mid t d now after answer) → recv_waits answer ≡ None → (at : Spot) → IsRecvSpot s.seat op at
+    → (v : RecvTurned (receiving m b cur mid) (receiving t d now after) answer) → recv_waits answer ≡ None → (at : Spot) → IsRecvSpot s.seat op at
     → vain_tries (aim_of s.seat.setup.layout at) (u.events ++ v.events) ≡ 0
 none_vain {s} {m} {t} {c} {b} {d} {op} {cur} {now} {bytes} {mid} {after} {vain} {answer} u v goes at spot =
     let same : m.seat ≡ s.seat = seat_kept s u.events m u.did in
@@ -213,7 +214,7 @@ tally : (a e c b d lc ln l0 x t0 t1 : ℕ) → a + 4 * c + 4 * lc ≤ 4 * b + 4 
 tally a e c b d lc ln l0 x t0 t1 before more few fewer = omega (arith, before, more, few, fewer)
 
 pub work_on : {s m t : Sight} {c b d : Private} {op cur now : RecvAt} {bytes mid after : List ℕ} {vain : ℕ} {answer : RecvTurn} (u : Underway s c op bytes vain m b cur mid)
-    → (v : RecvTurned m b cur mid t d now after answer) → extra_line cur.stage answer ≡ (if is_look cur.stage then 1 else 0)
+    → (v : RecvTurned (receiving m b cur mid) (receiving t d now after) answer) → extra_line cur.stage answer ≡ (if is_look cur.stage then 1 else 0)
     → load_count (u.events ++ v.events) + 4 * c.evictions + 4 * lines_left s.seat.setup.layout (chunk_of s.seat.setup) now
     ≤ 4 * d.evictions + 4 * (lines_left s.seat.setup.layout (chunk_of s.seat.setup) op + tries_at (sent_aim s.seat op) (u.events ++ v.events))
 work_on {s} {m} {t} {c} {b} {d} {op} {cur} {now} {bytes} {mid} {after} {vain} {answer} u v extra =
@@ -238,7 +239,7 @@ calls_open : (op : RecvAt) (x : List ℕ) → is_received op.stage ≡ false →
 calls_open op x e = ap (λ (b : Bool). if b then [] else Recv op.from op.head x ∷ []) e
 
 pub underway_moved : {s m t : Sight} {c b d : Private} {op cur now : RecvAt} {bytes mid after : List ℕ} {vain : ℕ} → Underway s c op bytes vain m b cur mid
-    → RecvStands t d now after → RecvTurned m b cur mid t d now after turn.Moved → Underway s c op bytes 0 t d now after
+    → RecvStands t d now after → RecvTurned (receiving m b cur mid) (receiving t d now after) turn.Moved → Underway s c op bytes 0 t d now after
 underway_moved {s} {m} {t} {c} {b} {d} {op} {cur} {now} {bytes} {mid} {after} u st v =
     let same : m.seat ≡ s.seat = seat_kept s u.events m u.did in
     let says = turn_says s.seat same v in
@@ -261,13 +262,13 @@ underway_moved {s} {m} {t} {c} {b} {d} {op} {cur} {now} {bytes} {mid} {after} u 
     }
 
 pub none_moved : {s m t : Sight} {c b d : Private} {op cur now : RecvAt} {bytes mid after : List ℕ} {vain : ℕ} (u : Underway s c op bytes vain m b cur mid)
-    → (st : RecvStands t d now after) (v : RecvTurned m b cur mid t d now after turn.Moved) → (at : Spot) → IsRecvSpot s.seat op at
+    → (st : RecvStands t d now after) (v : RecvTurned (receiving m b cur mid) (receiving t d now after) turn.Moved) → (at : Spot) → IsRecvSpot s.seat op at
     → vain_tries (aim_of s.seat.setup.layout at) (underway_moved u st v).events ≡ 0
 unfolding underway_moved
 none_moved u st v at spot = none_vain u v refl at spot
 
 pub underway_waited : {s m t : Sight} {c b d : Private} {op cur now : RecvAt} {bytes mid after : List ℕ} {vain : ℕ} {spot : Spot} → Underway s c op bytes vain m b cur mid
-    → RecvStands t d now after → RecvTurned m b cur mid t d now after (turn.Waiting spot) → Underway s c op bytes (vain + 1) t d now after
+    → RecvStands t d now after → RecvTurned (receiving m b cur mid) (receiving t d now after) (turn.Waiting spot) → Underway s c op bytes (vain + 1) t d now after
 underway_waited {s} {m} {t} {c} {b} {d} {op} {cur} {now} {bytes} {mid} {after} {vain} {spot} u st v =
     let same : m.seat ≡ s.seat = seat_kept s u.events m u.did in
     let says = turn_says s.seat same v in
@@ -301,11 +302,11 @@ underway_waited {s} {m} {t} {c} {b} {d} {op} {cur} {now} {bytes} {mid} {after} {
 -- ---- the ends
 
 not_stalled : {s m t : Sight} {c b d : Private} {op cur now : RecvAt} {bytes mid after : List ℕ} {vain : ℕ} {answer : RecvTurn} (polls : ℕ) → 1 ≤ polls → (u : Underway s c op bytes vain m b cur mid)
-    → (v : RecvTurned m b cur mid t d now after answer) → recv_waits answer ≡ None → HasNotStalled s.seat op polls (u.events ++ v.events)
+    → (v : RecvTurned (receiving m b cur mid) (receiving t d now after) answer) → recv_waits answer ≡ None → HasNotStalled s.seat op polls (u.events ++ v.events)
 not_stalled polls some u v goes spot is tried = let none = none_vain u v goes spot is in absurd (omega (arith, some, none, tried))
 
 pub underway_ends : {s m t : Sight} {c b d : Private} {op cur now : RecvAt} {bytes mid after : List ℕ} {vain : ℕ} (polls : ℕ) → 1 ≤ polls → Underway s c op bytes vain m b cur mid
-    → RecvStands t d now after → RecvTurned m b cur mid t d now after turn.Done → Received s c op polls t d after
+    → RecvStands t d now after → RecvTurned (receiving m b cur mid) (receiving t d now after) turn.Done → Received (receiving s c op bytes) polls (with_bytes t d after)
 underway_ends {s} {m} {t} {c} {b} {d} {op} {cur} {now} {bytes} {mid} {after} polls some u st v =
     let sum = work_on u v refl in
     record {
@@ -326,7 +327,7 @@ spot_told seat op at is =
     (sent_spot seat.setup.layout (own_core seat) op.from) (λ core. refl)
 
 pub underway_stalls : {s m t : Sight} {c b d : Private} {op cur now : RecvAt} {bytes mid after : List ℕ} {vain : ℕ} {spot : Spot} → Underway s c op bytes vain m b cur mid
-    → RecvStands t d now after → RecvTurned m b cur mid t d now after (turn.Waiting spot) → (polls : ℕ) → polls ≤ vain + 1 → RecvStalled s op bytes polls t d after now spot
+    → RecvStands t d now after → RecvTurned (receiving m b cur mid) (receiving t d now after) (turn.Waiting spot) → (polls : ℕ) → polls ≤ vain + 1 → RecvStalled (receiving s c op bytes) polls (receiving t d now after) spot
 underway_stalls {s} {m} {t} {c} {b} {d} {op} {cur} {now} {bytes} {mid} {after} {vain} {spot} u st v polls enough =
     let same : m.seat ≡ s.seat = seat_kept s u.events m u.did in
     let says = turn_says s.seat same v in
@@ -364,8 +365,8 @@ pub lists_agree : (xs ys : List ℕ) → length xs ≡ length ys → ((k : ℕ) 
 lists_agree xs ys long same = sym (take_whole xs) ∙ take_agree (length xs) xs ys long (λ k low. same k) ∙ ap (λ (n : ℕ). take n ys) long ∙ take_whole ys
 
 pub underway_differs : {s m t : Sight} {c b d : Private} {op cur now : RecvAt} {bytes mid after : List ℕ} {vain : ℕ} {sent : MessageHead} (polls : ℕ) → 1 ≤ polls → Underway s c op bytes vain m b cur mid
-    → length bytes ≡ op.head.len → RecvStands t d now after → RecvTurned m b cur mid t d now after (turn.Mismatch sent) → (asked : MessageHead) → asked ≡ op.head
-    → RecvDiffers s op bytes polls t d after sent asked
+    → length bytes ≡ op.head.len → RecvStands t d now after → RecvTurned (receiving m b cur mid) (receiving t d now after) (turn.Mismatch sent) → (asked : MessageHead) → asked ≡ op.head
+    → RecvDiffers (receiving s c op bytes) polls (with_bytes t d after) sent asked
 underway_differs {s} {m} {t} {c} {b} {d} {op} {cur} {now} {bytes} {mid} {after} {vain} {sent} polls some u long st v asked is =
     let same : m.seat ≡ s.seat = seat_kept s u.events m u.did in
     let says = turn_says s.seat same v in
@@ -397,5 +398,5 @@ underway_differs {s} {m} {t} {c} {b} {d} {op} {cur} {now} {bytes} {mid} {after} 
 -- ---- the measure
 
 pub left_falls : {s m t : Sight} {c b d : Private} {op cur now : RecvAt} {bytes mid after : List ℕ} {vain : ℕ} → Underway s c op bytes vain m b cur mid
-    → RecvTurned m b cur mid t d now after turn.Moved → recv_left (chunk_of s.seat.setup) cur ≡ recv_left (chunk_of s.seat.setup) now + 1
+    → RecvTurned (receiving m b cur mid) (receiving t d now after) turn.Moved → recv_left (chunk_of s.seat.setup) cur ≡ recv_left (chunk_of s.seat.setup) now + 1
 left_falls {s} {m} {cur = cur} {now = now} u v = subst (λ (x : Seat). recv_left (chunk_of x.setup) cur ≡ recv_left (chunk_of x.setup) now + 1) (seat_kept s u.events m u.did) v.means.0

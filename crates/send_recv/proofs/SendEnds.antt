@@ -6,7 +6,6 @@ use Rattle.scc_base.specs.declared.events.Turn.{Turn}
 use Rattle.scc_base.specs.declared.events.Turn.TheVariants.{Moved, Waiting, Done}
 use Rattle.scc_base.specs.declared.layouts.Layout.{Layout}
 use Rattle.scc_base.specs.declared.layouts.Layout.TheVariants.{LineFlags, BitFlags}
-use Rattle.scc_proto.specs.Stages.{Record}
 use Rattle.scc_proto.specs.Records.{chunk_of}
 use Rattle.scc_proto.specs.Ports.{Seat, Sight, record_in}
 use Rattle.scc_proto.proofs.PortLaws.{did_nothing, seat_kept}
@@ -20,7 +19,8 @@ use Rattle.send_recv.specs.Sending.{SlotStands, SlotTurned, SlotMeans, IsAtSendS
 use Rattle.send_recv.specs.Steps.{own_core, core_of}
 use Rattle.sync_flags.specs.Tries.{Tried, NoTry}
 use Rattle.send_recv.specs.Tries.{aim_at}
-use Rattle.send_recv.specs.Turns.{IsSamePost, KeepsRest, NoLoad, waits_at}
+use Rattle.send_recv.specs.Turns.{NoLoad, waits_at}
+use Rattle.send_recv.specs.Ranks.{sending, with_slot}
 use Rattle.send_recv.proofs.LookTurn.{holds_kept}
 use Rattle.send_recv.proofs.SendFacts.{SendTurns, at_stage, left_at, spot_at}
 use Rattle.send_recv.proofs.SendWaits.{no_stores}
@@ -30,22 +30,24 @@ use Rattle.send_recv.proofs.SendWaits.{no_stores}
 left_by : (slot now lines p x : ℕ) → slot ≡ now + 1 → x ≡ now + 1 + lines + p → slot + 1 + lines + p ≡ x + 1
 left_by slot now lines p x fewer is = omega (arith, fewer, is)
 
-slot_means : (layout : Layout) (size : ℕ) (rec new : Record) (op : SendAt) (slot now : SlotAt) (bytes : List ℕ) (answer : Turn) → op.stage ≡ Header → slot.to ≢ None → SlotMeans slot now answer → new.stage ≡ rec.stage → new.calls ≡ rec.calls
-    → (now.to ≡ slot.to → IsSamePost rec.post new.post) → KeepsRest rec new → SendMeans layout size rec op slot bytes new op now answer
-slot_means layout size rec new op slot now bytes Moved header full means stage calls post rest = (
-  left_at layout size op slot Header header
-      ∙ left_by (slot_left slot) (slot_left now) (lines_from size op.head.len op.chunk) (of_chunk layout op.posted * (chunk_count size op.head.len - op.chunk)) _ means.0 (left_at layout size op now Header header),
-  calls,
-  ap is_sent header,
-  ap is_sent header,
-  means.1,
-)
-slot_means layout size rec new op slot now bytes (Waiting spot) header full means stage calls post rest =
-    (refl, means, record { stage = stage; post = post (ap (λ (x : SlotAt). x.to) means); rest = rest; calls = calls })
-slot_means layout size rec new op slot now bytes Done header full means stage calls post rest = absurd (full means.0)
+slot_means : (s t : Sight) (c d : Private) (op : SendAt) (slot now : SlotAt) (bytes : List ℕ) (answer : Turn) → op.stage ≡ Header → slot.to ≢ None → SlotTurned (with_slot s c slot) (with_slot t d now) answer
+    → SendMeans (sending s c op slot bytes) (sending t d op now bytes) answer
+slot_means s t c d op slot now bytes Moved header full turned =
+    let size = chunk_of s.seat.setup in
+    let layout = s.seat.setup.layout in (
+      left_at layout size op slot Header header
+          ∙ left_by (slot_left slot) (slot_left now) (lines_from size op.head.len op.chunk) (of_chunk layout op.posted * (chunk_count size op.head.len - op.chunk)) _ turned.means.0 (left_at layout size op now Header header),
+      turned.calls,
+      ap is_sent header,
+      ap is_sent header,
+      turned.means.1,
+    )
+slot_means s t c d op slot now bytes (Waiting spot) header full turned =
+    (refl, turned.means, record { stage = turned.stage; post = turned.post (ap (λ (x : SlotAt). x.to) turned.means); rest = turned.rest; calls = turned.calls })
+slot_means s t c d op slot now bytes Done header full turned = absurd (full turned.means.0)
 
 pub slot_turn : (s t : Sight) (c d : Private) (op : SendAt) (slot now : SlotAt) (bytes : List ℕ) (answer : Turn) → SendStands s c op slot bytes → op.stage ≡ Header → slot.to ≢ None → SlotStands t.seat (record_in t) now
-    → SlotTurned s c slot t d now answer → SendTurns s c op slot bytes t d op now answer
+    → SlotTurned (with_slot s c slot) (with_slot t d now) answer → SendTurns s c op slot bytes t d op now answer
 slot_turn s t c d op slot now bytes answer r header full stands turned =
     let layout = s.seat.setup.layout in
     let at = at_stage s.seat (record_in s) c op slot bytes Header r header in
@@ -71,7 +73,7 @@ slot_turn s t c d op slot now bytes answer r header full stands turned =
         rests = turned.rests;
         only = turned.only;
         same = (refl, refl, refl);
-        means = slot_means layout (chunk_of s.seat.setup) (record_in s) (record_in t) op slot now bytes answer header full turned.means turned.stage turned.calls turned.post turned.rest;
+        means = slot_means s t c d op slot now bytes answer header full turned;
         rest = turned.rest;
         drafts = no_stores s.seat.setup c turned.events turned.no_drafts;
         held = turned.held;
@@ -84,7 +86,7 @@ spot_finished : (layout : Layout) (own other to : ℕ) (slot : Option Spot) → 
 spot_finished LineFlags own other to slot = refl
 spot_finished BitFlags own other to slot = refl
 
-pub finished_turn : (s : Sight) (c : Private) (op : SendAt) (slot : SlotAt) (bytes : List ℕ) → op.stage ≡ Finished → SendTurned s c op slot bytes s c op slot Done
+pub finished_turn : (s : Sight) (c : Private) (op : SendAt) (slot : SlotAt) (bytes : List ℕ) → op.stage ≡ Finished → SendTurned (sending s c op slot bytes) (sending s c op slot bytes) Done
 finished_turn s c op slot bytes finished =
     let sent : is_sent op.stage ≡ true = ap is_sent finished in
     record {

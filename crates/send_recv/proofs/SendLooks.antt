@@ -24,6 +24,7 @@ use Rattle.send_recv.specs.Flags.{Looks}
 use Rattle.send_recv.specs.Ops.{SendAt, SlotAt, is_sent}
 use Rattle.send_recv.specs.Receiving.{progress_at}
 use Rattle.send_recv.specs.Sending.{SlotStands, IsAtSendStage, IsSending, SendStands, SendMeans, lines_in_hand, of_chunk, send_spot, send_spot_by, slot_spot}
+use Rattle.send_recv.specs.Ranks.{sending}
 use Rattle.send_recv.specs.Steps.{own_core, core_of, ready_flag, flag_spot, after_seen, moved_or_waits}
 use Rattle.send_recv.specs.Tries.{aim_at}
 use Rattle.send_recv.specs.Turns.{IsAtRest}
@@ -80,17 +81,19 @@ look_stands false seat rec new c d op slot bytes r hold slots at = record {
   at = at;
 }
 
-look_means : (found : Bool) (layout : Layout) (size : ℕ) (rec new : Record) (op : SendAt) (slot : SlotAt) (bytes : List ℕ) (spot : Spot) → op.stage ≡ Look → new.calls ≡ rec.calls → (found ≡ false → IsAtRest rec new)
-    → SendMeans layout size rec op slot bytes new (after_seen found op) slot (moved_or_waits found spot)
-look_means true layout size rec new op slot bytes spot look calls rest = (
-  left_at layout size op slot Look look
-      ∙ look_left (lines_from size op.head.len op.chunk - lines_in_hand size op) (of_chunk layout op.posted * (chunk_count size op.head.len - op.chunk - 1)) _ refl,
-  calls,
-  ap is_sent look,
-  refl,
-  inr refl,
-)
-look_means false layout size rec new op slot bytes spot look calls rest = (refl, refl, rest refl)
+look_means : (found : Bool) (s t : Sight) (c d : Private) (op : SendAt) (slot : SlotAt) (bytes : List ℕ) (spot : Spot) → op.stage ≡ Look → (record_in t).calls ≡ (record_in s).calls
+    → (found ≡ false → IsAtRest (record_in s) (record_in t)) → SendMeans (sending s c op slot bytes) (sending t d (after_seen found op) slot bytes) (moved_or_waits found spot)
+look_means true s t c d op slot bytes spot look calls rest =
+    let size = chunk_of s.seat.setup in
+    let layout = s.seat.setup.layout in (
+      left_at layout size op slot Look look
+          ∙ look_left (lines_from size op.head.len op.chunk - lines_in_hand size op) (of_chunk layout op.posted * (chunk_count size op.head.len - op.chunk - 1)) _ refl,
+      calls,
+      ap is_sent look,
+      refl,
+      inr refl,
+    )
+look_means false s t c d op slot bytes spot look calls rest = (refl, refl, rest refl)
 
 same_op : (found : Bool) (op : SendAt) → ((after_seen found op).to ≡ op.to) × ((after_seen found op).head ≡ op.head) × ((after_seen found op).posted ≡ op.posted)
 same_op true op = (refl, refl, refl)
@@ -133,7 +136,7 @@ look_turn found s t c d op slot bytes valid r look looks =
         rests = λ spot e. refl;
         only = look_only found layout (flag_word own flag) flag.bit looks.words;
         same = same_op found op;
-        means = look_means found layout size (record_in s) (record_in t) op slot bytes (flag_spot own flag) look calls
+        means = look_means found s t c d op slot bytes (flag_spot own flag) look calls
             (λ missed. record { stage = stage ∙ ap (λ b. Sending op.to (part_seen b at.3) message up.chunk) missed ∙ sym up.stage_is; post = post; rest = rest; calls = calls });
         rest = rest;
         drafts = no_stores s.seat.setup c (loads_of (line_of_word (flag_word own flag)) looks.words) (look_drafts_none s.seat.setup (line_of_word (flag_word own flag)) looks.words);

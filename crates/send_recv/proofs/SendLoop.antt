@@ -23,6 +23,7 @@ use Rattle.send_recv.specs.Calling.{Sent, SendStalled}
 use Rattle.send_recv.specs.Steps.{own_core, core_of, flag_spot}
 use Rattle.send_recv.specs.Tries.{aim_of, aim_at}
 use Rattle.send_recv.specs.Turns.{KeepsRest, IsAtRest}
+use Rattle.send_recv.specs.Ranks.{sending, with_slot}
 use Rattle.send_recv.proofs.TryLemmas.{ready_spot}
 use Rattle.send_recv.proofs.RecvLoop.{rest_both, rest_itself, resting_quiet, aimed, some_aim, row_on, freed_both}
 
@@ -52,7 +53,7 @@ way_none {s} st = record {
 }
 
 pub way_moved : {s m t : Sight} {b d : Private} {op cur now : SendAt} {slot after : SlotAt} {bytes : List ℕ} {vain : ℕ} → SendWay s op bytes vain m b cur slot
-    → SendStands t d now after bytes → SendTurned m b cur slot bytes t d now after turn.Moved → SendWay s op bytes 0 t d now after
+    → SendStands t d now after bytes → SendTurned (sending m b cur slot bytes) (sending t d now after bytes) turn.Moved → SendWay s op bytes 0 t d now after
 way_moved {s} {m} {t} u st v = record {
   events = u.events ++ v.events;
   did = did_both s u.events m v.events t u.did v.did;
@@ -67,12 +68,12 @@ way_moved {s} {m} {t} u st v = record {
 
 -- what a turn that waits has tried, at the seat of the call's start
 waits : {s m t : Sight} {b d : Private} {op cur now : SendAt} {slot after : SlotAt} {bytes : List ℕ} {vain : ℕ} {spot : Spot} (u : SendWay s op bytes vain m b cur slot)
-    → (v : SendTurned m b cur slot bytes t d now after (turn.Waiting spot)) → Waited (aim_at s.seat.setup.layout (send_spot s.seat cur slot)) v.events spot
+    → (v : SendTurned (sending m b cur slot bytes) (sending t d now after bytes) (turn.Waiting spot)) → Waited (aim_at s.seat.setup.layout (send_spot s.seat cur slot)) v.events spot
 waits {s} {m} {cur = cur} {slot = slot} {spot = spot} u v =
     waited (subst (λ (x : Seat). Tried (aim_at x.setup.layout (send_spot x cur slot)) v.events (Some spot)) (seat_kept s u.events m u.did) v.tried)
 
 pub way_waited : {s m t : Sight} {b d : Private} {op cur now : SendAt} {slot after : SlotAt} {bytes : List ℕ} {vain : ℕ} {spot : Spot} → SendWay s op bytes vain m b cur slot
-    → SendStands t d now after bytes → SendTurned m b cur slot bytes t d now after (turn.Waiting spot) → SendWay s op bytes (vain + 1) t d now after
+    → SendStands t d now after bytes → SendTurned (sending m b cur slot bytes) (sending t d now after bytes) (turn.Waiting spot) → SendWay s op bytes (vain + 1) t d now after
 way_waited {s} {m} {t} {b} {d} {op} {cur} {now} {slot} {after} {bytes} {vain} {spot} u st v =
     let rests : IsAtRest (record_in m) (record_in t) = v.means.2 in
     let w = waits u v in
@@ -108,9 +109,9 @@ slot_by true posted to slot after is p f = absurd (cc)
 slot_by false true to slot after is p f = is
 slot_by false false to slot after is p f = absurd (cc)
 
-pub way_ends : {s m t : Sight} {b d : Private} {op cur now : SendAt} {slot after : SlotAt} {bytes : List ℕ} {vain : ℕ} → SendWay s op bytes vain m b cur slot
-    → SendStands t d now after bytes → SendTurned m b cur slot bytes t d now after turn.Done → Sent s op bytes t d after
-way_ends {s} {m} {t} {b} {d} {op} {cur} {now} {slot} {after} {bytes} u st v =
+pub way_ends : {s m t : Sight} {c b d : Private} {op cur now : SendAt} {begun slot after : SlotAt} {bytes : List ℕ} {vain : ℕ} → SendWay s op bytes vain m b cur slot
+    → SendStands t d now after bytes → SendTurned (sending m b cur slot bytes) (sending t d now after bytes) turn.Done → Sent (sending s c op begun bytes) (with_slot t d after)
+way_ends {s} {m} {t} {d = d} {op = op} {cur = cur} {now = now} {slot = slot} {after = after} {bytes = bytes} u st v =
     let at : IsAtSendStage t.seat (record_in t) d now bytes Finished = subst (λ (x : SendStage). IsAtSendStage t.seat (record_in t) d now bytes x) v.means.0 st.at in
     record {
       events = u.events ++ v.events;
@@ -154,9 +155,9 @@ send_told BitFlags own other to slot Look at told e = subst (λ (x : Spot). x �
 send_told BitFlags own other to slot Lower at told e = subst (λ (x : Spot). x ≡ spot_of (aim_of BitFlags x)) (some_at (Register own) at e) refl
 send_told BitFlags own other to slot Finished at told e = absurd (cc)
 
-pub way_stalls : {s m t : Sight} {b d : Private} {op cur now : SendAt} {slot after : SlotAt} {bytes : List ℕ} {vain : ℕ} {spot : Spot} → SendWay s op bytes vain m b cur slot
-    → SendStands t d now after bytes → SendTurned m b cur slot bytes t d now after (turn.Waiting spot) → (polls : ℕ) → polls ≤ vain + 1 → SendStalled s op bytes polls t d now after spot
-way_stalls {s} {m} {t} {b} {d} {op} {cur} {now} {slot} {after} {bytes} {vain} {spot} u st v polls enough =
+pub way_stalls : {s m t : Sight} {c b d : Private} {op cur now : SendAt} {begun slot after : SlotAt} {bytes : List ℕ} {vain : ℕ} {spot : Spot} → SendWay s op bytes vain m b cur slot
+    → SendStands t d now after bytes → SendTurned (sending m b cur slot bytes) (sending t d now after bytes) (turn.Waiting spot) → (polls : ℕ) → polls ≤ vain + 1 → SendStalled (sending s c op begun bytes) polls (sending t d now after bytes) spot
+way_stalls {s} {cur = cur} {now = now} {slot = slot} {after = after} {spot = spot} u st v polls enough =
     let layout = s.seat.setup.layout in
     let w = waits u v in
     let x = aimed layout (send_spot s.seat cur slot) w.at w.is in
@@ -180,6 +181,6 @@ way_stalls {s} {m} {t} {b} {d} {op} {cur} {now} {slot} {after} {bytes} {vain} {s
 -- ---- the measure
 
 pub send_falls : {s m t : Sight} {b d : Private} {op cur now : SendAt} {slot after : SlotAt} {bytes : List ℕ} {vain : ℕ} → SendWay s op bytes vain m b cur slot
-    → SendTurned m b cur slot bytes t d now after turn.Moved → send_left s.seat.setup.layout (chunk_of s.seat.setup) cur slot ≡ send_left s.seat.setup.layout (chunk_of s.seat.setup) now after + 1
+    → SendTurned (sending m b cur slot bytes) (sending t d now after bytes) turn.Moved → send_left s.seat.setup.layout (chunk_of s.seat.setup) cur slot ≡ send_left s.seat.setup.layout (chunk_of s.seat.setup) now after + 1
 send_falls {s} {m} {cur = cur} {now = now} {slot = slot} {after = after} u v =
     subst (λ (x : Seat). send_left x.setup.layout (chunk_of x.setup) cur slot ≡ send_left x.setup.layout (chunk_of x.setup) now after + 1) (seat_kept s u.events m u.did) v.means.0

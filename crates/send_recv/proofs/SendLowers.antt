@@ -27,6 +27,7 @@ use Rattle.send_recv.specs.Flags.{Changes, MayChange}
 use Rattle.send_recv.specs.Ops.{SendAt, SlotAt, is_sent}
 use Rattle.send_recv.specs.Receiving.{progress_at}
 use Rattle.send_recv.specs.Sending.{IsSending, SendStands, SendMeans, HasDrafted, Later, HasNoLines, IsUp, header_words, lines_in_hand, own_line, of_chunk, send_spot, send_spot_by, slot_spot}
+use Rattle.send_recv.specs.Ranks.{sending}
 use Rattle.send_recv.specs.Steps.{own_core, core_of, ready_flag, after_through, through_answer}
 use Rattle.sync_flags.specs.Tries.{Tried}
 use Rattle.send_recv.specs.Tries.{aim_at}
@@ -152,21 +153,22 @@ lower_stands false seat rec new c d op slot bytes small more r lower is out =
       );
     }
 
-lower_means : (b : Bool) (layout : Layout) (rec new : Record) (op : SendAt) (slot : SlotAt) (bytes : List ℕ) → AreBytes bytes → is_last_chunk (chunk_size layout) op.head.len op.chunk ≡ b → IsUp (chunk_size layout) rec.stage op bytes Answered
-    → length bytes ≡ op.head.len → op.chunk < chunk_count (chunk_size layout) op.head.len → op.stage ≡ Lower → op.posted ≡ false → slot.to ≡ None → new ≡ after (chunk_size layout) (LowerReady op.to) rec
-    → SendMeans layout (chunk_size layout) rec op slot bytes new (next_op b op) slot (next_answer b)
-lower_means true layout rec new op slot bytes small last up long below lower plain none is =
-    let ends = through_last layout rec new op bytes small up long below last is in
+lower_means : (b : Bool) (s t : Sight) (c d : Private) (op : SendAt) (slot : SlotAt) (bytes : List ℕ) → AreBytes bytes → is_last_chunk (chunk_of s.seat.setup) op.head.len op.chunk ≡ b
+    → IsUp (chunk_of s.seat.setup) (record_in s).stage op bytes Answered → length bytes ≡ op.head.len → op.chunk < chunk_count (chunk_of s.seat.setup) op.head.len → op.stage ≡ Lower → op.posted ≡ false → slot.to ≡ None
+    → record_in t ≡ after (chunk_of s.seat.setup) (LowerReady op.to) (record_in s) → SendMeans (sending s c op slot bytes) (sending t d (next_op b op) slot bytes) (next_answer b)
+lower_means true s t c d op slot bytes small last up long below lower plain none is =
+    let ends = through_last s.seat.setup.layout (record_in s) (record_in t) op bytes small up long below last is in
     let sent : is_sent op.stage ≡ false = ap is_sent lower in (
       refl,
       sym (if_no (is_sent op.stage) slot (if op.posted then record { to = Some op.to; seen = false } else slot) sent ∙ if_no op.posted (record { to = Some op.to; seen = false }) slot plain),
-      ends.1 ∙ ap (λ cs. rec.calls ++ cs) (sym (if_no (is_sent op.stage) [] (if op.posted then Post op.to op.head bytes ∷ [] else Send op.to op.head bytes ∷ []) sent
+      ends.1 ∙ ap (λ cs. (record_in s).calls ++ cs) (sym (if_no (is_sent op.stage) [] (if op.posted then Post op.to op.head bytes ∷ [] else Send op.to op.head bytes ∷ []) sent
           ∙ if_no op.posted (Post op.to op.head bytes ∷ []) (Send op.to op.head bytes ∷ []) plain)),
       λ plain open_before. none,
     )
-lower_means false layout rec new op slot bytes small more up long below lower plain none is =
-    let size = chunk_size layout in
-    let goes = through_next layout rec new op bytes small up long below more is in
+lower_means false s t c d op slot bytes small more up long below lower plain none is =
+    let layout = s.seat.setup.layout in
+    let size = chunk_of s.seat.setup in
+    let goes = through_next layout (record_in s) (record_in t) op bytes small up long below more is in
     let low = le_not op.head.len (size * (op.chunk + 1)) more in (
       left_at layout size op slot Lower lower
           ∙ next_left (lines_from size op.head.len op.chunk - lines_in_hand size op) (of_chunk layout op.posted) (chunk_count size op.head.len - op.chunk - 1) (lines_from size op.head.len (op.chunk + 1)) (chunk_count size op.head.len - (op.chunk + 1))
@@ -213,7 +215,7 @@ lower_goes b s t c d op slot bytes last valid small r lower changes =
         rests = λ spot e. never_waits b spot _ e;
         only = subst (λ (w : Option Spot). OnlyTries (aim_at layout w) facts.events) (sym (no_wait b)) tt;
         same = same_op b op;
-        means = lower_means b layout (record_in s) (record_in t) op slot bytes small last at.3 r.long r.in_hand lower at.0
+        means = lower_means b s t c d op slot bytes small last at.3 r.long r.in_hand lower at.0
             (r.slot_stands.to ∙ ap (λ (o : Option OnItsWay). option_map (λ (p : OnItsWay). p.to) o) at.1) is;
         rest = record { flips = ap (λ (x : Record). x.flips) is; hold = ap (λ (x : Record). x.held) is; heap = ap (λ (x : Record). x.heap) is };
         drafts = no_stores s.seat.setup c facts.events (change_drafts_none s t c d own (ready_flag s.seat op.to) false true at.2 (ready_is_flag s.seat valid s.seat.rank op.to r.peers) changes facts.events facts.did);

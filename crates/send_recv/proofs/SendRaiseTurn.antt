@@ -25,6 +25,7 @@ use Rattle.send_recv.specs.Chunks.{chunk_count, lines_from}
 use Rattle.send_recv.specs.Flags.{Changes, ChangesBy}
 use Rattle.send_recv.specs.Ops.{SendAt, SlotAt, is_sent}
 use Rattle.send_recv.specs.Sending.{SlotStands, IsBeforeRaise, IsAtSendStage, IsSending, SendStands, SendMeans, own_line, header_words, lines_in_hand, waiting, of_chunk, from_raise, send_spot, send_spot_by, slot_spot}
+use Rattle.send_recv.specs.Ranks.{sending}
 use Rattle.send_recv.specs.Steps.{own_core, core_of, sent_flag, after_sent, sent_answer, slot_sent}
 use Rattle.sync_flags.specs.Tries.{Aim, AtFlag, AtWord, AtRegister, tries_at, all_vain, changing_after, vain_from, Tried}
 use Rattle.sync_flags.proofs.VainLemmas.{vain-append}
@@ -114,17 +115,17 @@ abbrev next_answer : Bool → Turn
 next_answer b = if b then Done else Moved
 
 -- the record after the raise, and the empty buffer
-record After (seat : Seat) (rec new : Record) (d : Private) (op : SendAt) (slot : SlotAt) (bytes : List ℕ) (b : Bool) : Type 0 where
-  held : new.held ≡ rec.held
-  slot_stands : SlotStands seat new (next_slot b op slot)
-  at : IsAtSendStage seat new d (next_op b op) bytes (if b then Finished else Look)
-  means : SendMeans seat.setup.layout (chunk_of seat.setup) rec op slot bytes new (next_op b op) (next_slot b op slot) (next_answer b)
+record After (s t : Sight) (c d : Private) (op : SendAt) (slot : SlotAt) (bytes : List ℕ) (b : Bool) : Type 0 where
+  held : (record_in t).held ≡ (record_in s).held
+  slot_stands : SlotStands s.seat (record_in t) (next_slot b op slot)
+  at : IsAtSendStage s.seat (record_in t) d (next_op b op) bytes (if b then Finished else Look)
+  means : SendMeans (sending s c op slot bytes) (sending t d (next_op b op) (next_slot b op slot) bytes) (next_answer b)
 
 raise_left : (lines raise p x : ℕ) → raise ≡ 3 → x ≡ lines + 2 + p → lines + raise + p ≡ x + 1
 raise_left lines raise p x three is = omega (arith, three, is)
 
 after_raise : (b : Bool) (s t : Sight) (c d : Private) (op : SendAt) (slot : SlotAt) (bytes : List ℕ) → op.posted ≡ b → AreBytes bytes → SendStands s c op slot bytes → op.stage ≡ Raise → SentRaised s t op bytes → d.out ≡ None
-    → After s.seat (record_in s) (record_in t) d op slot bytes b
+    → After s t c d op slot bytes b
 after_raise true s t c d op slot bytes posts small r raise up out =
     let size = chunk_of s.seat.setup in
     let at = at_stage s.seat (record_in s) c op slot bytes Raise r raise in

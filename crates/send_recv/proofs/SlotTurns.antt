@@ -32,6 +32,7 @@ use Rattle.send_recv.specs.Steps.{own_core, ready_flag, flag_spot, slot_seen, sl
 use Rattle.sync_flags.specs.Tries.{Aim, Tried, NoTry}
 use Rattle.send_recv.specs.Tries.{aim_at}
 use Rattle.send_recv.specs.Turns.{HoldsNone, is_resting, OnlyTries, NoLoad, waits_at}
+use Rattle.send_recv.specs.Ranks.{with_slot}
 use Rattle.send_recv.proofs.SlotApart.{is_apart, apart_in}
 use Rattle.send_recv.proofs.SlotMoves.{may_lower_ready, ready_is_lowered}
 use Rattle.send_recv.proofs.DraftNone.{ready_is_flag, look_drafts_none, change_drafts_none}
@@ -47,7 +48,7 @@ use Rattle.send_recv.proofs.RecvTurns.{missed_by, waits_tried}
 -- a turn of a slot, and where it stands afterwards
 pub record SlotTurns (s : Sight) (c : Private) (slot : SlotAt) (t : Sight) (d : Private) (now : SlotAt) (answer : Turn) : Type 0 where
   pub stands : SlotStands t.seat (record_in t) now
-  pub turned : SlotTurned s c slot t d now answer
+  pub turned : SlotTurned (with_slot s c slot) (with_slot t d now) answer
 
 -- ---- the message on its way
 
@@ -112,7 +113,7 @@ spot_none BitFlags own true = refl
 spot_none BitFlags own false = refl
 
 -- the turn of an empty slot makes no event
-pub nothing_turn : (s : Sight) (c : Private) (slot : SlotAt) → slot.to ≡ None → c.out ≡ None → SlotTurned s c slot s c slot Done
+pub nothing_turn : (s : Sight) (c : Private) (slot : SlotAt) → slot.to ≡ None → c.out ≡ None → SlotTurned (with_slot s c slot) (with_slot s c slot) Done
 nothing_turn s c slot none empty =
     let layout = s.seat.setup.layout in
     record {

@@ -13,12 +13,11 @@ use Rattle.scc_proto.specs.Words.{are_peers}
 use Rattle.scc_proto.specs.Ports.{Seat, Sight, Did, record_in}
 use Rattle.scc_proto.proofs.PortLaws.{seat_kept}
 use Rattle.put_get.specs.Cores.{Private}
-use Rattle.sync_flags.specs.Tries.{Aim}
 use Rattle.sync_flags.proofs.TurnLemmas.{record_at_start}
 use Rattle.send_recv.specs.declared.stages.RecvStage.{RecvStage}
 use Rattle.send_recv.specs.declared.stages.RecvStage.TheVariants as receive
 use Rattle.send_recv.specs.declared.stages.SendStage.{SendStage}
-use Rattle.send_recv.specs.declared.stages.SendStage.TheVariants as sending
+use Rattle.send_recv.specs.declared.stages.SendStage.TheVariants as stages
 use Rattle.send_recv.specs.declared.answers.RecvTurn.TheVariants as recv_turn
 use Rattle.send_recv.specs.Chunks.{chunk_count, lines_of, lines_from}
 use Rattle.send_recv.specs.Ops.{RecvAt, SendAt, SlotAt, new_receive, new_send, empty_slot, slot_left, slot_left_by}
@@ -26,6 +25,7 @@ use Rattle.send_recv.specs.Receiving.{RecvStands, RecvTurned, IsReceiving, IsAtS
 use Rattle.send_recv.specs.Sending.{SlotStands, SlotTurned, SendStands, SendTurned, IsSending, IsAtSendStage, was_answered, send_left, of_chunk}
 use Rattle.send_recv.specs.Calling.{IsInNoCall, Received, RecvDiffers, FoundUnset, Sent}
 use Rattle.send_recv.specs.Turns.{HoldsNone, IsSamePost, KeepsRest}
+use Rattle.send_recv.specs.Ranks.{receiving, sending, with_slot, with_bytes}
 use Rattle.send_recv.proofs.LookTurn.{holds_kept}
 
 some_chunk : (layout : Layout) (len : ℕ) → 0 < chunk_count (chunk_size layout) len
@@ -76,17 +76,17 @@ hands_after : {s t : Sight} (events : List Event) → Did s events t → KeepsRe
 hands_after {s} {t} events did rest hands =
     subst (λ (x : Seat). HoldsNone x.setup.layout (record_in t)) (sym (seat_kept s events t did)) (holds_kept s.seat.setup.layout (record_in s) (record_in t) rest.hold hands)
 
-pub free_after_receive : {s t : Sight} {c d : Private} {slot : SlotAt} {op : RecvAt} {polls : ℕ} {after : List ℕ} → HoldsNone s.seat.setup.layout (record_in s) → SlotStands s.seat (record_in s) slot
-    → Received s c op polls t d after → IsInNoCall t d slot
+pub free_after_receive : {s t : Sight} {c d : Private} {slot : SlotAt} {op : RecvAt} {polls : ℕ} {bytes after : List ℕ} → HoldsNone s.seat.setup.layout (record_in s) → SlotStands s.seat (record_in s) slot
+    → Received (receiving s c op bytes) polls (with_bytes t d after) → IsInNoCall t d slot
 free_after_receive hands st r =
     record { stage = r.stage; empty = r.empty; hands = hands_after r.events r.did r.rest hands; slot_stands = slot_after r.events r.did r.post st }
 
-pub free_after_other_head : {s t : Sight} {d : Private} {slot : SlotAt} {op : RecvAt} {polls : ℕ} {bytes after : List ℕ} {sent asked : MessageHead} → HoldsNone s.seat.setup.layout (record_in s)
-    → SlotStands s.seat (record_in s) slot → RecvDiffers s op bytes polls t d after sent asked → IsInNoCall t d slot
+pub free_after_other_head : {s t : Sight} {c d : Private} {slot : SlotAt} {op : RecvAt} {polls : ℕ} {bytes after : List ℕ} {sent asked : MessageHead} → HoldsNone s.seat.setup.layout (record_in s)
+    → SlotStands s.seat (record_in s) slot → RecvDiffers (receiving s c op bytes) polls (with_bytes t d after) sent asked → IsInNoCall t d slot
 free_after_other_head hands st r =
     record { stage = r.untaken; empty = r.empty; hands = hands_after r.events r.did r.rest hands; slot_stands = slot_after r.events r.did r.post st }
 
-pub free_after_test : {s t : Sight} {c d : Private} {slot : SlotAt} {aim : Aim} {bytes after : List ℕ} → IsInNoCall s c slot → FoundUnset aim s bytes t d after → IsInNoCall t d slot
+pub free_after_test : {s t : Sight} {c d : Private} {slot : SlotAt} {op : RecvAt} {bytes after : List ℕ} → IsInNoCall s c slot → FoundUnset (receiving s c op bytes) (with_bytes t d after) → IsInNoCall t d slot
 free_after_test free r = record {
   stage = r.at_rest.stage ∙ free.stage;
   empty = r.empty;
@@ -94,7 +94,7 @@ free_after_test free r = record {
   slot_stands = slot_after r.events r.did r.at_rest.post free.slot_stands;
 }
 
-pub free_after_send : {s t : Sight} {c d : Private} {op : SendAt} {slot after : SlotAt} {bytes : List ℕ} → SendStands s c op slot bytes → Sent s op bytes t d after → IsInNoCall t d after
+pub free_after_send : {s t : Sight} {c d : Private} {op : SendAt} {slot after : SlotAt} {bytes : List ℕ} → SendStands s c op slot bytes → Sent (sending s c op slot bytes) (with_slot t d after) → IsInNoCall t d after
 free_after_send {s} {t} st r = record {
   stage = r.stage;
   empty = r.empty;
@@ -119,7 +119,7 @@ free_at_start s c fresh empty =
       slot_stands = record { to = sym (ap (λ (x : Record). option_map (λ (post : OnItsWay). post.to) x.post) none); seen = λ h. absurd (cc); peers = tt };
     }
 
-sent_at : (seat : Seat) (rec : Record) (c : Private) (op : SendAt) (slot : SlotAt) (bytes : List ℕ) → op.stage ≡ sending.Finished → IsSending seat rec c op slot bytes → (rec.stage ≡ Idle) × (c.out ≡ None)
+sent_at : (seat : Seat) (rec : Record) (c : Private) (op : SendAt) (slot : SlotAt) (bytes : List ℕ) → op.stage ≡ stages.Finished → IsSending seat rec c op slot bytes → (rec.stage ≡ Idle) × (c.out ≡ None)
 sent_at seat rec c op slot bytes is st = subst (λ (x : SendStage). IsAtSendStage seat rec c op bytes x) is st.at
 
 received_at : (seat : Seat) (rec : Record) (c : Private) (op : RecvAt) (bytes : List ℕ) → op.stage ≡ receive.Finished → IsReceiving seat rec c op bytes → rec.stage ≡ Idle
@@ -128,14 +128,14 @@ received_at seat rec c op bytes is st = subst (λ (x : RecvStage). IsAtStage sea
 untaken_at : (seat : Seat) (rec : Record) (c : Private) (op : RecvAt) (bytes : List ℕ) → op.stage ≡ receive.Header → IsReceiving seat rec c op bytes → rec.stage ≡ Idle
 untaken_at seat rec c op bytes is st = (subst (λ (x : RecvStage). IsAtStage seat rec c op bytes x) is st.at).1
 
-pub free_after_sent : {s t : Sight} {c d : Private} {op now : SendAt} {slot after : SlotAt} {bytes : List ℕ} → SendTurned s c op slot bytes t d now after turn.Done
+pub free_after_sent : {s t : Sight} {c d : Private} {op now : SendAt} {slot after : SlotAt} {bytes : List ℕ} → SendTurned (sending s c op slot bytes) (sending t d now after bytes) turn.Done
     → SendStands t d now after bytes → IsInNoCall t d after
 free_after_sent {t = t} {d = d} {now = now} {after = after} {bytes = bytes} turned st =
     let end = sent_at t.seat (record_in t) d now after bytes turned.means.0 st in
     record { stage = end.0; empty = end.1; hands = st.hands; slot_stands = st.slot_stands }
 
 pub free_after_received : {s t : Sight} {c d : Private} {op now : RecvAt} {slot : SlotAt} {bytes after : List ℕ} → SlotStands s.seat (record_in s) slot
-    → RecvTurned s c op bytes t d now after recv_turn.Done → RecvStands t d now after → IsInNoCall t d slot
+    → RecvTurned (receiving s c op bytes) (receiving t d now after) recv_turn.Done → RecvStands t d now after → IsInNoCall t d slot
 free_after_received {t = t} {d = d} {now = now} {after = after} slot turned st = record {
   stage = received_at t.seat (record_in t) d now after turned.means.0 st;
   empty = st.empty;
@@ -144,7 +144,7 @@ free_after_received {t = t} {d = d} {now = now} {after = after} slot turned st =
 }
 
 pub free_after_mismatch : {s t : Sight} {c d : Private} {op now : RecvAt} {slot : SlotAt} {bytes after : List ℕ} {sent : MessageHead} → SlotStands s.seat (record_in s) slot
-    → RecvTurned s c op bytes t d now after (recv_turn.Mismatch sent) → RecvStands t d now after → IsInNoCall t d slot
+    → RecvTurned (receiving s c op bytes) (receiving t d now after) (recv_turn.Mismatch sent) → RecvStands t d now after → IsInNoCall t d slot
 free_after_mismatch {t = t} {d = d} {now = now} {after = after} slot turned st = record {
   stage = untaken_at t.seat (record_in t) d now after (ap (λ (o : RecvAt). o.stage) turned.means.0 ∙ turned.means.2) st;
   empty = st.empty;
@@ -152,7 +152,7 @@ free_after_mismatch {t = t} {d = d} {now = now} {after = after} slot turned st =
   slot_stands = slot_after turned.events turned.did turned.post slot;
 }
 
-pub free_after_slot : {s t : Sight} {c d : Private} {slot now : SlotAt} {answer : Turn} → IsInNoCall s c slot → SlotTurned s c slot t d now answer
+pub free_after_slot : {s t : Sight} {c d : Private} {slot now : SlotAt} {answer : Turn} → IsInNoCall s c slot → SlotTurned (with_slot s c slot) (with_slot t d now) answer
     → SlotStands t.seat (record_in t) now → IsInNoCall t d now
 free_after_slot free turned st = record {
   stage = turned.stage ∙ free.stage;
@@ -186,8 +186,8 @@ within lines chunks = omega arith
 product_most : (each chunks : ℕ) → each ≤ 4 → each * chunks ≤ 4 * chunks
 product_most each chunks le = mul-le-mul_right chunks le
 
-with_slot : (slot lines product chunks : ℕ) → slot ≤ 2 → product ≤ 4 * (chunks - 0) → slot + 1 + lines + product ≤ 4 + 5 * chunks + lines
-with_slot slot lines product chunks few le = omega (arith, few, le)
+few_slot_turns : (slot lines product chunks : ℕ) → slot ≤ 2 → product ≤ 4 * (chunks - 0) → slot + 1 + lines + product ≤ 4 + 5 * chunks + lines
+few_slot_turns slot lines product chunks few le = omega (arith, few, le)
 
 pub new_receive_left : (size from : ℕ) (head : MessageHead) → recv_left size (new_receive from head) ≤ 4 + 5 * chunk_count size head.len + lines_of head.len
 new_receive_left size from head =
@@ -197,5 +197,5 @@ pub new_send_left : (layout : Layout) (size to : ℕ) (head : MessageHead) (post
     → send_left layout size (new_send to head posted) slot ≤ 4 + 5 * chunk_count size head.len + lines_of head.len
 new_send_left layout size to head posted slot =
     subst (λ (l : ℕ). slot_left slot + 1 + l + of_chunk layout posted * (chunk_count size head.len - 0) ≤ 4 + 5 * chunk_count size head.len + lines_of head.len) (sym (lines_all size head.len))
-    (with_slot (slot_left slot) (lines_of head.len) (of_chunk layout posted * (chunk_count size head.len - 0)) (chunk_count size head.len) (slot_left_most slot)
+    (few_slot_turns (slot_left slot) (lines_of head.len) (of_chunk layout posted * (chunk_count size head.len - 0)) (chunk_count size head.len) (slot_left_most slot)
     (product_most (of_chunk layout posted) (chunk_count size head.len - 0) (each_most layout posted)))

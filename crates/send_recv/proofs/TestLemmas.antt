@@ -22,6 +22,7 @@ use Rattle.send_recv.specs.Calling.{sent_aim, HasNotStalled, Received, RecvStall
 use Rattle.scc_base.specs.Layouts.{sent_at}
 use Rattle.send_recv.specs.Steps.{own_core, flag_spot}
 use Rattle.send_recv.specs.Tries.{aim_of, aim_at}
+use Rattle.send_recv.specs.Ranks.{receiving, with_bytes}
 use Rattle.send_recv.proofs.LookTurn.{at_look}
 use Rattle.send_recv.proofs.RecvLoop.{Underway, underway_none, underway_moved, underway_ends, none_moved, row_on, tries_both, some_aim, spot_now, lists_agree, rest_both, post_both}
 
@@ -47,7 +48,7 @@ sums : (a e c b d lc l0 t0 t1 : ℕ) → a + 4 * c + 4 * lc ≤ 4 * b + 4 * (l0 
 sums a e c b d lc l0 t0 t1 before more = omega (arith, before, more)
 
 pub then_received : {s m t : Sight} {c b d : Private} {op cur : RecvAt} {bytes mid after : List ℕ} {polls : ℕ} → Begun s c op bytes m b cur mid
-    → Received m b cur polls t d after → Received s c op polls t d after
+    → Received (receiving m b cur mid) polls (with_bytes t d after) → Received (receiving s c op bytes) polls (with_bytes t d after)
 then_received {s} {m} {t} {c} {b} {d} {op} {cur} {bytes} {mid} {after} {polls} g r =
     let u = g.way in
     let same : m.seat ≡ s.seat = seat_kept s u.events m u.did in
@@ -75,7 +76,7 @@ then_received {s} {m} {t} {c} {b} {d} {op} {cur} {bytes} {mid} {after} {polls} g
     aim_from seat x y e = ap (λ (f : ℕ). aim_of seat.setup.layout (flag_spot (own_core seat) (sent_at seat.setup.layout f))) e
 
 pub then_stalled : {s m t : Sight} {c b d : Private} {op cur now : RecvAt} {bytes mid after : List ℕ} {polls : ℕ} {spot : Spot} → Begun s c op bytes m b cur mid
-    → RecvStalled m cur mid polls t d after now spot → RecvStalled s op bytes polls t d after now spot
+    → RecvStalled (receiving m b cur mid) polls (receiving t d now after) spot → RecvStalled (receiving s c op bytes) polls (receiving t d now after) spot
 then_stalled {s} {m} {t} {c} {b} {d} {op} {cur} {now} {bytes} {mid} {after} {polls} {spot} g r =
     let u = g.way in
     let same : m.seat ≡ s.seat = seat_kept s u.events m u.did in
@@ -99,7 +100,7 @@ then_stalled {s} {m} {t} {c} {b} {d} {op} {cur} {now} {bytes} {mid} {after} {pol
     }
 
 pub then_differs : {s m t : Sight} {c b d : Private} {op cur : RecvAt} {bytes mid after : List ℕ} {polls : ℕ} {sent asked : MessageHead} → Begun s c op bytes m b cur mid
-    → RecvDiffers m cur mid polls t d after sent asked → RecvDiffers s op bytes polls t d after sent asked
+    → RecvDiffers (receiving m b cur mid) polls (with_bytes t d after) sent asked → RecvDiffers (receiving s c op bytes) polls (with_bytes t d after) sent asked
 then_differs {s} {m} {t} {c} {b} {d} {op} {cur} {bytes} {mid} {after} {polls} {sent} {asked} g r =
     let u = g.way in
     let same : m.seat ≡ s.seat = seat_kept s u.events m u.did in
@@ -125,7 +126,7 @@ then_differs {s} {m} {t} {c} {b} {d} {op} {cur} {bytes} {mid} {after} {polls} {s
     }
 
 pub then_stops : {s m : Sight} {c b : Private} {op cur : RecvAt} {bytes mid : List ℕ} (t : Sight) (d : Private) (after : List ℕ) (polls : ℕ) (stop : RecvStop) → Begun s c op bytes m b cur mid
-    → RecvStops m cur mid polls t d after stop → RecvStops s op bytes polls t d after stop
+    → RecvStops (receiving m b cur mid) polls (with_bytes t d after) stop → RecvStops (receiving s c op bytes) polls (with_bytes t d after) stop
 then_stops t d after polls (Stalled now spot count) g r = (r.0, then_stalled g r.1)
 then_stops t d after polls (Mismatch sent asked) g r = then_differs g r
 
@@ -134,18 +135,18 @@ then_stops t d after polls (Mismatch sent asked) g r = then_differs g r
 at_start : (seat : Seat) (op : RecvAt) → op ≡ new_receive op.from op.head → aim_at seat.setup.layout (recv_spot seat op) ≡ Some (sent_aim seat op)
 at_start seat op start = ap (λ (o : Option Spot). aim_at seat.setup.layout o) (at_look seat op (ap (λ (o : RecvAt). o.stage) start))
 
-pub begun : {s m : Sight} {c b : Private} {op cur : RecvAt} {bytes mid : List ℕ} → RecvStands s c op bytes → RecvStands m b cur mid → RecvTurned s c op bytes m b cur mid turn.Moved
+pub begun : {s m : Sight} {c b : Private} {op cur : RecvAt} {bytes mid : List ℕ} → RecvStands s c op bytes → RecvStands m b cur mid → RecvTurned (receiving s c op bytes) (receiving m b cur mid) turn.Moved
     → Begun s c op bytes m b cur mid
 begun st mid v = record { way = underway_moved (underway_none st) mid v; none = none_moved (underway_none st) mid v; long = st.long }
 
-pub found_first : {s m t : Sight} {c b : Private} {op cur : RecvAt} {bytes mid : List ℕ} {answer : RecvTurn} → op ≡ new_receive op.from op.head → RecvTurned s c op bytes m b cur mid answer → recv_waits answer ≡ None
+pub found_first : {s m t : Sight} {c b : Private} {op cur : RecvAt} {bytes mid : List ℕ} {answer : RecvTurn} → op ≡ new_receive op.from op.head → RecvTurned (receiving s c op bytes) (receiving m b cur mid) answer → recv_waits answer ≡ None
     → (later : List Event) → Did m later t → FoundFirst (sent_aim s.seat op) s t
 found_first {s} {m} {t} {op = op} {answer = answer} start v goes later did =
     let w = went_on (subst (λ (o : Option Spot). Tried (aim_at s.seat.setup.layout (recv_spot s.seat op)) v.events o) goes v.tried) (sent_aim s.seat op) (at_start s.seat op start) in
     record { first = v.events; rest = later; did = did_both s v.events m later t v.did did; one = w.0; found = w.1 }
 
-pub found_unset : {s m : Sight} {c b : Private} {op cur : RecvAt} {bytes mid : List ℕ} {spot : Spot} → op ≡ new_receive op.from op.head → RecvStands m b cur mid → RecvTurned s c op bytes m b cur mid (turn.Waiting spot)
-    → FoundUnset (sent_aim s.seat op) s bytes m b mid
+pub found_unset : {s m : Sight} {c b : Private} {op cur : RecvAt} {bytes mid : List ℕ} {spot : Spot} → op ≡ new_receive op.from op.head → RecvStands m b cur mid → RecvTurned (receiving s c op bytes) (receiving m b cur mid) (turn.Waiting spot)
+    → FoundUnset (receiving s c op bytes) (with_bytes m b mid)
 found_unset {s} {m} {op = op} {spot = spot} start st v =
     let w = waited v.tried in
     let aim : w.at ≡ sent_aim s.seat op = some_aim w.at (sent_aim s.seat op) (sym w.is ∙ at_start s.seat op start) in
@@ -163,30 +164,30 @@ found_unset {s} {m} {op = op} {spot = spot} start st v =
 
 -- ---- the test as a whole
 
-stop_made : (s t : Sight) (d : Private) (op : RecvAt) (bytes after : List ℕ) (polls : ℕ) (stop : RecvStop) → RecvStops s op bytes polls t d after stop → (events : List Event) × Did s events t
-stop_made s t d op bytes after polls (Stalled now spot count) r = (r.1.events, r.1.did)
-stop_made s t d op bytes after polls (Mismatch sent asked) r = (r.events, r.did)
+stop_made : (s t : Sight) (c d : Private) (op : RecvAt) (bytes after : List ℕ) (polls : ℕ) (stop : RecvStop) → RecvStops (receiving s c op bytes) polls (with_bytes t d after) stop → (events : List Event) × Did s events t
+stop_made s t c d op bytes after polls (Stalled now spot count) r = (r.1.events, r.1.did)
+stop_made s t c d op bytes after polls (Mismatch sent asked) r = (r.events, r.did)
 
 -- it received, or stopped, after a first look that found the flag set
 pub tested_on : {s m : Sight} {c b : Private} {op cur : RecvAt} {bytes mid : List ℕ} (t : Sight) (d : Private) (after : List ℕ) (polls : ℕ) → op ≡ new_receive op.from op.head
-    → RecvStands s c op bytes → RecvStands m b cur mid → RecvTurned s c op bytes m b cur mid turn.Moved → Received m b cur polls t d after
-    → FoundFirst (sent_aim s.seat op) s t × Received s c op polls t d after
+    → RecvStands s c op bytes → RecvStands m b cur mid → RecvTurned (receiving s c op bytes) (receiving m b cur mid) turn.Moved → Received (receiving m b cur mid) polls (with_bytes t d after)
+    → FoundFirst (sent_aim s.seat op) s t × Received (receiving s c op bytes) polls (with_bytes t d after)
 tested_on t d after polls start st mid v r = (found_first start v refl r.events r.did, then_received (begun st mid v) r)
 
 pub tested_stop : {s m : Sight} {c b : Private} {op cur : RecvAt} {bytes mid : List ℕ} (t : Sight) (d : Private) (after : List ℕ) (polls : ℕ) (stop : RecvStop) → op ≡ new_receive op.from op.head
-    → RecvStands s c op bytes → RecvStands m b cur mid → RecvTurned s c op bytes m b cur mid turn.Moved → RecvStops m cur mid polls t d after stop
-    → FoundFirst (sent_aim s.seat op) s t × RecvStops s op bytes polls t d after stop
-tested_stop {m = m} {cur = cur} {mid = mids} t d after polls stop start st mid v r =
-    let made = stop_made m t d cur mids after polls stop r in
+    → RecvStands s c op bytes → RecvStands m b cur mid → RecvTurned (receiving s c op bytes) (receiving m b cur mid) turn.Moved → RecvStops (receiving m b cur mid) polls (with_bytes t d after) stop
+    → FoundFirst (sent_aim s.seat op) s t × RecvStops (receiving s c op bytes) polls (with_bytes t d after) stop
+tested_stop {m = m} {b = b} {cur = cur} {mid = mids} t d after polls stop start st mid v r =
+    let made = stop_made m t b d cur mids after polls stop r in
     (found_first start v refl made.0 made.1, then_stops t d after polls stop (begun st mid v) r)
 
 pub tested_done : {s m : Sight} {c b : Private} {op cur : RecvAt} {bytes mid : List ℕ} (polls : ℕ) → 1 ≤ polls → op ≡ new_receive op.from op.head
-    → RecvStands s c op bytes → RecvStands m b cur mid → RecvTurned s c op bytes m b cur mid turn.Done → FoundFirst (sent_aim s.seat op) s m × Received s c op polls m b mid
+    → RecvStands s c op bytes → RecvStands m b cur mid → RecvTurned (receiving s c op bytes) (receiving m b cur mid) turn.Done → FoundFirst (sent_aim s.seat op) s m × Received (receiving s c op bytes) polls (with_bytes m b mid)
 tested_done {m = m} polls some start st mid v = (found_first start v refl [] (did_nothing m), underway_ends polls some (underway_none st) mid v)
 
 -- an error that is passed on
 pub passed_on : (s : Sight) (c : Private) (op : RecvAt) (bytes : List ℕ) (polls : ℕ) (t : Sight) (d : Private) (after : List ℕ) (stop : RecvStop) (r : Result Bool RecvStop)
-    → IsErr r × IsErrAnd r (λ x. x ≡ stop) → FoundFirst (sent_aim s.seat op) s t × RecvStops s op bytes polls t d after stop → TestEnds s c op bytes polls t d after r
+    → IsErr r × IsErrAnd r (λ x. x ≡ stop) → FoundFirst (sent_aim s.seat op) s t × RecvStops (receiving s c op bytes) polls (with_bytes t d after) stop → TestEnds (receiving s c op bytes) polls (with_bytes t d after) r
 passed_on s c op bytes polls t d after stop (Ok found) failed ends = absurd (let f = failed.0 in cc)
 passed_on s c op bytes polls t d after stop (Err other) failed ends =
-    subst (λ (x : RecvStop). FoundFirst (sent_aim s.seat op) s t × RecvStops s op bytes polls t d after x) (sym failed.1) ends
+    subst (λ (x : RecvStop). FoundFirst (sent_aim s.seat op) s t × RecvStops (receiving s c op bytes) polls (with_bytes t d after) x) (sym failed.1) ends

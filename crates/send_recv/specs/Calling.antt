@@ -16,7 +16,8 @@ use Rattle.send_recv.specs.declared.calls.RecvStop.{RecvStop}
 use Rattle.send_recv.specs.declared.calls.RecvStop.TheVariants.{Stalled, Mismatch}
 use Rattle.send_recv.specs.declared.deliveries.SendStop.{SendStop}
 use Rattle.send_recv.specs.declared.deliveries.SendStop.TheVariants as send_stop
-use Rattle.send_recv.specs.Ops.{RecvAt, SendAt, SlotAt, is_sent}
+use Rattle.send_recv.specs.Ops.{RecvAt, SlotAt, is_sent}
+use Rattle.send_recv.specs.Ranks.{BufferHolder, Receiver, Sender, SlotHolder, receiving, sending}
 use Rattle.send_recv.specs.Tries.{aim_of}
 use Rattle.send_recv.specs.Turns.{HoldsNone, IsSamePost, KeepsRest, IsAtRest, is_resting, IsOneTry}
 use Rattle.send_recv.specs.Steps.{own_core, sent_flag, flag_spot}
@@ -32,59 +33,60 @@ abbrev pub HasNotStalled : Seat → RecvAt → ℕ → List Event → Type 0
 HasNotStalled seat op polls events = (spot : Spot) → IsRecvSpot seat op spot → TriedInVain (aim_of seat.setup.layout spot) polls events → ⊥
 
 -- a receive is at its end: the one call more is this one, with the bytes of the buffer
-pub record Received (s : Sight) (c : Private) (op : RecvAt) (polls : ℕ) (t : Sight) (d : Private) (after : List ℕ) : Type 0 where
+pub record Received (old : Receiver) (polls : ℕ) (now : BufferHolder) : Type 0 where
   pub events : List Event
-  pub did : Did s events t
-  pub calls : (record_in t).calls ≡ (record_in s).calls ++ recv_call op after
-  pub stage : (record_in t).stage ≡ Idle
-  pub empty : d.out ≡ None
-  pub rest : KeepsRest (record_in s) (record_in t)
-  pub post : IsSamePost (record_in s).post (record_in t).post
-  pub no_stall : HasNotStalled s.seat op polls events
+  pub did : Did old.sight events now.sight
+  pub calls : (record_in now.sight).calls ≡ (record_in old.sight).calls ++ recv_call old.op now.bytes
+  pub stage : (record_in now.sight).stage ≡ Idle
+  pub empty : now.core.out ≡ None
+  pub rest : KeepsRest (record_in old.sight) (record_in now.sight)
+  pub post : IsSamePost (record_in old.sight).post (record_in now.sight).post
+  pub no_stall : HasNotStalled old.sight.seat old.op polls events
   -- at most four loads for each look at the flag, for each line that was left to load, and for each eviction
-  pub work : load_count events + 4 * c.evictions ≤ 4 * (tries_at (sent_aim s.seat op) events + lines_left s.seat.setup.layout (chunk_of s.seat.setup) op) + 4 * d.evictions
+  pub work : load_count events + 4 * old.core.evictions
+      ≤ 4 * (tries_at (sent_aim old.sight.seat old.op) events + lines_left old.sight.seat.setup.layout (chunk_of old.sight.seat.setup) old.op) + 4 * now.core.evictions
 
 -- a receive gave up: the op that is handed back can go on, and the buffer has the chunks that were taken
-pub record RecvStalled (s : Sight) (op : RecvAt) (bytes : List ℕ) (polls : ℕ) (t : Sight) (d : Private) (after : List ℕ) (now : RecvAt) (spot : Spot) : Type 0 where
+pub record RecvStalled (old : Receiver) (polls : ℕ) (now : Receiver) (spot : Spot) : Type 0 where
   pub events : List Event
-  pub did : Did s events t
-  pub tried : TriedInVain (aim_of s.seat.setup.layout spot) polls events
-  pub at : recv_spot s.seat now ≡ Some spot
-  pub stands : RecvStands t d now after
-  pub same : (now.from ≡ op.from) × (now.head ≡ op.head)
-  pub calls : (record_in t).calls ≡ (record_in s).calls
-  pub call_left : (x : List ℕ) → recv_call now x ≡ recv_call op x
-  pub fuller : filled_to (chunk_of s.seat.setup) op ≤ filled_to (chunk_of s.seat.setup) now
-  pub behind : (k : ℕ) → filled_to (chunk_of s.seat.setup) now ≤ k → slice_index after k ≡ slice_index bytes k
-  pub rest : KeepsRest (record_in s) (record_in t)
-  pub post : IsSamePost (record_in s).post (record_in t).post
+  pub did : Did old.sight events now.sight
+  pub tried : TriedInVain (aim_of old.sight.seat.setup.layout spot) polls events
+  pub at : recv_spot old.sight.seat now.op ≡ Some spot
+  pub stands : RecvStands now.sight now.core now.op now.bytes
+  pub same : (now.op.from ≡ old.op.from) × (now.op.head ≡ old.op.head)
+  pub calls : (record_in now.sight).calls ≡ (record_in old.sight).calls
+  pub call_left : (x : List ℕ) → recv_call now.op x ≡ recv_call old.op x
+  pub fuller : filled_to (chunk_of old.sight.seat.setup) old.op ≤ filled_to (chunk_of old.sight.seat.setup) now.op
+  pub behind : (k : ℕ) → filled_to (chunk_of old.sight.seat.setup) now.op ≤ k → slice_index now.bytes k ≡ slice_index old.bytes k
+  pub rest : KeepsRest (record_in old.sight) (record_in now.sight)
+  pub post : IsSamePost (record_in old.sight).post (record_in now.sight).post
 
 -- the message that was sent has another head: it stays untaken, and its header words are noted
-pub record RecvDiffers (s : Sight) (op : RecvAt) (bytes : List ℕ) (polls : ℕ) (t : Sight) (d : Private) (after : List ℕ) (sent asked : MessageHead) : Type 0 where
+pub record RecvDiffers (old : Receiver) (polls : ℕ) (now : BufferHolder) (sent asked : MessageHead) : Type 0 where
   pub events : List Event
-  pub did : Did s events t
-  pub is_asked : asked ≡ op.head
+  pub did : Did old.sight events now.sight
+  pub is_asked : asked ≡ old.op.head
   pub other : sent ≢ asked
   pub header : Notes
-  pub noted : (record_in t).notes op.from ≡ Some header
+  pub noted : (record_in now.sight).notes old.op.from ≡ Some header
   pub says : SaysHead header sent
-  pub none_filled : filled_to (chunk_of s.seat.setup) op ≡ 0
-  pub unchanged : after ≡ bytes
-  pub untaken : (record_in t).stage ≡ Idle
-  pub calls : (record_in t).calls ≡ (record_in s).calls
-  pub empty : d.out ≡ None
-  pub rest : KeepsRest (record_in s) (record_in t)
-  pub post : IsSamePost (record_in s).post (record_in t).post
-  pub no_stall : HasNotStalled s.seat op polls events
+  pub none_filled : filled_to (chunk_of old.sight.seat.setup) old.op ≡ 0
+  pub unchanged : now.bytes ≡ old.bytes
+  pub untaken : (record_in now.sight).stage ≡ Idle
+  pub calls : (record_in now.sight).calls ≡ (record_in old.sight).calls
+  pub empty : now.core.out ≡ None
+  pub rest : KeepsRest (record_in old.sight) (record_in now.sight)
+  pub post : IsSamePost (record_in old.sight).post (record_in now.sight).post
+  pub no_stall : HasNotStalled old.sight.seat old.op polls events
 
-abbrev pub RecvStops : Sight → RecvAt → List ℕ → ℕ → Sight → Private → List ℕ → RecvStop → Type 0
-RecvStops s op bytes polls t d after (Stalled now spot count) = (count ≡ polls) × RecvStalled s op bytes polls t d after now spot
-RecvStops s op bytes polls t d after (Mismatch sent asked) = RecvDiffers s op bytes polls t d after sent asked
+abbrev pub RecvStops : Receiver → ℕ → BufferHolder → RecvStop → Type 0
+RecvStops old polls now (Stalled op spot count) = (count ≡ polls) × RecvStalled old polls (receiving now.sight now.core op now.bytes) spot
+RecvStops old polls now (Mismatch sent asked) = RecvDiffers old polls now sent asked
 
 -- what a receive comes to
-abbrev pub RecvEnds : Sight → Private → RecvAt → List ℕ → ℕ → Sight → Private → List ℕ → Result Unit RecvStop → Type 0
-RecvEnds s c op bytes polls t d after (Ok done) = Received s c op polls t d after
-RecvEnds s c op bytes polls t d after (Err stop) = RecvStops s op bytes polls t d after stop
+abbrev pub RecvEnds : Receiver → ℕ → BufferHolder → Result Unit RecvStop → Type 0
+RecvEnds old polls now (Ok done) = Received old polls now
+RecvEnds old polls now (Err stop) = RecvStops old polls now stop
 
 -- the first try found the flag set, and more was done
 pub record FoundFirst (aim : Aim) (s t : Sight) : Type 0 where
@@ -95,57 +97,57 @@ pub record FoundFirst (aim : Aim) (s t : Sight) : Type 0 where
   pub found : all_vain aim false first ≡ false
 
 -- the one look found the flag unset, and nothing else was done
-pub record FoundUnset (aim : Aim) (s : Sight) (bytes : List ℕ) (t : Sight) (d : Private) (after : List ℕ) : Type 0 where
+pub record FoundUnset (old : Receiver) (now : BufferHolder) : Type 0 where
   pub events : List Event
-  pub did : Did s events t
-  pub one : tries_at aim events ≡ 1
-  pub unset : all_vain aim false events ≡ true
+  pub did : Did old.sight events now.sight
+  pub one : tries_at (sent_aim old.sight.seat old.op) events ≡ 1
+  pub unset : all_vain (sent_aim old.sight.seat old.op) false events ≡ true
   pub nothing : list_all is_resting events ≡ true
   -- the four loads of the flag's line, and no other
-  pub only : IsOneTry aim events
-  pub unchanged : after ≡ bytes
-  pub at_rest : IsAtRest (record_in s) (record_in t)
-  pub empty : d.out ≡ None
+  pub only : IsOneTry (sent_aim old.sight.seat old.op) events
+  pub unchanged : now.bytes ≡ old.bytes
+  pub at_rest : IsAtRest (record_in old.sight) (record_in now.sight)
+  pub empty : now.core.out ≡ None
 
 -- what a test comes to: it answers false exactly where its first look found the flag unset
-abbrev pub TestEnds : Sight → Private → RecvAt → List ℕ → ℕ → Sight → Private → List ℕ → Result Bool RecvStop → Type 0
-TestEnds s c op bytes polls t d after (Ok false) = FoundUnset (sent_aim s.seat op) s bytes t d after
-TestEnds s c op bytes polls t d after (Ok true) = FoundFirst (sent_aim s.seat op) s t × Received s c op polls t d after
-TestEnds s c op bytes polls t d after (Err stop) = FoundFirst (sent_aim s.seat op) s t × RecvStops s op bytes polls t d after stop
+abbrev pub TestEnds : Receiver → ℕ → BufferHolder → Result Bool RecvStop → Type 0
+TestEnds old polls now (Ok false) = FoundUnset old now
+TestEnds old polls now (Ok true) = FoundFirst (sent_aim old.sight.seat old.op) old.sight now.sight × Received old polls now
+TestEnds old polls now (Err stop) = FoundFirst (sent_aim old.sight.seat old.op) old.sight now.sight × RecvStops old polls now stop
 
 -- ---- sends and posts
 
 -- a send is at its end, or a post on its way: the one call more is this one, with the bytes handed in
-pub record Sent (s : Sight) (op : SendAt) (bytes : List ℕ) (t : Sight) (d : Private) (after : SlotAt) : Type 0 where
+pub record Sent (old : Sender) (now : SlotHolder) : Type 0 where
   pub events : List Event
-  pub did : Did s events t
-  pub calls : (record_in t).calls ≡ (record_in s).calls ++ send_call op bytes
-  pub stage : (record_in t).stage ≡ Idle
-  pub empty : d.out ≡ None
-  pub slot_stands : SlotStands t.seat (record_in t) after
-  pub posted : op.posted ≡ true → is_sent op.stage ≡ false → after ≡ record { to = Some op.to; seen = false }
+  pub did : Did old.sight events now.sight
+  pub calls : (record_in now.sight).calls ≡ (record_in old.sight).calls ++ send_call old.op old.bytes
+  pub stage : (record_in now.sight).stage ≡ Idle
+  pub empty : now.core.out ≡ None
+  pub slot_stands : SlotStands now.sight.seat (record_in now.sight) now.slot
+  pub posted : old.op.posted ≡ true → is_sent old.op.stage ≡ false → now.slot ≡ record { to = Some old.op.to; seen = false }
   -- a plain send leaves no message on its way, its own or another
-  pub plain : op.posted ≡ false → is_sent op.stage ≡ false → after.to ≡ None
-  pub rest : KeepsRest (record_in s) (record_in t)
+  pub plain : old.op.posted ≡ false → is_sent old.op.stage ≡ false → now.slot.to ≡ None
+  pub rest : KeepsRest (record_in old.sight) (record_in now.sight)
   -- no row of vain tries is left, at any spot
-  pub no_row : is_sent op.stage ≡ false → (aim : Aim) → vain_tries aim events ≡ 0
+  pub no_row : is_sent old.op.stage ≡ false → (aim : Aim) → vain_tries aim events ≡ 0
 
 -- a send or a post gave up: the op that is handed back can go on
-pub record SendStalled (s : Sight) (op : SendAt) (bytes : List ℕ) (polls : ℕ) (t : Sight) (d : Private) (now : SendAt) (after : SlotAt) (spot : Spot) : Type 0 where
+pub record SendStalled (old : Sender) (polls : ℕ) (now : Sender) (spot : Spot) : Type 0 where
   pub events : List Event
-  pub did : Did s events t
-  pub tried : TriedInVain (aim_of s.seat.setup.layout spot) polls events
-  pub at : send_spot s.seat now after ≡ Some spot
-  pub stands : SendStands t d now after bytes
-  pub same : (now.to ≡ op.to) × (now.head ≡ op.head) × (now.posted ≡ op.posted)
-  pub finished : is_sent now.stage ≡ is_sent op.stage
-  pub calls : (record_in t).calls ≡ (record_in s).calls
-  pub rest : KeepsRest (record_in s) (record_in t)
+  pub did : Did old.sight events now.sight
+  pub tried : TriedInVain (aim_of old.sight.seat.setup.layout spot) polls events
+  pub at : send_spot old.sight.seat now.op now.slot ≡ Some spot
+  pub stands : SendStands now.sight now.core now.op now.slot now.bytes
+  pub same : (now.op.to ≡ old.op.to) × (now.op.head ≡ old.op.head) × (now.op.posted ≡ old.op.posted)
+  pub finished : is_sent now.op.stage ≡ is_sent old.op.stage
+  pub calls : (record_in now.sight).calls ≡ (record_in old.sight).calls
+  pub rest : KeepsRest (record_in old.sight) (record_in now.sight)
 
 -- what a send comes to
-abbrev pub SendEnds : Sight → SendAt → List ℕ → ℕ → Sight → Private → SlotAt → Result Unit SendStop → Type 0
-SendEnds s op bytes polls t d after (Ok done) = Sent s op bytes t d after
-SendEnds s op bytes polls t d after (Err (send_stop.Stalled now spot count)) = (count ≡ polls) × SendStalled s op bytes polls t d now after spot
+abbrev pub SendEnds : Sender → ℕ → SlotHolder → Result Unit SendStop → Type 0
+SendEnds old polls now (Ok done) = Sent old now
+SendEnds old polls now (Err (send_stop.Stalled op spot count)) = (count ≡ polls) × SendStalled old polls (sending now.sight now.core op now.slot old.bytes) spot
 
 -- ---- between calls
 

@@ -1,6 +1,7 @@
 pub mod Bytes
 pub mod Chunks
 pub mod Ops
+pub mod Ranks
 pub mod Flags
 pub mod Tries
 pub mod Turns

@@ -26,6 +26,7 @@ use Rattle.send_recv.specs.declared.answers.RecvTurn.{RecvTurn}
 use Rattle.send_recv.specs.declared.answers.RecvTurn.TheVariants as turn
 use Rattle.send_recv.specs.Chunks.{chunk_count, chunk_start, chunk_len, chunk_lines_of, lines_from}
 use Rattle.send_recv.specs.Ops.{RecvAt, is_received}
+use Rattle.send_recv.specs.Ranks.{Receiver}
 use Rattle.sync_flags.specs.Tries.{Tried, tries_at, changing_after}
 use Rattle.send_recv.specs.Tries.{aim_of, aim_at}
 use Rattle.send_recv.specs.Turns.{HoldsNone, IsSamePost, KeepsRest, IsAtRest, is_resting, OnlyTries, is_no_draft, LastHeld, LoadsLines}
@@ -156,12 +157,13 @@ abbrev pub recv_call : RecvAt → List ℕ → List DataCall
 recv_call op bytes = if is_received op.stage then [] else Recv op.from op.head bytes ∷ []
 
 -- what each answer means for the op, the bytes and the record
-abbrev pub RecvMeans : ℕ → Record → RecvAt → List ℕ → Record → RecvAt → List ℕ → RecvTurn → Type 0
-RecvMeans size rec op bytes new now after turn.Moved = (recv_left size op ≡ recv_left size now + 1) × (new.calls ≡ rec.calls) × (is_received op.stage ≡ false) × (is_received now.stage ≡ false)
-RecvMeans size rec op bytes new now after (turn.Waiting spot) = (now ≡ op) × (after ≡ bytes) × IsAtRest rec new
-RecvMeans size rec op bytes new now after turn.Done = (now.stage ≡ Finished) × (after ≡ bytes) × (new.calls ≡ rec.calls ++ recv_call op bytes)
-RecvMeans size rec op bytes new now after (turn.Mismatch sent) = (now ≡ op) × (after ≡ bytes) × (op.stage ≡ Header) × IsAtRest rec new
-    × (sent ≢ op.head) × (header : Notes) × (new.notes op.from ≡ Some header) × SaysHead header sent
+abbrev pub RecvMeans : Receiver → Receiver → RecvTurn → Type 0
+RecvMeans old now turn.Moved = (recv_left (chunk_of old.sight.seat.setup) old.op ≡ recv_left (chunk_of old.sight.seat.setup) now.op + 1)
+    × ((record_in now.sight).calls ≡ (record_in old.sight).calls) × (is_received old.op.stage ≡ false) × (is_received now.op.stage ≡ false)
+RecvMeans old now (turn.Waiting spot) = (now.op ≡ old.op) × (now.bytes ≡ old.bytes) × IsAtRest (record_in old.sight) (record_in now.sight)
+RecvMeans old now turn.Done = (now.op.stage ≡ Finished) × (now.bytes ≡ old.bytes) × ((record_in now.sight).calls ≡ (record_in old.sight).calls ++ recv_call old.op old.bytes)
+RecvMeans old now (turn.Mismatch sent) = (now.op ≡ old.op) × (now.bytes ≡ old.bytes) × (old.op.stage ≡ Header) × IsAtRest (record_in old.sight) (record_in now.sight)
+    × (sent ≢ old.op.head) × (header : Notes) × ((record_in now.sight).notes old.op.from ≡ Some header) × SaysHead header sent
 
 -- the bytes of the message up to which the buffer is filled
 abbrev pub filled_by : (start len : ℕ) → RecvStage → ℕ → ℕ
@@ -174,30 +176,30 @@ abbrev pub filled_to : ℕ → RecvAt → ℕ
 filled_to size op = filled_by (chunk_start size op.chunk) op.head.len op.stage (chunk_len size op.head.len op.chunk)
 
 -- one turn of a receive
-pub record RecvTurned (s : Sight) (c : Private) (op : RecvAt) (bytes : List ℕ) (t : Sight) (d : Private) (now : RecvAt) (after : List ℕ) (answer : RecvTurn) : Type 0 where
+pub record RecvTurned (old now : Receiver) (answer : RecvTurn) : Type 0 where
   pub events : List Event
-  pub did : Did s events t
+  pub did : Did old.sight events now.sight
   -- it waits exactly where its one try was vain
-  pub tried : Tried (aim_at s.seat.setup.layout (recv_spot s.seat op)) events (recv_waits answer)
+  pub tried : Tried (aim_at old.sight.seat.setup.layout (recv_spot old.sight.seat old.op)) events (recv_waits answer)
   -- it has freed the register that it took
   pub freed : changing_after false events ≡ false
   -- it makes no try at another spot of the receive
-  pub elsewhere : (at : Spot) → IsRecvSpot s.seat op at → recv_spot s.seat op ≢ Some at → tries_at (aim_of s.seat.setup.layout at) events ≡ 0
+  pub elsewhere : (at : Spot) → IsRecvSpot old.sight.seat old.op at → recv_spot old.sight.seat old.op ≢ Some at → tries_at (aim_of old.sight.seat.setup.layout at) events ≡ 0
   -- where it waits, each of its events was a load or a vain take
   pub rests : (spot : Spot) → answer ≡ turn.Waiting spot → list_all is_resting events ≡ true
   -- where it waits, it made that one try and nothing else
-  pub only : OnlyTries (aim_at s.seat.setup.layout (recv_waits answer)) events
+  pub only : OnlyTries (aim_at old.sight.seat.setup.layout (recv_waits answer)) events
   -- it stores no header or chunk word
-  pub no_drafts : list_all (is_no_draft s.seat.setup) events ≡ true
-  pub same : (now.from ≡ op.from) × (now.head ≡ op.head)
-  pub means : RecvMeans (chunk_of s.seat.setup) (record_in s) op bytes (record_in t) now after answer
-  pub rest : KeepsRest (record_in s) (record_in t)
-  pub post : IsSamePost (record_in s).post (record_in t).post
+  pub no_drafts : list_all (is_no_draft old.sight.seat.setup) events ≡ true
+  pub same : (now.op.from ≡ old.op.from) × (now.op.head ≡ old.op.head)
+  pub means : RecvMeans old now answer
+  pub rest : KeepsRest (record_in old.sight) (record_in now.sight)
+  pub post : IsSamePost (record_in old.sight).post (record_in now.sight).post
   -- the buffer changes only where bytes of the line read stand
-  pub before : (k : ℕ) → k < filled_to (chunk_of s.seat.setup) op → slice_index after k ≡ slice_index bytes k
-  pub behind : (k : ℕ) → filled_to (chunk_of s.seat.setup) now ≤ k → slice_index after k ≡ slice_index bytes k
+  pub before : (k : ℕ) → k < filled_to (chunk_of old.sight.seat.setup) old.op → slice_index now.bytes k ≡ slice_index old.bytes k
+  pub behind : (k : ℕ) → filled_to (chunk_of old.sight.seat.setup) now.op ≤ k → slice_index now.bytes k ≡ slice_index old.bytes k
   -- the buffer is never filled less, and no more lines are left to load
-  pub fuller : filled_to (chunk_of s.seat.setup) op ≤ filled_to (chunk_of s.seat.setup) now
-  pub fewer : lines_left s.seat.setup.layout (chunk_of s.seat.setup) now ≤ lines_left s.seat.setup.layout (chunk_of s.seat.setup) op
-  pub held : LastHeld events c.evictions d
-  pub work : LoadsLines events c d ((lines_left s.seat.setup.layout (chunk_of s.seat.setup) op - lines_left s.seat.setup.layout (chunk_of s.seat.setup) now) + extra_line op.stage answer)
+  pub fuller : filled_to (chunk_of old.sight.seat.setup) old.op ≤ filled_to (chunk_of old.sight.seat.setup) now.op
+  pub fewer : lines_left old.sight.seat.setup.layout (chunk_of old.sight.seat.setup) now.op ≤ lines_left old.sight.seat.setup.layout (chunk_of old.sight.seat.setup) old.op
+  pub held : LastHeld events old.core.evictions now.core
+  pub work : LoadsLines events old.core now.core ((lines_left old.sight.seat.setup.layout (chunk_of old.sight.seat.setup) old.op - lines_left old.sight.seat.setup.layout (chunk_of old.sight.seat.setup) now.op) + extra_line old.op.stage answer)

@@ -27,6 +27,7 @@ use Rattle.send_recv.specs.declared.stages.SendStage.TheVariants.{Header, Lines,
 use Rattle.send_recv.specs.Bytes.{word_at, words_at}
 use Rattle.send_recv.specs.Chunks.{chunk_count, chunk_start, chunk_lines_of, lines_from}
 use Rattle.send_recv.specs.Ops.{SendAt, SlotAt, is_sent, slot_left}
+use Rattle.send_recv.specs.Ranks.{Sender, SlotHolder}
 use Rattle.send_recv.specs.Receiving.{progress_at}
 use Rattle.sync_flags.specs.Tries.{Aim, Tried, vain_from, changing_after}
 use Rattle.send_recv.specs.Tries.{aim_at}
@@ -64,27 +65,27 @@ SlotMeans slot now (turn.Waiting spot) = now ≡ slot
 SlotMeans slot now turn.Done = (slot.to ≡ None) × (now ≡ slot)
 
 -- one turn of a slot
-pub record SlotTurned (s : Sight) (c : Private) (slot : SlotAt) (t : Sight) (d : Private) (now : SlotAt) (answer : Turn) : Type 0 where
+pub record SlotTurned (old now : SlotHolder) (answer : Turn) : Type 0 where
   pub events : List Event
-  pub did : Did s events t
-  pub tried : Tried (aim_at s.seat.setup.layout (slot_spot s.seat slot)) events (waits_at answer)
+  pub did : Did old.sight events now.sight
+  pub tried : Tried (aim_at old.sight.seat.setup.layout (slot_spot old.sight.seat old.slot)) events (waits_at answer)
   -- it has freed the register that it took
   pub freed : changing_after false events ≡ false
   pub rests : (spot : Spot) → answer ≡ turn.Waiting spot → list_all is_resting events ≡ true
   -- where it waits, it made that one try and nothing else
-  pub only : OnlyTries (aim_at s.seat.setup.layout (waits_at answer)) events
-  pub means : SlotMeans slot now answer
+  pub only : OnlyTries (aim_at old.sight.seat.setup.layout (waits_at answer)) events
+  pub means : SlotMeans old.slot now.slot answer
   -- where no message is on its way, nothing is done
-  pub nothing : answer ≡ turn.Done → (t ≡ s) × (d ≡ c)
-  pub stage : (record_in t).stage ≡ (record_in s).stage
-  pub calls : (record_in t).calls ≡ (record_in s).calls
+  pub nothing : answer ≡ turn.Done → (now.sight ≡ old.sight) × (now.core ≡ old.core)
+  pub stage : (record_in now.sight).stage ≡ (record_in old.sight).stage
+  pub calls : (record_in now.sight).calls ≡ (record_in old.sight).calls
   -- where the slot is still full, the same message is on its way
-  pub post : now.to ≡ slot.to → IsSamePost (record_in s).post (record_in t).post
-  pub rest : KeepsRest (record_in s) (record_in t)
+  pub post : now.slot.to ≡ old.slot.to → IsSamePost (record_in old.sight).post (record_in now.sight).post
+  pub rest : KeepsRest (record_in old.sight) (record_in now.sight)
   -- it stores no header or chunk word
-  pub no_drafts : list_all (is_no_draft s.seat.setup) events ≡ true
-  pub held : LastHeld events c.evictions d
-  pub buffer : d.out ≡ None
+  pub no_drafts : list_all (is_no_draft old.sight.seat.setup) events ≡ true
+  pub held : LastHeld events old.core.evictions now.core
+  pub buffer : now.core.out ≡ None
 
 -- ---- sends and posts
 
@@ -210,30 +211,31 @@ abbrev pub slot_after : SendAt → SlotAt → SlotAt
 slot_after op slot = if is_sent op.stage then slot else (if op.posted then record { to = Some op.to; seen = false } else slot)
 
 -- what each answer means for the op, the slot and the record
-abbrev pub SendMeans : Layout → ℕ → Record → SendAt → SlotAt → List ℕ → Record → SendAt → SlotAt → Turn → Type 0
-SendMeans layout size rec op slot bytes new now after turn.Moved = (send_left layout size op slot ≡ send_left layout size now after + 1) × (new.calls ≡ rec.calls)
-    × (is_sent op.stage ≡ false) × (is_sent now.stage ≡ false) × IsSameOrEmpty slot after
-SendMeans layout size rec op slot bytes new now after (turn.Waiting spot) = (now ≡ op) × (after ≡ slot) × IsAtRest rec new
-SendMeans layout size rec op slot bytes new now after turn.Done = (now.stage ≡ Finished) × (after ≡ slot_after op slot) × (new.calls ≡ rec.calls ++ send_call op bytes)
-    × (op.posted ≡ false → is_sent op.stage ≡ false → after.to ≡ None)
+abbrev pub SendMeans : Sender → Sender → Turn → Type 0
+SendMeans old now turn.Moved = (send_left old.sight.seat.setup.layout (chunk_of old.sight.seat.setup) old.op old.slot ≡ send_left old.sight.seat.setup.layout (chunk_of old.sight.seat.setup) now.op now.slot + 1)
+    × ((record_in now.sight).calls ≡ (record_in old.sight).calls) × (is_sent old.op.stage ≡ false) × (is_sent now.op.stage ≡ false) × IsSameOrEmpty old.slot now.slot
+SendMeans old now (turn.Waiting spot) = (now.op ≡ old.op) × (now.slot ≡ old.slot) × IsAtRest (record_in old.sight) (record_in now.sight)
+SendMeans old now turn.Done = (now.op.stage ≡ Finished) × (now.slot ≡ slot_after old.op old.slot)
+    × ((record_in now.sight).calls ≡ (record_in old.sight).calls ++ send_call old.op old.bytes)
+    × (old.op.posted ≡ false → is_sent old.op.stage ≡ false → now.slot.to ≡ None)
 
 -- one turn of a send or of a post
-pub record SendTurned (s : Sight) (c : Private) (op : SendAt) (slot : SlotAt) (bytes : List ℕ) (t : Sight) (d : Private) (now : SendAt) (after : SlotAt) (answer : Turn) : Type 0 where
+pub record SendTurned (old now : Sender) (answer : Turn) : Type 0 where
   pub events : List Event
-  pub did : Did s events t
+  pub did : Did old.sight events now.sight
   -- it waits exactly where its one try was vain
-  pub tried : Tried (aim_at s.seat.setup.layout (send_spot s.seat op slot)) events (waits_at answer)
+  pub tried : Tried (aim_at old.sight.seat.setup.layout (send_spot old.sight.seat old.op old.slot)) events (waits_at answer)
   -- it has freed the register that it took
   pub freed : changing_after false events ≡ false
   -- its last turn ends with a store or a free: no row of vain tries is left, whatever was tried before
-  pub ends : answer ≡ turn.Done → is_sent op.stage ≡ false → (aim : Aim) (n : ℕ) → vain_from aim false n events ≡ 0
+  pub ends : answer ≡ turn.Done → is_sent old.op.stage ≡ false → (aim : Aim) (n : ℕ) → vain_from aim false n events ≡ 0
   -- where it waits, each of its events was a load or a vain take
   pub rests : (spot : Spot) → answer ≡ turn.Waiting spot → list_all is_resting events ≡ true
   -- where it waits, it made that one try and nothing else
-  pub only : OnlyTries (aim_at s.seat.setup.layout (waits_at answer)) events
-  pub same : (now.to ≡ op.to) × (now.head ≡ op.head) × (now.posted ≡ op.posted)
-  pub means : SendMeans s.seat.setup.layout (chunk_of s.seat.setup) (record_in s) op slot bytes (record_in t) now after answer
-  pub rest : KeepsRest (record_in s) (record_in t)
+  pub only : OnlyTries (aim_at old.sight.seat.setup.layout (waits_at answer)) events
+  pub same : (now.op.to ≡ old.op.to) × (now.op.head ≡ old.op.head) × (now.op.posted ≡ old.op.posted)
+  pub means : SendMeans old now answer
+  pub rest : KeepsRest (record_in old.sight) (record_in now.sight)
   -- each header or chunk word that it stored stood in the buffer before
-  pub drafts : StoresFromBuffer s.seat.setup c events
-  pub held : LastHeld events c.evictions d
+  pub drafts : StoresFromBuffer old.sight.seat.setup old.core events
+  pub held : LastHeld events old.core.evictions now.core

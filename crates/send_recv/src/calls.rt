@@ -4,6 +4,7 @@ ghost use Rattle.std.specs.Prelude.{◌≡◌, ◌≤◌};
 ghost use Rattle.send_recv.specs.Ops.{new_receive};
 ghost use Rattle.send_recv.specs.Receiving.{RecvStands};
 ghost use Rattle.send_recv.specs.Calling.{RecvEnds, TestEnds};
+ghost use Rattle.send_recv.specs.Ranks.{receiving, with_bytes};
 
 use crate::answers::RecvTurn;
 use crate::receives::RecvOp;
@@ -31,7 +32,7 @@ pub fn recv<V: Evict, P: Port>(
 ) -> Result<(), RecvStop>
     requires some { 1 ≤ polls }
     requires stands { RecvStands (P.sight port.old) core.old op bytes.old }
-    ensures ends { RecvEnds (P.sight port.old) core.old op bytes.old polls (P.sight port.new) core.new bytes.new result }
+    ensures ends { RecvEnds (receiving (P.sight port.old) core.old op bytes.old) polls (with_bytes (P.sight port.new) core.new bytes.new) result }
 {
     let asked = op.head();
     let mut op = op;
@@ -62,7 +63,7 @@ pub fn recv_test<V: Evict, P: Port>(
     requires some { 1 ≤ polls }
     requires start { op ≡ new_receive op.from op.head }
     requires stands { RecvStands (P.sight port.old) core.old op bytes.old }
-    ensures ends { TestEnds (P.sight port.old) core.old op bytes.old polls (P.sight port.new) core.new bytes.new result }
+    ensures ends { TestEnds (receiving (P.sight port.old) core.old op bytes.old) polls (with_bytes (P.sight port.new) core.new bytes.new) result }
 {
     let asked = op.head();
     let mut op = op;

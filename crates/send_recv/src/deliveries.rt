@@ -3,6 +3,7 @@
 ghost use Rattle.std.specs.Prelude.{◌≡◌, ◌≤◌};
 ghost use Rattle.send_recv.specs.Sending.{SendStands};
 ghost use Rattle.send_recv.specs.Calling.{SendEnds};
+ghost use Rattle.send_recv.specs.Ranks.{sending, with_slot};
 
 use crate::sends::SendOp;
 use crate::slots::Slot;
@@ -29,7 +30,7 @@ pub fn send<V: Evict, P: Port>(
 ) -> Result<(), SendStop>
     requires some { 1 ≤ polls }
     requires stands { SendStands (P.sight port.old) core.old op slot.old bytes.now }
-    ensures ends { SendEnds (P.sight port.old) op bytes.now polls (P.sight port.new) core.new slot.new result }
+    ensures ends { SendEnds (sending (P.sight port.old) core.old op slot.old bytes.now) polls (with_slot (P.sight port.new) core.new slot.new) result }
 {
     let mut op = op;
     let mut vain: u32 = 0;

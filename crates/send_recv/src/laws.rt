@@ -10,7 +10,6 @@ ghost use Rattle.scc_base.specs.declared.layouts.Layout.{Layout};
 ghost use Rattle.scc_proto.specs.Words.{are_peers};
 ghost use Rattle.scc_proto.specs.Ports.{Sight, record_in};
 ghost use Rattle.put_get.specs.Cores.{Private};
-ghost use Rattle.sync_flags.specs.Tries.{Aim};
 ghost use Rattle.sync_flags.specs.Turns.{at_port};
 ghost use Rattle.send_recv.specs.declared.answers.RecvTurn.TheVariants as recv_turn;
 ghost use Rattle.send_recv.specs.Chunks.{chunk_count, lines_of};
@@ -19,6 +18,7 @@ ghost use Rattle.send_recv.specs.Receiving.{RecvStands, RecvTurned, recv_left};
 ghost use Rattle.send_recv.specs.Turns.{HoldsNone};
 ghost use Rattle.send_recv.specs.Sending.{SlotStands, SlotTurned, SendStands, SendTurned, send_left};
 ghost use Rattle.send_recv.specs.Calling.{IsInNoCall, Received, RecvStalled, RecvDiffers, FoundUnset, Sent};
+ghost use Rattle.send_recv.specs.Ranks.{receiving, sending, with_slot, with_bytes};
 
 /// A new receive, a new send and a new post have at most 4 + 5c + l turns left that do not wait, for c chunks
 /// and l lines of chunks; a slot has at most two.
@@ -41,19 +41,19 @@ pub fn begins_law()
 /// After a call that answered Ok the rank is in no call again; also after one that met another head, and after a
 /// test that found nothing. A receive may have been at its start before, or handed back by a call that gave up.
 pub fn ends_law()
-    ensures receive { (s t : Sight) (c d : Private) (slot : SlotAt) (op : RecvAt) (polls : ℕ) (bytes : List ℕ) → HoldsNone s.seat.setup.layout (record_in s)
-        → SlotStands s.seat (record_in s) slot → Received s c op polls t d bytes → IsInNoCall t d slot }
-    ensures other_head { (s t : Sight) (d : Private) (slot : SlotAt) (op : RecvAt) (polls : ℕ) (old bytes : List ℕ) (sent asked : MessageHead) → HoldsNone s.seat.setup.layout (record_in s)
-        → SlotStands s.seat (record_in s) slot → RecvDiffers s op old polls t d bytes sent asked → IsInNoCall t d slot }
-    ensures test { (s t : Sight) (c d : Private) (slot : SlotAt) (aim : Aim) (old bytes : List ℕ) → IsInNoCall s c slot
-        → FoundUnset aim s old t d bytes → IsInNoCall t d slot }
-    ensures send { (s t : Sight) (c d : Private) (op : SendAt) (slot after : SlotAt) (bytes : List ℕ) → SendStands s c op slot bytes → Sent s op bytes t d after → IsInNoCall t d after }
+    ensures receive { (s t : Sight) (c d : Private) (slot : SlotAt) (op : RecvAt) (polls : ℕ) (old bytes : List ℕ) → HoldsNone s.seat.setup.layout (record_in s)
+        → SlotStands s.seat (record_in s) slot → Received (receiving s c op old) polls (with_bytes t d bytes) → IsInNoCall t d slot }
+    ensures other_head { (s t : Sight) (c d : Private) (slot : SlotAt) (op : RecvAt) (polls : ℕ) (old bytes : List ℕ) (sent asked : MessageHead) → HoldsNone s.seat.setup.layout (record_in s)
+        → SlotStands s.seat (record_in s) slot → RecvDiffers (receiving s c op old) polls (with_bytes t d bytes) sent asked → IsInNoCall t d slot }
+    ensures test { (s t : Sight) (c d : Private) (slot : SlotAt) (op : RecvAt) (old bytes : List ℕ) → IsInNoCall s c slot
+        → FoundUnset (receiving s c op old) (with_bytes t d bytes) → IsInNoCall t d slot }
+    ensures send { (s t : Sight) (c d : Private) (op : SendAt) (slot after : SlotAt) (bytes : List ℕ) → SendStands s c op slot bytes → Sent (sending s c op slot bytes) (with_slot t d after) → IsInNoCall t d after }
 {}
 
 /// A slot stands after a receive that gave up as it stood before.
 pub fn stalls_law()
-    ensures slot { (s t : Sight) (d : Private) (slot : SlotAt) (op now : RecvAt) (polls : ℕ) (old bytes : List ℕ) (spot : Spot) → SlotStands s.seat (record_in s) slot
-        → RecvStalled s op old polls t d bytes now spot → SlotStands t.seat (record_in t) slot }
+    ensures slot { (s t : Sight) (c d : Private) (slot : SlotAt) (op now : RecvAt) (polls : ℕ) (old bytes : List ℕ) (spot : Spot) → SlotStands s.seat (record_in s) slot
+        → RecvStalled (receiving s c op old) polls (receiving t d now bytes) spot → SlotStands t.seat (record_in t) slot }
 {}
 
 /// What stands at a port stands at every port of the same rank: the same setup, rank and events.
@@ -77,11 +77,11 @@ pub fn start_law()
 /// slot if it was before.
 pub fn done_law()
     ensures receive { (s t : Sight) (c d : Private) (op now : RecvAt) (slot : SlotAt) (bytes after : List ℕ) → SlotStands s.seat (record_in s) slot
-        → RecvTurned s c op bytes t d now after recv_turn.Done → RecvStands t d now after → IsInNoCall t d slot }
+        → RecvTurned (receiving s c op bytes) (receiving t d now after) recv_turn.Done → RecvStands t d now after → IsInNoCall t d slot }
     ensures other_head { (s t : Sight) (c d : Private) (op now : RecvAt) (slot : SlotAt) (bytes after : List ℕ) (sent : MessageHead) → SlotStands s.seat (record_in s) slot
-        → RecvTurned s c op bytes t d now after (recv_turn.Mismatch sent) → RecvStands t d now after → IsInNoCall t d slot }
-    ensures send { (s t : Sight) (c d : Private) (op now : SendAt) (slot after : SlotAt) (bytes : List ℕ) → SendTurned s c op slot bytes t d now after turn.Done
+        → RecvTurned (receiving s c op bytes) (receiving t d now after) (recv_turn.Mismatch sent) → RecvStands t d now after → IsInNoCall t d slot }
+    ensures send { (s t : Sight) (c d : Private) (op now : SendAt) (slot after : SlotAt) (bytes : List ℕ) → SendTurned (sending s c op slot bytes) (sending t d now after bytes) turn.Done
         → SendStands t d now after bytes → IsInNoCall t d after }
-    ensures slot { (s t : Sight) (c d : Private) (slot now : SlotAt) (answer : Turn) → IsInNoCall s c slot → SlotTurned s c slot t d now answer
+    ensures slot { (s t : Sight) (c d : Private) (slot now : SlotAt) (answer : Turn) → IsInNoCall s c slot → SlotTurned (with_slot s c slot) (with_slot t d now) answer
         → SlotStands t.seat (record_in t) now → IsInNoCall t d now }
 {}

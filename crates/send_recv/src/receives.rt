@@ -43,6 +43,7 @@ impl RecvOp {
     ghost use Rattle.send_recv.specs.Receiving.{RecvStands, RecvTurned, recv_waits};
     ghost use Rattle.send_recv.specs.Sights.{chunk_at, IsPeer, first_byte, header_line, chunk_line, LooksForSent, LowersSent, RaisesReady, MayLowerSent, MayRaiseReady, sent_spot, own_register, register_of};
     ghost use Rattle.send_recv.specs.Steps.{cleared, goes_on, recv_or_waits, after_look, after_lower, after_line, after_raise, raise_answer, HeadRead, before_line};
+    ghost use Rattle.send_recv.specs.Ranks.{receiving};
     ghost use Rattle.scc_base.specs.declared.events.Spot.{Spot};
     ghost use Rattle.scc_base.specs.declared.events.Spot.TheVariants.{Register};
 
@@ -202,7 +203,7 @@ impl RecvOp {
     ) -> RecvTurn
         requires stands { RecvStands (P.sight port.old) core.old self.old bytes.old }
         ensures stands { RecvStands (P.sight port.new) core.new self.new bytes.new }
-        ensures turned { RecvTurned (P.sight port.old) core.old self.old bytes.old (P.sight port.new) core.new self.new bytes.new result }
+        ensures turned { RecvTurned (receiving (P.sight port.old) core.old self.old bytes.old) (receiving (P.sight port.new) core.new self.new bytes.new) result }
         ensures steps { (spot : Spot) → recv_waits result ≡ Some spot → MadeSteps P.stepped (P.sight port.old) (P.sight port.new) }
     {
         known(port);

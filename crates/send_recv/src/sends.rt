@@ -61,6 +61,7 @@ impl SendOp {
     ghost use Rattle.send_recv.specs.Sights.{chunk_at, IsPeer, own_header_line, own_chunk_line, words_of_line, LooksForReady, RaisesSent, LowersReady, MayRaiseSent, MayLowerReady, ready_spot, own_register, register_of};
     ghost use Rattle.send_recv.specs.Steps.{moves_on, moved_or_waits, after_header, after_written, after_flush, after_sent, sent_answer, slot_sent, after_seen, after_through, through_answer};
     ghost use Rattle.send_recv.specs.Turns.{waits_at};
+    ghost use Rattle.send_recv.specs.Ranks.{sending};
 
     /// A send at the start of a message with this head.
     pub fn new(to: Rank, head: Head) -> SendOp
@@ -229,7 +230,7 @@ impl SendOp {
     ) -> Turn
         requires stands { SendStands (P.sight port.old) core.old self.old slot.old bytes.now }
         ensures stands { SendStands (P.sight port.new) core.new self.new slot.new bytes.now }
-        ensures turned { SendTurned (P.sight port.old) core.old self.old slot.old bytes.now (P.sight port.new) core.new self.new slot.new result }
+        ensures turned { SendTurned (sending (P.sight port.old) core.old self.old slot.old bytes.now) (sending (P.sight port.new) core.new self.new slot.new bytes.now) result }
         ensures steps { (spot : Spot) → waits_at result ≡ Some spot → MadeSteps P.stepped (P.sight port.old) (P.sight port.new) }
     {
         known(port);

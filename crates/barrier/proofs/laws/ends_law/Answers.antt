@@ -4,6 +4,6 @@ use Rattle.barrier.proofs.laws.ends_law.Goals as goal
 
 pub returns : goal.returns
 returns c = record {
-  between = λ s t d op values f. free_after_barrier f;
-  seat = λ s t d op values f. seat_kept s f.events t f.did;
+  between = λ s t core d op before values f. free_after_barrier f;
+  seat = λ s t core d op before values f. seat_kept s f.events t f.did;
 }

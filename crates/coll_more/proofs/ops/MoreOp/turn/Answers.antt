@@ -1,6 +1,7 @@
 use Rattle.std.proofs.Common.{subst}
 use Rattle.send_recv.specs.declared.answers.RecvTurn.{RecvTurn}
 use Rattle.coll_more.specs.Turns.{MoreTurned}
+use Rattle.coll_more.specs.Ops.{taking_part}
 use Rattle.coll_more.proofs.EndLemmas.{has_ended}
 use Rattle.coll_more.proofs.ops.MoreOp.turn.Goals as goal
 
@@ -16,7 +17,7 @@ returns-in-Between-clause-turned g c = (c.begin_next.ensures.turns c.args.core.n
 pub returns-in-Between-clause-ended : goal.returns-in-Between-clause-ended
 returns-in-Between-clause-ended g c =
     λ base st is. has_ended base (g.P.Port.sight c.args.port.now) c.args.core.now c.args.self.now c.args.slot.now c.args.src.now c.args.dst.now (g.P.Port.sight c.args.port.now) c.args.core.now c.begin_next.new.self c.args.slot.now c.args.dst.now st
-    (subst (λ (answer : RecvTurn). MoreTurned (g.P.Port.sight c.args.port.now) c.args.core.now c.args.self.now c.args.slot.now c.args.dst.now (g.P.Port.sight c.args.port.now) c.args.core.now c.begin_next.new.self c.args.slot.now c.args.dst.now answer) is
+    (subst (λ (answer : RecvTurn). MoreTurned (taking_part (g.P.Port.sight c.args.port.now) c.args.core.now c.args.self.now c.args.slot.now c.args.src.now c.args.dst.now) (taking_part (g.P.Port.sight c.args.port.now) c.args.core.now c.begin_next.new.self c.args.slot.now c.args.src.now c.args.dst.now) answer) is
     (c.begin_next.ensures.turns c.args.core.now c.args.slot.now c.args.src.now c.args.dst.now c.requires.stands).turned)
 
 pub returns-in-Receiving-clause-stands : goal.returns-in-Receiving-clause-stands
@@ -28,5 +29,5 @@ returns-in-Receiving-clause-turned g c = (c.go_on_receiving.ensures.turns c.args
 pub returns-in-Receiving-clause-ended : goal.returns-in-Receiving-clause-ended
 returns-in-Receiving-clause-ended g c =
     λ base st is. has_ended base (g.P.Port.sight c.args.port.now) c.args.core.now c.args.self.now c.args.slot.now c.args.src.now c.args.dst.now (g.P.Port.sight c.go_on_receiving.new.port) c.go_on_receiving.new.core c.go_on_receiving.new.self c.args.slot.now c.go_on_receiving.new.dst st
-    (subst (λ (answer : RecvTurn). MoreTurned (g.P.Port.sight c.args.port.now) c.args.core.now c.args.self.now c.args.slot.now c.args.dst.now (g.P.Port.sight c.go_on_receiving.new.port) c.go_on_receiving.new.core c.go_on_receiving.new.self c.args.slot.now c.go_on_receiving.new.dst answer) is
+    (subst (λ (answer : RecvTurn). MoreTurned (taking_part (g.P.Port.sight c.args.port.now) c.args.core.now c.args.self.now c.args.slot.now c.args.src.now c.args.dst.now) (taking_part (g.P.Port.sight c.go_on_receiving.new.port) c.go_on_receiving.new.core c.go_on_receiving.new.self c.args.slot.now c.args.src.now c.go_on_receiving.new.dst) answer) is
     (c.go_on_receiving.ensures.turns c.args.slot.now c.args.src.now c.requires.stands).turned)

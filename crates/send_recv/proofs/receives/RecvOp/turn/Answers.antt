@@ -16,6 +16,7 @@ use Rattle.send_recv.specs.declared.stages.RecvStage.{RecvStage}
 use Rattle.send_recv.specs.declared.stages.RecvStage.TheVariants.{Finished}
 use Rattle.send_recv.specs.declared.answers.RecvTurn.{RecvTurn}
 use Rattle.send_recv.specs.declared.answers.RecvTurn.TheVariants.{Moved, Waiting, Done, Mismatch}
+use Rattle.send_recv.specs.Ranks.{receiving}
 use Rattle.send_recv.proofs.LookTurn.{Turns, look_turn}
 use Rattle.send_recv.proofs.HeadTurn.{head_turn, post_itself}
 use Rattle.send_recv.proofs.LinesMove.{lines_turn}
@@ -49,7 +50,7 @@ none_tried : (aim : Aim) → tries_at aim [] ≡ 0
 none_tried aim = refl
 
 -- a further turn of a receive that is finished makes no event
-finished_turn : (s : Sight) (c : Private) (op : RecvAt) (bytes : List ℕ) → op.stage ≡ Finished → RecvTurned s c op bytes s c op bytes Done
+finished_turn : (s : Sight) (c : Private) (op : RecvAt) (bytes : List ℕ) → op.stage ≡ Finished → RecvTurned (receiving s c op bytes) (receiving s c op bytes) Done
 finished_turn s c op bytes finished = record {
   events = [];
   did = did_nothing s;
