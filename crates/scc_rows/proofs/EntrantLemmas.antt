@@ -122,6 +122,10 @@ ready_anew {t = t} {d = d} {now = now} {next = next} {comm = comm} {later = late
 
 -- ---- whole barriers
 
+-- a barrier that was taken out of its place is ready as it was there
+pub ready_taken : {s : Sight} {c : Private} {op taken : BarAt} {comm : ℕ} {values : List Bool} → taken ≡ op → IsReady s c comm op values → IsReady s c comm taken values
+ready_taken {s} {c} {op} {taken} {comm} {values} same ready = subst (λ (o : BarAt). IsReady s c comm o values) (sym same) ready
+
 -- after a barrier that was passed a new one of its communicator can be entered
 pub passed_ready : {s t : Sight} {c d : Private} {op next : BarAt} {comm : ℕ} {values later : List Bool} → IsReady (sight_alone s.seat.setup s.seat.rank s.events) c comm op values
     → Finishes (meeting s c op values) (with_parity t d later) → next ≡ record { comm = comm; stage = Flip } → IsReady (sight_alone t.seat.setup t.seat.rank t.events) d comm next later
@@ -135,9 +139,9 @@ passed_ready {s} {t} {c} {d} {op} {next} {comm} {values} {later} ready f is =
     }
 
 -- a barrier that gave up can be gone on with
-pub stalled_ready : {s t : Sight} {c d : Private} {op now : BarAt} {comm polls : ℕ} {values later : List Bool} {spot : Spot} → IsReady (sight_alone s.seat.setup s.seat.rank s.events) c comm op values
-    → Stalls (meeting s c op values) polls (with_parity t d later) (Stalled now spot polls) → IsReady (sight_alone t.seat.setup t.seat.rank t.events) d comm now later
-stalled_ready {s} {t} {c} {d} {op} {now} {comm} {polls} {values} {later} {spot} ready stalls =
+pub stalled_ready : {s t : Sight} {c d : Private} {op now : BarAt} {comm polls looks : ℕ} {values later : List Bool} {spot : Spot} → IsReady (sight_alone s.seat.setup s.seat.rank s.events) c comm op values
+    → Stalls (meeting s c op values) polls (with_parity t d later) (Stalled now spot looks) → IsReady (sight_alone t.seat.setup t.seat.rank t.events) d comm now later
+stalled_ready {s} {t} {c} {d} {op} {now} {comm} {polls} {looks} {values} {later} {spot} ready stalls =
     let is : now ≡ stalls.now = ap (λ (x : BarStop). op_of x) stalls.is in record {
       stands = alone (subst (λ (o : BarAt). BarStands t d o later) (sym is) stalls.stands);
       same = ap (λ (o : BarAt). o.comm) is ∙ stalls.same ∙ ready.same;

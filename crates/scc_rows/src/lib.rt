@@ -18,4 +18,6 @@ mod private_lines;
 #[cfg(test)]
 mod teams;
 #[cfg(test)]
+mod whole_barriers;
+#[cfg(test)]
 mod whole_messages;
