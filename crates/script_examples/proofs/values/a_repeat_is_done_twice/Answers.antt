@@ -1,0 +1,10 @@
+use Rattle.std.proofs.Common.{refl}
+use Rattle.std.specs.Int.{int_wrap}
+use Rattle.script_reader.specs.Words.{number_of}
+use Rattle.script_plain.specs.Local.{local_next}
+use Rattle.script_plain.specs.Program.{unrolled}
+use Rattle.script_examples.proofs.values.a_repeat_is_done_twice.Goals as goal
+
+pub returns : goal.returns
+unfolding int_wrap number_of local_next unrolled
+returns c = record { doubles = refl }
