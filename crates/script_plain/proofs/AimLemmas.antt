@@ -48,7 +48,7 @@ rooted s rank (coll.Reduce comm root len) is = ltb-true _ _ is
 rooted s rank (coll.Allreduce comm len) is = tt
 
 -- a call that passes the tests of a program can be made
-called : (s : SetupView) (rank : ℕ) (c : Coll) → can_call s rank c ≡ true → IsCallable s rank c
+pub called : (s : SetupView) (rank : ℕ) (c : Coll) → can_call s rank c ≡ true → IsCallable s rank c
 called s rank c is =
     let four = steps.both_true (nat_lt (comm_of c) 16 && not (is_absent (rule_of s.comms (comm_of c))) && nat_le (len_of c) 65536 && nat_lt rank s.nue) (has_root s rank c) is in
     let three = steps.both_true (nat_lt (comm_of c) 16 && not (is_absent (rule_of s.comms (comm_of c))) && nat_le (len_of c) 65536) (nat_lt rank s.nue) four.0 in

@@ -38,6 +38,7 @@ pub mod OthersCame
 pub mod CollectiveLaws
 pub mod CameDid
 pub mod AimLemmas
+pub mod BegunLaws
 pub mod SaneLemmas
 pub mod ReadyLemmas
 pub mod KeptLaws

@@ -20,24 +20,20 @@ use Rattle.script_plain.specs.declared.prims.Nesting.{Nesting}
 use Rattle.script_plain.specs.declared.prims.Nesting.TheVariants as nesting
 use Rattle.script_plain.specs.declared.prims.Operands.{Operands}
 use Rattle.script_plain.specs.declared.walk.Open.{Open}
-use Rattle.script_plain.specs.Program.{Act, Prim, Unrolled, acts_of, call_steps, can_call, copies, in_front, is_begin, nesting_at, nesting_of, part_of, parts_of, prims_of, program_of, repeated, setup_of, unrolled}
+use Rattle.script_plain.specs.Program.{Act, Prim, Unrolled, acts_of, begins, call_steps, can_call, copies, in_front, nesting_at, nesting_of, part_of, parts_of, prims_of, program_of, repeated, setup_of, unrolled}
 use Rattle.script_plain.specs.Walk.{AreOpen, AreOpenAt, HasMore, StandsAt, again, closed_by, left_at, left_of, next_pass, opened, passed, passed_to, woven}
 
 -- the k-th of the parts of a collective call
-pub part_at : (o : Operands) (steps : List Step) (k : ℕ) (first step : Step) → slice_get steps 0 ≡ Some first → slice_get steps k ≡ Some step → slice_get (parts_of o steps) k ≡ Some (part_of o (is_begin first) step)
-part_at o [] k first step at_first at_k = absurd (cc)
-part_at o (x ∷ steps) k first step at_first at_k =
-    let same : x ≡ first = cc in
-    slice_get-map (part_of o (is_begin x)) (x ∷ steps) k ∙ ap (option_map (part_of o (is_begin x))) at_k
-    ∙ ap (λ (s : Step). Some (part_of o (is_begin s) step)) same
+pub part_at : (o : Operands) (steps : List Step) (k : ℕ) (step : Step) → slice_get steps k ≡ Some step → slice_get (parts_of o steps) k ≡ Some (part_of o (begins steps) step)
+part_at o steps k step at_k = slice_get-map (part_of o (begins steps)) steps k ∙ ap (option_map (part_of o (begins steps))) at_k
 
-called_by : (o : Operands) (steps : List Step) (k : ℕ) (first step : Step) (b : Bool) → k < length (cond b steps []) → slice_get steps 0 ≡ Some first → slice_get steps k ≡ Some step → slice_get (parts_of o (cond b steps [])) k ≡ Some (part_of o (is_begin first) step)
-called_by o steps k first step true there at_first at_k = part_at o steps k first step at_first at_k
-called_by o steps k first step false there at_first at_k = absurd (omega (arith, there))
+called_by : (o : Operands) (steps : List Step) (k : ℕ) (step : Step) (b : Bool) → k < length (cond b steps []) → slice_get steps k ≡ Some step → slice_get (parts_of o (cond b steps [])) k ≡ Some (part_of o (begins steps) step)
+called_by o steps k step true there at_k = part_at o steps k step at_k
+called_by o steps k step false there at_k = absurd (omega (arith, there))
 
 -- of a call that the rank may make
-pub part_called : (s : SetupView) (rank : ℕ) (c : Coll) (o : Operands) (k : ℕ) (first step : Step) → k < length (call_steps s rank c) → slice_get (steps_of s rank c) 0 ≡ Some first → slice_get (steps_of s rank c) k ≡ Some step → slice_get (parts_of o (call_steps s rank c)) k ≡ Some (part_of o (is_begin first) step)
-part_called s rank c o k first step there at_first at_k = called_by o (steps_of s rank c) k first step (can_call s rank c) there at_first at_k
+pub part_called : (s : SetupView) (rank : ℕ) (c : Coll) (o : Operands) (k : ℕ) (step : Step) → k < length (call_steps s rank c) → slice_get (steps_of s rank c) k ≡ Some step → slice_get (parts_of o (call_steps s rank c)) k ≡ Some (part_of o (begins (steps_of s rank c)) step)
+part_called s rank c o k step there at_k = called_by o (steps_of s rank c) k step (can_call s rank c) there at_k
 
 module _ (s : SetupView) (rank : ℕ) where
   -- what items make from a place on, by the item that stands there

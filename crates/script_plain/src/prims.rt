@@ -1,11 +1,13 @@
 //! The primitives of a rank, and what a rank's run leaves behind.
 
-ghost use Rattle.std.specs.Prelude.{◌≡◌, ◌<◌, ◌≤◌, length, slice_get, IfSome};
+ghost use Rattle.std.specs.Prelude.{◌≡◌, ◌<◌, ◌≤◌, ℕ, length, slice_get, IfSome};
 ghost use Rattle.std.specs.Option.{option_map};
 ghost use Rattle.scc_base.specs.Heads.{plain_head};
 ghost use Rattle.script_reader.specs.Script.{IsSized};
 ghost use Rattle.script_reader.specs.Checks.{parent_of};
-ghost use Rattle.script_plain.specs.Program.{acts_of, call_steps, collective_of, is_begin, nesting_of, part_of, parts_of, single_of};
+ghost use Rattle.groups.specs.Collectives.{IsCallable, steps_of};
+ghost use Rattle.std.specs.Option.{option_to_list};
+ghost use Rattle.script_plain.specs.Program.{acts_of, begins, call_steps, collective_of, nesting_of, part_of, parts_of, single_of};
 ghost use Rattle.script_plain.specs.Walk.{IsShort, act_meant};
 
 use crate::registers::plain_message;
@@ -317,11 +319,16 @@ impl Operands {
     }
 }
 
-/// Whether a step puts the source into the accumulator.
-fn is_begin(step: &Step) -> bool
-    ensures { result ≡ is_begin step.now }
+/// Whether the steps of a collective call begin with the source in the accumulator: those of the root of a reduction.
+fn begins(setup: &Setup, rank: Rank, coll: Coll) -> bool
+    requires { IsCallable setup.now rank coll }
+    ensures { result ≡ begins (steps_of setup.now rank coll) }
 {
-    matches!(step, Step::Begin)
+    match coll {
+        Coll::Bcast { .. } => false,
+        Coll::Reduce { comm, root, .. } => setup.place(comm, rank) == root,
+        Coll::Allreduce { comm, .. } => setup.place(comm, rank) == 0,
+    }
 }
 
 /// How many steps a collective call has.
@@ -341,11 +348,29 @@ fn take_part<'s>(setup: &Setup, rank: Rank, call: Collective, k: u32) -> Action<
     ensures same { slice_get (parts_of call.operands (call_steps setup.now rank call.coll)) k ≡ Some (act_meant result) }
     ensures short { IsShort result }
 {
-    if !call.coll.is_callable(setup, rank) {
-        unreachable!()
-    }
-    let begun = is_begin(&step(setup, rank, call.coll, 0));
+    let begun = begins(setup, rank, call.coll);
     call.operands.part(begun, step(setup, rank, call.coll, k))
+}
+
+/// How many primitives a statement is that is no collective call.
+fn count_single(stmt: &Stmt) -> u32
+    ensures { (nue rank : ℕ) → result ≡ length (option_to_list (single_of nue rank stmt.now)) }
+{
+    match stmt {
+        Stmt::Bytes { .. }
+        | Stmt::Fill { .. }
+        | Stmt::RankOf { .. }
+        | Stmt::Apply { .. }
+        | Stmt::Send { .. }
+        | Stmt::Post { .. }
+        | Stmt::Recv { .. }
+        | Stmt::Print { .. }
+        | Stmt::Barrier { .. }
+        | Stmt::Split { .. }
+        | Stmt::End { .. } => 1,
+        Stmt::Bcast { .. } | Stmt::Reduce { .. } | Stmt::Allreduce { .. } | Stmt::Repeat { .. } =>
+            0,
+    }
 }
 
 /// How many primitives a statement is for a rank.
@@ -356,10 +381,7 @@ pub fn count(setup: &Setup, rank: Rank, stmt: &Stmt) -> u32
 {
     match collective_of(stmt) {
         Some(call) => count_steps(setup, rank, call.coll),
-        None => match single_of(setup.nue(), rank, stmt) {
-            Some(_) => 1,
-            None => 0,
-        },
+        None => count_single(stmt),
     }
 }
 
