@@ -11,6 +11,7 @@ pub mod BarrierLaws
 pub mod CodeLaws
 pub mod WalkLaws
 pub mod DepthLaws
+pub mod IdleLaws
 pub mod RestLaws
 pub mod MessageLaws
 pub mod MatchLaws

@@ -1,10 +1,11 @@
--- How many repeats of a rank are open at a place of a script.
-use Rattle.std.specs.Prelude.{ℕ, zero, suc, ◌+◌, ◌-◌, ◌<◌, ◌≤◌, List, [], ◌∷◌, length}
+-- How many repeats of a rank are open at a place of a script, and where its items stand.
+use Rattle.std.specs.Prelude.{◌≡◌, ℕ, zero, suc, ◌+◌, ◌-◌, ◌<◌, ◌≤◌, false, List, [], ◌∷◌, length, slice_get, Some}
 use Rattle.script_plain.specs.Program.{nesting_at}
 use Rattle.script_plain.specs.declared.prims.Nesting.{Nesting}
 use Rattle.script_plain.specs.declared.prims.Nesting.TheVariants as nesting
 use Rattle.script_plain.specs.declared.walk.Open.{Open}
 use Rattle.script_reader.specs.declared.script.Item.{Item}
+use Rattle.script_reader.specs.Script.{has_rank}
 
 abbrev pub depth_after : Nesting → ℕ → ℕ
 depth_after (nesting.Opens times) depth = depth + 1
@@ -33,3 +34,12 @@ pub record IsDeep (rank : ℕ) (items : List Item) (place : ℕ) (repeats : List
 -- room for the repeats that are open at each place
 abbrev pub HasRoom : ℕ → List Item → ℕ → Type 0
 HasRoom rank items room = (place : ℕ) → depth_at rank items place ≤ room
+
+-- before a place no item is one of the rank
+abbrev pub IsIdleTo : ℕ → List Item → ℕ → Type 0
+IsIdleTo rank items first = (place : ℕ) (item : Item) → place < first → slice_get items place ≡ Some item → has_rank item.who rank ≡ false
+
+-- from a place of the script on no item is one of the rank
+pub record IsIdleFrom (rank : ℕ) (items : List Item) (end : ℕ) : Type 0 where
+  pub within : end ≤ length items
+  pub idle : (place : ℕ) (item : Item) → end ≤ place → slice_get items place ≡ Some item → has_rank item.who rank ≡ false

@@ -12,7 +12,7 @@ use crate::ends::UeEnd;
 use crate::posts::OnItsWay;
 use crate::prims::{Action, Primitive, Source, Standing};
 use crate::prints::{PrintedItem, Prints};
-use crate::reckoning::reckon;
+use crate::reckoning::{Reckoned, reckon};
 use crate::rooms::{Registers, Room};
 use crate::walk::Walk;
 use scc_base::{Call, Head, PostHead, Rank, Setup};
@@ -77,10 +77,10 @@ impl<'s> Machine<'s> {
         requires communicators { setup.comms ≡ rules_of scripts.now.items }
         ensures { IfOk result (λ m. m ≡ record { script = scripts.now; setup = setup; rank = rank; local = local_start scripts.now rank }) }
     {
-        let trial = Walk::new(alloc, scripts, setup.copy(), rank)?;
-        let need = reckon(alloc, scripts.registers(), trial)?;
+        let trial = Walk::new(alloc, scripts, setup, rank)?;
+        let Reckoned { needs: need, walk } = reckon(alloc, scripts.registers(), trial)?;
         Ok(Machine {
-            walk: Walk::new(alloc, scripts, setup, rank)?,
+            walk,
             registers: Registers::new(alloc, need.registers.as_slice())?,
             folded: Room::new(alloc, need.accumulator)?,
             taken: Room::new(alloc, need.received)?,

@@ -1,6 +1,8 @@
 //! What memory the program of a rank takes: a walk through it over the lengths alone.
 
 ghost use Rattle.std.specs.Prelude.{◌≡◌, ◌≤◌, length, IfOk};
+ghost use Rattle.script_reader.specs.Script.{rules_of};
+ghost use Rattle.script_plain.specs.Program.{program_of};
 ghost use Rattle.script_plain.specs.Rooms.{AreWithin, greater, nothing_held, rooms_of};
 ghost use Rattle.script_plain.specs.Walk.{content_of};
 
@@ -326,9 +328,23 @@ fn content_len(content: &Content) -> Length
     }
 }
 
+/// What a walk needs, and the walk at its first primitive again.
+#[derive(Drop)]
+pub struct Reckoned<'s> {
+    pub needs: Needs,
+    pub walk: Walk<'s>,
+}
+
 /// The greatest lengths on a walk, begun with this many registers of which none is set.
-pub fn reckon(alloc: Global, count: usize, mut walk: Walk<'_>) -> Result<Needs, AllocError>
-    ensures { IfOk result (λ needs. AreWithin (rooms_of needs) (nothing_held count) walk.entry.left) }
+pub fn reckon<'s>(
+    alloc: Global,
+    count: usize,
+    mut walk: Walk<'s>,
+) -> Result<Reckoned<'s>, AllocError>
+    requires ranks { walk.setup.nue ≡ walk.script.nue }
+    requires communicators { walk.setup.comms ≡ rules_of walk.script.items }
+    ensures holds { IfOk result (λ r. AreWithin (rooms_of r.needs) (nothing_held count) walk.entry.left) }
+    ensures again { IfOk result (λ r. r.walk ≡ record walk.entry { left = program_of walk.entry.script walk.entry.rank }) }
 {
     let mut reckoning = Reckoning::new(alloc, count)?;
     while let Some(prim) = walk.front() {
@@ -337,5 +353,7 @@ pub fn reckon(alloc: Global, count: usize, mut walk: Walk<'_>) -> Result<Needs, 
         walk.advance();
     }
     reckoning.within_law();
-    Ok(reckoning.needs())
+    walk.restart();
+    let needs = reckoning.needs();
+    Ok(Reckoned { needs, walk })
 }

@@ -3,7 +3,7 @@
 ghost use Rattle.std.specs.Prelude.{◌≡◌, ◌<◌, ◌≤◌, ◌+◌, drop, length, slice_get, IfOk};
 ghost use Rattle.std.specs.VecDeque.{deque_capacity};
 ghost use Rattle.script_reader.specs.Script.{IsSized};
-ghost use Rattle.script_plain.specs.Depths.{HasRoom, IsDeep, depth_after};
+ghost use Rattle.script_plain.specs.Depths.{HasRoom, IsDeep, IsIdleFrom, IsIdleTo, depth_after};
 ghost use Rattle.script_plain.specs.Program.{nesting_at, prims_of};
 ghost use Rattle.script_plain.specs.Walk.{AreOpenAt, StandsAt, closed, closed_to, left_at, opened, passed, passed_to};
 
@@ -22,12 +22,15 @@ pub struct Open {
 }
 
 /// A walk through the primitives of a rank: its place in the script, the step of a collective call there, and the repeats
-/// that are open, the innermost one first. There is room for the most that the script opens.
+/// that are open, the innermost one first. There is room for the most that the script opens. The items of the rank stand
+/// from the place `first` on and before the place `end`.
 #[derive(Drop)]
 pub struct Walk<'s> {
     scripts: &'s Scripts,
     setup: Setup,
     rank: Rank,
+    first: usize,
+    end: usize,
     place: usize,
     step: u32,
     repeats: VecDeque<Open>,
@@ -47,12 +50,13 @@ impl<'s> Model for Walk<'s> {
     } };
 
     ghost use Rattle.std.specs.VecDeque.{deque_capacity};
-    ghost use Rattle.script_plain.specs.Depths.{HasRoom, IsDeep};
+    ghost use Rattle.script_plain.specs.Depths.{HasRoom, IsDeep, IsIdleFrom, IsIdleTo};
     ghost use Rattle.script_plain.specs.Walk.{IsAt};
 
     ghost invariant = { λ w.
         IsAt w.setup w.rank w.scripts.now.items w.place w.step w.repeats.items
-        × (IsDeep w.rank w.scripts.now.items w.place w.repeats.items × HasRoom w.rank w.scripts.now.items (deque_capacity w.repeats)) };
+        × ((IsDeep w.rank w.scripts.now.items w.place w.repeats.items × HasRoom w.rank w.scripts.now.items (deque_capacity w.repeats))
+        × (IsIdleTo w.rank w.scripts.now.items w.first × IsIdleFrom w.rank w.scripts.now.items w.end)) };
 }
 
 impl<'s> Walk<'s> {
@@ -74,12 +78,16 @@ impl<'s> Walk<'s> {
         requires communicators { setup.comms ≡ rules_of scripts.now.items }
         ensures { IfOk result (λ w. w ≡ record { script = scripts.now; setup = setup; rank = rank; left = program_of scripts.now rank }) }
     {
-        let mut repeats = VecDeque::with_capacity(alloc, deepest(scripts, rank))?;
-        let place = settled(scripts, &setup, rank, 0, &mut repeats);
+        let first = first_of(scripts, rank);
+        let reach = reach_of(scripts, rank);
+        let mut repeats = VecDeque::with_capacity(alloc, reach.depth)?;
+        let place = settled(scripts, &setup, rank, first, reach.end, &mut repeats);
         Ok(Walk {
             scripts,
             setup,
             rank,
+            first,
+            end: reach.end,
             place,
             step: 0,
             repeats,
@@ -108,6 +116,24 @@ impl<'s> Walk<'s> {
         })
     }
 
+    /// Goes back to the first primitive.
+    pub fn restart(&mut self)
+        requires ranks { self.old.setup.nue ≡ self.old.script.nue }
+        requires communicators { self.old.setup.comms ≡ rules_of self.old.script.items }
+        ensures { self.new ≡ record self.old { left = program_of self.old.script self.old.rank } }
+    {
+        self.repeats.clear();
+        self.step = 0;
+        self.place = settled(
+            self.scripts,
+            &self.setup,
+            self.rank,
+            self.first,
+            self.end,
+            &mut self.repeats,
+        );
+    }
+
     /// Goes to the end.
     pub fn finish(&mut self)
         ensures { self.new ≡ record self.old { left = [] } }
@@ -134,7 +160,14 @@ impl<'s> Walk<'s> {
             return;
         }
         let next = pass_item(rank, item, at, scripts.len(), &mut self.repeats);
-        self.place = settled(scripts, &self.setup, rank, next, &mut self.repeats);
+        self.place = settled(
+            scripts,
+            &self.setup,
+            rank,
+            next,
+            self.end,
+            &mut self.repeats,
+        );
         self.step = 0;
     }
 }
@@ -175,19 +208,44 @@ fn depth_behind(nesting: Nesting, depth: usize) -> usize
     }
 }
 
-/// The most repeats of a rank that are open at a place of a script.
-fn deepest(scripts: &Scripts, rank: Rank) -> usize
-    ensures { HasRoom rank scripts.now.items result }
+/// The place of the first item of a rank, or the end.
+fn first_of(scripts: &Scripts, rank: Rank) -> usize
+    ensures { IsIdleTo rank scripts.now.items result }
+{
+    for at in 0..scripts.len() {
+        if scripts.item(at).who.has(rank.number()) {
+            return at;
+        }
+    }
+    scripts.len()
+}
+
+/// How far the items of a rank reach: the place behind the last one, and the most repeats that are open at a place.
+#[derive(Clone, Copy, Debug)]
+struct Reach {
+    end: usize,
+    depth: usize,
+}
+
+/// How far the items of a rank reach.
+fn reach_of(scripts: &Scripts, rank: Rank) -> Reach
+    ensures room { HasRoom rank scripts.now.items result.depth }
+    ensures idle { IsIdleFrom rank scripts.now.items result.end }
 {
     let mut depth = 0;
     let mut most = 0;
+    let mut end = 0;
     for at in 0..scripts.len() {
-        depth = depth_behind(nesting_at(rank, scripts.item(at)), depth);
+        let item = scripts.item(at);
+        if item.who.has(rank.number()) {
+            end = at + 1;
+        }
+        depth = depth_behind(nesting_at(rank, item), depth);
         if most < depth {
             most = depth;
         }
     }
-    most
+    Reach { end, depth: most }
 }
 
 /// Enters the repeat that an item opens, if it opens one.
@@ -206,15 +264,18 @@ fn enter(rank: Rank, item: &Item, at: usize, repeats: &mut VecDeque<Open>)
     }
 }
 
-/// The first place from here on at which an item has a primitive for the rank, or the end.
+/// The first place from here on at which an item has a primitive for the rank, or the end. From the place `end` on none is
+/// an item of the rank.
 fn settled(
     scripts: &Scripts,
     setup: &Setup,
     rank: Rank,
     place: usize,
+    end: usize,
     repeats: &mut VecDeque<Open>,
 ) -> usize
     requires within { rank < setup.now.nue }
+    requires idle { IsIdleFrom rank scripts.now.items end }
     requires opens { AreOpenAt setup.now rank scripts.now.items place repeats.old.items }
     requires deep { IsDeep rank scripts.now.items place repeats.old.items }
     requires room { HasRoom rank scripts.now.items (deque_capacity repeats.old) }
@@ -225,7 +286,7 @@ fn settled(
     ensures deep { IsDeep rank scripts.now.items result repeats.new.items }
     ensures room { deque_capacity repeats.new ≡ deque_capacity repeats.old }
 {
-    for at in place..scripts.len() {
+    for at in place..end {
         let item = scripts.item(at);
         if count_at(setup, rank, item) > 0 {
             return at;

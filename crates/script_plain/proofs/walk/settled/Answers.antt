@@ -1,8 +1,9 @@
-use Rattle.std.proofs.Common.{◌≡◌, ◌≤◌, ◌∙◌, arith, length}
+use Rattle.std.proofs.Common.{◌≡◌, ◌≤◌, ◌∙◌, arith, length, sym}
 use Rattle.std.specs.VecDeque.{deque_capacity}
 use Rattle.script_plain.specs.Program.{prims_of}
-use Rattle.script_plain.proofs.DepthLaws.{deep_entered, deep_past, room_entered}
-use Rattle.script_plain.proofs.WalkLaws.{none_there, open-past, over_open, over_same, past_same, some_there}
+use Rattle.script_plain.proofs.DepthLaws.{deep_entered, room_entered}
+use Rattle.script_plain.proofs.IdleLaws.{deep-idle, left-idle, nothing_left}
+use Rattle.script_plain.proofs.WalkLaws.{none_there, open-past, over_open, over_same, some_there}
 use Rattle.script_plain.proofs.walk.settled.Goals as goal
 
 pub enter-requires-clause-room : goal.enter-requires-clause-room
@@ -33,9 +34,11 @@ returns-then-count_at-gt0-clause-stands c =
 
 pub returns-clause-same : goal.returns-clause-same
 returns-clause-same c =
-    let end : length c.args.scripts.now.items ≤ c.len.result = omega (arith, c.len.ensures) in
-    let past : length c.args.scripts.now.items ≤ c.loop-at.at = omega (arith, c.loop-at-test.false, c.len-at-end.ensures) in
-    past_same c.args.setup.now c.args.rank c.args.scripts.now.items c.loop-at.at c.len.result c.loop-at.repeats.items past end ∙ c.loop-at.invariant.same
+    let items = c.args.scripts.now.items in
+    let end : length items ≤ c.len.result = omega (arith, c.len.ensures) in
+    let past : c.args.end ≤ c.loop-at.at = omega (arith, c.loop-at-test.false) in
+    nothing_left c.args.setup.now c.args.rank items c.len.result c.loop-at.repeats.items end
+    ∙ sym (left-idle c.args.setup.now c.args.rank items c.args.end c.loop-at.at c.loop-at.repeats.items c.requires.idle past) ∙ c.loop-at.invariant.same
 
 pub returns-clause-opens : goal.returns-clause-opens
 returns-clause-opens c =
@@ -50,5 +53,5 @@ returns-clause-stands c =
 pub returns-clause-deep : goal.returns-clause-deep
 returns-clause-deep c =
     let end : length c.args.scripts.now.items ≤ c.len.result = omega (arith, c.len.ensures) in
-    let past : length c.args.scripts.now.items ≤ c.loop-at.at = omega (arith, c.loop-at-test.false, c.len-at-end.ensures) in
-    deep_past c.args.rank c.args.scripts.now.items c.loop-at.at c.len.result c.loop-at.repeats.items past end c.loop-at.invariant.deep
+    let past : c.args.end ≤ c.loop-at.at = omega (arith, c.loop-at-test.false) in
+    deep-idle c.args.rank c.args.scripts.now.items c.args.end c.loop-at.at c.len.result c.loop-at.repeats.items c.requires.idle past end c.loop-at.invariant.deep

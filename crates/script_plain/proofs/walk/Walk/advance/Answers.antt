@@ -38,7 +38,7 @@ pub settled-self-inside-requires-clause-deep : goal.settled-self-inside-requires
 settled-self-inside-requires-clause-deep c =
     let walk = c.self.inside in
     deep_passed walk.rank walk.scripts.now.items walk.place c.len-2.result c.pass_item-next.result c.item-item.result.now walk.repeats.items c.pass_item-next.new.repeats.items
-    c.item-item.ensures.found c.pass_item-next.ensures.to c.pass_item-next.ensures.left c.self.invariant.1.0
+    c.item-item.ensures.found c.pass_item-next.ensures.to c.pass_item-next.ensures.left c.self.invariant.1.0.0
 
 pub returns : goal.returns
 returns c =

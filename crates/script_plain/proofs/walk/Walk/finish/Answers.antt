@@ -15,7 +15,7 @@ invariant_of-self c =
         opens = open-past walk.setup walk.rank items c.len-self-inside.result c.clear.new.self.items past;
         stands = none_there walk.setup walk.rank items c.len-self-inside.result 0 past;
       },
-      (deep_start walk.rank items c.len-self-inside.result c.clear.new.self.items c.clear.ensures.items, λ place. omega (arith, c.self.invariant.1.1 place, c.clear.ensures.capacity)),
+      ((deep_start walk.rank items c.len-self-inside.result c.clear.new.self.items c.clear.ensures.items, λ place. omega (arith, c.self.invariant.1.0.1 place, c.clear.ensures.capacity)), c.self.invariant.1.1),
     )
 
 pub returns : goal.returns
