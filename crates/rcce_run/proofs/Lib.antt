@@ -18,6 +18,7 @@ pub mod UeLooks
 pub mod UeFits
 pub mod UeTurns
 pub mod CrewHands
+pub mod ShownStates
 pub mod UeEnds
 pub mod ServedLaws
 pub mod ThreadLaws

@@ -1,6 +1,9 @@
 -- What a run of UEs leaves: where all of them rest, each shows the end of its rank in the plain meaning.
-use Rattle.std.proofs.Common.{◌≡◌, ◌⊎◌, inl, inr, ℕ, ◌<◌, ◌≤◌, Bool, true, false, List, length, if◌then◌else◌, slice_get, slice_index_or, Option, Some, None, is_none, option_map, option_and_then, refl, sym, ◌∙◌, ap, subst, arith}
+use Rattle.std.proofs.Common.{◌≡◌, ◌⊎◌, inl, inr, ℕ, ◌+◌, ◌<◌, ◌≤◌, Bool, true, false, List, [], length, if◌then◌else◌, slice_get, slice_index_or, Option, Some, None, is_none, option_map, option_and_then, refl, sym, ◌∙◌, ap, subst, arith}
+use Rattle.std.specs.List.{enumerate_from}
 use Rattle.std.proofs.lemmas.Bool.{cases_lt}
+use Rattle.std.proofs.lemmas.List.FromFn.{get_or-enumerate_from, length-enumerate_from}
+use Rattle.std.proofs.lemmas.Option.{slice_get-get_or, slice_get-map, slice_get_past}
 use Rattle.scc_base.specs.Calls.{DataCall}
 use Rattle.scc_base.specs.Calls as calls
 use Rattle.scc_base.specs.Setups.{SetupView}
@@ -12,8 +15,9 @@ use Rattle.scc_proto.specs.Views.{view_of}
 use Rattle.scc_proto.specs.Words.{Memory}
 use Rattle.scc_mesh.specs.Scenes.{ChipView, about_in, events_in, records_in}
 use Rattle.script_reader.specs.Script.{Script}
+use Rattle.script_reader.specs.Settled.{IsWhole}
 use Rattle.script_plain.specs.declared.posts.Posted.{Posted}
-use Rattle.script_plain.specs.Collectives.{started}
+use Rattle.script_plain.specs.Collectives.{CollectivesHold, started}
 use Rattle.script_plain.specs.Ends.{Ended, ended, ended_at}
 use Rattle.script_plain.specs.Local.{Local, local_next}
 use Rattle.script_plain.specs.Machine.{MachineView}
@@ -21,20 +25,23 @@ use Rattle.script_plain.specs.Meaning.{State, next_of, plain_end, plain_ends, re
 use Rattle.script_plain.specs.Moves.{is_ended, is_stopped}
 use Rattle.script_plain.specs.Next.{Next, call_of, is_going}
 use Rattle.script_plain.specs.Next.Next.{Ends, Goes, Posts, Sends, Recvs, Bars}
+use Rattle.script_plain.proofs.CollectiveLaws.{plain_end_collectives}
+use Rattle.script_plain.proofs.OrderLaws.{list_same}
 use Rattle.send_recv.specs.Ops.{SlotAt}
 use Rattle.rcce_ue.specs.Standing.{Tied}
 use Rattle.rcce_ue.specs.Ues.{UeView, in_slot}
 use Rattle.rcce_run.specs.declared.members.Member.{Member}
 use Rattle.rcce_run.specs.Crews.{AllRest, AllRun, IsCrew}
-use Rattle.rcce_run.specs.UeRuns.{HasPlainCalls, IsFreshCrew, ShowsEnd, WaitsOpen, member_seen, member_tied}
+use Rattle.rcce_run.specs.UeRuns.{HasPlainCalls, IsFreshCrew, ShowsEnd, WaitsOpen, member_seen, member_tied, shown, state_shown}
 use Rattle.rcce_run.specs.Scripts.{IsSwept}
 use Rattle.rcce_run.specs.Sweep.{Holds, SlotWaits, Stood, slots_by}
 use Rattle.rcce_run.specs.Turns.{RestsAt, state_of}
-use Rattle.rcce_run.proofs.Holding.{at_below}
+use Rattle.rcce_run.proofs.Holding.{at_below, at_past}
 use Rattle.rcce_run.proofs.OpenCalls.{open_is_next}
 use Rattle.rcce_run.proofs.PlainEnds.{call_waits, end_same, plain_ended_at}
 use Rattle.rcce_run.proofs.RunEnds.{is_swept, vain_stays}
 use Rattle.rcce_run.proofs.ScriptSweep.{script_empty, script_ends, script_waits}
+use Rattle.rcce_run.proofs.ShownStates.{any_slots}
 use Rattle.rcce_run.proofs.UeFits.{some_sight, tied_stood, ue_stands}
 use Rattle.rcce_run.proofs.VainLike.{slot_like}
 
@@ -184,3 +191,29 @@ module _ (script : Script) (chip : ChipView) (crew : List (Member UeView)) (memo
         line = line;
         waits = ap (λ (e : Ended). e.end) (at_plain k less) ∙ waits;
       }
+
+  -- what the UEs show are the states of the plain end
+  abbrev numbered : List (ℕ × Member UeView)
+  numbered = enumerate_from 0 crew
+
+  shown_at : (k : ℕ) → (k < length crew) ⊎ (length crew ≤ k) → slice_get (shown chip crew []).cells k ≡ slice_get (plain_end script).cells k
+  shown_at k (inl low) =
+      let first : 0 + k ≡ k = omega arith in
+      slice_get-map (state_shown chip) numbered k
+      ∙ ap (option_map (state_shown chip)) (slice_get-get_or numbered k (k, d) (subst (λ (n : ℕ). k < n) (sym (length-enumerate_from 0 crew)) low) ∙ ap Some (get_or-enumerate_from 0 crew k (k, d) low))
+      ∙ ap (λ (j : ℕ). Some (state_of (locals k) (records j))) first
+      ∙ sym (cell_at k (subst (λ (n : ℕ). k < n) (is_crew.each ∙ sw.ranks) low))
+  shown_at k (inr past) =
+      slice_get-map (state_shown chip) numbered k
+      ∙ ap (option_map (state_shown chip)) (slice_get_past numbered k (subst (λ (n : ℕ). n ≤ k) (sym (length-enumerate_from 0 crew)) past))
+      ∙ sym (holds.cells_at k ∙ at_past script.nue k (states k) (subst (λ (n : ℕ). n ≤ k) (is_crew.each ∙ sw.ranks) past))
+
+  whole : IsWhole script.nue script.items
+  whole = subst (λ (x : Script). IsWhole x.nue x.items) (all_run 0 d some) (tied_at 0 (subst (λ (n : ℕ). 0 < n) is_crew.each some)).begun.whole
+
+  -- so collective calls have given in them what they give
+  pub collectives_hold : (slots : List (Option Posted)) → CollectivesHold script (shown chip crew slots)
+  collectives_hold slots =
+      subst (λ (cells : List State). CollectivesHold script (record { cells = cells; slots = slots }))
+      (list_same (plain_end script).cells (shown chip crew []).cells (λ k. sym (shown_at k (cases_lt k (length crew)))))
+      (any_slots script (plain_end script).cells (plain_end script).slots slots (plain_end_collectives script whole))

@@ -7,8 +7,8 @@ use Rattle.script_plain.specs.Local.{cost_of, local_start}
 use Rattle.rcce_ue.specs.Standing.{bytes_sent}
 use Rattle.rcce_ue.specs.Ues.{UeView, counted, is_sending}
 
--- A UE has counted the sends and posts among the finished calls of its rank's record, and their bytes. They are no more than
--- the rank takes steps, and each has at most as many bytes as a message may have.
+-- a UE has counted the sends and posts among the finished calls of its rank's record, and their bytes: they are no more than
+-- the rank takes steps, and each has at most as many bytes as a message may have
 pub record CountsSends (script : Script) (rank : ℕ) (rec : Record) (ue : UeView) : Type 0 where
   pub sent : ue.sent ≡ counted (count_by is_sending rec.calls)
   pub bytes : ue.sent_bytes ≡ counted (sum_by bytes_sent rec.calls)

@@ -1,11 +1,16 @@
 -- A run of UEs: where it begins, and what it leaves (this project's profile).
-use Rattle.std.specs.Prelude.{◌≡◌, ℕ, ◌<◌, false, List, [], length, Option, None, Some, slice_get, slice_index_or, option_map, option_and_then}
+use Rattle.std.specs.Prelude.{◌≡◌, ℕ, ◌<◌, ◌≤◌, false, List, [], length, map, Option, None, Some, slice_get, slice_index_or, option_map, option_and_then}
+use Rattle.std.specs.List.{enumerate_from}
 use Rattle.scc_base.specs.Calls.{DataCall, call_of}
-use Rattle.scc_base.specs.Setups.{SetupView}
+use Rattle.scc_base.specs.Setups.{SetupView, setup_key}
 use Rattle.scc_base.specs.declared.events.Event.{Event}
+use Rattle.scc_proto.specs.Legality.{IsLegal}
+use Rattle.scc_proto.specs.Messages.{barriers_of}
+use Rattle.scc_proto.specs.PairMessages.{PairMessages}
+use Rattle.scc_proto.specs.Passed.{passed_calls, slot_of}
 use Rattle.scc_proto.specs.Ports.{Sight}
 use Rattle.scc_proto.specs.Stages.{Record}
-use Rattle.scc_mesh.specs.Scenes.{ChipView, IsWhole, about_in, events_in, table_in}
+use Rattle.scc_mesh.specs.Scenes.{ChipView, IsWhole, about_in, events_in, records_in, table_in}
 use Rattle.script_reader.specs.Script.{Script}
 use Rattle.script_plain.specs.declared.ends.UeEnd.TheVariants as ue_end
 use Rattle.script_plain.specs.declared.posts.Posted.{Posted}
@@ -14,10 +19,11 @@ use Rattle.script_plain.specs.Local.{end_of, local_next, local_start}
 use Rattle.script_plain.specs.Machine.{on_its_way}
 use Rattle.script_plain.specs.Meaning.{State, next_of, plain_end, plain_ends}
 use Rattle.script_plain.specs.Next as next
+use Rattle.script_plain.specs.Step.{Configuration}
 use Rattle.rcce_ue.specs.Standing.{Tied}
 use Rattle.rcce_ue.specs.Ues.{UeView, in_slot}
 use Rattle.rcce_run.specs.Away.{IsAtHome}
-use Rattle.rcce_run.specs.Turns.{WorkerView}
+use Rattle.rcce_run.specs.Turns.{WorkerView, state_of}
 use Rattle.rcce_run.specs.Ues.{UeStands, ue_seen}
 use Rattle.rcce_run.specs.declared.members.Member.{Member}
 
@@ -72,3 +78,23 @@ pub record WaitsOpen (script : Script) (k : ℕ) (call : DataCall) : Type 0 wher
   pub stands : option_and_then (λ (u : State). next.call_of (next_of u)) (slice_get (plain_end script).cells k) ≡ Some (call_of call)
   pub line : ℕ
   pub waits : (ended_at (plain_ends script) k).end ≡ ue_end.Waits line (call_of call)
+
+-- the calls of a chip are legal: the passed calls of all ranks can be used up, each send or post with its receive and each
+-- barrier with those of its group; of each pair of ranks, one has received what the other sent, whole, once and in order,
+-- but for one message that is open or on its way; and no rank has finished more barriers of a communicator than each member
+-- of its group has entered
+pub record AreLegal (chip : ChipView) : Type 0 where
+  pub calls : IsLegal (about_in chip).nue (setup_key (about_in chip))
+      (passed_calls (about_in chip) (records_in chip)) (slot_of (about_in chip) (records_in chip))
+  pub messages : (from to : ℕ) → from < (about_in chip).nue → PairMessages (about_in chip) from to (records_in chip)
+  pub barriers : (comm r k : ℕ) → r < (about_in chip).nue → k < (about_in chip).nue
+      → setup_key (about_in chip) comm r ≡ setup_key (about_in chip) comm k
+      → barriers_of comm (records_in chip r).calls ≤ (records_in chip k).flips comm
+
+-- what a UE shows of its rank's state: what it holds, with the finished calls of the rank's record
+abbrev pub state_shown : ChipView → ℕ × Member UeView → State
+state_shown chip member = state_of member.1.worker.machine.local (records_in chip member.0)
+
+-- the states that UEs show, rank by rank, with these messages in the slots
+abbrev pub shown : ChipView → List (Member UeView) → List (Option Posted) → Configuration State
+shown chip crew slots = record { cells = map (state_shown chip) (enumerate_from 0 crew); slots = slots }

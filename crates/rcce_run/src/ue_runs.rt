@@ -1,17 +1,19 @@
 //! A run of UEs over a chip.
 
-ghost use Rattle.std.specs.Prelude.{◌≡◌, ◌<◌, ℕ, Some, slice_index_or};
+ghost use Rattle.std.specs.Prelude.{◌≡◌, ◌<◌, ℕ, List, Option, Some, slice_index_or};
 ghost use Rattle.rcce_run.specs.Crews.{EndsAs};
 ghost use Rattle.rcce_run.specs.Runs.{InOrder};
 ghost use Rattle.rcce_run.specs.Sent.{CountsSends};
-ghost use Rattle.rcce_run.specs.UeRuns.{AreHome, HasPlainCalls, IsFreshCrew, IsSameChip, ShowsEnd, WaitsOpen, member_seen, member_tied};
+ghost use Rattle.rcce_run.specs.UeRuns.{AreHome, AreLegal, HasPlainCalls, IsFreshCrew, IsSameChip, ShowsEnd, WaitsOpen, member_seen, member_tied, shown};
 ghost use Rattle.rcce_run.specs.declared.members.Member.{Member};
 ghost use Rattle.rcce_ue.specs.Ues.{UeView};
 ghost use Rattle.scc_base.specs.Calls.{DataCall};
 ghost use Rattle.scc_mesh.specs.Scenes.{about_in, records_in};
 ghost use Rattle.scc_proto.specs.Passed.{open_call};
+ghost use Rattle.script_plain.specs.Collectives.{CollectivesHold};
 ghost use Rattle.script_plain.specs.Ends.{ended_at};
 ghost use Rattle.script_plain.specs.Meaning.{plain_ends};
+ghost use Rattle.script_plain.specs.declared.posts.Posted.{Posted};
 ghost use Rattle.script_reader.specs.Script.{Script};
 
 use crate::ends::RunEnd;
@@ -35,8 +37,7 @@ impl<'s, V: Evict + Drop> Member<Ue<'s, V>> {
     }
 }
 
-/// Runs UEs over their chip, until a sweep in which none of them moves. What holds of the whole chip then, `Chip::agrees`
-/// tells.
+/// Runs UEs over their chip, until a sweep in which none of them moves.
 pub fn run<V: Evict + Drop + Send, G: Gate + Sync, R: Threads + Sync>(
     rt: &R,
     chip: &mut Chip,
@@ -63,6 +64,12 @@ pub fn run<V: Evict + Drop + Send, G: Gate + Sync, R: Threads + Sync>(
     // for its posted message at its end.
     ensures opened { (script : Script) → IsFreshCrew script chip.old crew.old → (k : ℕ) (call : DataCall) → k < script.nue
         → open_call (about_in chip.new) (records_in chip.new k) ≡ Some call → WaitsOpen script k call }
+    // The passed calls of all ranks are legal, each rank has received what it was sent, but for one message that is open or on
+    // its way, and nobody has finished more barriers of a communicator than each member of its group has entered.
+    ensures legal { AreLegal chip.new }
+    // In the states that the UEs show, each broadcast that a rank has done gave it the bytes that the root sent, and each
+    // reduction the fold of what the members gave, whatever messages stand in the slots.
+    ensures collectives { (script : Script) → IsFreshCrew script chip.old crew.old → (slots : List (Option Posted)) → CollectivesHold script (shown chip.new crew.new slots) }
     // On one thread the turns were those of the ranks that the seed's generator names, with a sweep behind each round.
     ensures order { InOrder member_seen member_tied mode chip.old crew.old chip.new crew.new }
 {

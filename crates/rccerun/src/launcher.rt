@@ -4,9 +4,9 @@ ghost use Rattle.std.specs.Prelude.{◌≡◌, map, string_bytes, None};
 ghost use Rattle.outcomes.specs.Delivery.{sinks};
 ghost use Rattle.outcomes.specs.Promises.{EndsWith, Promises};
 ghost use Rattle.scc_mesh.specs.Scenes.{IsNew, IsOpen};
+ghost use Rattle.rcce_run.specs.UeRuns.{AreLegal};
 ghost use Rattle.rcce_words.specs.CommandLine.{parse_command};
 ghost use Rattle.rccerun.specs.Asking.{ChipTells};
-ghost use Rattle.rccerun.specs.History.{AreLegal};
 ghost use Rattle.rccerun.specs.Loading.{Launches, Ran, asked_by};
 ghost use Rattle.rccerun.specs.Program.{rccerun};
 ghost use Rattle.rccerun.specs.Runs.{IsFresh, IsMadeOf, IsOver};
@@ -99,7 +99,6 @@ fn launch<'s, R: Threads + Sync, G: Gate + Sync>(
         return Err(Complaint::Memory);
     }
     let end = run_crew(rt, loaded, chip, crew.as_mut_slice(), gate);
-    chip.agrees();
     Ok(Run::new(&loaded.script, crew, end, loaded.seed))
 }
 
@@ -113,7 +112,8 @@ fn run_crew<R: Threads + Sync, G: Gate + Sync>(
 ) -> RunEnd
     requires chip { IsNew loaded.now.setup chip.old }
     requires fresh { IsFresh loaded.now.script loaded.now.setup crew.old }
-    ensures { IsOver (asked_by loaded.now) chip.new crew.new result }
+    ensures over { IsOver (asked_by loaded.now) chip.new crew.new result }
+    ensures legal { AreLegal chip.new }
 {
     let mode = match loaded.job.serial {
         Some(seed) => Mode::Serial(u64::from(seed)),

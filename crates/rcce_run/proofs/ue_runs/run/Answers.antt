@@ -2,7 +2,7 @@ use Rattle.std.proofs.Common.{ℕ, ◌<◌, length, sym, subst}
 use Rattle.rcce_run.specs.Crews.{AllRest, CrewStands}
 use Rattle.rcce_run.specs.UeRuns.{member_seen, member_tied}
 use Rattle.rcce_run.proofs.RunEnds.{some_worker}
-use Rattle.rcce_run.proofs.UeEnds.{fresh_crew, fresh_run, fresh_some, has_calls, shows_ends, waits_open}
+use Rattle.rcce_run.proofs.UeEnds.{collectives_hold, fresh_crew, fresh_run, fresh_some, has_calls, shows_ends, waits_open}
 use Rattle.rcce_run.proofs.SentLaws.{counts_sends}
 use Rattle.rcce_run.proofs.ue_runs.run.Goals as goal
 
@@ -52,3 +52,13 @@ returns-clause-opened g c = λ script fresh k call low is_open.
     let some : 0 < length c.run_members-end.new.crew = subst (λ (n : ℕ). 0 < n) (sym stands.goes.count) (fresh_some script c.args.chip.now c.args.crew.now c.setup.result.now fresh c.setup.ensures.gives c.nue.ensures.valid.some_ranks) in
     waits_open script c.run_members-end.new.chip c.run_members-end.new.crew c.agrees.ensures.words.0 c.agrees.ensures.words.1 stands.is_crew (stands.goes.scripts script (fresh_run script c.args.chip.now c.args.crew.now fresh))
     some (some_worker c.run_members-end.new.crew some) (subst (λ (n : ℕ). AllRest member_seen c.run_members-end.new.chip c.run_members-end.new.crew n) stands.is_crew.each c.run_members-end.ensures.rests) k call low is_open
+
+pub returns-clause-legal : goal.returns-clause-legal
+returns-clause-legal g c = record { calls = c.agrees.ensures.calls; messages = c.agrees.ensures.messages; barriers = c.agrees.ensures.barriers }
+
+pub returns-clause-collectives : goal.returns-clause-collectives
+returns-clause-collectives g c = λ script fresh.
+    let stands : CrewStands member_seen member_tied c.args.chip.now c.args.crew.now c.run_members-end.new.chip c.run_members-end.new.crew = c.run_members-end.ensures.stands in
+    let some : 0 < length c.run_members-end.new.crew = subst (λ (n : ℕ). 0 < n) (sym stands.goes.count) (fresh_some script c.args.chip.now c.args.crew.now c.setup.result.now fresh c.setup.ensures.gives c.nue.ensures.valid.some_ranks) in
+    collectives_hold script c.run_members-end.new.chip c.run_members-end.new.crew c.agrees.ensures.words.0 c.agrees.ensures.words.1 stands.is_crew (stands.goes.scripts script (fresh_run script c.args.chip.now c.args.crew.now fresh))
+    some (some_worker c.run_members-end.new.crew some) (subst (λ (n : ℕ). AllRest member_seen c.run_members-end.new.chip c.run_members-end.new.crew n) stands.is_crew.each c.run_members-end.ensures.rests)

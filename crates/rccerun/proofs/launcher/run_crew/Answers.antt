@@ -7,8 +7,8 @@ run-requires-clause-fresh g c =
     let loaded = c.args.loaded.now in
     λ lifetimes outlive. (loaded.script, fresh_crew loaded.script loaded.setup _ _ c.requires.chip c.requires.fresh)
 
-pub returns : goal.returns
-returns g c =
+pub returns-clause-over : goal.returns-clause-over
+returns-clause-over g c =
     let loaded = c.args.loaded.now in
     let fresh = fresh_crew loaded.script loaded.setup _ _ c.requires.chip c.requires.fresh in
     run_over (asked_by loaded) _ _ _ _ _ loaded.ranks c.requires.chip c.requires.fresh.count c.run.ensures.stands c.run.ensures.home
