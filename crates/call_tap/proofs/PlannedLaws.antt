@@ -1,11 +1,13 @@
 -- Room for all calls that are planned is room for those that are made.
-use Rattle.std.proofs.Common.{◌≡◌, ℕ, ◌+◌, ◌≤◌, List, [], ◌∷◌, ◌++◌, length, map, length-append, refl, sym, ◌∙◌, ap, arith}
-use Rattle.std.specs.Prelude.{All, flat_map}
+use Rattle.std.proofs.Common.{◌≡◌, ◌+◌, true, List, [], ◌∷◌, ◌++◌, length, map, length-append, refl, sym, ◌∙◌, ap, arith}
+use Rattle.std.specs.Prelude.{All, flat_map, nat_le}
+use Rattle.std.proofs.lemmas.Bool.{leb-true}
 use Rattle.std.proofs.lemmas.List.Elements.{All-head, All-tail}
 use Rattle.scc_base.specs.Calls.{DataCall, Send, Recv, Post, Bar, HasItsBytes, call_of}
 use Rattle.scc_base.specs.declared.calls.Call.{Call}
+use Rattle.scc_proto.proofs.Tests.{both_first, both_second}
 use Rattle.call_tap.specs.Kept.{HasRoom}
-use Rattle.call_tap.specs.Planned.{HasRoomFor, bytes_asked, bytes_planned}
+use Rattle.call_tap.specs.Planned.{has_room_for, bytes_asked, bytes_planned}
 use Rattle.call_tap.specs.Watching.{bytes_of}
 
 one_long : (call : DataCall) → HasItsBytes call → length (bytes_of call) ≡ bytes_asked (call_of call)
@@ -29,12 +31,12 @@ length_calls : (calls : List DataCall) → length (map call_of calls) ≡ length
 length_calls [] = refl
 length_calls (call ∷ calls) = let a = length_calls calls in omega (arith, a)
 
-pub planned_room : (most_calls most_bytes : ℕ) (planned rest : List Call) (calls : List DataCall) → HasRoomFor most_calls most_bytes planned → planned ≡ map call_of calls ++ rest → All HasItsBytes calls → HasRoom most_calls most_bytes calls
-planned_room most_calls most_bytes planned rest calls room is long =
+pub planned_room : (planned rest : List Call) (calls : List DataCall) → has_room_for planned ≡ true → planned ≡ map call_of calls ++ rest → All HasItsBytes calls → HasRoom calls
+planned_room planned rest calls room is long =
     let a = ap length is ∙ length-append (map call_of calls) rest in
     let b = length_calls calls in
     let c = ap bytes_planned is ∙ planned_append (map call_of calls) rest in
     let d = all_long calls long in
-    let e = room.calls_within in
-    let f = room.bytes_within in
+    let e = leb-true (length planned) 10000 (both_first (nat_le (length planned) 10000) (nat_le (bytes_planned planned) 262144) room) in
+    let f = leb-true (bytes_planned planned) 262144 (both_second (nat_le (length planned) 10000) (nat_le (bytes_planned planned) 262144) room) in
     record { calls_within = omega (arith, a, b, e); bytes_within = omega (arith, c, d, f) }

@@ -1,5 +1,5 @@
 -- Calls that are known before they are made, without the bytes that go with them.
-use Rattle.std.specs.Prelude.{ℕ, ◌+◌, ◌≤◌, List, [], ◌∷◌, length}
+use Rattle.std.specs.Prelude.{ℕ, ◌+◌, nat_le, Bool, ◌&&◌, List, [], ◌∷◌, length}
 use Rattle.scc_base.specs.declared.calls.Call.{Call}
 use Rattle.scc_base.specs.declared.calls.Call.TheVariants.{Send, Recv, Post, Bar}
 
@@ -15,7 +15,6 @@ abbrev pub bytes_planned : List Call → ℕ
 bytes_planned [] = 0
 bytes_planned (call ∷ calls) = bytes_asked call + bytes_planned calls
 
--- there is room for all of these calls
-pub record HasRoomFor (most_calls most_bytes : ℕ) (planned : List Call) : Type 0 where
-  pub calls_within : length planned ≤ most_calls
-  pub bytes_within : bytes_planned planned ≤ most_bytes
+-- whether there is room for all of these calls: 10,000 calls with 262,144 bytes (this project's profile)
+abbrev pub has_room_for : List Call → Bool
+has_room_for planned = nat_le (length planned) 10000 && nat_le (bytes_planned planned) 262144

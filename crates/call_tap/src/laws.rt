@@ -1,6 +1,6 @@
 //! The laws of taps.
 
-ghost use Rattle.std.specs.Prelude.{◌≡◌, ◌++◌, ℕ, All, List, map};
+ghost use Rattle.std.specs.Prelude.{◌≡◌, ◌++◌, ℕ, All, List, map, true};
 ghost use Rattle.scc_base.specs.Calls.{DataCall, HasItsBytes, call_of};
 ghost use Rattle.scc_base.specs.Setups.{SetupView};
 ghost use Rattle.scc_base.specs.declared.calls.Call.{Call};
@@ -9,18 +9,18 @@ ghost use Rattle.scc_base.specs.declared.layouts.Layout.TheVariants.{LineFlags};
 ghost use Rattle.scc_proto.specs.Records.{record_of};
 ghost use Rattle.call_tap.specs.declared.taps.Tap.{Tap};
 ghost use Rattle.call_tap.specs.Kept.{AreKept, HasRoom};
-ghost use Rattle.call_tap.specs.Planned.{HasRoomFor};
+ghost use Rattle.call_tap.specs.Planned.{has_room_for};
 ghost use Rattle.call_tap.specs.Taps.{HasRead};
 
 /// A tap keeps the calls that its rank has finished, in their order and with their bytes, as long as it has room for them.
 pub fn kept_law()
     ensures law { (tap : Tap) (s : SetupView) (rank : ℕ) (events : List Event) → HasRead tap s rank events → s.layout ≡ LineFlags
-        → HasRoom tap.kept.most_calls tap.kept.most_bytes (record_of s rank events).calls → AreKept tap.kept (record_of s rank events).calls }
+        → HasRoom (record_of s rank events).calls → AreKept tap.kept (record_of s rank events).calls }
 {}
 
 /// Room for all calls of a program, which are known before it runs but for their bytes, is room for those that a rank has
 /// finished, as long as these are the first ones of the program.
 pub fn room_law()
-    ensures law { (most_calls most_bytes : ℕ) (planned rest : List Call) (calls : List DataCall) → HasRoomFor most_calls most_bytes planned
-        → planned ≡ map call_of calls ++ rest → All HasItsBytes calls → HasRoom most_calls most_bytes calls }
+    ensures law { (planned rest : List Call) (calls : List DataCall) → has_room_for planned ≡ true → planned ≡ map call_of calls ++ rest
+        → All HasItsBytes calls → HasRoom calls }
 {}

@@ -31,25 +31,16 @@ impl Tap {
     ghost use Rattle.scc_proto.specs.Permission.{permits};
     ghost use Rattle.scc_proto.specs.Records.{IsPermitted, record_of};
     ghost use Rattle.scc_proto.specs.Stages.{Record};
-    ghost use Rattle.call_tap.specs.Kept.{IsSameRoom};
     ghost use Rattle.call_tap.specs.Moves.{IsBelow, Means};
     ghost use Rattle.call_tap.specs.Taps.{HasRead, Reads};
 
-    /// The tap of a rank that has made no access, with room for so many calls with so many bytes.
-    pub fn new(
-        alloc: Global,
-        setup: Setup,
-        rank: Rank,
-        most_calls: usize,
-        most_bytes: usize,
-    ) -> Result<Tap, AllocError>
+    /// The tap of a rank that has made no access, with room for 10,000 calls with 262,144 bytes together.
+    pub fn new(alloc: Global, setup: Setup, rank: Rank) -> Result<Tap, AllocError>
         requires below { rank < setup.nue }
         ensures read { IfOk result (λ tap. HasRead tap setup rank []) }
-        ensures calls { IfOk result (λ tap. tap.kept.most_calls ≡ most_calls) }
-        ensures bytes { IfOk result (λ tap. tap.kept.most_bytes ≡ most_bytes) }
     {
         let watch = Watch::new(alloc, setup.layout().chunk_bytes())?;
-        let kept = Kept::new(alloc, most_calls, most_bytes)?;
+        let kept = Kept::new(alloc)?;
         Ok(Tap {
             setup,
             rank,
@@ -60,7 +51,7 @@ impl Tap {
 
     fn hear(&mut self, step: Step, value: u64)
         requires below { IsBelow step }
-        ensures same { (self.new.setup ≡ self.old.setup) × (self.new.rank ≡ self.old.rank) × IsSameRoom self.old.kept self.new.kept }
+        ensures same { (self.new.setup ≡ self.old.setup) × (self.new.rank ≡ self.old.rank) }
         ensures hears { (rec : Record) (move : Move) → Means step value move → permits self.old.watch.size move rec ≡ true → Reads self.old rec
             → Reads self.new (after self.old.watch.size move rec) }
     {
@@ -71,7 +62,6 @@ impl Tap {
     }
 
     pub(crate) fn loaded(&mut self, place: Place, value: u64)
-        ensures room { IsSameRoom self.old.kept self.new.kept }
         ensures reads { (s : SetupView) (rank : ℕ) (events : List Event) → HasRead self.old s rank events
             → HasRead self.new s rank (events ++ load_of place value ∷ []) }
     {
@@ -81,7 +71,6 @@ impl Tap {
     }
 
     pub(crate) fn stored(&mut self, place: Place, value: u64)
-        ensures room { IsSameRoom self.old.kept self.new.kept }
         ensures reads { (s : SetupView) (rank : ℕ) (events : List Event) → IsPermitted s rank (record_of s rank events) (store_of place value)
             → HasRead self.old s rank events → HasRead self.new s rank (events ++ store_of place value ∷ []) }
     {
