@@ -1,3 +1,4 @@
+pub mod HeldLemmas
 pub mod HexTextLemmas
 pub mod LineLemmas
 pub mod ListLemmas

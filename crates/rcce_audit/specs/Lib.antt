@@ -1,4 +1,5 @@
 pub mod Grammar
+pub mod Held
 pub mod Kinds
 pub mod Logs
 pub mod Pieces

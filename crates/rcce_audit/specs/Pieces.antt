@@ -1,6 +1,6 @@
 -- The text of a piece of a log's line, and the texts of lines with their line feeds.
 use Rattle.std.specs.Prelude.{ℕ, List, [], ◌∷◌, ◌++◌, decimal}
-use Rattle.scc_base.specs.Heads.{MessageHead}
+use Rattle.scc_base.specs.Calls.{DataCall}
 use Rattle.rcce_audit.specs.declared.writing.Piece.{Piece}
 use Rattle.rcce_audit.specs.declared.writing.Piece.TheVariants.{Text, Number, Hex}
 use Rattle.rcce_audit.specs.declared.logs.LogCall.{LogCall}
@@ -17,5 +17,8 @@ abbrev pub ended : List (List ℕ) → List ℕ
 ended words = line_of words ++ 10 ∷ []
 
 -- the line of a rank's call
+abbrev pub line_by : ℕ → DataCall → List ℕ
+line_by rank call = ended (call_words rank call)
+
 abbrev pub call_text : ℕ → LogCall → List ℕ
-call_text rank call = ended (call_words rank (data_of call))
+call_text rank call = line_by rank (data_of call)

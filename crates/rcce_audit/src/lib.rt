@@ -2,6 +2,7 @@
 #![tactic(auto)]
 
 mod faults;
+mod held;
 mod judging;
 mod laws;
 mod lines;
@@ -18,6 +19,7 @@ mod words;
 mod writing;
 
 pub use faults::{LogFault, LogKind, LogStop};
+pub use held::{CallList, HeldLog};
 pub use judging::audit;
 pub use laws::{text_law, verdict_law};
 pub use logs::{Log, LogCall};

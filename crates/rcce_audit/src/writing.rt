@@ -89,7 +89,7 @@ fn kind_text(head: Head) -> &'static str
     }
 }
 
-fn write_message<'a, S: Sink>(
+pub(crate) fn write_message<'a, S: Sink>(
     sink: &mut S,
     rank: u8,
     verb: &'a str,
@@ -120,7 +120,7 @@ fn write_message<'a, S: Sink>(
     )
 }
 
-fn write_barrier<S: Sink>(sink: &mut S, rank: u8, comm: u8) -> Result<(), WriteFault>
+pub(crate) fn write_barrier<S: Sink>(sink: &mut S, rank: u8, comm: u8) -> Result<(), WriteFault>
     ensures { Sends (ended (decimal rank ∷ codes "bar" ∷ decimal comm ∷ [])) (S.seen sink.old) (S.seen sink.new) result }
 {
     write_texts(
@@ -210,7 +210,7 @@ fn write_rule<S: Sink>(sink: &mut S, comm: u8, rule: CommRule) -> Result<(), Wri
 }
 
 /// Writes the lines of the communicators.
-fn write_rules<S: Sink>(sink: &mut S, comms: &[CommRule; 16]) -> Result<(), WriteFault>
+pub(crate) fn write_rules<S: Sink>(sink: &mut S, comms: &[CommRule; 16]) -> Result<(), WriteFault>
     ensures { Sends (text_of (table_lines rule_lines 0 comms.now)) (S.seen sink.old) (S.seen sink.new) result }
 {
     for comm in 0..16u8 {
@@ -219,7 +219,7 @@ fn write_rules<S: Sink>(sink: &mut S, comms: &[CommRule; 16]) -> Result<(), Writ
     Ok(())
 }
 
-fn write_head<S: Sink>(sink: &mut S, nue: u8) -> Result<(), WriteFault>
+pub(crate) fn write_head<S: Sink>(sink: &mut S, nue: u8) -> Result<(), WriteFault>
     ensures { Sends (ended (head_words nue)) (S.seen sink.old) (S.seen sink.new) result }
 {
     write_texts(sink, &[Text("rcce log "), Number(nue as u32), Text("\n")])

@@ -1,0 +1,38 @@
+-- Logs whose calls are held elsewhere, without their bytes, which stand one after the other.
+use Rattle.std.specs.Prelude.{ℕ, List, [], ◌∷◌, drop, map, take}
+use Rattle.scc_base.specs.Calls.{DataCall, Send, Recv, Post, Bar}
+use Rattle.scc_base.specs.declared.calls.Call.{Call}
+use Rattle.scc_base.specs.declared.calls.Call.TheVariants as call
+use Rattle.rcce_audit.specs.declared.held.CallList.{CallList}
+use Rattle.rcce_audit.specs.declared.held.HeldLog.{HeldLog}
+use Rattle.rcce_audit.specs.Logs.{LogView}
+use Rattle.rcce_audit.specs.Texts.{log_text}
+
+-- how many bytes a call moves
+abbrev pub bytes_in : Call → ℕ
+bytes_in (call.Send to head) = head.len
+bytes_in (call.Recv from head) = head.len
+bytes_in (call.Post to head) = head.len
+bytes_in (call.Bar comm) = 0
+
+-- the call with these bytes
+abbrev pub data_by : Call → List ℕ → DataCall
+data_by (call.Send to head) bytes = Send to head bytes
+data_by (call.Recv from head) bytes = Recv from head bytes
+data_by (call.Post to head) bytes = Post to head bytes
+data_by (call.Bar comm) bytes = Bar comm
+
+-- calls, each with its bytes from the front of those that are left
+abbrev pub with_bytes : List Call → List ℕ → List DataCall
+with_bytes [] bytes = []
+with_bytes (call ∷ calls) bytes = data_by call (take (bytes_in call) bytes) ∷ with_bytes calls (drop (bytes_in call) bytes)
+
+abbrev pub held_calls : CallList → List DataCall
+held_calls list = with_bytes list.calls.now list.bytes.now
+
+-- the log that is held
+abbrev pub held_view : HeldLog → LogView
+held_view log = record { nue = log.nue; comms = log.comms; lists = map held_calls log.lists }
+
+abbrev pub held_text : HeldLog → List ℕ
+held_text log = log_text (held_view log)
