@@ -1,5 +1,5 @@
 -- What a line says is what it is the text of.
-use Rattle.std.proofs.Common.{◌≡◌, ◌≢◌, ◌⊎◌, ℕ, zero, suc, ◌+◌, ◌-◌, ◌<◌, ◌≤◌, Bool, true, false, cond, ◌&&◌, not, List, [], ◌∷◌, length, Option, Some, None, codes, decimal, inl, inr, ⊎_elim, refl, sym, ◌∙◌, ap, subst, arith}
+use Rattle.std.proofs.Common.{◌≡◌, ◌≢◌, ℕ, ◌+◌, ◌-◌, ◌<◌, ◌≤◌, Bool, true, false, cond, ◌&&◌, not, List, [], ◌∷◌, length, Some, None, codes, decimal, ⊎_elim, refl, sym, ◌∙◌, ap, subst, arith}
 use Rattle.std.specs.Prelude.{◌==◌, nat_le}
 use Rattle.std.specs.Str.{bytes_eq}
 use Rattle.std.proofs.lemmas.Bool.{and_parts, eqb-true, eqb-false, leb-true, not-true}
@@ -8,7 +8,7 @@ use Rattle.std.proofs.lemmas.List.Splits.{join_with_byte-slice_split}
 use Rattle.hex.specs.Hex.{IsBytes}
 use Rattle.scc_base.specs.Calls.{DataCall, Send, Recv, Post, Bar}
 use Rattle.scc_base.specs.Communicators.{rule_of}
-use Rattle.scc_base.specs.Heads.{MessageHead, IsHead, IsPostHead, kind_at, kind_number, kind_at-kind_number}
+use Rattle.scc_base.specs.Heads.{MessageHead, IsHead, IsPostHead, kind_at, kind_number, kind_at-kind_number, kind_text}
 use Rattle.scc_base.specs.declared.communicators.CommRule.{CommRule}
 use Rattle.scc_base.specs.declared.communicators.CommRule.TheVariants.{Absent, World, Mod, Div}
 use Rattle.scc_base.specs.declared.kinds.Kind.{Kind}
@@ -17,9 +17,10 @@ use Rattle.rcce_audit.specs.declared.lines.CommSplit.{CommSplit}
 use Rattle.rcce_audit.specs.declared.lines.EndRanks.{EndRanks}
 use Rattle.rcce_audit.specs.Grammar.{RankedCall, rank_said, end_ranks, ends_said, head_of, head_said, bytes_said, is_post, call_named, message_said, is_present, barrier_said, long_said, short_said, call_said, rule_named, split_said, comm_said, nue_of}
 use Rattle.rcce_audit.specs.Logs.{IsMessage, IsLogCall}
-use Rattle.rcce_audit.specs.Texts.{hex_text, kind_text, head_words, split_words, message_words, call_words, line_of, rule_lines}
+use Rattle.rcce_io.specs.Digits.{hex_text}
+use Rattle.rcce_audit.specs.Texts.{head_words, split_words, message_words, call_words, line_of, rule_lines}
 use Rattle.rcce_audit.specs.Words.{◌>>=◌, only_if, words_of, range_said, kind_said, hex_said}
-use Rattle.rcce_audit.proofs.WordLemmas.{same_text, then_some, only_some, chosen, IsNumberWord, range_word, kind_word, IsHexWord, hex_word}
+use Rattle.rcce_audit.proofs.WordLemmas.{same_text, then_some, only_some, chosen, range_word, kind_word, hex_word}
 
 -- the words of a line, with single blanks between, are the line
 pub line_of-words_of : (line : List ℕ) → line_of (words_of line) ≡ line

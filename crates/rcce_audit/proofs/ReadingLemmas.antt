@@ -1,6 +1,6 @@
 -- What is true of a log while it is read: it can be written, and its lines are those that were read.
-use Rattle.std.proofs.Common.{◌≡◌, ◌≢◌, ◌⊎◌, ℕ, zero, suc, ◌+◌, ◌-◌, ◌<◌, ◌≤◌, Bool, true, false, cond, eqb, List, [], ◌∷◌, ◌++◌, length, get_or, set, map, replicate, drop, take, Option, Some, None, option_map, Result, Ok, Err, inl, inr, ⊎_elim, refl, sym, ◌∙◌, ap, subst, append_assoc, arith}
-use Rattle.std.specs.Prelude.{◌==◌, All, flat_map, nat_le, nat_lt}
+use Rattle.std.proofs.Common.{◌≡◌, ◌≢◌, ℕ, zero, suc, ◌+◌, ◌-◌, ◌<◌, ◌≤◌, Bool, true, false, cond, eqb, List, [], ◌∷◌, ◌++◌, length, get_or, set, drop, take, Option, Some, None, option_map, Result, Ok, Err, ⊎_elim, refl, sym, ◌∙◌, ap, subst, append_assoc, arith}
+use Rattle.std.specs.Prelude.{◌==◌, All, nat_lt}
 use Rattle.std.specs.List.{join_with_byte, slice_split}
 use Rattle.std.specs.Option.{ok_or}
 use Rattle.std.proofs.lemmas.Bool.{cases_eq, cases_lt, cond-false, le-ltb, leb-true, ltb-false}
@@ -8,7 +8,7 @@ use Rattle.std.proofs.lemmas.List.{append-nil, get_or-set_other, get_or-set_same
 use Rattle.std.proofs.lemmas.List.Elements.{All-nil, All-push}
 use Rattle.std.proofs.lemmas.List.Splits.{join_with_byte-slice_split, length-slice_split}
 use Rattle.std.proofs.lemmas.List.Sums.{count_by-le-length}
-use Rattle.scc_base.specs.Calls.{DataCall, Send, Recv, Post, Bar}
+use Rattle.scc_base.specs.Calls.{DataCall}
 use Rattle.scc_base.specs.Communicators.{AreRules, IsRule, rule_of}
 use Rattle.scc_base.specs.declared.communicators.CommRule.{CommRule}
 use Rattle.scc_base.specs.declared.communicators.CommRule.TheVariants.{Absent, World, Mod, Div}
@@ -20,7 +20,7 @@ use Rattle.rcce_audit.specs.declared.lines.CommSplit.{CommSplit}
 use Rattle.rcce_audit.specs.Grammar.{Reading, RankedCall, with_comm, with_call, is_in_order, add_call, begins_comm, comm_said, call_said, line_said, kind_of, lines_said, end_said, nue_of, world_alone, no_calls, start_of, first_said, all_said, parts_said, log_of, is_present, Gives, ◌>=>◌}
 use Rattle.rcce_audit.specs.Logs.{LogView, calls_of, IsLogCall, IsLog}
 use Rattle.rcce_audit.specs.Texts.{head_words, line_of, rule_lines, call_words, call_lines, table_lines, log_lines, text_of, log_text, IsFileLog}
-use Rattle.rcce_audit.specs.Words.{◌>>=◌, only_if, parts_of, words_of}
+use Rattle.rcce_audit.specs.Words.{◌>>=◌, parts_of, words_of}
 use Rattle.rcce_audit.proofs.ListLemmas.{get_or-replicate_same}
 use Rattle.rcce_audit.proofs.WordLemmas.{then_some, only_some}
 use Rattle.rcce_audit.proofs.LineLemmas.{line_of-words_of, IsRankedWords, call_line, IsSplitRule, ByMod, ByDiv, IsSplitWords, comm_line, head_line}

@@ -1,12 +1,12 @@
 -- What the steps of legality do to standings, who may have a step after one, and what standings tell of lists.
-use Rattle.std.proofs.Common.{◌≡◌, ◌≢◌, ◌⊎◌, ◌↔◌, ℕ, zero, suc, ◌+◌, ◌<◌, ◌≤◌, Bool, true, false, if◌then◌else◌, List, [], ◌∷◌, ◌++◌, length, drop, take, Option, Some, None, get_or, option_and_then, option_map, inl, inr, ⊎_elim, refl, sym, ◌∙◌, ap, subst, arith}
+use Rattle.std.proofs.Common.{◌≡◌, ◌⊎◌, ◌↔◌, ℕ, zero, suc, ◌+◌, ◌<◌, ◌≤◌, Bool, true, false, if◌then◌else◌, List, [], ◌∷◌, ◌++◌, length, drop, take, Option, Some, None, get_or, option_and_then, option_map, inl, inr, ⊎_elim, refl, sym, ◌∙◌, ap, subst, arith}
 use Rattle.std.specs.Prelude.{◌==◌, All, is_some, slice_get, slice_index, slice_index_or}
 use Rattle.std.proofs.lemmas.Bool.{cases_eq, cases_lt, eq-eqb, ne_eqb, false≢true}
 use Rattle.std.proofs.lemmas.Bool.Decides.{nat_tests}
 use Rattle.std.proofs.lemmas.List.{drop_more, at_drop_all, get_or_past, length-append, length-drop, length-map, length-take-le, take-append-drop}
 use Rattle.std.proofs.lemmas.Option.{slice_get_within, slice_get_past, get_or_from_slice_get}
 use Rattle.scc_base.specs.Groups.{root_in}
-use Rattle.scc_base.specs.Calls.{DataCall, Send, Recv, Post, Bar}
+use Rattle.scc_base.specs.Calls.{DataCall, Send, Recv}
 use Rattle.scc_base.specs.Communicators.{key_of}
 use Rattle.scc_base.specs.declared.communicators.CommRule.{CommRule}
 use Rattle.scc_base.specs.Runs.{Runs, IsStill, EndsAt}
@@ -14,7 +14,7 @@ use Rattle.scc_base.specs.Setups.{SetupView, setup_key}
 use Rattle.scc_base.proofs.ChangeLaws.{true_or_false}
 use Rattle.scc_base.proofs.Confluence.{last_or_below, other_end, joined_runs, one_end}
 use Rattle.scc_base.proofs.GroupFacts.{root_is, root_once, same_root}
-use Rattle.scc_proto.specs.Legality.{Outgoing, Standing, CallStep, Posting, Taking, Pairing, Meeting, owner_of, IsProper, callers, call_at, slot_at, slot_before, slot_after, Makes, OwnStep, IsUsedUp}
+use Rattle.scc_proto.specs.Legality.{Outgoing, Standing, CallStep, Posting, Taking, Pairing, Meeting, owner_of, IsProper, callers, call_at, slot_at, slot_before, slot_after, Makes, OwnStep}
 use Rattle.scc_proto.proofs.CallTests.{BeginsWith}
 use Rattle.scc_proto.proofs.LegalLaws.{legal_from_end, end_of_legal}
 use Rattle.scc_proto.proofs.StepDecided.{IsReady, standing_after, ready_makes}
@@ -24,7 +24,7 @@ use Rattle.rcce_audit.specs.declared.verdicts.Verdict.{Verdict}
 use Rattle.rcce_audit.specs.declared.verdicts.Verdict.TheVariants as verdict
 use Rattle.rcce_audit.specs.Logs.{LogView, IsLogCall, calls_of}
 use Rattle.rcce_audit.specs.Texts.{IsFileLog, call_lines, call_words, line_of, log_lines, rule_lines, table_lines, text_of}
-use Rattle.rcce_audit.specs.Standings.{AreLists, outgoing_at, list_at, left_of, slot_of, standing_of, Sleeps, IsQuiet, partner_of, Advances, Acts, Leads, count_left}
+use Rattle.rcce_audit.specs.Standings.{AreLists, outgoing_at, list_at, left_of, slot_of, standing_of, Sleeps, IsQuiet, partner_of, Acts, Leads, count_left}
 use Rattle.rcce_audit.specs.Verdicts.{IsFirstLeft, IsLegalLog, EndsIn, Tells}
 
 -- where a call stands at a place, the calls from there on begin with it

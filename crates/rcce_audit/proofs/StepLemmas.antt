@@ -1,5 +1,5 @@
 -- What makes a step of legality, and what forbids one, by the places of the lists.
-use Rattle.std.proofs.Common.{◌≡◌, ◌≢◌, ◌⊎◌, ℕ, zero, suc, ◌+◌, ◌*◌, ◌<◌, ◌≤◌, Bool, true, false, cond, eqb, ◌||◌, if◌then◌else◌, List, [], ◌∷◌, length, get_or, set, drop, Option, Some, None, option_and_then, inl, inr, ⊎_elim, refl, sym, ◌∙◌, ap, subst, arith}
+use Rattle.std.proofs.Common.{◌≡◌, ◌≢◌, ℕ, ◌+◌, ◌*◌, ◌<◌, ◌≤◌, Bool, true, false, cond, ◌||◌, if◌then◌else◌, List, [], ◌∷◌, length, get_or, set, drop, Option, Some, None, option_and_then, ⊎_elim, refl, sym, ◌∙◌, ap, subst, arith}
 use Rattle.std.specs.Prelude.{◌==◌, All, slice_get, slice_index, slice_index_or}
 use Rattle.std.proofs.lemmas.Bool.{cases_eq, cases_lt, eqb-true, eqb-false, or_cases, or_parts, ne_eqb, true≢false}
 use Rattle.std.proofs.lemmas.List.{get_or-set_other, get_or-set_same}
@@ -8,7 +8,7 @@ use Rattle.scc_base.specs.Calls.{DataCall, Send, Recv, Post, Bar}
 use Rattle.scc_base.specs.Changes.{Change, only, both}
 use Rattle.scc_base.specs.Groups.{place_in}
 use Rattle.scc_base.specs.Setups.{SetupView, setup_key}
-use Rattle.scc_proto.specs.Legality.{Outgoing, Standing, CallStep, Posting, Taking, Pairing, Meeting, in_group, IsFirst, callers, call_at, slot_at, slot_before, slot_after, Makes, OwnStep}
+use Rattle.scc_proto.specs.Legality.{Outgoing, Standing, Posting, Taking, Pairing, Meeting, in_group, call_at, Makes, OwnStep}
 use Rattle.scc_proto.proofs.StepLaws.{itself, own_step, owner_of-own_step}
 use Rattle.rcce_audit.specs.declared.progress.Progress.{Progress}
 use Rattle.rcce_audit.specs.Standings.{AreLists, Tries, TriesFirst, IsQuiet, list_at, outgoing_at, outgoing_of, left_of, slot_of, standing_of, Sleeps, partner_of, Advances, Acts, Meets, Leads, Visits, Sweeps, count_left}

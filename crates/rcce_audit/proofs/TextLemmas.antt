@@ -1,38 +1,12 @@
 -- The texts of a log's lines, line by line.
-use Rattle.std.proofs.Common.{◌≡◌, ℕ, zero, suc, ◌+◌, ◌-◌, ◌/◌, ◌%◌, ◌<◌, ◌≤◌, List, [], ◌∷◌, ◌++◌, codes, decimal, length, get_or, map, take, drop, refl, sym, ap, ◌∙◌, append_assoc, arith}
-use Rattle.std.specs.Prelude.{slice_index}
-use Rattle.std.proofs.Math.Seq.{take-add}
+use Rattle.std.proofs.Common.{◌≡◌, ℕ, ◌+◌, ◌<◌, List, [], ◌∷◌, ◌++◌, codes, length, get_or, map, take, drop, refl, sym, ap, ◌∙◌, append_assoc, arith}
 use Rattle.std.proofs.lemmas.List.{append-nil, take-append-drop, take_more, length-take-le}
-use Rattle.hex.specs.Hex.{encode_with, encode_lower, lower_digits}
-use Rattle.scc_base.specs.Heads.{MessageHead, kind_at}
 use Rattle.rcce_io.specs.Sending.{joined}
 use Rattle.rcce_audit.specs.declared.logs.LogCall.{LogCall}
 use Rattle.rcce_audit.specs.Logs.{LogView}
 use Rattle.rcce_audit.specs.Pieces.{call_text, ended}
-use Rattle.rcce_audit.specs.Texts.{call_lines, head_words, hex_text, kind_text, line_of, log_text, message_words, rule_lines, split_words, table_lines, text_of}
-use Rattle.rcce_audit.specs.Views.{data_list, data_of}
-
--- the digits of some bytes and then of others
-encode_lower-append : (a b : List ℕ) → encode_lower (a ++ b) ≡ encode_lower a ++ encode_lower b
-unfolding encode_with
-encode_lower-append [] b = refl
-encode_lower-append (x ∷ a) b = ap (λ t. slice_index lower_digits (x / 16) ∷ slice_index lower_digits (x % 16) ∷ t) (encode_lower-append a b)
-
-take-part : (from to : ℕ) (xs : List ℕ) → from ≤ to → take to xs ≡ take from xs ++ take (to - from) (drop from xs)
-take-part from to xs within = ap (λ n. take n xs) (omega arith) ∙ take-add from (to - from) xs
-
--- the digits of the bytes up to a place go on with those of the next part
-pub encode_lower-part : (from to : ℕ) (xs : List ℕ) → from ≤ to →
-    encode_lower (take to xs) ≡ encode_lower (take from xs) ++ encode_lower (take (to - from) (drop from xs))
-encode_lower-part from to xs within = ap encode_lower (take-part from to xs within) ∙ encode_lower-append (take from xs) (take (to - from) (drop from xs))
-
--- and the digits of all bytes go on behind that part
-pub encode_lower-parts : (from to : ℕ) (xs : List ℕ) → from ≤ to →
-    encode_lower xs ≡ encode_lower (take from xs) ++ (encode_lower (take (to - from) (drop from xs)) ++ encode_lower (drop to xs))
-encode_lower-parts from to xs within =
-    ap encode_lower (sym (take-append-drop to xs)) ∙ encode_lower-append (take to xs) (drop to xs)
-    ∙ ap (λ t. t ++ encode_lower (drop to xs)) (encode_lower-part from to xs within)
-    ∙ append_assoc (encode_lower (take from xs)) _ _
+use Rattle.rcce_audit.specs.Texts.{call_lines, head_words, log_text, rule_lines, table_lines, text_of}
+use Rattle.rcce_audit.specs.Views.{data_list}
 
 -- lines of two lists
 pub text_of-append : (xs ys : List (List ℕ)) → text_of (xs ++ ys) ≡ text_of xs ++ text_of ys

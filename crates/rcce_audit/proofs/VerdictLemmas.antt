@@ -1,18 +1,18 @@
 -- A log has exactly one verdict.
-use Rattle.std.proofs.Common.{◌≡◌, ◌≢◌, ◌⊎◌, ℕ, zero, suc, ◌+◌, ◌<◌, ◌≤◌, Bool, true, false, List, [], ◌∷◌, ◌++◌, length, None, inl, inr, ⊎_elim, refl, sym, ◌∙◌, ap, subst, length-append, arith}
+use Rattle.std.proofs.Common.{◌≡◌, ◌≢◌, ◌⊎◌, ℕ, zero, suc, ◌+◌, ◌<◌, ◌≤◌, true, false, List, [], ◌∷◌, ◌++◌, length, None, inl, inr, ⊎_elim, refl, sym, ◌∙◌, ap, subst, length-append, arith}
 use Rattle.std.proofs.lemmas.Bool.{cases_lt, cases_order}
 use Rattle.scc_base.specs.Calls.{DataCall}
 use Rattle.scc_base.specs.Communicators.{key_of}
 use Rattle.scc_base.specs.Runs.{Runs, EndsAt}
 use Rattle.scc_base.proofs.ChangeLaws.{true_or_false}
 use Rattle.scc_base.proofs.Confluence.{last_or_below}
-use Rattle.scc_proto.specs.Legality.{Standing, callers, call_at, Makes, OwnStep}
+use Rattle.scc_proto.specs.Legality.{Standing, callers, call_at, OwnStep}
 use Rattle.scc_proto.proofs.StepDecided.{decide}
 use Rattle.rcce_audit.specs.declared.verdicts.Verdict.{Verdict}
 use Rattle.rcce_audit.specs.declared.verdicts.Verdict.TheVariants as verdict
 use Rattle.rcce_audit.specs.Logs.{LogView, calls_of}
 use Rattle.rcce_audit.specs.Standings.{count_left}
-use Rattle.rcce_audit.specs.Verdicts.{IsFirstLeft, EndsIn, Tells, IsVerdict}
+use Rattle.rcce_audit.specs.Verdicts.{Tells, IsVerdict}
 use Rattle.rcce_audit.proofs.StandingLemmas.{no_step, one_end_told, own_fewer}
 
 -- two verdicts of one standing

@@ -1,5 +1,5 @@
 -- Words of a log's lines: a word says what it is the text of, and no word of a text has a blank.
-use Rattle.std.proofs.Common.{◌≡◌, ◌⊎◌, ℕ, zero, suc, ◌-◌, ◌≤◌, Bool, true, false, cond, ◌&&◌, not, List, [], ◌∷◌, length, Option, Some, None, Result, Ok, Err, decimal, codes, inl, inr, ⊎_elim, refl, sym, ◌∙◌, ap, subst, arith}
+use Rattle.std.proofs.Common.{◌≡◌, ◌⊎◌, ℕ, zero, suc, ◌≤◌, Bool, true, false, cond, ◌&&◌, not, List, [], ◌∷◌, length, Option, Some, None, Result, Ok, Err, decimal, codes, inl, inr, ⊎_elim, refl, sym, ◌∙◌, ap, subst, arith}
 use Rattle.std.specs.Prelude.{◌==◌, nat_le}
 use Rattle.std.specs.Result.{result_ok}
 use Rattle.std.specs.Str.{bytes_eq}
@@ -14,7 +14,8 @@ use Rattle.scc_base.specs.declared.kinds.Kind.{Kind}
 use Rattle.scc_base.specs.declared.kinds.Kind.TheVariants.{Plain, Bcast, Reduce, AllUp, AllDown}
 use Rattle.script_reader.specs.Words.{number_of}
 use Rattle.script_reader.proofs.DecimalLemmas.{number_of-decimal}
-use Rattle.rcce_audit.specs.Texts.{hex_text, kind_text}
+use Rattle.scc_base.specs.Heads.{kind_text}
+use Rattle.rcce_io.specs.Digits.{hex_text}
 use Rattle.rcce_audit.specs.Words.{◌>>=◌, only_if, spelled, number_said, range_said, kind_said, is_lower, hex_said}
 
 -- equal texts

@@ -1,10 +1,10 @@
 -- The text of a log says the log.
-use Rattle.std.proofs.Common.{◌≡◌, ◌≢◌, ◌⊎◌, ℕ, zero, suc, ◌+◌, ◌-◌, ◌*◌, ◌/◌, ◌%◌, ◌^◌, ◌<◌, ◌≤◌, Bool, true, false, cond, eqb, ◌&&◌, ◌||◌, not, List, [], ◌∷◌, ◌++◌, length, get_or, set, map, take, replicate, Option, Some, None, option_map, Result, Ok, Err, codes, decimal, inl, inr, ⊎_elim, refl, sym, ◌∙◌, ap, subst, append_assoc, length-append, arith}
+use Rattle.std.proofs.Common.{◌≡◌, ◌≢◌, ◌⊎◌, ℕ, zero, suc, ◌+◌, ◌-◌, ◌/◌, ◌%◌, ◌^◌, ◌<◌, ◌≤◌, Bool, true, false, cond, ◌&&◌, not, List, [], ◌∷◌, ◌++◌, length, get_or, set, take, replicate, Option, Some, None, option_map, Result, Ok, codes, decimal, inl, inr, ⊎_elim, refl, sym, ◌∙◌, ap, subst, append_assoc, length-append, arith}
 use Rattle.std.specs.Prelude.{◌==◌, All, nat_le, nat_lt, slice_index}
-use Rattle.std.specs.List.{list_all, slice_split}
+use Rattle.std.specs.List.{list_all}
 use Rattle.std.specs.Option.{ok_or}
 use Rattle.std.specs.Str.{bytes_eq}
-use Rattle.std.proofs.lemmas.Bool.{and_parts, and_from, cases_eq, cases_lt, cond-true, cond-false, false_from_ne_true, le-leb, le-ltb, leb-true, ne_eqb, eq-eqb}
+use Rattle.std.proofs.lemmas.Bool.{and_parts, and_from, cases_eq, cases_lt, cond-true, cond-false, le-leb, le-ltb, leb-true, ne_eqb, eq-eqb}
 use Rattle.std.proofs.lemmas.Bool.Decides.{nat_tests}
 use Rattle.std.proofs.lemmas.Fmt.{decimal_by_steps}
 use Rattle.std.proofs.lemmas.List.{append-nil}
@@ -12,8 +12,8 @@ use Rattle.std.proofs.lemmas.List.Elements.{All-nil, All-cons, All-head, All-tai
 use Rattle.std.proofs.lemmas.List.Splits.{slice_split_none, slice_split_at}
 use Rattle.hex.specs.Hex.{IsBytes, encode_with, lower_digits}
 use Rattle.scc_base.specs.Calls.{DataCall, Send, Recv, Post, Bar}
-use Rattle.scc_base.specs.Communicators.{AreRules, IsRule, rule_of}
-use Rattle.scc_base.specs.Heads.{MessageHead, IsHead, IsPostHead, kind_at, kind_number}
+use Rattle.scc_base.specs.Communicators.{IsRule, rule_of}
+use Rattle.scc_base.specs.Heads.{MessageHead, IsHead, IsPostHead, kind_at, kind_number, kind_text}
 use Rattle.scc_base.specs.declared.communicators.CommRule.{CommRule}
 use Rattle.scc_base.specs.declared.communicators.CommRule.TheVariants.{Absent, World, Mod, Div}
 use Rattle.scc_base.specs.declared.kinds.Kind.{Kind}
@@ -22,12 +22,13 @@ use Rattle.rcce_audit.specs.declared.faults.LogFault.{LogFault}
 use Rattle.rcce_audit.specs.declared.faults.LogKind.TheVariants as kind
 use Rattle.rcce_audit.specs.declared.lines.CommSplit.{CommSplit}
 use Rattle.rcce_audit.specs.declared.lines.EndRanks.{EndRanks}
-use Rattle.rcce_audit.specs.Grammar.{Reading, RankedCall, rank_said, end_ranks, ends_said, head_of, head_said, bytes_said, is_post, call_named, message_said, is_present, barrier_said, long_said, short_said, call_said, rule_named, split_said, comm_said, nue_of, with_comm, with_call, is_in_order, add_call, begins_comm, take_comm, take_call, line_said, kind_of, lines_said, end_said, world_alone, no_calls, start_of, first_said, all_said, parts_said, log_of, ◌>=>◌}
-use Rattle.rcce_audit.specs.Logs.{LogView, calls_of, IsMessage, IsLogCall, IsLog}
-use Rattle.rcce_audit.specs.Texts.{hex_text, kind_text, head_words, split_words, message_words, call_words, line_of, rule_lines, call_lines, table_lines, log_lines, text_of, log_text, IsFileLog}
-use Rattle.rcce_audit.specs.Words.{◌>>=◌, only_if, parts_of, words_of, range_said, kind_said, hex_said}
+use Rattle.rcce_audit.specs.Grammar.{Reading, RankedCall, rank_said, end_ranks, ends_said, head_of, head_said, bytes_said, is_post, call_named, message_said, is_present, call_said, rule_named, comm_said, nue_of, with_comm, with_call, is_in_order, add_call, begins_comm, line_said, kind_of, lines_said, end_said, no_calls, start_of, first_said, all_said, parts_said, log_of, ◌>=>◌}
+use Rattle.rcce_audit.specs.Logs.{LogView, IsMessage, IsLogCall, IsLog}
+use Rattle.rcce_io.specs.Digits.{hex_text}
+use Rattle.rcce_audit.specs.Texts.{head_words, split_words, message_words, call_words, line_of, rule_lines, call_lines, table_lines, log_lines, text_of, log_text, IsFileLog}
+use Rattle.rcce_audit.specs.Words.{◌>>=◌, only_if, parts_of, words_of, range_said}
 use Rattle.rcce_audit.proofs.HexTextLemmas.{digit_at}
-use Rattle.rcce_audit.proofs.WordLemmas.{text_other, range_said-decimal, kind_said-kind_text, hex_said-hex_text}
+use Rattle.rcce_audit.proofs.WordLemmas.{range_said-decimal, kind_said-kind_text, hex_said-hex_text}
 
 -- a byte that is neither a blank nor a line feed, and a word of such bytes
 abbrev ink : ℕ → Bool

@@ -4,7 +4,8 @@ use Rattle.scc_base.specs.Calls.{DataCall}
 use Rattle.rcce_audit.specs.declared.writing.Piece.{Piece}
 use Rattle.rcce_audit.specs.declared.writing.Piece.TheVariants.{Text, Number, Hex}
 use Rattle.rcce_audit.specs.declared.logs.LogCall.{LogCall}
-use Rattle.rcce_audit.specs.Texts.{call_words, hex_text, line_of, message_words}
+use Rattle.rcce_io.specs.Digits.{hex_text}
+use Rattle.rcce_audit.specs.Texts.{call_words, line_of}
 use Rattle.rcce_audit.specs.Views.{data_of}
 
 abbrev pub piece_text : Piece → List ℕ

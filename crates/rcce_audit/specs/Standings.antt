@@ -1,11 +1,10 @@
 -- How far an audit has used up the lists of a log.
 use Rattle.std.specs.Prelude.{◌≡◌, ℕ, zero, suc, ◌+◌, ◌<◌, ◌≤◌, Bool, true, false, List, [], ◌∷◌, All, drop, length, slice_get, slice_index, slice_index_or, Option, Some, None, option_and_then}
 use Rattle.scc_base.specs.Calls.{DataCall, Send, Recv, Post, Bar}
-use Rattle.scc_base.specs.Communicators.{AreRules}
 use Rattle.scc_base.specs.Groups.{root_in}
 use Rattle.scc_base.specs.Runs.{Runs}
 use Rattle.scc_base.specs.Setups.{SetupView, setup_key}
-use Rattle.scc_proto.specs.Legality.{Outgoing, Standing, CallStep, Posting, Taking, Pairing, Meeting, callers, owner_of, slot_at, slot_after, Makes, OwnStep}
+use Rattle.scc_proto.specs.Legality.{Outgoing, Standing, CallStep, callers, owner_of, slot_at, slot_after, Makes, OwnStep}
 use Rattle.rcce_audit.specs.declared.progress.Progress.{Progress}
 use Rattle.rcce_audit.specs.Logs.{IsLogCall}
 

@@ -2,27 +2,12 @@
 -- zeros, bytes as hex digits in lower case and `-` for none (this project's profile).
 use Rattle.std.specs.Prelude.{ℕ, ◌+◌, ◌≤◌, List, [], ◌∷◌, ◌++◌, codes, decimal, flat_map, length, map}
 use Rattle.std.specs.List.{join_with_byte}
-use Rattle.hex.specs.Hex.{encode_lower}
+use Rattle.rcce_io.specs.Digits.{hex_text}
 use Rattle.scc_base.specs.declared.communicators.CommRule.{CommRule}
 use Rattle.scc_base.specs.declared.communicators.CommRule.TheVariants.{Absent, World, Mod, Div}
-use Rattle.scc_base.specs.declared.kinds.Kind.{Kind}
-use Rattle.scc_base.specs.declared.kinds.Kind.TheVariants.{Plain, Bcast, Reduce, AllUp, AllDown}
-use Rattle.scc_base.specs.Heads.{MessageHead, kind_at}
+use Rattle.scc_base.specs.Heads.{MessageHead, kind_at, kind_text}
 use Rattle.scc_base.specs.Calls.{DataCall, Send, Recv, Post, Bar}
 use Rattle.rcce_audit.specs.Logs.{LogView, IsLog}
-
--- bytes as hex digits, and `-` for none
-abbrev pub hex_text : List ℕ → List ℕ
-hex_text [] = codes "-"
-hex_text (byte ∷ bytes) = encode_lower (byte ∷ bytes)
-
--- the name of a kind of message
-abbrev pub kind_text : Kind → List ℕ
-kind_text Plain = codes "plain"
-kind_text Bcast = codes "bcast"
-kind_text Reduce = codes "reduce"
-kind_text AllUp = codes "allup"
-kind_text AllDown = codes "alldown"
 
 -- the words of the first line, of the line of a communicator and of the line of a call
 abbrev pub head_words : ℕ → List (List ℕ)

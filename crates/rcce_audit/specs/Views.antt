@@ -1,5 +1,5 @@
 -- How a log is held: as calls that own their bytes, a list a rank.
-use Rattle.std.specs.Prelude.{ℕ, List, map, Vec}
+use Rattle.std.specs.Prelude.{List, map, Vec}
 use Rattle.scc_base.specs.Calls.{DataCall, Send, Recv, Post, Bar}
 use Rattle.std.specs.declared.alloc.Global.{Global}
 use Rattle.rcce_audit.specs.Grammar.{RankedCall}

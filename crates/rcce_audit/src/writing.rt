@@ -1,20 +1,15 @@
 //! Writing a log, line by line. No memory is taken.
 
 ghost use Rattle.std.specs.Prelude.{◌≡◌, ◌≤◌, ◌∷◌, [], codes, decimal, length, map};
-ghost use Rattle.hex.specs.Hex.{encode_lower};
 ghost use Rattle.rcce_io.specs.Sending.{Sends, joined};
-ghost use Rattle.scc_base.specs.Heads.{kind_at};
 ghost use Rattle.rcce_audit.specs.Pieces.{call_text, ended};
-ghost use Rattle.rcce_audit.specs.Texts.{call_lines, head_words, hex_text, kind_text, message_words, rule_lines, split_words, table_lines, text_of};
+ghost use Rattle.rcce_audit.specs.Texts.{call_lines, head_words, message_words, rule_lines, split_words, table_lines, text_of};
 ghost use Rattle.rcce_audit.specs.Views.{data_lists};
 
 use crate::logs::{Log, LogCall};
 use crate::writing::Piece::{Hex, Number, Text};
-use rcce_io::{Sink, TextSource, WriteFault, write_all, write_texts};
-use scc_base::{CommRule, Head, Kind, Rank};
-
-/// How many bytes go to the sink as hex digits at a time.
-const HEX_BLOCK: usize = 512;
+use rcce_io::{Sink, TextSource, WriteFault, write_all, write_hex, write_texts};
+use scc_base::{CommRule, Head, Rank};
 
 /// A piece of a line.
 #[derive(Clone, Copy)]
@@ -42,53 +37,6 @@ impl TextSource for Piece<'_> {
     }
 }
 
-fn write_hex<S: Sink>(sink: &mut S, bytes: &[u8]) -> Result<(), WriteFault>
-    ensures { Sends (hex_text bytes.now) (S.seen sink.old) (S.seen sink.new) result }
-{
-    if bytes.is_empty() {
-        write_all(sink, b"-")
-    } else {
-        write_digits(sink, bytes)
-    }
-}
-
-fn write_digits<S: Sink>(sink: &mut S, bytes: &[u8]) -> Result<(), WriteFault>
-    ensures { Sends (encode_lower bytes.now) (S.seen sink.old) (S.seen sink.new) result }
-{
-    let mut done = 0;
-    while done < bytes.len() {
-        let end = bytes.len().min(done + HEX_BLOCK);
-        write_block(sink, &bytes[done..end])?;
-        done = end;
-    }
-    Ok(())
-}
-
-fn write_block<S: Sink>(sink: &mut S, bytes: &[u8]) -> Result<(), WriteFault>
-    requires { length bytes.now ≤ HEX_BLOCK }
-    ensures { Sends (encode_lower bytes.now) (S.seen sink.old) (S.seen sink.new) result }
-{
-    let mut digits = [0u8; 2 * HEX_BLOCK];
-    let text = &mut digits[..2 * bytes.len()];
-    match hex::encode_to_slice(bytes, text) {
-        Ok(()) => write_all(sink, text),
-        Err(_) => unreachable!(),
-    }
-}
-
-/// The name of a head's kind.
-fn kind_text(head: Head) -> &'static str
-    ensures { result.now ≡ kind_text (kind_at head.kind) }
-{
-    match head.kind() {
-        Kind::Plain => "plain",
-        Kind::Bcast => "bcast",
-        Kind::Reduce => "reduce",
-        Kind::AllUp => "allup",
-        Kind::AllDown => "alldown",
-    }
-}
-
 pub(crate) fn write_message<'a, S: Sink>(
     sink: &mut S,
     rank: u8,
@@ -108,7 +56,7 @@ pub(crate) fn write_message<'a, S: Sink>(
             Text(" "),
             Number(peer.number() as u32),
             Text(" "),
-            Text(kind_text(head)),
+            Text(head.kind_text()),
             Text(" "),
             Number(head.comm() as u32),
             Text(" "),

@@ -3,7 +3,6 @@ use Rattle.std.proofs.lemmas.List.{length-map}
 use Rattle.scc_base.specs.Calls.{DataCall}
 use Rattle.rcce_io.specs.Sending.{CutShort, with_text}
 use Rattle.rcce_io.proofs.SendingLemmas.{cut_within, sends_err, whole_within}
-use Rattle.rcce_audit.specs.declared.held.CallList.{CallList}
 use Rattle.rcce_audit.specs.Held.{held_calls}
 use Rattle.rcce_audit.specs.Texts.{call_lines, text_of}
 use Rattle.rcce_audit.proofs.HeldLemmas.{held_lines}

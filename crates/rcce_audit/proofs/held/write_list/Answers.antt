@@ -1,7 +1,7 @@
-use Rattle.std.proofs.Common.{◌≡◌, ◌≤◌, ◌+◌, List, ℕ, length, drop, take, refl, sym, subst, ap, ◌∙◌, arith}
+use Rattle.std.proofs.Common.{◌≡◌, List, ℕ, length, drop, take, refl, sym, subst, ap, ◌∙◌, arith}
 use Rattle.rcce_io.specs.Sending.{CutShort, with_text}
 use Rattle.rcce_io.proofs.SendingLemmas.{cut_within, sends_err, text_none, whole_within}
-use Rattle.rcce_audit.specs.Held.{bytes_in, data_by}
+use Rattle.rcce_audit.specs.Held.{data_by}
 use Rattle.rcce_audit.specs.Pieces.{line_by}
 use Rattle.rcce_audit.proofs.HeldLemmas.{place_more, text_around, text_more}
 use Rattle.rcce_audit.proofs.held.write_list.Goals as goal

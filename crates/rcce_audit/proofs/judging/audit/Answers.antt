@@ -1,7 +1,3 @@
-use Rattle.std.proofs.Common.{◌≡◌, ◌∙◌, ℕ, ap, sym, subst}
-use Rattle.scc_proto.specs.Legality.{Standing}
-use Rattle.rcce_audit.specs.Logs.{calls_of}
-use Rattle.rcce_audit.specs.Verdicts.{EndsIn, Tells}
 use Rattle.rcce_audit.specs.Views.{data_lists}
 use Rattle.rcce_audit.proofs.StandingLemmas.{are_lists, judged, legal_told, start_quiet}
 use Rattle.rcce_audit.proofs.judging.audit.Goals as goal

@@ -1,4 +1,4 @@
-use Rattle.std.proofs.Common.{◌≡◌, ◌∙◌, ◌+◌, ℕ, Bool, true, false, sym, subst}
+use Rattle.std.proofs.Common.{◌+◌, ℕ, Bool, sym, subst}
 use Rattle.rcce_audit.specs.Standings.{Visits}
 use Rattle.rcce_audit.specs.Views.{data_lists}
 use Rattle.rcce_audit.proofs.StepLemmas.{IsSwept, swept_all, swept_none, swept_sleep, swept_step}

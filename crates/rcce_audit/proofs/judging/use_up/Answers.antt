@@ -1,4 +1,3 @@
-use Rattle.std.proofs.Common.{◌≡◌, sym}
 use Rattle.rcce_audit.specs.Standings.{standing_of}
 use Rattle.rcce_audit.specs.Views.{data_lists}
 use Rattle.rcce_audit.proofs.StandingLemmas.{leads_more}

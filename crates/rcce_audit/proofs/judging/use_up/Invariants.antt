@@ -1,4 +1,4 @@
-use Rattle.std.proofs.Common.{◌≡◌, ◌+◌, ◌*◌, ◌<◌, ℕ, Bool, true, false, cond}
+use Rattle.std.proofs.Common.{◌≡◌, ◌+◌, ◌*◌, ◌<◌, ℕ, false, cond}
 use Rattle.rcce_audit.specs.Standings.{IsQuiet, Leads, Sleeps, count_left, standing_of}
 use Rattle.rcce_audit.specs.Views.{data_lists}
 use Rattle.rcce_audit.proofs.judging.use_up.Given as goal

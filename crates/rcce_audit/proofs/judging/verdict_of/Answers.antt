@@ -1,4 +1,4 @@
-use Rattle.std.proofs.Common.{◌≡◌, ◌∙◌, ◌+◌, ℕ, ap, sym, subst, arith, length, slice_index}
+use Rattle.std.proofs.Common.{◌∙◌, ◌+◌, ℕ, sym, subst, arith, slice_index}
 use Rattle.std.proofs.lemmas.List.{length-map}
 use Rattle.rcce_audit.specs.Standings.{list_at, standing_of}
 use Rattle.rcce_audit.specs.Verdicts.{IsFirstLeft}

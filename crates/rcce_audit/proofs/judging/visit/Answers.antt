@@ -1,4 +1,4 @@
-use Rattle.std.proofs.Common.{◌≡◌, ◌<◌, ℕ, Bool, false, refl, sym, ap, subst, arith, length, set}
+use Rattle.std.proofs.Common.{◌<◌, ℕ, Bool, false, refl, ap, subst, arith, length, set}
 use Rattle.rcce_audit.specs.Standings.{TriesFirst}
 use Rattle.rcce_audit.specs.Views.{data_lists}
 use Rattle.rcce_audit.proofs.StepLemmas.{sleep_quiet, step_quiet}

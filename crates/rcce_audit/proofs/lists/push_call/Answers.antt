@@ -1,4 +1,4 @@
-use Rattle.std.proofs.Common.{◌≡◌, ◌∙◌, ◌∷◌, ◌++◌, ◌<◌, [], List, length, ap, sym, arith, get_or, set, map}
+use Rattle.std.proofs.Common.{◌≡◌, ◌∙◌, ◌∷◌, ◌++◌, ◌<◌, [], List, length, ap, sym, arith, set}
 use Rattle.std.proofs.lemmas.List.{map-append}
 use Rattle.scc_base.specs.Calls.{DataCall}
 use Rattle.rcce_audit.specs.Views.{data_list, data_lists, data_of}

@@ -1,5 +1,4 @@
-use Rattle.std.proofs.Common.{◌≡◌, ◌∙◌, ◌∷◌, ◌+◌, ℕ, ap, option_map, sym, drop, slice_index}
-use Rattle.scc_base.specs.Calls.{DataCall}
+use Rattle.std.proofs.Common.{◌∙◌, ◌∷◌, ◌+◌, ℕ, ap, option_map, sym, drop, slice_index}
 use Rattle.scc_base.specs.Groups.{root_in}
 use Rattle.scc_base.specs.Setups.{setup_key}
 use Rattle.rcce_audit.specs.declared.logs.LogCall.{LogCall}

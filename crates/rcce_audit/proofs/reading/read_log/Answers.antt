@@ -1,7 +1,5 @@
-use Rattle.std.proofs.Common.{◌≡◌, ◌∙◌, ◌≤◌, Ok, sym, ap, arith, length, map}
+use Rattle.std.proofs.Common.{◌∙◌, ◌≤◌, Ok, sym, ap, arith, length, map}
 use Rattle.std.proofs.lemmas.List.{length-map}
-use Rattle.rcce_audit.specs.Logs.{LogView}
-use Rattle.rcce_audit.specs.Reading.{reading_of}
 use Rattle.rcce_audit.proofs.ReadingLemmas.{few_parts, log_told, some_part, text_back}
 use Rattle.rcce_audit.proofs.reading.read_log.Goals as goal
 

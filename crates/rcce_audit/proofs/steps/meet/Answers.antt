@@ -1,4 +1,4 @@
-use Rattle.std.proofs.Common.{◌≡◌, ◌∙◌, ◌+◌, sym, subst}
+use Rattle.std.proofs.Common.{◌∙◌, ◌+◌, sym, subst}
 use Rattle.scc_base.specs.Setups.{setup_key}
 use Rattle.scc_proto.specs.Legality.{in_group}
 use Rattle.rcce_audit.specs.declared.progress.Progress.{Progress}

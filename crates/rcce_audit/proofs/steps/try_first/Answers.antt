@@ -1,4 +1,4 @@
-use Rattle.std.proofs.Common.{◌≡◌, ◌∙◌, ℕ, List, ap, sym, subst, slice_get, slice_index, option_map}
+use Rattle.std.proofs.Common.{◌∙◌, ℕ, List, ap, sym, slice_get, slice_index, option_map}
 use Rattle.scc_base.specs.Calls.{DataCall, Send, Recv, Post, Bar}
 use Rattle.rcce_audit.specs.Standings.{list_at}
 use Rattle.rcce_audit.specs.Views.{data_lists, data_of}

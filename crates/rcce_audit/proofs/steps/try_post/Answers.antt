@@ -1,4 +1,4 @@
-use Rattle.std.proofs.Common.{◌≡◌, ◌<◌, ℕ, refl, arith, length}
+use Rattle.std.proofs.Common.{◌<◌, refl, arith, length}
 use Rattle.scc_proto.specs.Legality.{Outgoing}
 use Rattle.rcce_audit.specs.Views.{data_lists}
 use Rattle.rcce_audit.proofs.StepLemmas.{post_at}

@@ -1,7 +1,7 @@
-use Rattle.std.proofs.Common.{◌≡◌, ◌∙◌, ◌<◌, ℕ, List, [], Vec, Global, ap, sym, subst, get_or, length, arith}
+use Rattle.std.proofs.Common.{◌≡◌, ◌∙◌, ◌<◌, ℕ, List, [], ap, sym, subst, length, arith}
 use Rattle.std.proofs.lemmas.List.{length-map}
 use Rattle.scc_base.specs.Calls.{DataCall}
-use Rattle.rcce_io.specs.Sending.{CutShort, joined, with_text}
+use Rattle.rcce_io.specs.Sending.{CutShort, with_text}
 use Rattle.rcce_io.proofs.SendingLemmas.{cut_within, sends_err, whole_within}
 use Rattle.rcce_audit.specs.declared.logs.LogCall.{LogCall}
 use Rattle.rcce_audit.specs.Texts.{call_lines, text_of}

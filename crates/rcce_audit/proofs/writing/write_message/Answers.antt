@@ -1,7 +1,7 @@
 use Rattle.std.proofs.Common.{List, ℕ, decimal, subst}
 use Rattle.rcce_io.specs.Sending.{Sends}
-use Rattle.scc_base.specs.Heads.{kind_at}
-use Rattle.rcce_audit.specs.Texts.{hex_text, kind_text}
+use Rattle.scc_base.specs.Heads.{kind_at, kind_text}
+use Rattle.rcce_io.specs.Digits.{hex_text}
 use Rattle.rcce_audit.proofs.TextLemmas.{message_pieces}
 use Rattle.rcce_audit.proofs.writing.write_message.Goals as goal
 

@@ -1,4 +1,4 @@
-use Rattle.std.proofs.Common.{◌≡◌, ◌∙◌, ◌++◌, ℕ, List, refl, sym, subst, append_assoc}
+use Rattle.std.proofs.Common.{◌∙◌, ◌++◌, ℕ, List, refl, sym, subst, append_assoc}
 use Rattle.rcce_io.specs.Sending.{CutShort, Sends}
 use Rattle.rcce_io.proofs.SendingLemmas.{cut_then, cut_within, sends_after, sends_err, whole_within}
 use Rattle.rcce_audit.specs.Held.{held_view}

@@ -1,4 +1,4 @@
-use Rattle.std.proofs.Common.{◌≡◌, ◌∙◌, sym, true, false, None}
+use Rattle.std.proofs.Common.{◌∙◌, sym, true, false, None}
 use Rattle.std.proofs.Math.ListN.{get_or-replicate}
 use Rattle.std.proofs.lemmas.Bool.{true≢false}
 use Rattle.rcce_audit.proofs.ListLemmas.{get_or-replicate_same}
