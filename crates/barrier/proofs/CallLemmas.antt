@@ -1,5 +1,5 @@
 -- A whole barrier: what its turns have come to so far, and what ends it.
-use Rattle.std.proofs.Common.{◌≡◌, ◌≢◌, inl, inr, ℕ, ◌+◌, ◌-◌, ◌*◌, ◌%◌, ◌<◌, ◌≤◌, Bool, true, false, List, [], ◌∷◌, ◌++◌, None, Some, refl, sym, ◌∙◌, ap, subst, arith}
+use Rattle.std.proofs.Common.{◌≡◌, ◌≢◌, inl, inr, ℕ, ◌+◌, ◌%◌, ◌≤◌, Bool, true, false, List, [], ◌∷◌, ◌++◌, Option, None, Some, refl, sym, ◌∙◌, ap, subst, arith}
 use Rattle.scc_base.specs.Calls.{Bar}
 use Rattle.scc_base.specs.Places.{WordAt, line_of_word}
 use Rattle.scc_base.specs.Events.{store_of}
@@ -14,10 +14,11 @@ use Rattle.put_get.specs.Accesses.{loads_of}
 use Rattle.put_get.specs.Cores.{Private}
 use Rattle.put_get.proofs.StepLemmas.{events_once}
 use Rattle.sync_flags.specs.Flags.{flag_value}
-use Rattle.sync_flags.specs.Tries.{Aim, AtWord, tries_at, all_vain, has_write, changing_after, vain_from, vain_tries, Tried}
+use Rattle.sync_flags.specs.Tries.{Aim, AtWord, has_write, changing_after, vain_from, vain_tries, Tried}
 use Rattle.sync_flags.specs.Writes.{StoresWord}
 use Rattle.sync_flags.proofs.VainLemmas.{vain-append}
-use Rattle.sync_flags.proofs.RowLemmas.{changing-append, fruitful, one_more, waited, went_on}
+use Rattle.sync_flags.proofs.RowLemmas.{fruitful, waited, went_on}
+use Rattle.sync_flags.proofs.LoopLemmas.{Row, row_none, row_moved, row_waited}
 use Rattle.barrier.specs.declared.barriers.BarStop.TheVariants.{Stalled}
 use Rattle.barrier.specs.declared.stages.BarStage.{BarStage}
 use Rattle.barrier.specs.declared.stages.BarStage.TheVariants.{Flip, Gather, Release, Await, Finished}
@@ -26,9 +27,6 @@ use Rattle.barrier.specs.Stages.{BarAt, BarStands, IsAtStage, own_place, is_fini
 use Rattle.barrier.specs.Turns.{KeepsRest, Does, BarTurned, flips_by}
 use Rattle.barrier.specs.Calls.{MayEndAt, Finishes, Stalls}
 use Rattle.barrier.proofs.RestLemmas.{none_changed, kept_both, flips_moved, flips_looking}
-
-same_aim : (a b : Aim) → Some a ≡ Some b → b ≡ a
-same_aim a b e = cc
 
 -- a look writes nothing
 look_quiet : (seat : Seat) (comm : ℕ) (stage : BarStage) (value : ℕ) (m t : Sight) (b d : Private) (es : List Event) (aim : Aim)
@@ -51,9 +49,6 @@ turn_settled seat comm Await value m t b d es does did =
 turn_settled seat comm Finished value m t b d es does did =
     let still : Did m [] t = subst (λ (x : Sight). Did m [] x) (sym does.0) (did_nothing m) in
     ap (λ (x : List Event). changing_after false x) (events_once m t es [] did still)
-
-settled_both : (a b : List Event) → changing_after false a ≡ false → changing_after false b ≡ false → changing_after false (a ++ b) ≡ false
-settled_both a b first second = changing-append false a b ∙ ap (λ (x : Bool). changing_after x b) first ∙ second
 
 store_ends : (m t : Sight) (b d : Private) (p place : WordAt) (v value : ℕ) (es : List Event) → StoresWord m b p v t d → Did m es t → (n : ℕ)
     → vain_from (AtWord place value) false n es ≡ 0
@@ -78,8 +73,7 @@ ended seat comm Finished value m t b d es does did tried gather member place may
 
 -- the turns so far: as many vain looks as counted stand at the end, for what the barrier looks for next
 pub record Underway (s : Sight) (op : BarAt) (vain : ℕ) (t : Sight) (d : Private) (now : BarAt) (values : List Bool) : Type 0 where
-  pub events : List Event
-  pub did : Did s events t
+  pub row : Row (aim_at s.seat now.comm now.stage (flag_value (value_at values now.comm))) vain s t
   pub stands : BarStands t d now values
   pub same : now.comm ≡ op.comm
   pub calls : (record_in t).calls ≡ (record_in s).calls
@@ -87,14 +81,12 @@ pub record Underway (s : Sight) (op : BarAt) (vain : ℕ) (t : Sight) (d : Priva
   -- the flips that were made, with the one that may still come, are those of the whole barrier
   pub flips : flips_by now.comm now.stage (record_in t).flips ≡ flips_by op.comm op.stage (record_in s).flips
   pub rest : KeepsRest (record_in s) (record_in t)
-  pub quiet : is_finished now.stage ≡ true → events ≡ []
-  pub settled : changing_after false events ≡ false
-  pub looks : (aim : Aim) → aim_at s.seat now.comm now.stage (flag_value (value_at values now.comm)) ≡ Some aim → vain ≤ vain_tries aim events
+  pub quiet : is_finished now.stage ≡ true → row.events ≡ []
 
 pub underway_none : {s : Sight} {c : Private} {op : BarAt} {values : List Bool} → BarStands s c op values → Underway s op 0 s c op values
+unfolding row_none
 underway_none {s} st = record {
-  events = [];
-  did = did_nothing s;
+  row = row_none;
   stands = st;
   same = refl;
   calls = refl;
@@ -102,8 +94,6 @@ underway_none {s} st = record {
   flips = refl;
   rest = none_changed (record_in s);
   quiet = λ e. refl;
-  settled = refl;
-  looks = λ aim at. omega arith;
 }
 
 calls_open : (op : BarAt) → is_finished op.stage ≡ false → bar_call op ≡ Bar op.comm ∷ []
@@ -112,8 +102,7 @@ calls_open op e = if_no (is_finished op.stage) [] (Bar op.comm ∷ []) e
 pub underway_moved : {s m t : Sight} {b d : Private} {op cur now : BarAt} {vain : ℕ} {values later : List Bool} → Underway s op vain m b cur values
     → BarStands t d now later → BarTurned (meeting m b cur values) (meeting t d now later) turn.Moved → Underway s op 0 t d now later
 underway_moved {s} {m} {t} {b} {d} {op} {cur} {now} {vain} {values} {later} u st turned = record {
-  events = u.events ++ turned.events;
-  did = did_both s u.events m turned.events t u.did turned.did;
+  row = row_moved u.row turned.did (turn_settled m.seat cur.comm cur.stage (flag_value (value_at later cur.comm)) m t b d turned.events turned.does turned.did);
   stands = st;
   same = turned.same ∙ u.same;
   calls = turned.means.1 ∙ u.calls;
@@ -121,9 +110,6 @@ underway_moved {s} {m} {t} {b} {d} {op} {cur} {now} {vain} {values} {later} u st
   flips = flips_moved m.seat (record_in m) cur now (record_in t).flips turned.same u.stands.at turned.means.0 ∙ turned.flips ∙ u.flips;
   rest = kept_both u.rest turned.rest;
   quiet = λ e. let f : true ≡ false = sym e ∙ turned.means.3 in absurd (cc);
-  settled = settled_both u.events turned.events u.settled
-      (turn_settled m.seat cur.comm cur.stage (flag_value (value_at later cur.comm)) m t b d turned.events turned.does turned.did);
-  looks = λ aim at. omega arith;
 }
 
 -- where a turn waited, its record and so the awaited value are as before
@@ -137,13 +123,15 @@ pub underway_waited : {s m t : Sight} {b d : Private} {op cur now : BarAt} {vain
     → BarStands t d now later → BarTurned (meeting m b cur values) (meeting t d now later) (turn.Waiting spot) → Underway s op (vain + 1) t d now later
 underway_waited {s} {m} {t} {b} {d} {op} {cur} {now} {vain} {values} {later} {spot} u st turned =
     let e = turned.means.0 in
-    let seat : m.seat ≡ s.seat = seat_kept s u.events m u.did in
+    let seat : m.seat ≡ s.seat = seat_kept s u.row.events m u.row.did in
     let value = flag_value (value_at later cur.comm) in
     let w = waited turned.tried in
     let same = same_value u.stands st e turned.means.1 in
     record {
-      events = u.events ++ turned.events;
-      did = did_both s u.events m turned.events t u.did turned.did;
+      row = row_waited u.row turned.did (turn_settled m.seat cur.comm cur.stage value m t b d turned.events turned.does turned.did)
+          (subst (λ (a : Option Aim). Tried a turned.events (Some spot)) (λ i. aim_at (seat i) cur.comm cur.stage (same i)) turned.tried)
+          (look_quiet m.seat cur.comm cur.stage value m t b d turned.events w.at turned.does turned.did w.is)
+          (ap (λ (x : BarAt). aim_at s.seat x.comm x.stage (flag_value (value_at later x.comm))) e ∙ ap (λ (v : ℕ). aim_at s.seat cur.comm cur.stage v) same);
       stands = st;
       same = turned.same ∙ u.same;
       calls = ap (λ (r : Record). r.calls) turned.means.1 ∙ u.calls;
@@ -151,16 +139,6 @@ underway_waited {s} {m} {t} {b} {d} {op} {cur} {now} {vain} {values} {later} {sp
       flips = (λ i. flips_by (e i).comm (e i).stage (turned.means.1 i).flips) ∙ u.flips;
       rest = kept_both u.rest turned.rest;
       quiet = λ f. absurd (not_over m.seat cur.comm cur.stage value w.at w.is (sym (ap (λ (x : BarAt). is_finished x.stage) e) ∙ f));
-      settled = settled_both u.events turned.events u.settled (turn_settled m.seat cur.comm cur.stage value m t b d turned.events turned.does turned.did);
-      looks = λ aim at.
-          let here : aim_at s.seat cur.comm cur.stage value ≡ Some aim
-          = subst (λ (x : BarAt). aim_at s.seat x.comm x.stage (flag_value (value_at later x.comm)) ≡ Some aim) e at in
-          let is : w.at ≡ aim = same_aim aim w.at (sym here ∙ ap (λ (x : Seat). aim_at x cur.comm cur.stage value) (sym seat) ∙ w.is) in
-          let before : vain ≤ vain_tries aim u.events = u.looks aim (ap (λ (v : ℕ). aim_at s.seat cur.comm cur.stage v) (sym same) ∙ here) in
-          let one : tries_at aim turned.events ≡ 1 = ap (λ (x : Aim). tries_at x turned.events) (sym is) ∙ w.one in
-          let none : all_vain aim false turned.events ≡ true = ap (λ (x : Aim). all_vain x false turned.events) (sym is) ∙ w.vain in
-          one_more aim vain u.events turned.events u.settled before one none
-          (look_quiet m.seat cur.comm cur.stage value m t b d turned.events w.at turned.does turned.did w.is);
     }
   where
     not_over : (seat : Seat) (comm : ℕ) (stage : BarStage) (value : ℕ) (aim : Aim) → aim_at seat comm stage value ≡ Some aim → is_finished stage ≡ true → ⊥
@@ -173,10 +151,10 @@ underway_waited {s} {m} {t} {b} {d} {op} {cur} {now} {vain} {values} {later} {sp
 pub underway_ends : {s m t : Sight} {c b d : Private} {op cur now : BarAt} {vain : ℕ} {before values later : List Bool} → Underway s op vain m b cur values
     → BarStands t d now later → BarTurned (meeting m b cur values) (meeting t d now later) turn.Done → Finishes (meeting s c op before) (with_parity t d later)
 underway_ends {s} {m} {t} {b = b} {d = d} {op = op} {cur = cur} {now = now} {later = later} u st turned =
-    let seat : m.seat ≡ s.seat = seat_kept s u.events m u.did in
+    let seat : m.seat ≡ s.seat = seat_kept s u.row.events m u.row.did in
     record {
-      events = u.events ++ turned.events;
-      did = did_both s u.events m turned.events t u.did turned.did;
+      events = u.row.events ++ turned.events;
+      did = did_both s u.row.events m turned.events t u.row.did turned.did;
       calls = turned.means.1 ∙ (λ i. u.calls i ++ u.call_left i);
       stage = subst (λ (x : BarStage). IsAtStage t.seat (record_in t) now.comm x) turned.means.0 st.at;
       empty = st.empty;
@@ -186,12 +164,12 @@ underway_ends {s} {m} {t} {b = b} {d = d} {op = op} {cur = cur} {now = now} {lat
       no_vain = λ place may.
           let may_here : MayEndAt m.seat cur.comm place = subst (λ (k : ℕ). MayEndAt m.seat k place) (sym u.same) (subst (λ (x : Seat). MayEndAt x op.comm place) (sym seat) may) in
           let value = flag_value (value_at later cur.comm) in
-          (λ i. vain_tries (AtWord place (flag_value (value_at later (sym u.same i)))) (u.events ++ turned.events))
-          ∙ vain-append (AtWord place value) false 0 u.events turned.events
-          ∙ ap (λ (x : Bool). vain_from (AtWord place value) x (vain_tries (AtWord place value) u.events) turned.events) u.settled
+          (λ i. vain_tries (AtWord place (flag_value (value_at later (sym u.same i)))) (u.row.events ++ turned.events))
+          ∙ vain-append (AtWord place value) false 0 u.row.events turned.events
+          ∙ ap (λ (x : Bool). vain_from (AtWord place value) x (vain_tries (AtWord place value) u.row.events) turned.events) u.row.freed
           ∙ ended m.seat cur.comm cur.stage value m t b d turned.events turned.does turned.did turned.tried turned.means.2
           (λ q. (subst (λ (x : BarStage). IsAtStage m.seat (record_in m) cur.comm x) q u.stands.at).0) place may_here
-          (vain_tries (AtWord place value) u.events) (λ f. ap (λ (es : List Event). vain_tries (AtWord place value) es) (u.quiet f));
+          (vain_tries (AtWord place value) u.row.events) (λ f. ap (λ (es : List Event). vain_tries (AtWord place value) es) (u.quiet f));
     }
 
 pub underway_stalls : {s m t : Sight} {c b d : Private} {op cur now : BarAt} {vain : ℕ} {before values later : List Bool} {spot : Spot} → Underway s op vain m b cur values
@@ -199,15 +177,15 @@ pub underway_stalls : {s m t : Sight} {c b d : Private} {op cur now : BarAt} {va
 underway_stalls {s} {m} {t} {cur = cur} {now = now} {vain = vain} {later = later} u st turned polls enough =
     let w = underway_waited u st turned in
     let e = turned.means.0 in
-    let seat : m.seat ≡ s.seat = seat_kept s u.events m u.did in
+    let seat : m.seat ≡ s.seat = seat_kept s u.row.events m u.row.did in
     let v = waited turned.tried in
     let at : aim_at s.seat now.comm now.stage (flag_value (value_at later now.comm)) ≡ Some v.at
     = ap (λ (x : BarAt). aim_at s.seat x.comm x.stage (flag_value (value_at later x.comm))) e
     ∙ ap (λ (x : Seat). aim_at x cur.comm cur.stage (flag_value (value_at later cur.comm))) (sym seat) ∙ v.is in
-    let many : vain + 1 ≤ vain_tries v.at w.events = w.looks v.at at in
+    let many : vain + 1 ≤ vain_tries v.at w.row.events = w.row.tried v.at at in
     record {
-      events = w.events;
-      did = w.did;
+      events = w.row.events;
+      did = w.row.did;
       now = now;
       aim = v.at;
       is = ap (λ (x : Spot). Stalled now x polls) v.spot_is;
@@ -225,4 +203,4 @@ underway_stalls {s} {m} {t} {cur = cur} {now = now} {vain = vain} {later = later
 pub left_falls : {s m t : Sight} {b d : Private} {op cur now : BarAt} {vain : ℕ} {values later : List Bool} → Underway s op vain m b cur values
     → BarTurned (meeting m b cur values) (meeting t d now later) turn.Moved → bar_left s.seat cur ≡ bar_left s.seat now + 1
 left_falls {s} {m} {cur = cur} {now = now} u turned =
-    subst (λ (x : Seat). bar_left x cur ≡ bar_left x now + 1) (seat_kept s u.events m u.did) turned.means.0
+    subst (λ (x : Seat). bar_left x cur ≡ bar_left x now + 1) (seat_kept s u.row.events m u.row.did) turned.means.0

@@ -1,5 +1,5 @@
 -- A receive as a whole call: what its turns have come to so far, and what ends it.
-use Rattle.std.proofs.Common.{◌≡◌, ◌≢◌, ℕ, zero, suc, ◌+◌, ◌-◌, ◌*◌, ◌<◌, ◌≤◌, Bool, true, false, ◌||◌, ◌&&◌, if◌then◌else◌, List, [], ◌∷◌, ◌++◌, Option, Some, None, length, take, refl, sym, ◌∙◌, ap, subst, arith, slice_index}
+use Rattle.std.proofs.Common.{◌≡◌, ◌≢◌, ℕ, zero, suc, ◌+◌, ◌-◌, ◌*◌, ◌≤◌, Bool, true, false, ◌||◌, ◌&&◌, if◌then◌else◌, List, [], ◌∷◌, ◌++◌, Option, Some, None, length, take, refl, sym, ◌∙◌, ap, subst, arith, slice_index}
 use Rattle.std.specs.List.{list_all}
 use Rattle.scc_base.specs.Calls.{Recv}
 use Rattle.scc_base.specs.Heads.{MessageHead}
@@ -11,14 +11,15 @@ use Rattle.scc_base.specs.declared.events.Spot.{Spot}
 use Rattle.scc_base.specs.declared.layouts.Layout.{Layout}
 use Rattle.scc_proto.specs.Stages.{OnItsWay, Record}
 use Rattle.scc_proto.specs.Records.{chunk_of}
-use Rattle.scc_proto.specs.Ports.{Seat, Sight, Did, record_in}
-use Rattle.scc_proto.proofs.PortLaws.{did_nothing, did_both, seat_kept}
+use Rattle.scc_proto.specs.Ports.{Seat, Sight, record_in}
+use Rattle.scc_proto.proofs.PortLaws.{did_both, seat_kept}
 use Rattle.put_get.specs.Cores.{Private}
 use Rattle.put_get.specs.Transfers.{load_count}
 use Rattle.put_get.proofs.WorkLemmas.{load_count-append}
-use Rattle.sync_flags.specs.Tries.{Aim, is_write, tries_from, tries_at, vain_from, vain_tries, changing_after, has_write, all_vain, spot_of, Tried, NoTry, Vain, Fruitful}
+use Rattle.sync_flags.specs.Tries.{Aim, is_write, tries_from, tries_at, vain_from, vain_tries, changing_after, has_write, spot_of, Tried, NoTry, Vain, Fruitful}
 use Rattle.sync_flags.proofs.VainLemmas.{vain-append}
-use Rattle.sync_flags.proofs.RowLemmas.{changing-append, tries-append, tries_add, none_tried, one_more, none_left, waited, went_on}
+use Rattle.sync_flags.proofs.RowLemmas.{tries-append, tries_add, none_tried, none_left, some_aim, waited, went_on}
+use Rattle.sync_flags.proofs.LoopLemmas.{Row, row_none, row_moved, row_waited}
 use Rattle.send_recv.specs.declared.stages.RecvStage.{RecvStage}
 use Rattle.send_recv.specs.declared.stages.RecvStage.TheVariants.{Look, Header, Lower, Lines, Raise, Finished}
 use Rattle.send_recv.specs.declared.answers.RecvTurn.{RecvTurn}
@@ -88,9 +89,6 @@ aimed layout (Some at) aim e = record { at = at; is = refl; aim_is = cc }
 some_spot : (a b : Spot) → Some a ≡ Some b → a ≡ b
 some_spot a b e = cc
 
-pub some_aim : (a b : Aim) → Some a ≡ Some b → a ≡ b
-some_aim a b e = cc
-
 -- no register is held between two parts, so rows go on from one to the other
 pub row_on : (aim : Aim) (a b : List Event) → changing_after false a ≡ false → vain_tries aim (a ++ b) ≡ vain_from aim false (vain_tries aim a) b
 row_on aim a b freed = vain-append aim false 0 a b ∙ ap (λ (c : Bool). vain_from aim c (vain_tries aim a) b) freed
@@ -107,45 +105,37 @@ tried_once (NoTry none w) at is = absurd (cc)
 tried_once {events = events} (Vain other is one vain w) at here = ap (λ (x : Aim). tries_at x events) (some_aim at other (sym here ∙ is)) ∙ one
 tried_once {events = events} (Fruitful other is one vain w) at here = ap (λ (x : Aim). tries_at x events) (some_aim at other (sym here ∙ is)) ∙ one
 
-pub freed_both : (a b : List Event) → changing_after false a ≡ false → changing_after false b ≡ false → changing_after false (a ++ b) ≡ false
-freed_both a b x y = changing-append false a b ∙ ap (λ (c : Bool). changing_after c b) x ∙ y
-
 -- ---- the turns so far
 
 pub record Underway (s : Sight) (c : Private) (op : RecvAt) (bytes : List ℕ) (vain : ℕ) (t : Sight) (d : Private) (now : RecvAt) (after : List ℕ) : Type 0 where
-  pub events : List Event
-  pub did : Did s events t
+  -- so many vain tries are at the end, at the spot where the op stands, and none at another
+  pub row : Row (aim_at s.seat.setup.layout (recv_spot s.seat now)) vain s t
+  pub elsewhere : (at : Spot) → IsRecvSpot s.seat op at → recv_spot s.seat now ≢ Some at → vain_tries (aim_of s.seat.setup.layout at) row.events ≡ 0
   pub stands : RecvStands t d now after
   pub from : now.from ≡ op.from
   pub head : now.head ≡ op.head
   pub calls : (record_in t).calls ≡ (record_in s).calls
   pub call_left : (x : List ℕ) → recv_call now x ≡ recv_call op x
-  pub freed : changing_after false events ≡ false
-  -- so many vain tries are at the end, at the spot where the op stands, and none at another
-  pub here : (at : Spot) → recv_spot s.seat now ≡ Some at → vain ≤ vain_tries (aim_of s.seat.setup.layout at) events
-  pub elsewhere : (at : Spot) → IsRecvSpot s.seat op at → recv_spot s.seat now ≢ Some at → vain_tries (aim_of s.seat.setup.layout at) events ≡ 0
   pub fuller : filled_to (chunk_of s.seat.setup) op ≤ filled_to (chunk_of s.seat.setup) now
   pub behind : (k : ℕ) → filled_to (chunk_of s.seat.setup) now ≤ k → slice_index after k ≡ slice_index bytes k
   pub rest : KeepsRest (record_in s) (record_in t)
   pub post : IsSamePost (record_in s).post (record_in t).post
-  pub work : load_count events + 4 * c.evictions + 4 * lines_left s.seat.setup.layout (chunk_of s.seat.setup) now
-      ≤ 4 * d.evictions + 4 * (lines_left s.seat.setup.layout (chunk_of s.seat.setup) op + tries_at (sent_aim s.seat op) events)
+  pub work : load_count row.events + 4 * c.evictions + 4 * lines_left s.seat.setup.layout (chunk_of s.seat.setup) now
+      ≤ 4 * d.evictions + 4 * (lines_left s.seat.setup.layout (chunk_of s.seat.setup) op + tries_at (sent_aim s.seat op) row.events)
 
 start_work : (a n : ℕ) → 0 + 4 * a + 4 * n ≤ 4 * a + 4 * (n + 0)
 start_work a n = omega arith
 
 pub underway_none : {s : Sight} {c : Private} {op : RecvAt} {bytes : List ℕ} → RecvStands s c op bytes → Underway s c op bytes 0 s c op bytes
+unfolding row_none
 underway_none {s} {c} {op} {bytes} st = record {
-  events = [];
-  did = did_nothing s;
+  row = row_none;
+  elsewhere = λ at is ne. refl;
   stands = st;
   from = refl;
   head = refl;
   calls = refl;
   call_left = λ x. refl;
-  freed = refl;
-  here = λ at is. omega arith;
-  elsewhere = λ at is ne. refl;
   fuller = le_self _;
   behind = λ k le. refl;
   rest = rest_itself (record_in s);
@@ -175,21 +165,21 @@ turn_says {m} {t} {b} {d} {cur} {now} {mid} {after} {answer} seat same u =
 -- a turn that does not wait leaves no vain try at any spot of the receive
 pub none_vain : {s m t : Sight} {c b d : Private} {op cur now : RecvAt} {bytes mid after : List ℕ} {vain : ℕ} {answer : RecvTurn} (u : Underway s c op bytes vain m b cur mid)
     → (v : RecvTurned (receiving m b cur mid) (receiving t d now after) answer) → recv_waits answer ≡ None → (at : Spot) → IsRecvSpot s.seat op at
-    → vain_tries (aim_of s.seat.setup.layout at) (u.events ++ v.events) ≡ 0
+    → vain_tries (aim_of s.seat.setup.layout at) (u.row.events ++ v.events) ≡ 0
 none_vain {s} {m} {t} {c} {b} {d} {op} {cur} {now} {bytes} {mid} {after} {vain} {answer} u v goes at spot =
-    let same : m.seat ≡ s.seat = seat_kept s u.events m u.did in
+    let same : m.seat ≡ s.seat = seat_kept s u.row.events m u.row.did in
     let says = turn_says s.seat same v in
     let aim = aim_of s.seat.setup.layout at in
     let tried : Tried (aim_at s.seat.setup.layout (recv_spot s.seat cur)) v.events None = subst (λ (o : Option Spot). Tried (aim_at s.seat.setup.layout (recv_spot s.seat cur)) v.events o) goes says.tried in
-    stable_zero (vain_tries aim (u.events ++ v.events)) (λ some.
-    some (still_none aim u.events v.events u.freed
+    stable_zero (vain_tries aim (u.row.events ++ v.events)) (λ some.
+    some (still_none aim u.row.events v.events u.row.freed
     (u.elsewhere at spot (λ here. some (ended tried here)))
     (says.elsewhere at (spot_now s.seat op cur at u.from spot) (λ here. some (ended tried here)))))
   where
-    ended : Tried (aim_at s.seat.setup.layout (recv_spot s.seat cur)) v.events None → recv_spot s.seat cur ≡ Some at → vain_tries (aim_of s.seat.setup.layout at) (u.events ++ v.events) ≡ 0
+    ended : Tried (aim_at s.seat.setup.layout (recv_spot s.seat cur)) v.events None → recv_spot s.seat cur ≡ Some at → vain_tries (aim_of s.seat.setup.layout at) (u.row.events ++ v.events) ≡ 0
     ended tried here =
         let w = went_on tried (aim_of s.seat.setup.layout at) (ap (λ (o : Option Spot). aim_at s.seat.setup.layout o) here) in
-        none_left (aim_of s.seat.setup.layout at) u.events v.events u.freed w.0 w.1
+        none_left (aim_of s.seat.setup.layout at) u.row.events v.events u.row.freed w.0 w.1
 
 -- ---- the work
 
@@ -215,23 +205,23 @@ tally a e c b d lc ln l0 x t0 t1 before more few fewer = omega (arith, before, m
 
 pub work_on : {s m t : Sight} {c b d : Private} {op cur now : RecvAt} {bytes mid after : List ℕ} {vain : ℕ} {answer : RecvTurn} (u : Underway s c op bytes vain m b cur mid)
     → (v : RecvTurned (receiving m b cur mid) (receiving t d now after) answer) → extra_line cur.stage answer ≡ (if is_look cur.stage then 1 else 0)
-    → load_count (u.events ++ v.events) + 4 * c.evictions + 4 * lines_left s.seat.setup.layout (chunk_of s.seat.setup) now
-    ≤ 4 * d.evictions + 4 * (lines_left s.seat.setup.layout (chunk_of s.seat.setup) op + tries_at (sent_aim s.seat op) (u.events ++ v.events))
+    → load_count (u.row.events ++ v.events) + 4 * c.evictions + 4 * lines_left s.seat.setup.layout (chunk_of s.seat.setup) now
+    ≤ 4 * d.evictions + 4 * (lines_left s.seat.setup.layout (chunk_of s.seat.setup) op + tries_at (sent_aim s.seat op) (u.row.events ++ v.events))
 work_on {s} {m} {t} {c} {b} {d} {op} {cur} {now} {bytes} {mid} {after} {vain} {answer} u v extra =
-    let same : m.seat ≡ s.seat = seat_kept s u.events m u.did in
+    let same : m.seat ≡ s.seat = seat_kept s u.row.events m u.row.did in
     let says = turn_says s.seat same v in
     let looked = look_counted (is_look cur.stage) s.seat cur v.events (recv_waits answer) refl says.tried in
     let few : extra_line cur.stage answer ≤ tries_at (sent_aim s.seat op) v.events
     = subst (λ (n : ℕ). n ≤ tries_at (sent_aim s.seat op) v.events) (sym extra)
     (subst (λ (f : ℕ). (if is_look cur.stage then 1 else 0) ≤ tries_at (aim_of s.seat.setup.layout (flag_spot (own_core s.seat) (sent_at s.seat.setup.layout f))) v.events) u.from looked) in
-    let sum = tally (load_count u.events) (load_count v.events) c.evictions b.evictions d.evictions
+    let sum = tally (load_count u.row.events) (load_count v.events) c.evictions b.evictions d.evictions
     (lines_left s.seat.setup.layout (chunk_of s.seat.setup) cur) (lines_left s.seat.setup.layout (chunk_of s.seat.setup) now) (lines_left s.seat.setup.layout (chunk_of s.seat.setup) op)
-    (extra_line cur.stage answer) (tries_at (sent_aim s.seat op) u.events) (tries_at (sent_aim s.seat op) v.events) u.work says.work few says.fewer in
-    subst (λ (k : ℕ). load_count (u.events ++ v.events) + 4 * c.evictions + 4 * lines_left s.seat.setup.layout (chunk_of s.seat.setup) now
-    ≤ 4 * d.evictions + 4 * (lines_left s.seat.setup.layout (chunk_of s.seat.setup) op + k)) (sym (tries_both (sent_aim s.seat op) u.events v.events u.freed))
+    (extra_line cur.stage answer) (tries_at (sent_aim s.seat op) u.row.events) (tries_at (sent_aim s.seat op) v.events) u.work says.work few says.fewer in
+    subst (λ (k : ℕ). load_count (u.row.events ++ v.events) + 4 * c.evictions + 4 * lines_left s.seat.setup.layout (chunk_of s.seat.setup) now
+    ≤ 4 * d.evictions + 4 * (lines_left s.seat.setup.layout (chunk_of s.seat.setup) op + k)) (sym (tries_both (sent_aim s.seat op) u.row.events v.events u.row.freed))
     (subst (λ (k : ℕ). k + 4 * c.evictions + 4 * lines_left s.seat.setup.layout (chunk_of s.seat.setup) now
-    ≤ 4 * d.evictions + 4 * (lines_left s.seat.setup.layout (chunk_of s.seat.setup) op + (tries_at (sent_aim s.seat op) u.events + tries_at (sent_aim s.seat op) v.events)))
-    (sym (load_count-append u.events v.events)) sum)
+    ≤ 4 * d.evictions + 4 * (lines_left s.seat.setup.layout (chunk_of s.seat.setup) op + (tries_at (sent_aim s.seat op) u.row.events + tries_at (sent_aim s.seat op) v.events)))
+    (sym (load_count-append u.row.events v.events)) sum)
 
 -- ---- the steps
 
@@ -240,20 +230,18 @@ calls_open op x e = ap (λ (b : Bool). if b then [] else Recv op.from op.head x 
 
 pub underway_moved : {s m t : Sight} {c b d : Private} {op cur now : RecvAt} {bytes mid after : List ℕ} {vain : ℕ} → Underway s c op bytes vain m b cur mid
     → RecvStands t d now after → RecvTurned (receiving m b cur mid) (receiving t d now after) turn.Moved → Underway s c op bytes 0 t d now after
+unfolding row_moved
 underway_moved {s} {m} {t} {c} {b} {d} {op} {cur} {now} {bytes} {mid} {after} u st v =
-    let same : m.seat ≡ s.seat = seat_kept s u.events m u.did in
+    let same : m.seat ≡ s.seat = seat_kept s u.row.events m u.row.did in
     let says = turn_says s.seat same v in
     record {
-      events = u.events ++ v.events;
-      did = did_both s u.events m v.events t u.did v.did;
+      row = row_moved u.row v.did v.freed;
+      elsewhere = λ at spot ne. none_vain u v refl at spot;
       stands = st;
       from = v.same.0 ∙ u.from;
       head = v.same.1 ∙ u.head;
       calls = v.means.1 ∙ u.calls;
       call_left = λ x. calls_open now x v.means.3 ∙ (λ i. Recv (v.same.0 i) (v.same.1 i) x ∷ []) ∙ sym (calls_open cur x v.means.2) ∙ u.call_left x;
-      freed = freed_both u.events v.events u.freed v.freed;
-      here = λ at is. omega arith;
-      elsewhere = λ at spot ne. none_vain u v refl at spot;
       fuller = let before = u.fuller in let full = says.fuller in omega (arith, before, full);
       behind = λ k le. let full = says.fuller in says.behind k le ∙ u.behind k (omega (arith, full, le));
       rest = rest_both (record_in s) (record_in m) (record_in t) u.rest v.rest;
@@ -263,35 +251,27 @@ underway_moved {s} {m} {t} {c} {b} {d} {op} {cur} {now} {bytes} {mid} {after} u 
 
 pub none_moved : {s m t : Sight} {c b d : Private} {op cur now : RecvAt} {bytes mid after : List ℕ} {vain : ℕ} (u : Underway s c op bytes vain m b cur mid)
     → (st : RecvStands t d now after) (v : RecvTurned (receiving m b cur mid) (receiving t d now after) turn.Moved) → (at : Spot) → IsRecvSpot s.seat op at
-    → vain_tries (aim_of s.seat.setup.layout at) (underway_moved u st v).events ≡ 0
-unfolding underway_moved
+    → vain_tries (aim_of s.seat.setup.layout at) (underway_moved u st v).row.events ≡ 0
+unfolding underway_moved row_moved
 none_moved u st v at spot = none_vain u v refl at spot
 
 pub underway_waited : {s m t : Sight} {c b d : Private} {op cur now : RecvAt} {bytes mid after : List ℕ} {vain : ℕ} {spot : Spot} → Underway s c op bytes vain m b cur mid
     → RecvStands t d now after → RecvTurned (receiving m b cur mid) (receiving t d now after) (turn.Waiting spot) → Underway s c op bytes (vain + 1) t d now after
+unfolding row_waited
 underway_waited {s} {m} {t} {c} {b} {d} {op} {cur} {now} {bytes} {mid} {after} {vain} {spot} u st v =
-    let same : m.seat ≡ s.seat = seat_kept s u.events m u.did in
+    let same : m.seat ≡ s.seat = seat_kept s u.row.events m u.row.did in
     let says = turn_says s.seat same v in
     let rests : IsAtRest (record_in m) (record_in t) = v.means.2 in
-    let w = waited says.tried in
-    let quiet = resting_quiet v.events (v.rests spot refl) in
     record {
-      events = u.events ++ v.events;
-      did = did_both s u.events m v.events t u.did v.did;
+      row = row_waited u.row v.did v.freed says.tried (resting_quiet v.events (v.rests spot refl)) (ap (λ (o : RecvAt). aim_at s.seat.setup.layout (recv_spot s.seat o)) v.means.0);
+      elsewhere = λ at is ne.
+          let other : recv_spot s.seat cur ≢ Some at = subst (λ (o : RecvAt). recv_spot s.seat o ≢ Some at) v.means.0 ne in
+          still_none (aim_of s.seat.setup.layout at) u.row.events v.events u.row.freed (u.elsewhere at is other) (says.elsewhere at (spot_now s.seat op cur at u.from is) other);
       stands = st;
       from = v.same.0 ∙ u.from;
       head = v.same.1 ∙ u.head;
       calls = rests.calls ∙ u.calls;
       call_left = λ x. ap (λ (o : RecvAt). recv_call o x) v.means.0 ∙ u.call_left x;
-      freed = freed_both u.events v.events u.freed v.freed;
-      here = λ at is.
-          let cur_at : recv_spot s.seat cur ≡ Some at = subst (λ (o : RecvAt). recv_spot s.seat o ≡ Some at) v.means.0 is in
-          let aim : w.at ≡ aim_of s.seat.setup.layout at = some_aim w.at (aim_of s.seat.setup.layout at) (sym w.is ∙ ap (λ (o : Option Spot). aim_at s.seat.setup.layout o) cur_at) in
-          one_more (aim_of s.seat.setup.layout at) vain u.events v.events u.freed (u.here at cur_at)
-          (subst (λ (a : Aim). tries_at a v.events ≡ 1) aim w.one) (subst (λ (a : Aim). all_vain a false v.events ≡ true) aim w.vain) quiet;
-      elsewhere = λ at is ne.
-          let other : recv_spot s.seat cur ≢ Some at = subst (λ (o : RecvAt). recv_spot s.seat o ≢ Some at) v.means.0 ne in
-          still_none (aim_of s.seat.setup.layout at) u.events v.events u.freed (u.elsewhere at is other) (says.elsewhere at (spot_now s.seat op cur at u.from is) other);
       fuller = let before = u.fuller in let full = says.fuller in omega (arith, before, full);
       behind = λ k le. let full = says.fuller in says.behind k le ∙ u.behind k (omega (arith, full, le));
       rest = rest_both (record_in s) (record_in m) (record_in t) u.rest v.rest;
@@ -302,7 +282,7 @@ underway_waited {s} {m} {t} {c} {b} {d} {op} {cur} {now} {bytes} {mid} {after} {
 -- ---- the ends
 
 not_stalled : {s m t : Sight} {c b d : Private} {op cur now : RecvAt} {bytes mid after : List ℕ} {vain : ℕ} {answer : RecvTurn} (polls : ℕ) → 1 ≤ polls → (u : Underway s c op bytes vain m b cur mid)
-    → (v : RecvTurned (receiving m b cur mid) (receiving t d now after) answer) → recv_waits answer ≡ None → HasNotStalled s.seat op polls (u.events ++ v.events)
+    → (v : RecvTurned (receiving m b cur mid) (receiving t d now after) answer) → recv_waits answer ≡ None → HasNotStalled s.seat op polls (u.row.events ++ v.events)
 not_stalled polls some u v goes spot is tried = let none = none_vain u v goes spot is in absurd (omega (arith, some, none, tried))
 
 pub underway_ends : {s m t : Sight} {c b d : Private} {op cur now : RecvAt} {bytes mid after : List ℕ} {vain : ℕ} (polls : ℕ) → 1 ≤ polls → Underway s c op bytes vain m b cur mid
@@ -310,8 +290,8 @@ pub underway_ends : {s m t : Sight} {c b d : Private} {op cur now : RecvAt} {byt
 underway_ends {s} {m} {t} {c} {b} {d} {op} {cur} {now} {bytes} {mid} {after} polls some u st v =
     let sum = work_on u v refl in
     record {
-      events = u.events ++ v.events;
-      did = did_both s u.events m v.events t u.did v.did;
+      events = u.row.events ++ v.events;
+      did = did_both s u.row.events m v.events t u.row.did v.did;
       calls = v.means.2 ∙ (λ i. u.calls i ++ (u.call_left mid ∙ ap (λ (x : List ℕ). recv_call op x) (sym v.means.1)) i);
       stage = subst (λ (x : RecvStage). IsAtStage t.seat (record_in t) d now after x) v.means.0 st.at;
       empty = st.empty;
@@ -329,18 +309,18 @@ spot_told seat op at is =
 pub underway_stalls : {s m t : Sight} {c b d : Private} {op cur now : RecvAt} {bytes mid after : List ℕ} {vain : ℕ} {spot : Spot} → Underway s c op bytes vain m b cur mid
     → RecvStands t d now after → RecvTurned (receiving m b cur mid) (receiving t d now after) (turn.Waiting spot) → (polls : ℕ) → polls ≤ vain + 1 → RecvStalled (receiving s c op bytes) polls (receiving t d now after) spot
 underway_stalls {s} {m} {t} {c} {b} {d} {op} {cur} {now} {bytes} {mid} {after} {vain} {spot} u st v polls enough =
-    let same : m.seat ≡ s.seat = seat_kept s u.events m u.did in
+    let same : m.seat ≡ s.seat = seat_kept s u.row.events m u.row.did in
     let says = turn_says s.seat same v in
     let w = waited says.tried in
     let x = aimed s.seat.setup.layout (recv_spot s.seat cur) w.at w.is in
     let now_at : recv_spot s.seat now ≡ Some x.at = ap (λ (o : RecvAt). recv_spot s.seat o) v.means.0 ∙ x.is in
     let spot_is : x.at ≡ spot = spot_told s.seat now x.at now_at ∙ ap spot_of x.aim_is ∙ sym w.spot_is in
     let n = underway_waited u st v in
-    let many = n.here x.at now_at in
+    let many = n.row.tried (aim_of s.seat.setup.layout x.at) (ap (λ (o : Option Spot). aim_at s.seat.setup.layout o) now_at) in
     record {
-      events = n.events;
-      did = n.did;
-      tried = subst (λ (p : Spot). polls ≤ vain_tries (aim_of s.seat.setup.layout p) n.events) spot_is (omega (arith, enough, many));
+      events = n.row.events;
+      did = n.row.did;
+      tried = subst (λ (p : Spot). polls ≤ vain_tries (aim_of s.seat.setup.layout p) n.row.events) spot_is (omega (arith, enough, many));
       at = now_at ∙ ap (λ (p : Spot). Some p) spot_is;
       stands = st;
       same = (n.from, n.head);
@@ -368,7 +348,7 @@ pub underway_differs : {s m t : Sight} {c b d : Private} {op cur now : RecvAt} {
     → length bytes ≡ op.head.len → RecvStands t d now after → RecvTurned (receiving m b cur mid) (receiving t d now after) (turn.Mismatch sent) → (asked : MessageHead) → asked ≡ op.head
     → RecvDiffers (receiving s c op bytes) polls (with_bytes t d after) sent asked
 underway_differs {s} {m} {t} {c} {b} {d} {op} {cur} {now} {bytes} {mid} {after} {vain} {sent} polls some u long st v asked is =
-    let same : m.seat ≡ s.seat = seat_kept s u.events m u.did in
+    let same : m.seat ≡ s.seat = seat_kept s u.row.events m u.row.did in
     let says = turn_says s.seat same v in
     let means = v.means in
     let rests : IsAtRest (record_in m) (record_in t) = means.3 in
@@ -378,8 +358,8 @@ underway_differs {s} {m} {t} {c} {b} {d} {op} {cur} {now} {bytes} {mid} {after} 
     let whole : after ≡ bytes = lists_agree after bytes (st.long ∙ ap (λ (h : MessageHead). h.len) (v.same.1 ∙ u.head) ∙ sym long)
     (λ k. let full = says.fuller in says.behind k (omega (arith, filled)) ∙ u.behind k (omega (arith, filled, full))) in
     record {
-      events = u.events ++ v.events;
-      did = did_both s u.events m v.events t u.did v.did;
+      events = u.row.events ++ v.events;
+      did = did_both s u.row.events m v.events t u.row.did v.did;
       is_asked = is;
       other = λ e. means.4 (e ∙ is ∙ sym u.head);
       header = means.5;
@@ -399,4 +379,4 @@ underway_differs {s} {m} {t} {c} {b} {d} {op} {cur} {now} {bytes} {mid} {after} 
 
 pub left_falls : {s m t : Sight} {c b d : Private} {op cur now : RecvAt} {bytes mid after : List ℕ} {vain : ℕ} → Underway s c op bytes vain m b cur mid
     → RecvTurned (receiving m b cur mid) (receiving t d now after) turn.Moved → recv_left (chunk_of s.seat.setup) cur ≡ recv_left (chunk_of s.seat.setup) now + 1
-left_falls {s} {m} {cur = cur} {now = now} u v = subst (λ (x : Seat). recv_left (chunk_of x.setup) cur ≡ recv_left (chunk_of x.setup) now + 1) (seat_kept s u.events m u.did) v.means.0
+left_falls {s} {m} {cur = cur} {now = now} u v = subst (λ (x : Seat). recv_left (chunk_of x.setup) cur ≡ recv_left (chunk_of x.setup) now + 1) (seat_kept s u.row.events m u.row.did) v.means.0

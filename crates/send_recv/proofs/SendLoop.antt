@@ -2,7 +2,6 @@
 use Rattle.std.proofs.Common.{◌≡◌, ℕ, ◌+◌, ◌≤◌, Bool, true, false, if◌then◌else◌, List, [], ◌∷◌, ◌++◌, Option, Some, None, refl, sym, ◌∙◌, ap, subst, arith}
 use Rattle.scc_base.specs.Calls.{DataCall, Send, Post}
 use Rattle.scc_base.specs.Heads.{MessageHead}
-use Rattle.scc_base.specs.declared.events.Event.{Event}
 use Rattle.scc_base.specs.declared.events.Spot.{Spot}
 use Rattle.scc_base.specs.declared.events.Spot.TheVariants.{Register}
 use Rattle.scc_base.specs.declared.events.Turn.TheVariants as turn
@@ -10,11 +9,12 @@ use Rattle.scc_base.specs.declared.layouts.Layout.{Layout}
 use Rattle.scc_base.specs.declared.layouts.Layout.TheVariants.{LineFlags, BitFlags}
 use Rattle.scc_base.specs.Layouts.{ready_at}
 use Rattle.scc_proto.specs.Records.{chunk_of}
-use Rattle.scc_proto.specs.Ports.{Seat, Sight, Did, record_in}
-use Rattle.scc_proto.proofs.PortLaws.{did_nothing, did_both, seat_kept}
+use Rattle.scc_proto.specs.Ports.{Seat, Sight, record_in}
+use Rattle.scc_proto.proofs.PortLaws.{did_both, seat_kept}
 use Rattle.put_get.specs.Cores.{Private}
-use Rattle.sync_flags.specs.Tries.{Aim, tries_at, vain_tries, changing_after, all_vain, spot_of, Tried}
-use Rattle.sync_flags.proofs.RowLemmas.{one_more, Waited, waited}
+use Rattle.sync_flags.specs.Tries.{vain_tries, spot_of, Tried}
+use Rattle.sync_flags.proofs.RowLemmas.{waited}
+use Rattle.sync_flags.proofs.LoopLemmas.{Row, row_none, row_moved, row_waited}
 use Rattle.send_recv.specs.declared.stages.SendStage.{SendStage}
 use Rattle.send_recv.specs.declared.stages.SendStage.TheVariants.{Header, Lines, Flush, Raise, Look, Lower, Finished}
 use Rattle.send_recv.specs.Ops.{SendAt, SlotAt, is_sent}
@@ -25,72 +25,54 @@ use Rattle.send_recv.specs.Tries.{aim_of, aim_at}
 use Rattle.send_recv.specs.Turns.{KeepsRest, IsAtRest}
 use Rattle.send_recv.specs.Ranks.{sending, with_slot}
 use Rattle.send_recv.proofs.TryLemmas.{ready_spot}
-use Rattle.send_recv.proofs.RecvLoop.{rest_both, rest_itself, resting_quiet, aimed, some_aim, row_on, freed_both}
+use Rattle.send_recv.proofs.RecvLoop.{rest_both, rest_itself, resting_quiet, aimed, row_on}
 
 pub record SendWay (s : Sight) (op : SendAt) (bytes : List ℕ) (vain : ℕ) (t : Sight) (d : Private) (now : SendAt) (after : SlotAt) : Type 0 where
-  pub events : List Event
-  pub did : Did s events t
+  -- so many vain tries are at the end, at the spot where the op stands
+  pub row : Row (aim_at s.seat.setup.layout (send_spot s.seat now after)) vain s t
   pub stands : SendStands t d now after bytes
   pub same : (now.to ≡ op.to) × (now.head ≡ op.head) × (now.posted ≡ op.posted)
   pub finished : is_sent now.stage ≡ is_sent op.stage
   pub calls : (record_in t).calls ≡ (record_in s).calls
-  pub freed : changing_after false events ≡ false
-  -- so many vain tries are at the end, at the spot where the op stands
-  pub here : (at : Spot) → send_spot s.seat now after ≡ Some at → vain ≤ vain_tries (aim_of s.seat.setup.layout at) events
   pub rest : KeepsRest (record_in s) (record_in t)
 
 pub way_none : {s : Sight} {c : Private} {op : SendAt} {slot : SlotAt} {bytes : List ℕ} → SendStands s c op slot bytes → SendWay s op bytes 0 s c op slot
 way_none {s} st = record {
-  events = [];
-  did = did_nothing s;
+  row = row_none;
   stands = st;
   same = (refl, refl, refl);
   finished = refl;
   calls = refl;
-  freed = refl;
-  here = λ at is. omega arith;
   rest = rest_itself (record_in s);
 }
 
 pub way_moved : {s m t : Sight} {b d : Private} {op cur now : SendAt} {slot after : SlotAt} {bytes : List ℕ} {vain : ℕ} → SendWay s op bytes vain m b cur slot
     → SendStands t d now after bytes → SendTurned (sending m b cur slot bytes) (sending t d now after bytes) turn.Moved → SendWay s op bytes 0 t d now after
 way_moved {s} {m} {t} u st v = record {
-  events = u.events ++ v.events;
-  did = did_both s u.events m v.events t u.did v.did;
+  row = row_moved u.row v.did v.freed;
   stands = st;
   same = (v.same.0 ∙ u.same.0, v.same.1 ∙ u.same.1, v.same.2 ∙ u.same.2);
   finished = v.means.3 ∙ sym v.means.2 ∙ u.finished;
   calls = v.means.1 ∙ u.calls;
-  freed = freed_both u.events v.events u.freed v.freed;
-  here = λ at is. omega arith;
   rest = rest_both (record_in s) (record_in m) (record_in t) u.rest v.rest;
 }
 
 -- what a turn that waits has tried, at the seat of the call's start
 waits : {s m t : Sight} {b d : Private} {op cur now : SendAt} {slot after : SlotAt} {bytes : List ℕ} {vain : ℕ} {spot : Spot} (u : SendWay s op bytes vain m b cur slot)
-    → (v : SendTurned (sending m b cur slot bytes) (sending t d now after bytes) (turn.Waiting spot)) → Waited (aim_at s.seat.setup.layout (send_spot s.seat cur slot)) v.events spot
+    → (v : SendTurned (sending m b cur slot bytes) (sending t d now after bytes) (turn.Waiting spot)) → Tried (aim_at s.seat.setup.layout (send_spot s.seat cur slot)) v.events (Some spot)
 waits {s} {m} {cur = cur} {slot = slot} {spot = spot} u v =
-    waited (subst (λ (x : Seat). Tried (aim_at x.setup.layout (send_spot x cur slot)) v.events (Some spot)) (seat_kept s u.events m u.did) v.tried)
+    subst (λ (x : Seat). Tried (aim_at x.setup.layout (send_spot x cur slot)) v.events (Some spot)) (seat_kept s u.row.events m u.row.did) v.tried
 
 pub way_waited : {s m t : Sight} {b d : Private} {op cur now : SendAt} {slot after : SlotAt} {bytes : List ℕ} {vain : ℕ} {spot : Spot} → SendWay s op bytes vain m b cur slot
     → SendStands t d now after bytes → SendTurned (sending m b cur slot bytes) (sending t d now after bytes) (turn.Waiting spot) → SendWay s op bytes (vain + 1) t d now after
 way_waited {s} {m} {t} {b} {d} {op} {cur} {now} {slot} {after} {bytes} {vain} {spot} u st v =
     let rests : IsAtRest (record_in m) (record_in t) = v.means.2 in
-    let w = waits u v in
-    let quiet = resting_quiet v.events (v.rests spot refl) in
     record {
-      events = u.events ++ v.events;
-      did = did_both s u.events m v.events t u.did v.did;
+      row = row_waited u.row v.did v.freed (waits u v) (resting_quiet v.events (v.rests spot refl)) (λ i. aim_at s.seat.setup.layout (send_spot s.seat (v.means.0 i) (v.means.1 i)));
       stands = st;
       same = (v.same.0 ∙ u.same.0, v.same.1 ∙ u.same.1, v.same.2 ∙ u.same.2);
       finished = ap (λ (o : SendAt). is_sent o.stage) v.means.0 ∙ u.finished;
       calls = rests.calls ∙ u.calls;
-      freed = freed_both u.events v.events u.freed v.freed;
-      here = λ at is.
-          let before : send_spot s.seat cur slot ≡ Some at = (λ i. send_spot s.seat (sym v.means.0 i) (sym v.means.1 i)) ∙ is in
-          let aim : w.at ≡ aim_of s.seat.setup.layout at = some_aim w.at (aim_of s.seat.setup.layout at) (sym w.is ∙ ap (λ (o : Option Spot). aim_at s.seat.setup.layout o) before) in
-          one_more (aim_of s.seat.setup.layout at) vain u.events v.events u.freed (u.here at before)
-          (subst (λ (a : Aim). tries_at a v.events ≡ 1) aim w.one) (subst (λ (a : Aim). all_vain a false v.events ≡ true) aim w.vain) quiet;
       rest = rest_both (record_in s) (record_in m) (record_in t) u.rest v.rest;
     }
 
@@ -114,8 +96,8 @@ pub way_ends : {s m t : Sight} {c b d : Private} {op cur now : SendAt} {begun sl
 way_ends {s} {m} {t} {d = d} {op = op} {cur = cur} {now = now} {slot = slot} {after = after} {bytes = bytes} u st v =
     let at : IsAtSendStage t.seat (record_in t) d now bytes Finished = subst (λ (x : SendStage). IsAtSendStage t.seat (record_in t) d now bytes x) v.means.0 st.at in
     record {
-      events = u.events ++ v.events;
-      did = did_both s u.events m v.events t u.did v.did;
+      events = u.row.events ++ v.events;
+      did = did_both s u.row.events m v.events t u.row.did v.did;
       calls = v.means.2 ∙ (λ i. u.calls i ++ same_call cur op bytes u.same u.finished i);
       stage = at.0;
       empty = at.1;
@@ -124,7 +106,7 @@ way_ends {s} {m} {t} {d = d} {op = op} {cur = cur} {now = now} {slot = slot} {af
           ∙ ap (λ (k : ℕ). record { to = Some k; seen = false }) u.same.0;
       plain = λ p f. v.means.3 (u.same.2 ∙ p) (u.finished ∙ f);
       rest = rest_both (record_in s) (record_in m) (record_in t) u.rest v.rest;
-      no_row = λ f aim. row_on aim u.events v.events u.freed ∙ v.ends refl (u.finished ∙ f) aim (vain_tries aim u.events);
+      no_row = λ f aim. row_on aim u.row.events v.events u.row.freed ∙ v.ends refl (u.finished ∙ f) aim (vain_tries aim u.row.events);
     }
 
 some_at : (a b : Spot) → Some a ≡ Some b → a ≡ b
@@ -159,17 +141,17 @@ pub way_stalls : {s m t : Sight} {c b d : Private} {op cur now : SendAt} {begun 
     → SendStands t d now after bytes → SendTurned (sending m b cur slot bytes) (sending t d now after bytes) (turn.Waiting spot) → (polls : ℕ) → polls ≤ vain + 1 → SendStalled (sending s c op begun bytes) polls (sending t d now after bytes) spot
 way_stalls {s} {cur = cur} {now = now} {slot = slot} {after = after} {spot = spot} u st v polls enough =
     let layout = s.seat.setup.layout in
-    let w = waits u v in
+    let w = waited (waits u v) in
     let x = aimed layout (send_spot s.seat cur slot) w.at w.is in
     let now_at : send_spot s.seat now after ≡ Some x.at = (λ i. send_spot s.seat (v.means.0 i) (v.means.1 i)) ∙ x.is in
     let told = send_told layout (own_core s.seat) (core_of s.seat cur.to) cur.to (slot_spot s.seat slot) cur.stage x.at (λ e. slot_told layout (own_core s.seat) slot.to slot.seen x.at e) x.is in
     let spot_is : x.at ≡ spot = told ∙ ap spot_of x.aim_is ∙ sym w.spot_is in
     let n = way_waited u st v in
-    let many = n.here x.at now_at in
+    let many = n.row.tried (aim_of layout x.at) (ap (λ (o : Option Spot). aim_at layout o) now_at) in
     record {
-      events = n.events;
-      did = n.did;
-      tried = subst (λ (p : Spot). polls ≤ vain_tries (aim_of layout p) n.events) spot_is (omega (arith, enough, many));
+      events = n.row.events;
+      did = n.row.did;
+      tried = subst (λ (p : Spot). polls ≤ vain_tries (aim_of layout p) n.row.events) spot_is (omega (arith, enough, many));
       at = now_at ∙ ap (λ (p : Spot). Some p) spot_is;
       stands = st;
       same = n.same;
@@ -183,4 +165,4 @@ way_stalls {s} {cur = cur} {now = now} {slot = slot} {after = after} {spot = spo
 pub send_falls : {s m t : Sight} {b d : Private} {op cur now : SendAt} {slot after : SlotAt} {bytes : List ℕ} {vain : ℕ} → SendWay s op bytes vain m b cur slot
     → SendTurned (sending m b cur slot bytes) (sending t d now after bytes) turn.Moved → send_left s.seat.setup.layout (chunk_of s.seat.setup) cur slot ≡ send_left s.seat.setup.layout (chunk_of s.seat.setup) now after + 1
 send_falls {s} {m} {cur = cur} {now = now} {slot = slot} {after = after} u v =
-    subst (λ (x : Seat). send_left x.setup.layout (chunk_of x.setup) cur slot ≡ send_left x.setup.layout (chunk_of x.setup) now after + 1) (seat_kept s u.events m u.did) v.means.0
+    subst (λ (x : Seat). send_left x.setup.layout (chunk_of x.setup) cur slot ≡ send_left x.setup.layout (chunk_of x.setup) now after + 1) (seat_kept s u.row.events m u.row.did) v.means.0

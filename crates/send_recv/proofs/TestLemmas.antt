@@ -10,7 +10,7 @@ use Rattle.put_get.specs.Cores.{Private}
 use Rattle.put_get.specs.Transfers.{load_count}
 use Rattle.put_get.proofs.WorkLemmas.{load_count-append}
 use Rattle.sync_flags.specs.Tries.{Aim, spot_of, tries_at, vain_from, vain_tries, all_vain, Tried}
-use Rattle.sync_flags.proofs.RowLemmas.{waited, went_on}
+use Rattle.sync_flags.proofs.RowLemmas.{some_aim, waited, went_on}
 use Rattle.send_recv.specs.declared.answers.RecvTurn.{RecvTurn}
 use Rattle.send_recv.specs.declared.answers.RecvTurn.TheVariants as turn
 use Rattle.send_recv.specs.declared.calls.RecvStop.{RecvStop}
@@ -24,24 +24,24 @@ use Rattle.send_recv.specs.Steps.{own_core, flag_spot}
 use Rattle.send_recv.specs.Tries.{aim_of, aim_at}
 use Rattle.send_recv.specs.Ranks.{receiving, with_bytes}
 use Rattle.send_recv.proofs.LookTurn.{at_look}
-use Rattle.send_recv.proofs.RecvLoop.{Underway, underway_none, underway_moved, underway_ends, none_moved, row_on, tries_both, some_aim, spot_now, lists_agree, rest_both, post_both}
+use Rattle.send_recv.proofs.RecvLoop.{Underway, underway_none, underway_moved, underway_ends, none_moved, row_on, tries_both, spot_now, lists_agree, rest_both, post_both}
 
 -- the turns so far left no vain try at any spot of the receive
 pub record Begun (s : Sight) (c : Private) (op : RecvAt) (bytes : List ℕ) (m : Sight) (b : Private) (cur : RecvAt) (mid : List ℕ) : Type 0 where
   pub way : Underway s c op bytes 0 m b cur mid
-  pub none : (at : Spot) → IsRecvSpot s.seat op at → vain_tries (aim_of s.seat.setup.layout at) way.events ≡ 0
+  pub none : (at : Spot) → IsRecvSpot s.seat op at → vain_tries (aim_of s.seat.setup.layout at) way.row.events ≡ 0
   pub long : length bytes ≡ op.head.len
 
 -- so the tries at its end are those of what comes after
 row_after : {s m : Sight} {c b : Private} {op cur : RecvAt} {bytes mid : List ℕ} (g : Begun s c op bytes m b cur mid) → (at : Spot) → IsRecvSpot s.seat op at → (es : List Event)
-    → vain_tries (aim_of s.seat.setup.layout at) (g.way.events ++ es) ≡ vain_tries (aim_of s.seat.setup.layout at) es
+    → vain_tries (aim_of s.seat.setup.layout at) (g.way.row.events ++ es) ≡ vain_tries (aim_of s.seat.setup.layout at) es
 row_after {s} g at spot es =
-    row_on (aim_of s.seat.setup.layout at) g.way.events es g.way.freed ∙ ap (λ (n : ℕ). vain_from (aim_of s.seat.setup.layout at) false n es) (g.none at spot)
+    row_on (aim_of s.seat.setup.layout at) g.way.row.events es g.way.row.freed ∙ ap (λ (n : ℕ). vain_from (aim_of s.seat.setup.layout at) false n es) (g.none at spot)
 
 not_stalled_after : {s m : Sight} {c b : Private} {op cur : RecvAt} {bytes mid : List ℕ} (polls : ℕ) (g : Begun s c op bytes m b cur mid) → (es : List Event)
-    → HasNotStalled m.seat cur polls es → HasNotStalled s.seat op polls (g.way.events ++ es)
+    → HasNotStalled m.seat cur polls es → HasNotStalled s.seat op polls (g.way.row.events ++ es)
 not_stalled_after {s} {m} {op = op} {cur = cur} polls g es not at spot tried =
-    let same : m.seat ≡ s.seat = seat_kept s g.way.events m g.way.did in
+    let same : m.seat ≡ s.seat = seat_kept s g.way.row.events m g.way.row.did in
     subst (λ (x : Seat). HasNotStalled x cur polls es) same not at (spot_now s.seat op cur at g.way.from spot) (subst (λ (n : ℕ). polls ≤ n) (row_after g at spot es) tried)
 
 sums : (a e c b d lc l0 t0 t1 : ℕ) → a + 4 * c + 4 * lc ≤ 4 * b + 4 * (l0 + t0) → e + 4 * b ≤ 4 * (t1 + lc) + 4 * d → (a + e) + 4 * c ≤ 4 * ((t0 + t1) + l0) + 4 * d
@@ -51,25 +51,25 @@ pub then_received : {s m t : Sight} {c b d : Private} {op cur : RecvAt} {bytes m
     → Received (receiving m b cur mid) polls (with_bytes t d after) → Received (receiving s c op bytes) polls (with_bytes t d after)
 then_received {s} {m} {t} {c} {b} {d} {op} {cur} {bytes} {mid} {after} {polls} g r =
     let u = g.way in
-    let same : m.seat ≡ s.seat = seat_kept s u.events m u.did in
+    let same : m.seat ≡ s.seat = seat_kept s u.row.events m u.row.did in
     let work : load_count r.events + 4 * b.evictions ≤ 4 * (tries_at (sent_aim s.seat op) r.events + lines_left s.seat.setup.layout (chunk_of s.seat.setup) cur) + 4 * d.evictions
     = subst (λ (a : Aim). load_count r.events + 4 * b.evictions ≤ 4 * (tries_at a r.events + lines_left s.seat.setup.layout (chunk_of s.seat.setup) cur) + 4 * d.evictions) (aim_from s.seat cur op u.from)
     (subst (λ (x : Seat). load_count r.events + 4 * b.evictions ≤ 4 * (tries_at (sent_aim x cur) r.events + lines_left x.setup.layout (chunk_of x.setup) cur) + 4 * d.evictions) same r.work) in
-    let all = sums (load_count u.events) (load_count r.events) c.evictions b.evictions d.evictions (lines_left s.seat.setup.layout (chunk_of s.seat.setup) cur)
-    (lines_left s.seat.setup.layout (chunk_of s.seat.setup) op) (tries_at (sent_aim s.seat op) u.events) (tries_at (sent_aim s.seat op) r.events) u.work work in
+    let all = sums (load_count u.row.events) (load_count r.events) c.evictions b.evictions d.evictions (lines_left s.seat.setup.layout (chunk_of s.seat.setup) cur)
+    (lines_left s.seat.setup.layout (chunk_of s.seat.setup) op) (tries_at (sent_aim s.seat op) u.row.events) (tries_at (sent_aim s.seat op) r.events) u.work work in
     record {
-      events = u.events ++ r.events;
-      did = did_both s u.events m r.events t u.did r.did;
+      events = u.row.events ++ r.events;
+      did = did_both s u.row.events m r.events t u.row.did r.did;
       calls = r.calls ∙ (λ i. u.calls i ++ u.call_left after i);
       stage = r.stage;
       empty = r.empty;
       rest = rest_both (record_in s) (record_in m) (record_in t) u.rest r.rest;
       post = post_both (record_in s).post (record_in m).post (record_in t).post u.post r.post;
       no_stall = not_stalled_after polls g r.events r.no_stall;
-      work = subst (λ (k : ℕ). load_count (u.events ++ r.events) + 4 * c.evictions ≤ 4 * (k + lines_left s.seat.setup.layout (chunk_of s.seat.setup) op) + 4 * d.evictions)
-          (sym (tries_both (sent_aim s.seat op) u.events r.events u.freed))
-          (subst (λ (k : ℕ). k + 4 * c.evictions ≤ 4 * ((tries_at (sent_aim s.seat op) u.events + tries_at (sent_aim s.seat op) r.events) + lines_left s.seat.setup.layout (chunk_of s.seat.setup) op) + 4 * d.evictions)
-          (sym (load_count-append u.events r.events)) all);
+      work = subst (λ (k : ℕ). load_count (u.row.events ++ r.events) + 4 * c.evictions ≤ 4 * (k + lines_left s.seat.setup.layout (chunk_of s.seat.setup) op) + 4 * d.evictions)
+          (sym (tries_both (sent_aim s.seat op) u.row.events r.events u.row.freed))
+          (subst (λ (k : ℕ). k + 4 * c.evictions ≤ 4 * ((tries_at (sent_aim s.seat op) u.row.events + tries_at (sent_aim s.seat op) r.events) + lines_left s.seat.setup.layout (chunk_of s.seat.setup) op) + 4 * d.evictions)
+          (sym (load_count-append u.row.events r.events)) all);
     }
   where
     aim_from : (seat : Seat) (x y : RecvAt) → x.from ≡ y.from → sent_aim seat x ≡ sent_aim seat y
@@ -79,14 +79,14 @@ pub then_stalled : {s m t : Sight} {c b d : Private} {op cur now : RecvAt} {byte
     → RecvStalled (receiving m b cur mid) polls (receiving t d now after) spot → RecvStalled (receiving s c op bytes) polls (receiving t d now after) spot
 then_stalled {s} {m} {t} {c} {b} {d} {op} {cur} {now} {bytes} {mid} {after} {polls} {spot} g r =
     let u = g.way in
-    let same : m.seat ≡ s.seat = seat_kept s u.events m u.did in
+    let same : m.seat ≡ s.seat = seat_kept s u.row.events m u.row.did in
     let at : recv_spot s.seat now ≡ Some spot = subst (λ (x : Seat). recv_spot x now ≡ Some spot) same r.at in
     let own : IsRecvSpot s.seat op spot = spot_now s.seat now op spot (sym (r.same.0 ∙ u.from)) (now.stage, at) in
     let full = subst (λ (x : Seat). filled_to (chunk_of x.setup) cur ≤ filled_to (chunk_of x.setup) now) same r.fuller in
     let before = u.fuller in
     record {
-      events = u.events ++ r.events;
-      did = did_both s u.events m r.events t u.did r.did;
+      events = u.row.events ++ r.events;
+      did = did_both s u.row.events m r.events t u.row.did r.did;
       tried = subst (λ (n : ℕ). polls ≤ n) (sym (row_after g spot own r.events)) (subst (λ (x : Seat). polls ≤ vain_tries (aim_of x.setup.layout spot) r.events) same r.tried);
       at = at;
       stands = r.stands;
@@ -103,13 +103,13 @@ pub then_differs : {s m t : Sight} {c b d : Private} {op cur : RecvAt} {bytes mi
     → RecvDiffers (receiving m b cur mid) polls (with_bytes t d after) sent asked → RecvDiffers (receiving s c op bytes) polls (with_bytes t d after) sent asked
 then_differs {s} {m} {t} {c} {b} {d} {op} {cur} {bytes} {mid} {after} {polls} {sent} {asked} g r =
     let u = g.way in
-    let same : m.seat ≡ s.seat = seat_kept s u.events m u.did in
+    let same : m.seat ≡ s.seat = seat_kept s u.row.events m u.row.did in
     let none : filled_to (chunk_of s.seat.setup) cur ≡ 0 = subst (λ (x : Seat). filled_to (chunk_of x.setup) cur ≡ 0) same r.none_filled in
     let before = u.fuller in
     let unread : mid ≡ bytes = lists_agree mid bytes (u.stands.long ∙ ap (λ (h : MessageHead). h.len) u.head ∙ sym g.long) (λ k. u.behind k (omega (arith, none))) in
     record {
-      events = u.events ++ r.events;
-      did = did_both s u.events m r.events t u.did r.did;
+      events = u.row.events ++ r.events;
+      did = did_both s u.row.events m r.events t u.row.did r.did;
       is_asked = r.is_asked ∙ u.head;
       other = r.other;
       header = r.header;

@@ -3,6 +3,7 @@ pub mod HeapLemmas
 pub mod HeapStores
 pub mod HeldLemmas
 pub mod LookLemmas
+pub mod LoopLemmas
 pub mod RowLemmas
 pub mod TryLemmas
 pub mod VainLemmas

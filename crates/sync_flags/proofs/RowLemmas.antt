@@ -123,6 +123,9 @@ pub record Waited (aim : Option Aim) (events : List Event) (spot : Spot) : Type 
 some_is : (spot other : Spot) → Some spot ≡ Some other → spot ≡ other
 some_is spot other e = cc
 
+pub some_aim : (a b : Aim) → Some a ≡ Some b → a ≡ b
+some_aim a b e = cc
+
 pub waited : {aim : Option Aim} {events : List Event} {spot : Spot} → Tried aim events (Some spot) → Waited aim events spot
 waited (NoTry none w) = absurd (cc)
 waited {spot = spot} (Vain at is one vain w) = record { at = at; is = is; one = one; vain = vain; spot_is = some_is spot (spot_of at) w }
@@ -134,11 +137,8 @@ pub went_on : {aim : Option Aim} {events : List Event} → Tried aim events None
 went_on (NoTry none w) at is = absurd (cc)
 went_on (Vain other is one vain w) at here = absurd (cc)
 went_on {events = events} (Fruitful other is one vain w) at here =
-    let same : other ≡ at = same_aim other at (sym is ∙ here) in
+    let same : other ≡ at = some_aim other at (sym is ∙ here) in
     (ap (λ (x : Aim). tries_at x events) (sym same) ∙ one, ap (λ (x : Aim). all_vain x false events) (sym same) ∙ vain)
-  where
-    same_aim : (a b : Aim) → Some a ≡ Some b → a ≡ b
-    same_aim a b e = cc
 
 -- ---- the loads of a line are one try at a word of it
 

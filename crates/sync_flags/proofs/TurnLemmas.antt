@@ -1,9 +1,8 @@
--- What holds of a rank's record whatever the port, and why a loop of turns ends.
-use Rattle.std.proofs.Common.{◌≡◌, ℕ, ◌+◌, ◌-◌, ◌*◌, ◌<◌, List, [], refl, ◌∙◌, ap, arith}
-use Rattle.std.proofs.Math.Nat.{add-mul}
+-- What holds of a rank's record whatever the port.
+use Rattle.std.proofs.Common.{◌≡◌, ℕ, List, [], refl, ◌∙◌, ap}
 use base.Stored.{Gv}
 use Rattle.scc_base.specs.declared.events.Event.{Event}
-use Rattle.scc_proto.specs.Stages.{Record, blank}
+use Rattle.scc_proto.specs.Stages.{blank}
 use Rattle.scc_proto.specs.Records.{record_of}
 use Rattle.scc_proto.specs.Ports.{Sight, record_in}
 use Rattle.scc_proto.proofs.PortLaws.{record_of-nil}
@@ -18,9 +17,3 @@ record_at_port s mark rest hold = refl
 pub record_at_start : (s : Sight) → s.events ≡ [] → record_in s ≡ blank
 unfolding record_in
 record_at_start s none = ap (λ (es : List Event). record_of s.seat.setup s.seat.rank es) none ∙ record_of-nil s.seat.setup s.seat.rank
-
--- a loop of turns that allows a number of vain tries in a row: a turn that goes on has one turn less behind it, and
--- begins the row anew
-pub measure_falls : (left now polls vain : ℕ) → left ≡ now + 1 → vain < polls → now * polls + (polls - 0) < left * polls + (polls - vain)
-measure_falls left now polls vain e low =
-    let product : left * polls ≡ now * polls + 1 * polls = ap (λ (x : ℕ). x * polls) e ∙ add-mul now 1 polls in omega (arith, product, low)

@@ -1,6 +1,6 @@
 use Rattle.std.proofs.Common.{arith}
 use Rattle.barrier.proofs.CallLemmas.{underway_none, underway_moved, underway_waited, underway_ends, underway_stalls, left_falls}
-use Rattle.sync_flags.proofs.TurnLemmas.{measure_falls}
+use Rattle.sync_flags.proofs.LoopLemmas.{measure_falls}
 use Rattle.barrier.proofs.barriers.barrier.Goals as goal
 
 pub turns-init : goal.turns-init
