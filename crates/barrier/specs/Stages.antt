@@ -19,22 +19,24 @@ pub record BarAt : Type 0 where
   pub comm : ℕ
   pub stage : BarStage
 
--- a member of a barrier: what its port and its core show, where the barrier stands, and its parity
+-- what is seen of a member of a barrier
 pub record Member : Type 0 where
   pub sight : Sight
   pub core : Private
   pub op : BarAt
   pub parity : List Bool
 
+-- a member of a barrier, by what its port and its core show, where the barrier stands, and its parity
 abbrev pub meeting : Sight → Private → BarAt → List Bool → Member
 meeting sight core op parity = record { sight = sight; core = core; op = op; parity = parity }
 
--- a rank with its parity
+-- what is seen of a rank behind a barrier
 pub record ParityHolder : Type 0 where
   pub sight : Sight
   pub core : Private
   pub parity : List Bool
 
+-- a rank with its parity
 abbrev pub with_parity : Sight → Private → List Bool → ParityHolder
 with_parity sight core parity = record { sight = sight; core = core; parity = parity }
 

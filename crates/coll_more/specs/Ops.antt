@@ -21,8 +21,7 @@ pub record MoreAt : Type 0 where
   pub ended : ℕ
   pub stage : Stage
 
--- a rank that takes part in a collective call: what its port and its core show, where the call stands, its slot, and the caller's
--- bytes
+-- what is seen of a rank in a collective call
 pub record Participant : Type 0 where
   pub sight : Sight
   pub core : Private
@@ -31,6 +30,8 @@ pub record Participant : Type 0 where
   pub src : List ℕ
   pub dst : List ℕ
 
+-- a rank that takes part in a collective call, by what its port and its core show, where the call stands, its slot, and the
+-- caller's bytes
 abbrev pub taking_part : Sight → Private → MoreAt → SlotAt → (src dst : List ℕ) → Participant
 taking_part sight core op slot src dst = record { sight = sight; core = core; op = op; slot = slot; src = src; dst = dst }
 

@@ -1,5 +1,5 @@
 -- One turn of a collective call.
-use Rattle.std.specs.Prelude.{◌≡◌, ◌≢◌, ℕ, ◌+◌, ◌*◌, ◌<◌, Bool, true, false, List, drop, Option, Some, None, is_none, slice_get, sum_by}
+use Rattle.std.specs.Prelude.{◌≡◌, ◌≢◌, ℕ, ◌+◌, ◌<◌, Bool, true, false, List, drop, Option, Some, None, is_none, slice_get, sum_by}
 use Rattle.std.specs.List.{list_all}
 use Rattle.scc_base.specs.Calls.{DataCall}
 use Rattle.scc_base.specs.Heads.{MessageHead, plain_head}
@@ -14,6 +14,7 @@ use Rattle.send_recv.specs.Chunks.{message_bound}
 use Rattle.send_recv.specs.Ops.{SlotAt}
 use Rattle.send_recv.specs.Receiving.{SaysHead, recv_left, recv_spot, recv_waits}
 use Rattle.send_recv.specs.Sending.{send_left, send_spot}
+use Rattle.send_recv.specs.Sights.{layout_at}
 use Rattle.send_recv.specs.Tries.{aim_at}
 use Rattle.send_recv.specs.Turns.{IsAtRest, KeepsRest, LastHeld, OnlyTries, StoresFromBuffer, is_resting}
 use Rattle.send_recv.specs.declared.answers.RecvTurn.{RecvTurn}
@@ -96,7 +97,7 @@ pub record MoreTurned (old now : Participant) (answer : RecvTurn) : Type 0 where
   -- where it waits, each of its events was a load or a vain take
   pub rests : (spot : Spot) → answer ≡ turn.Waiting spot → list_all is_resting events ≡ true
   -- where it waits, it made that one try and nothing else
-  pub only : OnlyTries (aim_at old.sight.seat.setup.layout (recv_waits answer)) events
+  pub only : OnlyTries (aim_at (layout_at old.sight) (recv_waits answer)) events
   pub same : (now.op.more ≡ old.op.more) × (now.op.len ≡ old.op.len)
   pub means : MoreMeans old now answer
   pub rest : KeepsRest (record_in old.sight) (record_in now.sight)

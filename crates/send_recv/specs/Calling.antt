@@ -7,7 +7,6 @@ use Rattle.scc_base.specs.declared.events.Event.{Event}
 use Rattle.scc_base.specs.declared.events.Spot.{Spot}
 use Rattle.scc_proto.specs.Messages.{Notes}
 use Rattle.scc_proto.specs.Stages.{Idle}
-use Rattle.scc_proto.specs.Records.{chunk_of}
 use Rattle.scc_proto.specs.Ports.{Seat, Sight, Did, record_in}
 use Rattle.put_get.specs.Cores.{Private}
 use Rattle.put_get.specs.Transfers.{load_count}
@@ -18,6 +17,7 @@ use Rattle.send_recv.specs.declared.deliveries.SendStop.{SendStop}
 use Rattle.send_recv.specs.declared.deliveries.SendStop.TheVariants as send_stop
 use Rattle.send_recv.specs.Ops.{RecvAt, SlotAt, is_sent}
 use Rattle.send_recv.specs.Ranks.{BufferHolder, Receiver, Sender, SlotHolder, receiving, sending}
+use Rattle.send_recv.specs.Sights.{chunk_at, layout_at}
 use Rattle.send_recv.specs.Tries.{aim_of}
 use Rattle.send_recv.specs.Turns.{HoldsNone, IsSamePost, KeepsRest, IsAtRest, is_resting, IsOneTry}
 use Rattle.send_recv.specs.Steps.{own_core, sent_flag, flag_spot}
@@ -44,20 +44,20 @@ pub record Received (old : Receiver) (polls : ℕ) (now : BufferHolder) : Type 0
   pub no_stall : HasNotStalled old.sight.seat old.op polls events
   -- at most four loads for each look at the flag, for each line that was left to load, and for each eviction
   pub work : load_count events + 4 * old.core.evictions
-      ≤ 4 * (tries_at (sent_aim old.sight.seat old.op) events + lines_left old.sight.seat.setup.layout (chunk_of old.sight.seat.setup) old.op) + 4 * now.core.evictions
+      ≤ 4 * (tries_at (sent_aim old.sight.seat old.op) events + lines_left (layout_at old.sight) (chunk_at old.sight) old.op) + 4 * now.core.evictions
 
 -- a receive gave up: the op that is handed back can go on, and the buffer has the chunks that were taken
 pub record RecvStalled (old : Receiver) (polls : ℕ) (now : Receiver) (spot : Spot) : Type 0 where
   pub events : List Event
   pub did : Did old.sight events now.sight
-  pub tried : TriedInVain (aim_of old.sight.seat.setup.layout spot) polls events
+  pub tried : TriedInVain (aim_of (layout_at old.sight) spot) polls events
   pub at : recv_spot old.sight.seat now.op ≡ Some spot
   pub stands : RecvStands now.sight now.core now.op now.bytes
   pub same : (now.op.from ≡ old.op.from) × (now.op.head ≡ old.op.head)
   pub calls : (record_in now.sight).calls ≡ (record_in old.sight).calls
   pub call_left : (x : List ℕ) → recv_call now.op x ≡ recv_call old.op x
-  pub fuller : filled_to (chunk_of old.sight.seat.setup) old.op ≤ filled_to (chunk_of old.sight.seat.setup) now.op
-  pub behind : (k : ℕ) → filled_to (chunk_of old.sight.seat.setup) now.op ≤ k → slice_index now.bytes k ≡ slice_index old.bytes k
+  pub fuller : filled_to (chunk_at old.sight) old.op ≤ filled_to (chunk_at old.sight) now.op
+  pub behind : (k : ℕ) → filled_to (chunk_at old.sight) now.op ≤ k → slice_index now.bytes k ≡ slice_index old.bytes k
   pub rest : KeepsRest (record_in old.sight) (record_in now.sight)
   pub post : IsSamePost (record_in old.sight).post (record_in now.sight).post
 
@@ -70,7 +70,7 @@ pub record RecvDiffers (old : Receiver) (polls : ℕ) (now : BufferHolder) (sent
   pub header : Notes
   pub noted : (record_in now.sight).notes old.op.from ≡ Some header
   pub says : SaysHead header sent
-  pub none_filled : filled_to (chunk_of old.sight.seat.setup) old.op ≡ 0
+  pub none_filled : filled_to (chunk_at old.sight) old.op ≡ 0
   pub unchanged : now.bytes ≡ old.bytes
   pub untaken : (record_in now.sight).stage ≡ Idle
   pub calls : (record_in now.sight).calls ≡ (record_in old.sight).calls
@@ -136,7 +136,7 @@ pub record Sent (old : Sender) (now : SlotHolder) : Type 0 where
 pub record SendStalled (old : Sender) (polls : ℕ) (now : Sender) (spot : Spot) : Type 0 where
   pub events : List Event
   pub did : Did old.sight events now.sight
-  pub tried : TriedInVain (aim_of old.sight.seat.setup.layout spot) polls events
+  pub tried : TriedInVain (aim_of (layout_at old.sight) spot) polls events
   pub at : send_spot old.sight.seat now.op now.slot ≡ Some spot
   pub stands : SendStands now.sight now.core now.op now.slot now.bytes
   pub same : (now.op.to ≡ old.op.to) × (now.op.head ≡ old.op.head) × (now.op.posted ≡ old.op.posted)

@@ -28,6 +28,7 @@ use Rattle.send_recv.specs.Chunks.{chunk_count, chunk_start, chunk_len, chunk_li
 use Rattle.send_recv.specs.Ops.{RecvAt, is_received}
 use Rattle.send_recv.specs.Ranks.{Receiver}
 use Rattle.sync_flags.specs.Tries.{Tried, tries_at, changing_after}
+use Rattle.send_recv.specs.Sights.{chunk_at, layout_at}
 use Rattle.send_recv.specs.Tries.{aim_of, aim_at}
 use Rattle.send_recv.specs.Turns.{HoldsNone, IsSamePost, KeepsRest, IsAtRest, is_resting, OnlyTries, is_no_draft, LastHeld, LoadsLines}
 
@@ -158,7 +159,7 @@ recv_call op bytes = if is_received op.stage then [] else Recv op.from op.head b
 
 -- what each answer means for the op, the bytes and the record
 abbrev pub RecvMeans : Receiver → Receiver → RecvTurn → Type 0
-RecvMeans old now turn.Moved = (recv_left (chunk_of old.sight.seat.setup) old.op ≡ recv_left (chunk_of old.sight.seat.setup) now.op + 1)
+RecvMeans old now turn.Moved = (recv_left (chunk_at old.sight) old.op ≡ recv_left (chunk_at old.sight) now.op + 1)
     × ((record_in now.sight).calls ≡ (record_in old.sight).calls) × (is_received old.op.stage ≡ false) × (is_received now.op.stage ≡ false)
 RecvMeans old now (turn.Waiting spot) = (now.op ≡ old.op) × (now.bytes ≡ old.bytes) × IsAtRest (record_in old.sight) (record_in now.sight)
 RecvMeans old now turn.Done = (now.op.stage ≡ Finished) × (now.bytes ≡ old.bytes) × ((record_in now.sight).calls ≡ (record_in old.sight).calls ++ recv_call old.op old.bytes)
@@ -180,15 +181,15 @@ pub record RecvTurned (old now : Receiver) (answer : RecvTurn) : Type 0 where
   pub events : List Event
   pub did : Did old.sight events now.sight
   -- it waits exactly where its one try was vain
-  pub tried : Tried (aim_at old.sight.seat.setup.layout (recv_spot old.sight.seat old.op)) events (recv_waits answer)
+  pub tried : Tried (aim_at (layout_at old.sight) (recv_spot old.sight.seat old.op)) events (recv_waits answer)
   -- it has freed the register that it took
   pub freed : changing_after false events ≡ false
   -- it makes no try at another spot of the receive
-  pub elsewhere : (at : Spot) → IsRecvSpot old.sight.seat old.op at → recv_spot old.sight.seat old.op ≢ Some at → tries_at (aim_of old.sight.seat.setup.layout at) events ≡ 0
+  pub elsewhere : (at : Spot) → IsRecvSpot old.sight.seat old.op at → recv_spot old.sight.seat old.op ≢ Some at → tries_at (aim_of (layout_at old.sight) at) events ≡ 0
   -- where it waits, each of its events was a load or a vain take
   pub rests : (spot : Spot) → answer ≡ turn.Waiting spot → list_all is_resting events ≡ true
   -- where it waits, it made that one try and nothing else
-  pub only : OnlyTries (aim_at old.sight.seat.setup.layout (recv_waits answer)) events
+  pub only : OnlyTries (aim_at (layout_at old.sight) (recv_waits answer)) events
   -- it stores no header or chunk word
   pub no_drafts : list_all (is_no_draft old.sight.seat.setup) events ≡ true
   pub same : (now.op.from ≡ old.op.from) × (now.op.head ≡ old.op.head)
@@ -196,10 +197,10 @@ pub record RecvTurned (old now : Receiver) (answer : RecvTurn) : Type 0 where
   pub rest : KeepsRest (record_in old.sight) (record_in now.sight)
   pub post : IsSamePost (record_in old.sight).post (record_in now.sight).post
   -- the buffer changes only where bytes of the line read stand
-  pub before : (k : ℕ) → k < filled_to (chunk_of old.sight.seat.setup) old.op → slice_index now.bytes k ≡ slice_index old.bytes k
-  pub behind : (k : ℕ) → filled_to (chunk_of old.sight.seat.setup) now.op ≤ k → slice_index now.bytes k ≡ slice_index old.bytes k
+  pub before : (k : ℕ) → k < filled_to (chunk_at old.sight) old.op → slice_index now.bytes k ≡ slice_index old.bytes k
+  pub behind : (k : ℕ) → filled_to (chunk_at old.sight) now.op ≤ k → slice_index now.bytes k ≡ slice_index old.bytes k
   -- the buffer is never filled less, and no more lines are left to load
-  pub fuller : filled_to (chunk_of old.sight.seat.setup) old.op ≤ filled_to (chunk_of old.sight.seat.setup) now.op
-  pub fewer : lines_left old.sight.seat.setup.layout (chunk_of old.sight.seat.setup) now.op ≤ lines_left old.sight.seat.setup.layout (chunk_of old.sight.seat.setup) old.op
+  pub fuller : filled_to (chunk_at old.sight) old.op ≤ filled_to (chunk_at old.sight) now.op
+  pub fewer : lines_left (layout_at old.sight) (chunk_at old.sight) now.op ≤ lines_left (layout_at old.sight) (chunk_at old.sight) old.op
   pub held : LastHeld events old.core.evictions now.core
-  pub work : LoadsLines events old.core now.core ((lines_left old.sight.seat.setup.layout (chunk_of old.sight.seat.setup) old.op - lines_left old.sight.seat.setup.layout (chunk_of old.sight.seat.setup) now.op) + extra_line old.op.stage answer)
+  pub work : LoadsLines events old.core now.core ((lines_left (layout_at old.sight) (chunk_at old.sight) old.op - lines_left (layout_at old.sight) (chunk_at old.sight) now.op) + extra_line old.op.stage answer)

@@ -30,6 +30,7 @@ use Rattle.send_recv.specs.Ops.{SendAt, SlotAt, is_sent, slot_left}
 use Rattle.send_recv.specs.Ranks.{Sender, SlotHolder}
 use Rattle.send_recv.specs.Receiving.{progress_at}
 use Rattle.sync_flags.specs.Tries.{Aim, Tried, vain_from, changing_after}
+use Rattle.send_recv.specs.Sights.{chunk_at, layout_at}
 use Rattle.send_recv.specs.Tries.{aim_at}
 use Rattle.send_recv.specs.Turns.{HoldsNone, IsSamePost, KeepsRest, IsAtRest, is_resting, OnlyTries, is_no_draft, LastHeld, StoresFromBuffer, waits_at}
 
@@ -68,12 +69,12 @@ SlotMeans slot now turn.Done = (slot.to ≡ None) × (now ≡ slot)
 pub record SlotTurned (old now : SlotHolder) (answer : Turn) : Type 0 where
   pub events : List Event
   pub did : Did old.sight events now.sight
-  pub tried : Tried (aim_at old.sight.seat.setup.layout (slot_spot old.sight.seat old.slot)) events (waits_at answer)
+  pub tried : Tried (aim_at (layout_at old.sight) (slot_spot old.sight.seat old.slot)) events (waits_at answer)
   -- it has freed the register that it took
   pub freed : changing_after false events ≡ false
   pub rests : (spot : Spot) → answer ≡ turn.Waiting spot → list_all is_resting events ≡ true
   -- where it waits, it made that one try and nothing else
-  pub only : OnlyTries (aim_at old.sight.seat.setup.layout (waits_at answer)) events
+  pub only : OnlyTries (aim_at (layout_at old.sight) (waits_at answer)) events
   pub means : SlotMeans old.slot now.slot answer
   -- where no message is on its way, nothing is done
   pub nothing : answer ≡ turn.Done → (now.sight ≡ old.sight) × (now.core ≡ old.core)
@@ -212,7 +213,7 @@ slot_after op slot = if is_sent op.stage then slot else (if op.posted then recor
 
 -- what each answer means for the op, the slot and the record
 abbrev pub SendMeans : Sender → Sender → Turn → Type 0
-SendMeans old now turn.Moved = (send_left old.sight.seat.setup.layout (chunk_of old.sight.seat.setup) old.op old.slot ≡ send_left old.sight.seat.setup.layout (chunk_of old.sight.seat.setup) now.op now.slot + 1)
+SendMeans old now turn.Moved = (send_left (layout_at old.sight) (chunk_at old.sight) old.op old.slot ≡ send_left (layout_at old.sight) (chunk_at old.sight) now.op now.slot + 1)
     × ((record_in now.sight).calls ≡ (record_in old.sight).calls) × (is_sent old.op.stage ≡ false) × (is_sent now.op.stage ≡ false) × IsSameOrEmpty old.slot now.slot
 SendMeans old now (turn.Waiting spot) = (now.op ≡ old.op) × (now.slot ≡ old.slot) × IsAtRest (record_in old.sight) (record_in now.sight)
 SendMeans old now turn.Done = (now.op.stage ≡ Finished) × (now.slot ≡ slot_after old.op old.slot)
@@ -224,7 +225,7 @@ pub record SendTurned (old now : Sender) (answer : Turn) : Type 0 where
   pub events : List Event
   pub did : Did old.sight events now.sight
   -- it waits exactly where its one try was vain
-  pub tried : Tried (aim_at old.sight.seat.setup.layout (send_spot old.sight.seat old.op old.slot)) events (waits_at answer)
+  pub tried : Tried (aim_at (layout_at old.sight) (send_spot old.sight.seat old.op old.slot)) events (waits_at answer)
   -- it has freed the register that it took
   pub freed : changing_after false events ≡ false
   -- its last turn ends with a store or a free: no row of vain tries is left, whatever was tried before
@@ -232,7 +233,7 @@ pub record SendTurned (old now : Sender) (answer : Turn) : Type 0 where
   -- where it waits, each of its events was a load or a vain take
   pub rests : (spot : Spot) → answer ≡ turn.Waiting spot → list_all is_resting events ≡ true
   -- where it waits, it made that one try and nothing else
-  pub only : OnlyTries (aim_at old.sight.seat.setup.layout (waits_at answer)) events
+  pub only : OnlyTries (aim_at (layout_at old.sight) (waits_at answer)) events
   pub same : (now.op.to ≡ old.op.to) × (now.op.head ≡ old.op.head) × (now.op.posted ≡ old.op.posted)
   pub means : SendMeans old now answer
   pub rest : KeepsRest (record_in old.sight) (record_in now.sight)

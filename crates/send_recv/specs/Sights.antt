@@ -2,6 +2,7 @@
 use Rattle.std.specs.Prelude.{◌≡◌, ℕ, ◌+◌, ◌*◌, Bool, true, false, List}
 use Rattle.scc_base.specs.Layouts.{first_chunk}
 use Rattle.scc_base.specs.Places.{LineAt}
+use Rattle.scc_base.specs.declared.layouts.Layout.{Layout}
 use Rattle.scc_base.specs.declared.events.Spot.{Spot}
 use Rattle.scc_base.specs.declared.events.Spot.TheVariants.{Register}
 use Rattle.scc_proto.specs.Words.{are_peers}
@@ -12,6 +13,10 @@ use Rattle.send_recv.specs.Bytes.{words_at}
 use Rattle.send_recv.specs.Chunks.{chunk_start}
 use Rattle.send_recv.specs.Flags.{Looks, Changes, MayChange}
 use Rattle.send_recv.specs.Steps.{own_core, core_of, sent_flag, ready_flag, flag_spot, line_at}
+
+-- the layout of the flags
+abbrev pub layout_at : Sight → Layout
+layout_at s = s.seat.setup.layout
 
 -- how many bytes a whole chunk has
 abbrev pub chunk_at : Sight → ℕ
