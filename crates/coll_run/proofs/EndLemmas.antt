@@ -1,0 +1,174 @@
+-- Where a run begins, and what a sweep in which nobody moved leaves.
+use Rattle.std.proofs.Common.{◌≡◌, ℕ, zero, suc, ◌<◌, ◌≤◌, Bool, true, false, List, [], ◌∷◌, ◌++◌, length, map, take, slice_index_or, Option, Some, None, is_none, slice_get, refl, sym, ◌∙◌, ap, subst, arith}
+use Rattle.scc_base.specs.Calls.{DataCall}
+use Rattle.scc_base.specs.Setups.{SetupView, setup_key}
+use Rattle.scc_base.specs.declared.events.Event.{Event}
+use Rattle.scc_proto.specs.Agreement.{Agrees}
+use Rattle.scc_proto.specs.Passed.{open_call, open_of, passed_calls, slot_of}
+use Rattle.scc_proto.specs.Ports.{Seat, Sight, record_in}
+use Rattle.scc_proto.specs.Records.{chunk_of, record_of}
+use Rattle.scc_proto.specs.Stages as stage
+use Rattle.scc_proto.specs.Stages.{Record}
+use Rattle.scc_proto.specs.Words.{Memory}
+use Rattle.scc_mesh.specs.Scenes.{ChipView, IsWhole, about_in, events_in, records_in}
+use Rattle.put_get.specs.Cores.{Private}
+use Rattle.send_recv.specs.Calling.{IsInNoCall}
+use Rattle.send_recv.specs.Ops.{SlotAt, empty_slot}
+use Rattle.send_recv.proofs.Starts.{free_at_start}
+use Rattle.rcce_run.proofs.VainLike.{vain_like}
+use Rattle.coll_more.specs.Ops.{HasOwn, MoreAt, data_calls, data_of, is_copied, new_more, table_of}
+use Rattle.coll_more.specs.Pieces.{HasMade, pieces_for}
+use Rattle.coll_more.specs.Standing.{HasEnded, IsFit, MoreStands, StandsAt}
+use Rattle.coll_more.specs.Turns.{is_over, is_over_by}
+use Rattle.coll_more.specs.declared.kinds.More.{More}
+use Rattle.coll_more.specs.declared.kinds.PieceCall.{PieceCall}
+use Rattle.coll_more.specs.declared.ops.Stage.{Stage}
+use Rattle.coll_more.specs.declared.ops.Stage.TheVariants.{Own, Between, Sending, Receiving}
+use Rattle.coll_more.proofs.EndLemmas.{begins}
+use Rattle.coll_more.proofs.PieceLemmas.{pieces_there}
+use Rattle.coll_run.specs.Resting.{AtEnd, HaveRested, Met, Rests, Waits, next_at}
+use Rattle.coll_run.specs.Teams.{HaveEnded, IsFreshMember, IsFreshTeam, IsTeam, MemberStands, MemberView, seat_of, sight_of, srcs_of}
+use Rattle.coll_run.specs.Turns.{GoesOn, MetThen, OverThen, RestsAt, Waiting}
+use Rattle.coll_run.proofs.RestLemmas.{all_over, passed_is}
+
+-- ---- before the first turn
+
+-- a rank before its first turn stands where no event is
+fresh_stands : (more : More) (len : ℕ) (m : MemberView) (s : SetupView) (rank : ℕ) (events : List Event) → IsFreshMember more len m → IsFit more rank s.nue len m.src m.dst → events ≡ []
+    → MemberStands more len m s rank events
+unfolding record_of record_in
+fresh_stands more len m s rank events fresh fits none =
+    subst (λ (es : List Event). MemberStands more len m s rank es) (sym none)
+    (record {
+      more_is = ap (λ (op : MoreAt). op.more) fresh.op;
+      len_is = ap (λ (op : MoreAt). op.len) fresh.op;
+      stands = subst (λ (op : MoreAt). MoreStands [] (sight_of s rank []) m.core op m.slot m.src m.dst) (sym fresh.op)
+          (begins (sight_of s rank []) m.core m.slot more len m.src m.dst
+          (subst (λ (slot : SlotAt). IsInNoCall (sight_of s rank []) m.core slot) (sym fresh.slot) (free_at_start (sight_of s rank []) m.core refl fresh.buffer)) fits);
+      hands = λ core. refl;
+    })
+
+pub team_at_start : (more : More) (len : ℕ) (chip : ChipView) (team : List MemberView) → IsFreshTeam more len chip team → IsTeam more len chip team
+team_at_start more len chip team fresh = record {
+  whole = fresh.whole;
+  each = fresh.each;
+  stands = λ k d low.
+      fresh_stands more len (slice_index_or team k d) (about_in chip) k (events_in chip k) (fresh.fresh.fresh k d low) (fresh.fresh.fits k d low) (fresh.empty k (subst (λ (n : ℕ). k < n) fresh.each low));
+}
+
+-- ---- a call at its end
+
+past_all : (xs : List PieceCall) (k : ℕ) → is_none (slice_get xs k) ≡ true → take k xs ≡ xs
+past_all [] zero none = refl
+past_all [] (suc k) none = refl
+past_all (x ∷ xs) zero none = absurd (cc)
+past_all (x ∷ xs) (suc k) none = ap (λ (l : List PieceCall). x ∷ l) (past_all xs k none)
+
+module _ (s : Sight) (c : Private) (m : MoreAt) (slot : SlotAt) (src dst : List ℕ) (st : MoreStands [] s c m slot src dst) where
+  ended_by : (stage : Stage) → m.stage ≡ stage → is_over_by (table_of s.seat m) m.ended stage ≡ true → HasEnded [] s c m slot src dst
+  ended_by Own is over = absurd (cc)
+  ended_by Between is over = record {
+    calls = st.calls ∙ ap (λ (xs : List PieceCall). map (data_of src dst) xs) (past_all (table_of s.seat m) m.ended over);
+    own = st.own (ap is_copied is);
+    no_call = subst (λ (x : Stage). StandsAt s c slot (table_of s.seat m) m.ended src dst x) is st.at;
+  }
+  ended_by (Sending call op) is over = absurd (cc)
+  ended_by (Receiving call op) is over = absurd (cc)
+
+-- ---- behind the last sweep
+
+module _ (more : More) (len : ℕ) (chip now : ChipView) (team later : List MemberView) (d : MemberView) (memory : Memory) (agrees : Agrees (about_in now) memory (records_in now))
+    (is : IsTeam more len now later) (goes : GoesOn chip team now later)
+    (rests : (k : ℕ) (d : MemberView) → k < length later → RestsAt (about_in now) (records_in now) k (slice_index_or later k d).op) where
+  abbrev s : SetupView
+  s = about_in now
+
+  abbrev member : ℕ → MemberView
+  member k = slice_index_or later k d
+
+  within : (k : ℕ) → k < s.nue → k < length later
+  within k low = subst (λ (n : ℕ). k < n) (sym is.each) low
+
+  -- the looks are vain at the end of the sweep
+  rests_by : (k : ℕ) → k < s.nue → RestsAt s (records_in now) k (member k).op → Rests s memory (records_in now k) k (member k).op
+  rests_by k low (OverThen over) = AtEnd over
+  rests_by k low (Waiting waits) =
+      Waits (vain_like s waits.memory memory waits.records (records_in now) waits.agrees agrees waits.alike k low (next_at (member k).op.stage) waits.vain)
+  rests_by k low (MetThen sent met) = Met sent met
+
+  rested : HaveRested more len s memory (events_in now) member
+  rested = record {
+    agrees = agrees;
+    stands = λ k low. is.stands k d (within k low);
+    rests = λ k low. rests_by k low (rests k d (within k low));
+  }
+
+  ended : (k : ℕ) → k < s.nue → HasEnded [] (sight_of s k (events_in now k)) (member k).core (member k).op (member k).slot (member k).src (member k).dst
+  ended k low =
+      let st = is.stands k d (within k low) in
+      ended_by (sight_of s k (events_in now k)) (member k).core (member k).op (member k).slot (member k).src (member k).dst st.stands (member k).op.stage refl
+      (all_over more len s memory (events_in now) member rested k low)
+
+  -- the calls, by the kind and the length of the run
+  calls_are : (k : ℕ) → k < s.nue → (records_in now k).calls ≡ data_calls more k s.nue len (member k).src (member k).dst
+  unfolding record_in
+  calls_are k low =
+      let st = is.stands k d (within k low) in
+      (ended k low).calls ∙ (λ i. data_calls (st.more_is i) k s.nue (st.len_is i) (member k).src (member k).dst)
+
+  made : (k : ℕ) → k < s.nue → HasMade more s.nue len k (member k).src (member k).dst (passed_calls s (records_in now) k)
+  made k low =
+      let st = is.stands k d (within k low) in
+      let fits : IsFit more k s.nue len (member k).src (member k).dst = subst (λ (m : More). IsFit m k s.nue len (member k).src (member k).dst) st.more_is
+      (subst (λ (n : ℕ). IsFit (member k).op.more k s.nue n (member k).src (member k).dst) st.len_is st.stands.fits) in
+      record {
+        calls_are = passed_is more len s memory (events_in now) member rested k low ∙ calls_are k low;
+        src_is = fits.src_is;
+        dst_is = fits.dst_is;
+        own = subst (λ (m : More). HasOwn m k len (member k).src (member k).dst) st.more_is
+            (subst (λ (n : ℕ). HasOwn (member k).op.more k n (member k).src (member k).dst) st.len_is (ended k low).own);
+      }
+
+  same_srcs : (k : ℕ) → (member k).src ≡ srcs_of team d k
+  same_srcs k = goes.src k d
+
+  pieces : (k : ℕ) → k < s.nue → (member k).dst ≡ pieces_for more s.nue len (srcs_of team d) k
+  pieces k low =
+      pieces_there s.nue len (setup_key s) (passed_calls s (records_in now)) (slot_of s (records_in now)) (λ j. (member j).src) (λ j. (member j).dst) agrees.calls more made k low
+      ∙ (λ i. pieces_for more s.nue len (λ j. same_srcs j i) k)
+
+  none_open : (k : ℕ) → k < s.nue → open_call s (records_in now k) ≡ None
+  unfolding record_in
+  none_open k low = ap (open_of (chunk_of s)) (ended k low).no_call.stage
+
+  same_nue : (about_in now).nue ≡ (about_in chip).nue
+  same_nue = ap (λ (x : SetupView). x.nue) goes.about
+
+  below : (k : ℕ) → k < length team → k < s.nue
+  below k low = let count = goes.count in let each = is.each in omega (arith, low, count, each)
+
+  pieces_now : (k : ℕ) → k < length team → (member k).dst ≡ pieces_for more (about_in chip).nue len (srcs_of team d) k
+  pieces_now k low = pieces k (below k low) ∙ ap (λ (n : ℕ). pieces_for more n len (srcs_of team d) k) same_nue
+
+  calls_now : (k : ℕ) → k < length team → (records_in now k).calls ≡ data_calls more k (about_in chip).nue len (srcs_of team d k) (pieces_for more (about_in chip).nue len (srcs_of team d) k)
+  calls_now k low =
+      calls_are k (below k low)
+      ∙ (λ i. data_calls more k (same_nue i) len (same_srcs k i) (pieces_now k low i))
+
+module _ (more : More) (len : ℕ) (chip now : ChipView) (team later : List MemberView) (memory : Memory) (agrees : Agrees (about_in now) memory (records_in now))
+    (is : IsTeam more len now later) (goes : GoesOn chip team now later)
+    (rests : (k : ℕ) (d : MemberView) → k < length later → RestsAt (about_in now) (records_in now) k (slice_index_or later k d).op) where
+  some_at : (xs : List MemberView) (k : ℕ) → k < length xs → MemberView
+  some_at [] k low = absurd (omega (arith, low))
+  some_at (x ∷ xs) k low = x
+
+  pub have_ended : HaveEnded more len chip team now later
+  have_ended = record {
+    about = goes.about;
+    whole = is.whole;
+    count = goes.count;
+    pieces = λ k d low. pieces_now more len chip now team later d memory agrees is goes rests k low;
+    calls = λ k d low. calls_now more len chip now team later d memory agrees is goes rests k low;
+    none_open = λ k low. none_open more len chip now team later (some_at team k low) memory agrees is goes rests k
+        (below more len chip now team later (some_at team k low) memory agrees is goes rests k low);
+  }

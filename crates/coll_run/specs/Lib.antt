@@ -1,0 +1,4 @@
+pub mod Order
+pub mod Teams
+pub mod Resting
+pub mod Turns
