@@ -16,7 +16,7 @@ use Rattle.send_recv.specs.Calling.{IsInNoCall}
 use Rattle.send_recv.specs.Ops.{SlotAt, empty_slot}
 use Rattle.send_recv.proofs.Starts.{free_at_start}
 use Rattle.rcce_run.proofs.VainLike.{vain_like}
-use Rattle.coll_more.specs.Ops.{HasOwn, MoreAt, data_calls, data_of, is_copied, new_more, table_of}
+use Rattle.coll_more.specs.Ops.{HasOwn, MoreAt, data_calls, data_of, is_copied, new_more, table_of, taking_part}
 use Rattle.coll_more.specs.Pieces.{HasMade, pieces_for}
 use Rattle.coll_more.specs.Standing.{HasEnded, IsFit, MoreStands, StandsAt}
 use Rattle.coll_more.specs.Turns.{is_over, is_over_by}
@@ -42,7 +42,7 @@ fresh_stands more len m s rank events fresh fits none =
     (record {
       more_is = ap (λ (op : MoreAt). op.more) fresh.op;
       len_is = ap (λ (op : MoreAt). op.len) fresh.op;
-      stands = subst (λ (op : MoreAt). MoreStands [] (sight_of s rank []) m.core op m.slot m.src m.dst) (sym fresh.op)
+      stands = subst (λ (op : MoreAt). MoreStands [] (taking_part (sight_of s rank []) m.core op m.slot m.src m.dst)) (sym fresh.op)
           (begins (sight_of s rank []) m.core m.slot more len m.src m.dst
           (subst (λ (slot : SlotAt). IsInNoCall (sight_of s rank []) m.core slot) (sym fresh.slot) (free_at_start (sight_of s rank []) m.core refl fresh.buffer)) fits);
       hands = λ core. refl;
@@ -64,8 +64,8 @@ past_all [] (suc k) none = refl
 past_all (x ∷ xs) zero none = absurd (cc)
 past_all (x ∷ xs) (suc k) none = ap (λ (l : List PieceCall). x ∷ l) (past_all xs k none)
 
-module _ (s : Sight) (c : Private) (m : MoreAt) (slot : SlotAt) (src dst : List ℕ) (st : MoreStands [] s c m slot src dst) where
-  ended_by : (stage : Stage) → m.stage ≡ stage → is_over_by (table_of s.seat m) m.ended stage ≡ true → HasEnded [] s c m slot src dst
+module _ (s : Sight) (c : Private) (m : MoreAt) (slot : SlotAt) (src dst : List ℕ) (st : MoreStands [] (taking_part s c m slot src dst)) where
+  ended_by : (stage : Stage) → m.stage ≡ stage → is_over_by (table_of s.seat m) m.ended stage ≡ true → HasEnded [] (taking_part s c m slot src dst)
   ended_by Own is over = absurd (cc)
   ended_by Between is over = record {
     calls = st.calls ∙ ap (λ (xs : List PieceCall). map (data_of src dst) xs) (past_all (table_of s.seat m) m.ended over);
@@ -103,7 +103,7 @@ module _ (more : More) (len : ℕ) (chip now : ChipView) (team later : List Memb
     rests = λ k low. rests_by k low (rests k d (within k low));
   }
 
-  ended : (k : ℕ) → k < s.nue → HasEnded [] (sight_of s k (events_in now k)) (member k).core (member k).op (member k).slot (member k).src (member k).dst
+  ended : (k : ℕ) → k < s.nue → HasEnded [] (taking_part (sight_of s k (events_in now k)) (member k).core (member k).op (member k).slot (member k).src (member k).dst)
   ended k low =
       let st = is.stands k d (within k low) in
       ended_by (sight_of s k (events_in now k)) (member k).core (member k).op (member k).slot (member k).src (member k).dst st.stands (member k).op.stage refl

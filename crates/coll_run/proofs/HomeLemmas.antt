@@ -28,7 +28,7 @@ use Rattle.send_recv.specs.declared.answers.RecvTurn.TheVariants as turn
 use Rattle.rcce_run.specs.Sweep.{Vain}
 use Rattle.rcce_run.specs.Turns.{NoneElseHolds}
 use Rattle.rcce_run.proofs.HomeTurns.{both_pass, record_split}
-use Rattle.coll_more.specs.Ops.{MoreAt}
+use Rattle.coll_more.specs.Ops.{MoreAt, taking_part}
 use Rattle.coll_more.specs.Standing.{MoreStands}
 use Rattle.coll_more.specs.Turns.{MetOther, MoreTurned, is_over}
 use Rattle.coll_more.specs.declared.kinds.More.{More}
@@ -42,10 +42,10 @@ use Rattle.coll_run.proofs.LookLemmas.{means_by}
 
 -- where a rank stands at its port
 pub stands_at_port : (more : More) (len : ℕ) (chip old : ChipView) (r before hold : ℕ) (m : MemberView) → old ≡ chip → before ≡ r → MemberStands more len m (about_in chip) r (events_in chip r)
-    → MoreStands [] (sight_in old before hold) m.core m.op m.slot m.src m.dst
+    → MoreStands [] (taking_part (sight_in old before hold) m.core m.op m.slot m.src m.dst)
 stands_at_port more len chip old r before hold m same rank st =
-    subst (λ (k : ℕ). MoreStands [] (sight_in old k hold) m.core m.op m.slot m.src m.dst) (sym rank)
-    (subst (λ (c : ChipView). MoreStands [] (sight_in c r hold) m.core m.op m.slot m.src m.dst) (sym same)
+    subst (λ (k : ℕ). MoreStands [] (taking_part (sight_in old k hold) m.core m.op m.slot m.src m.dst)) (sym rank)
+    (subst (λ (c : ChipView). MoreStands [] (taking_part (sight_in c r hold) m.core m.op m.slot m.src m.dst)) (sym same)
     (let port = sight_in chip r hold in
     stands_there (sight_of (about_in chip) r (events_in chip r)) port.seat.mark port.seat.rest port.seat.hold [] m.core m.op m.slot m.src m.dst st.stands))
 
@@ -70,19 +70,19 @@ means_later P Q turns s r own events old new (turn.Mismatch sent) means = means
 
 -- the turn, as the port told it
 pub record PortTurn (chip : ChipView) (r hold : ℕ) (old : MemberView) (now : ChipView) (later name : ℕ) (new : MemberView) (answer : RecvTurn) : Type 0 where
-  pub stands : MoreStands [] (sight_in now later name) new.core new.op new.slot new.src new.dst
-  pub turned : MoreTurned (sight_in chip r hold) old.core old.op old.slot old.dst (sight_in now later name) new.core new.op new.slot new.dst answer
+  pub stands : MoreStands [] (taking_part (sight_in now later name) new.core new.op new.slot new.src new.dst)
+  pub turned : MoreTurned (taking_part (sight_in chip r hold) old.core old.op old.slot old.src old.dst) (taking_part (sight_in now later name) new.core new.op new.slot old.src new.dst) answer
   pub steps : (spot : Spot) → recv_waits answer ≡ Some spot → MadeSteps WasSeatStep (sight_in chip r hold) (sight_in now later name)
 
 -- where the member before it is spelled in another way
 pub port_turn : (chip : ChipView) (r hold : ℕ) (old spelled : MemberView) (now : ChipView) (later name : ℕ) (new : MemberView) (answer : RecvTurn) → old ≡ spelled → new.src ≡ spelled.src
-    → MoreStands [] (sight_in now later name) new.core new.op new.slot spelled.src new.dst
-    → MoreTurned (sight_in chip r hold) spelled.core spelled.op spelled.slot spelled.dst (sight_in now later name) new.core new.op new.slot new.dst answer
+    → MoreStands [] (taking_part (sight_in now later name) new.core new.op new.slot spelled.src new.dst)
+    → MoreTurned (taking_part (sight_in chip r hold) spelled.core spelled.op spelled.slot spelled.src spelled.dst) (taking_part (sight_in now later name) new.core new.op new.slot spelled.src new.dst) answer
     → ((spot : Spot) → recv_waits answer ≡ Some spot → MadeSteps WasSeatStep (sight_in chip r hold) (sight_in now later name))
     → PortTurn chip r hold old now later name new answer
 port_turn chip r hold old spelled now later name new answer same src stands turned steps = record {
-  stands = subst (λ (x : List ℕ). MoreStands [] (sight_in now later name) new.core new.op new.slot x new.dst) (sym src) stands;
-  turned = subst (λ (m : MemberView). MoreTurned (sight_in chip r hold) m.core m.op m.slot m.dst (sight_in now later name) new.core new.op new.slot new.dst answer) (sym same) turned;
+  stands = subst (λ (x : List ℕ). MoreStands [] (taking_part (sight_in now later name) new.core new.op new.slot x new.dst)) (sym src) stands;
+  turned = subst (λ (m : MemberView). MoreTurned (taking_part (sight_in chip r hold) m.core m.op m.slot m.src m.dst) (taking_part (sight_in now later name) new.core new.op new.slot m.src new.dst) answer) (sym same) turned;
   steps = steps;
 }
 
@@ -98,8 +98,8 @@ module _ (more : More) (len : ℕ) where
       subst (λ (n : ℕ). Did (sight_in chip r hold) told.turned.events (sight_in now r n)) same
       (subst (λ (k : ℕ). Did (sight_in chip r hold) told.turned.events (sight_in now k name)) rank did) in
       let open_port : is_port_of now r ≡ true = subst (λ (k : ℕ). is_port_of now k ≡ true) rank port in
-      let fits : MoreStands [] (sight_in now r name) new.core new.op new.slot new.src new.dst =
-      subst (λ (k : ℕ). MoreStands [] (sight_in now k name) new.core new.op new.slot new.src new.dst) rank told.stands in
+      let fits : MoreStands [] (taking_part (sight_in now r name) new.core new.op new.slot new.src new.dst) =
+      subst (λ (k : ℕ). MoreStands [] (taking_part (sight_in now k name) new.core new.op new.slot new.src new.dst)) rank told.stands in
       let kept : (record_in (sight_in now r name)).held ≡ (record_in (sight_in chip r hold)).held =
       ap (λ (k : ℕ). (record_in (sight_in now k name)).held) (sym rank) ∙ told.turned.rest.hold in
       record {

@@ -35,7 +35,7 @@ use Rattle.rcce_run.proofs.HomeTurns.{both_pass, record_split}
 use Rattle.rcce_run.proofs.Looks.{waits_same}
 use Rattle.rcce_run.proofs.UeLooks as looks
 use Rattle.rcce_run.proofs.UeLooks.{Tells, take_is, told}
-use Rattle.coll_more.specs.Ops.{MoreAt, bytes_of, table_of, window}
+use Rattle.coll_more.specs.Ops.{MoreAt, bytes_of, table_of, window, taking_part}
 use Rattle.coll_more.specs.Standing.{MoreStands, StandsAt}
 use Rattle.coll_more.specs.Turns.{MetOther, MoreTurned, aim_by, is_over, left_by, more_left}
 use Rattle.coll_more.specs.declared.kinds.PieceCall.{PieceCall}
@@ -110,8 +110,8 @@ sought_by stepped tried past events waits spot is steps (Vain at aims one vain h
 sought_by stepped tried past events waits spot is steps (Fruitful at aims one vain no_spot) = absurd (cc (is, no_spot))
 
 module _ (stepped : List Event → Event → Type 0) (s t : Sight) (old new : MemberView) where
-  module _ (spot : Spot) (stands : MoreStands [] s old.core old.op old.slot old.src old.dst)
-      (turned : MoreTurned s old.core old.op old.slot old.dst t new.core new.op new.slot new.dst (turn.Waiting spot)) (steps : WereSteps stepped s.events turned.events) where
+  module _ (spot : Spot) (stands : MoreStands [] (taking_part s old.core old.op old.slot old.src old.dst))
+      (turned : MoreTurned (taking_part s old.core old.op old.slot old.src old.dst) (taking_part t new.core new.op new.slot old.src new.dst) (turn.Waiting spot)) (steps : WereSteps stepped s.events turned.events) where
     sought : Sought stepped (aim_by s.seat old.slot old.op.stage) s.events turned.events
     sought = sought_by stepped (aim_by s.seat old.slot old.op.stage) s.events turned.events (Some spot) spot refl steps turned.tried
 
@@ -188,7 +188,7 @@ module _ (stepped : List Event → Event → Type 0) (s t : Sight) (old new : Me
       subst (λ (n : ℕ). n < left_of s.seat.setup s.seat.rank old) (left_same new.op new.slot new.op.stage)
       (subst (λ (n : ℕ). more_left s.seat new.op new.slot < n) (left_same old.op old.slot old.op.stage) less)
 
-  module _ (turned : MoreTurned s old.core old.op old.slot old.dst t new.core new.op new.slot new.dst turn.Done) where
+  module _ (turned : MoreTurned (taking_part s old.core old.op old.slot old.src old.dst) (taking_part t new.core new.op new.slot old.src new.dst) turn.Done) where
     pub has_ended : HasStayed s.seat.setup s.seat.rank s.events turned.events old new × (is_over (seat_of s.seat.setup s.seat.rank) new.op ≡ true)
     unfolding record_in
     has_ended = (
@@ -200,7 +200,7 @@ module _ (stepped : List Event → Event → Type 0) (s t : Sight) (old new : Me
       subst (λ (x : MoreAt). is_over (seat_of s.seat.setup s.seat.rank) x ≡ true) (sym turned.means.0) turned.means.5,
     )
 
-  module _ (sent : MessageHead) (turned : MoreTurned s old.core old.op old.slot old.dst t new.core new.op new.slot new.dst (turn.Mismatch sent)) where
+  module _ (sent : MessageHead) (turned : MoreTurned (taking_part s old.core old.op old.slot old.src old.dst) (taking_part t new.core new.op new.slot old.src new.dst) (turn.Mismatch sent)) where
     pub has_met : HasStayed s.seat.setup s.seat.rank s.events turned.events old new × MetOther (record_of s.seat.setup s.seat.rank (s.events ++ turned.events)) sent new.op.stage
     unfolding record_in
     has_met =
@@ -215,7 +215,7 @@ module _ (stepped : List Event → Event → Type 0) (s t : Sight) (old new : Me
         )
 
   -- what each answer means
-  pub means_by : (answer : RecvTurn) → MoreStands [] s old.core old.op old.slot old.src old.dst → (turned : MoreTurned s old.core old.op old.slot old.dst t new.core new.op new.slot new.dst answer)
+  pub means_by : (answer : RecvTurn) → MoreStands [] (taking_part s old.core old.op old.slot old.src old.dst) → (turned : MoreTurned (taking_part s old.core old.op old.slot old.src old.dst) (taking_part t new.core new.op new.slot old.src new.dst) answer)
       → ((spot : Spot) → recv_waits answer ≡ Some spot → WereSteps stepped s.events turned.events) → TurnMeans stepped s.seat.setup s.seat.rank s.events turned.events old new answer
   means_by turn.Moved stands turned steps = moved_left turned.means.0
   means_by (turn.Waiting spot) stands turned steps = has_waited spot stands turned (steps spot refl)

@@ -9,7 +9,7 @@ use Rattle.scc_proto.specs.Records.{record_of}
 use Rattle.scc_mesh.specs.Scenes.{ChipView, IsWhole, about_in, events_in, records_in}
 use Rattle.put_get.specs.Cores.{Private}
 use Rattle.send_recv.specs.Ops.{SlotAt, empty_slot}
-use Rattle.coll_more.specs.Ops.{MoreAt, data_calls, new_more}
+use Rattle.coll_more.specs.Ops.{MoreAt, data_calls, new_more, taking_part}
 use Rattle.coll_more.specs.Pieces.{pieces_for}
 use Rattle.coll_more.specs.Standing.{IsFit, MoreStands}
 use Rattle.coll_more.specs.declared.kinds.More.{More}
@@ -39,7 +39,7 @@ pub record IsFreshMember (more : More) (len : ℕ) (m : MemberView) : Type 0 whe
 pub record MemberStands (more : More) (len : ℕ) (m : MemberView) (s : SetupView) (rank : ℕ) (events : List Event) : Type 0 where
   pub more_is : m.op.more ≡ more
   pub len_is : m.op.len ≡ len
-  pub stands : MoreStands [] (sight_of s rank events) m.core m.op m.slot m.src m.dst
+  pub stands : MoreStands [] (taking_part (sight_of s rank events) m.core m.op m.slot m.src m.dst)
   pub hands : (core : ℕ) → (record_of s rank events).held core ≡ None
 
 -- all ranks of a chip, at home, each where its events stand

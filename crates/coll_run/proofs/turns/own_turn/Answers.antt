@@ -4,6 +4,7 @@ use Rattle.std.specs.Vec.{with_items}
 use Rattle.scc_proto.specs.Ports.{Sight}
 use Rattle.scc_mesh.specs.Scenes.{sight_in}
 use Rattle.coll_more.specs.Standing.{MoreStands}
+use Rattle.coll_more.specs.Ops.{taking_part}
 use Rattle.coll_run.specs.Teams.{MemberView}
 use Rattle.coll_run.proofs.HomeLemmas.{own_turn_ends, port_turn, stands_at_port}
 use Rattle.coll_run.proofs.turns.own_turn.Goals as goal
@@ -20,7 +21,7 @@ turn-requires g c =
     record {
       stands = (
         [],
-        subst (λ (x : MemberView). MoreStands [] (sight_in lent.chip.now lent.rank lent.chip.ghost_name) x.core x.op x.slot x.src x.dst) same
+        subst (λ (x : MemberView). MoreStands [] (taking_part (sight_in lent.chip.now lent.rank lent.chip.ghost_name) x.core x.op x.slot x.src x.dst)) same
             (stands_at_port more len c.args.chip.now lent.chip.now c.args.rank lent.rank lent.chip.ghost_name c.args.member.now p.same p.rank st),
       );
     }
@@ -47,7 +48,7 @@ returns g c =
           p.same p.rank (search (rules, n)) (λ i. record new { dst = back i }) c.requires.whole c.requires.below end.home st (ap (λ (x : MemberView). x.src) c.member.view_is)
           (port_turn lent.chip.now lent.rank lent.chip.ghost_name c.args.member.now spelled end.chip.now end.rank end.chip.ghost_name new c.turn.result same (sym c.deref.ensures.value)
           (c.turn.ensures.stands []
-          (subst (λ (x : MemberView). MoreStands [] (sight_in lent.chip.now lent.rank lent.chip.ghost_name) x.core x.op x.slot x.src x.dst) same
+          (subst (λ (x : MemberView). MoreStands [] (taking_part (sight_in lent.chip.now lent.rank lent.chip.ghost_name) x.core x.op x.slot x.src x.dst)) same
           (stands_at_port more len c.args.chip.now lent.chip.now c.args.rank lent.rank lent.chip.ghost_name c.args.member.now p.same p.rank st)))
           c.turn.ensures.turned c.turn.ensures.steps);
     }
