@@ -1,2 +1,1 @@
 pub mod OpLemmas
-pub mod TeamLemmas

@@ -15,7 +15,7 @@ use Rattle.coll_more.specs.Standing.{IsFit, Stands}
 use Rattle.coll_more.specs.declared.kinds.More.{More}
 use Rattle.coll_more.proofs.EndLemmas.{begins, stands_there}
 use Rattle.coll_rows.specs.Members.{IsAtOp}
-use Rattle.coll_rows.specs.Teams.{sight_alone}
+use Rattle.chip_teams.specs.Teams.{sight_alone}
 
 at_there : (s : Sight) (m r : Gv) (h : ℕ) (c : Private) (slot : SlotAt) (src dst : List ℕ) (op : Option MoreAt) → IsAtOp s c slot src dst op → IsAtOp (at_port s m r h) c slot src dst op
 at_there s m r h c slot src dst (Some op) st = (st.0, stands_there s m r h st.0 c op slot src dst st.1)

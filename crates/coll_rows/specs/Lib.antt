@@ -1,2 +1,1 @@
-pub mod Teams
 pub mod Members

@@ -3,15 +3,14 @@
 ghost use Rattle.std.specs.Prelude.{◌≡◌, ℕ, [], IfOk};
 ghost use Rattle.scc_base.specs.Setups.{SetupView};
 ghost use Rattle.coll_rows.specs.Members.{IsAtOp};
-ghost use Rattle.coll_rows.specs.Teams.{sight_alone};
+ghost use Rattle.chip_teams.specs.Teams.{sight_alone};
 
 use crate::members::{Job, Member};
-use crate::teams::Player;
+use chip_teams::Player;
 use coll_more::More;
 use line_cache::Never;
-use scc_base::{CommRule, CoreId, Layout, Rank, Setup};
+use scc_base::{CommRule, CoreId, Layout, Rank, Setup, Turn};
 use scc_proto::LonePort;
-use send_recv::RecvTurn;
 use std::alloc::Global;
 use std::test::Fail;
 
@@ -43,17 +42,17 @@ fn a_rank_of_one_ends_and_a_rank_of_two_waits(rt: HostRuntime) -> Result<(), Fai
     let mut port = chip(rt.alloc(), 1)?;
     let mut alone = member(rt.alloc(), More::Alltoall, 1)?;
     // The call begins, copies the own piece, and is at its end.
-    assert_eq!(rt; alone.turn(&mut port), RecvTurn::Moved);
-    assert_eq!(rt; alone.turn(&mut port), RecvTurn::Moved);
-    assert_eq!(rt; alone.turn(&mut port), RecvTurn::Done);
+    assert_eq!(rt; alone.turn(&mut port), Turn::Moved);
+    assert_eq!(rt; alone.turn(&mut port), Turn::Moved);
+    assert_eq!(rt; alone.turn(&mut port), Turn::Done);
     assert_eq!(rt; alone.right, 1);
     let mut port = chip(rt.alloc(), 2)?;
     let mut first = member(rt.alloc(), More::Gather, 2)?;
     // The call begins, copies the own piece, begins the message of rank 1, and waits for it.
-    assert_eq!(rt; first.turn(&mut port), RecvTurn::Moved);
-    assert_eq!(rt; first.turn(&mut port), RecvTurn::Moved);
-    assert_eq!(rt; first.turn(&mut port), RecvTurn::Moved);
-    assert!(rt; matches!(first.turn(&mut port), RecvTurn::Waiting(_)));
+    assert_eq!(rt; first.turn(&mut port), Turn::Moved);
+    assert_eq!(rt; first.turn(&mut port), Turn::Moved);
+    assert_eq!(rt; first.turn(&mut port), Turn::Moved);
+    assert!(rt; matches!(first.turn(&mut port), Turn::Waiting(_)));
     assert_eq!(rt; first.right, 0);
     Ok(())
 }

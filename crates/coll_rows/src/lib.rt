@@ -7,5 +7,3 @@ mod alone;
 mod meetings;
 #[cfg(test)]
 mod members;
-#[cfg(test)]
-mod teams;

@@ -1,10 +1,10 @@
 //! Collective calls of two and of three ranks of a chip with one seat.
 
 use crate::members::{Job, Member};
-use crate::teams::{Team, opened};
+use chip_teams::{Team, opened};
 use coll_more::More;
 use line_cache::{Always, Evict, Never};
-use scc_base::Layout;
+use scc_base::{CommRule, Layout};
 use std::alloc::Global;
 use std::test::Fail;
 
@@ -42,7 +42,7 @@ fn met<V: Evict + Drop>(
     calls: &[Meeting],
 ) -> Result<Team<Member<V>>, Fail> {
     let nue = evictors.len().min(48) as u8;
-    let mut team = Team::new(alloc, opened(alloc, nue, layout)?);
+    let mut team = Team::new(alloc, opened(alloc, nue, layout, CommRule::Absent)?);
     for rank in 0..nue {
         let evict = evictors.pop().ok_or("an evictor")?;
         join_with(alloc, &mut team, evict, jobs_of(alloc, calls, rank, nue)?)?;

@@ -1,9 +1,10 @@
 //! A rank that makes collective calls, one after the other.
 
-use crate::teams::Player;
+use chip_teams::Player;
 use coll_more::{More, MoreOp, dst_len, src_len};
 use line_cache::Evict;
 use put_get::Core;
+use scc_base::Turn;
 use scc_proto::Port;
 use send_recv::{RecvTurn, Slot};
 use std::alloc::Global;
@@ -104,6 +105,14 @@ impl Job {
     }
 }
 
+// The turn of a rank whose call is under way. A message of another head keeps it from its end.
+fn under_way(turn: RecvTurn) -> Turn {
+    match turn {
+        RecvTurn::Waiting(spot) => Turn::Waiting(spot),
+        _ => Turn::Moved,
+    }
+}
+
 /// A rank that makes collective calls, one after the other.
 #[derive(Drop)]
 pub(crate) struct Member<V: Evict + Drop> {
@@ -129,7 +138,7 @@ impl<V: Evict + Drop> Member<V> {
     ghost use Rattle.coll_more.specs.Standing.{Stands};
     ghost use Rattle.coll_more.specs.Ops.{taking_part};
     ghost use Rattle.coll_rows.specs.Members.{IsAtOp};
-    ghost use Rattle.coll_rows.specs.Teams.{sight_alone};
+    ghost use Rattle.chip_teams.specs.Teams.{sight_alone};
 
     pub(crate) fn new(alloc: Global, evict: V, jobs: Vec<Job>) -> Member<V>
         ensures ready { (s : SetupView) (r : ℕ) → IsAtOp (sight_alone s r []) result.core result.slot result.src.items result.dst.items result.op }
@@ -168,7 +177,7 @@ impl<V: Evict + Drop> Member<V> {
     }
 
     // One turn of a call.
-    fn go_on<P: Port>(&mut self, port: &mut P, mut op: MoreOp) -> RecvTurn
+    fn go_on<P: Port>(&mut self, port: &mut P, mut op: MoreOp) -> Turn
         requires no_op { self.old.op ≡ None }
         requires stands { Stands (taking_part (P.sight port.old) self.old.core op self.old.slot self.old.src.items self.old.dst.items) }
         ensures stands { IsAtOp (P.sight port.new) self.new.core self.new.slot self.new.src.items self.new.dst.items self.new.op }
@@ -185,32 +194,32 @@ impl<V: Evict + Drop> Member<V> {
             let right = self.dst == self.wanted;
             self.right = self.right.saturating_add(right as u32);
             if self.jobs.is_empty() {
-                RecvTurn::Done
+                Turn::Done
             } else {
-                RecvTurn::Moved
+                Turn::Moved
             }
         } else {
             self.op = Some(op);
-            turn
+            under_way(turn)
         }
     }
 }
 
 impl<V: Evict + Drop> Player for Member<V> {
     ghost use Rattle.coll_rows.specs.Members.{IsAtOp};
-    ghost use Rattle.coll_rows.specs.Teams.{sight_alone};
+    ghost use Rattle.chip_teams.specs.Teams.{sight_alone};
 
     ghost stands = { λ m s r events. IsAtOp (sight_alone s r events) m.core m.slot m.src.items m.dst.items m.op };
 
-    fn turn<P: Port>(&mut self, port: &mut P) -> RecvTurn {
-        let under_way = self.op.take();
-        if let Some(op) = under_way {
+    fn turn<P: Port>(&mut self, port: &mut P) -> Turn {
+        let begun = self.op.take();
+        if let Some(op) = begun {
             return self.go_on(port, op);
         }
         let Some(job) = self.jobs.pop() else {
-            return RecvTurn::Done;
+            return Turn::Done;
         };
         self.begin(port, job);
-        RecvTurn::Moved
+        Turn::Moved
     }
 }

@@ -22,7 +22,7 @@ use Rattle.barrier.specs.declared.barriers.BarStop.{BarStop}
 use Rattle.barrier.specs.declared.barriers.BarStop.TheVariants.{Stalled}
 use Rattle.barrier.proofs.RestLemmas.{barrier_starts, free_after_barrier}
 use Rattle.scc_mesh.specs.Scenes.{ChipView, IsNew, about_in, sight_in}
-use Rattle.scc_rows.specs.Teams.{sight_alone}
+use Rattle.chip_teams.specs.Teams.{sight_alone}
 use Rattle.scc_rows.specs.Entrants.{IsReady}
 
 at_seat : (seat other : Seat) (rec : Record) (comm : ℕ) (stage : BarStage) → other.setup ≡ seat.setup → other.rank ≡ seat.rank → IsAtStage seat rec comm stage → IsAtStage other rec comm stage

@@ -2,7 +2,6 @@ pub mod RestLemmas
 pub mod Fresh
 pub mod Registers
 pub mod EntrantLemmas
-pub mod TeamLemmas
 pub mod MessageLemmas
 pub mod TalkLemmas
 pub mod CallLemmas

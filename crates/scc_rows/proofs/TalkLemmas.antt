@@ -29,7 +29,7 @@ use Rattle.send_recv.specs.Calling.{IsInNoCall}
 use Rattle.send_recv.specs.Ranks.{receiving, sending, with_slot}
 use Rattle.send_recv.proofs.Starts.{receive_starts, send_starts, slot_stays}
 use Rattle.send_recv.proofs.LookTurn.{holds_kept}
-use Rattle.scc_rows.specs.Teams.{sight_alone}
+use Rattle.chip_teams.specs.Teams.{sight_alone}
 use Rattle.scc_rows.specs.Talkers.{IsAtCall, IsTalking}
 use Rattle.scc_rows.proofs.EntrantLemmas.{no_event}
 

@@ -5,8 +5,8 @@ ghost use Rattle.scc_base.specs.Communicators.{rule_of};
 ghost use Rattle.scc_base.specs.declared.communicators.CommRule.TheVariants.{Absent};
 ghost use Rattle.scc_mesh.specs.Scenes.{IsNew, about_in};
 
-use crate::teams::{Player, Team, opened};
 use barrier::{BarOp, BarStop, Parity, barrier};
+use chip_teams::{Player, Team, opened};
 use line_cache::Never;
 use put_get::Core;
 use scc_base::{CommRule, CoreId, Layout, Place, Rank, Setup, Spot, Turn};
@@ -31,7 +31,7 @@ impl Entrant {
     ghost use Rattle.scc_base.specs.Setups.{SetupView};
     ghost use Rattle.scc_base.specs.Communicators.{rule_of};
     ghost use Rattle.scc_base.specs.declared.communicators.CommRule.TheVariants.{Absent};
-    ghost use Rattle.scc_rows.specs.Teams.{sight_alone};
+    ghost use Rattle.chip_teams.specs.Teams.{sight_alone};
     ghost use Rattle.scc_rows.specs.Entrants.{IsReady};
 
     fn new(comm: u8, more: u8) -> Entrant
@@ -50,7 +50,7 @@ impl Entrant {
 }
 
 impl Player for Entrant {
-    ghost use Rattle.scc_rows.specs.Teams.{sight_alone};
+    ghost use Rattle.chip_teams.specs.Teams.{sight_alone};
     ghost use Rattle.scc_rows.specs.Entrants.{IsReady};
 
     ghost stands = { λ m s r events. IsReady (sight_alone s r events) m.core m.comm m.op m.parity };

@@ -2,7 +2,7 @@
 
 use crate::fixtures::pair_in;
 use crate::messages::{bytes_from, head_of, post_head_of};
-use crate::teams::{Player, Team};
+use chip_teams::{Player, Team};
 use line_cache::Never;
 use put_get::Core;
 use scc_base::{Head, Layout, Rank, Spot, Turn};
@@ -90,7 +90,7 @@ impl Caller {
     ghost use Rattle.scc_proto.specs.Ports.{Did, record_in};
     ghost use Rattle.send_recv.specs.Receiving.{RecvStands};
     ghost use Rattle.send_recv.specs.Sending.{SendStands, SlotStands};
-    ghost use Rattle.scc_rows.specs.Teams.{sight_alone};
+    ghost use Rattle.chip_teams.specs.Teams.{sight_alone};
     ghost use Rattle.scc_rows.specs.Talkers.{IsTalking};
 
     fn new(alloc: Global, peer: Rank, calls: Vec<Call>) -> Caller
@@ -237,7 +237,7 @@ impl Caller {
 }
 
 impl Player for Caller {
-    ghost use Rattle.scc_rows.specs.Teams.{sight_alone};
+    ghost use Rattle.chip_teams.specs.Teams.{sight_alone};
     ghost use Rattle.scc_rows.specs.Talkers.{IsTalking};
 
     ghost stands = { λ m s r events. IsTalking (sight_alone s r events) m.core m.slot m.peer m.bytes.items m.sending m.receiving };

@@ -3,7 +3,7 @@
 ghost use Rattle.std.specs.Prelude.{◌≡◌, ◌≤◌, length, SomeIff};
 ghost use Rattle.scc_base.specs.Heads.{plain_head};
 
-use crate::teams::{Player, Team, opened};
+use chip_teams::{Player, Team, opened};
 use line_cache::{Always, Evict, Never};
 use put_get::Core;
 use scc_base::{CommRule, Head, Layout, PostHead, Rank, Turn};
@@ -79,7 +79,7 @@ impl<V: Evict + Drop> Talker<V> {
     ghost use Rattle.scc_proto.specs.Ports.{Sight, Did, record_in};
     ghost use Rattle.send_recv.specs.Receiving.{RecvStands};
     ghost use Rattle.send_recv.specs.Sending.{SendStands, SlotStands};
-    ghost use Rattle.scc_rows.specs.Teams.{sight_alone};
+    ghost use Rattle.chip_teams.specs.Teams.{sight_alone};
     ghost use Rattle.scc_rows.specs.Talkers.{IsTalking};
 
     pub(crate) fn new(alloc: Global, peer: Rank, evict: V, tasks: Vec<Task>) -> Talker<V>
@@ -185,7 +185,7 @@ impl<V: Evict + Drop> Talker<V> {
 }
 
 impl<V: Evict + Drop> Player for Talker<V> {
-    ghost use Rattle.scc_rows.specs.Teams.{sight_alone};
+    ghost use Rattle.chip_teams.specs.Teams.{sight_alone};
     ghost use Rattle.scc_rows.specs.Talkers.{IsTalking};
 
     ghost stands = { λ m s r events. IsTalking (sight_alone s r events) m.core m.slot m.peer m.bytes.items m.sending m.receiving };

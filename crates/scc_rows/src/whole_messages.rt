@@ -6,7 +6,7 @@ ghost use Rattle.send_recv.specs.Calling.{IsInNoCall};
 
 use crate::callers::{Caller, Deed, End, POLLS, calling};
 use crate::fixtures::{counted, pair_in};
-use crate::teams::Team;
+use chip_teams::Team;
 use line_cache::{Evict, Never};
 use put_get::Core;
 use scc_base::{CoreId, Head, Layout, Place, PostHead, Rank, Spot};

@@ -1,2 +1,1 @@
 pub mod RunnerLemmas
-pub mod TeamLemmas

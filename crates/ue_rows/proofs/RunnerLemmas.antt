@@ -8,7 +8,7 @@ use Rattle.rcce_ue.specs.Standing.{Tied}
 use Rattle.rcce_ue.specs.Turns.{UeTurned}
 use Rattle.rcce_ue.specs.Ues.{UeView}
 use Rattle.rcce_ue.proofs.OtherPort.{tied_there}
-use Rattle.ue_rows.specs.Teams.{sight_alone}
+use Rattle.chip_teams.specs.Teams.{sight_alone}
 
 pub tied_port : (s : Sight) (ue : UeView) → Tied ue (sight_alone s.seat.setup s.seat.rank s.events) → Tied ue s
 tied_port s ue tied = tied_there (sight_alone s.seat.setup s.seat.rank s.events) s.seat.mark s.seat.rest s.seat.hold ue tied

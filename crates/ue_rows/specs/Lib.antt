@@ -1,1 +1,1 @@
-pub mod Teams
+pub mod AwayPlayers

@@ -4,10 +4,10 @@ ghost use Rattle.std.specs.Prelude.{◌≡◌, ◌<◌, ◌≤◌, ℕ, List, []
 ghost use Rattle.scc_base.specs.declared.events.Event.{Event};
 ghost use Rattle.scc_proto.specs.Ports.{Did};
 ghost use Rattle.scc_mesh.specs.Scenes.{IsNew, about_in};
-ghost use Rattle.ue_rows.specs.Teams.{IsAway};
+ghost use Rattle.ue_rows.specs.AwayPlayers.{IsAway};
 
 use crate::scripts::{End, Told, chip_with, runner_of, script_of, setup_for, told_of};
-use crate::teams::Player;
+use chip_teams::Player;
 use line_cache::Never;
 use scc_base::{Layout, Rank};
 use scc_mesh::{Chip, Token, Words};

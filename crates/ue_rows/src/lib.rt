@@ -7,5 +7,3 @@ mod apart;
 mod rows;
 #[cfg(test)]
 mod scripts;
-#[cfg(test)]
-mod teams;

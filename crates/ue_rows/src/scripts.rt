@@ -4,9 +4,9 @@ ghost use Rattle.std.specs.Prelude.{◌≡◌, ◌<◌, ◌≤◌, [], IfOk};
 ghost use Rattle.scc_mesh.specs.Scenes.{IsNew, about_in};
 ghost use Rattle.script_reader.specs.Script.{rules_of};
 ghost use Rattle.rcce_ue.specs.Standing.{Tied};
-ghost use Rattle.ue_rows.specs.Teams.{sight_alone};
+ghost use Rattle.chip_teams.specs.Teams.{sight_alone};
 
-use crate::teams::{Player, Team};
+use chip_teams::{Player, Team};
 use line_cache::{Always, Evict, Never};
 use rcce_ue::Ue;
 use scc_base::{CoreId, Layout, Rank, Setup, Turn};
@@ -50,7 +50,7 @@ pub(crate) struct Runner<'s, V: Evict + Drop> {
 }
 
 impl<'s, V: Evict + Drop> Player for Runner<'s, V> {
-    ghost use Rattle.ue_rows.specs.Teams.{sight_alone};
+    ghost use Rattle.chip_teams.specs.Teams.{sight_alone};
     ghost use Rattle.rcce_ue.specs.Standing.{Tied};
 
     ghost stands = { λ m s r events. Tied m.ue (sight_alone s r events) };

@@ -1,6 +1,6 @@
 use Rattle.std.proofs.Common.{rules, ◌≡◌, ◌+◌, ap, ◌∙◌}
 use Rattle.scc_mesh.specs.Scenes.{about_in}
-use Rattle.scc_rows.specs.Teams.{TeamView}
+use Rattle.chip_teams.specs.Teams.{TeamView}
 use Rattle.scc_rows.proofs.TalkLemmas.{first_of_two, second_of_two}
 use Rattle.scc_rows.proofs.messages.talking.Goals as goal
 

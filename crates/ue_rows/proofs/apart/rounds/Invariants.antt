@@ -1,5 +1,5 @@
 use Rattle.std.specs.Prelude.{ℕ, ◌<◌, length, slice_index_or}
-use Rattle.ue_rows.specs.Teams.{IsAway}
+use Rattle.ue_rows.specs.AwayPlayers.{IsAway}
 use Rattle.ue_rows.proofs.apart.rounds.Given as goal
 
 abbrev pub invariant-loop : goal.invariant-loop

@@ -1,5 +1,5 @@
 use Rattle.std.proofs.Common.{[], refl, sym}
-use Rattle.ue_rows.specs.Teams.{sight_alone}
+use Rattle.chip_teams.specs.Teams.{sight_alone}
 use Rattle.ue_rows.proofs.scripts.runner_of.Goals as goal
 
 pub returns : goal.returns

@@ -1,6 +1,6 @@
 use Rattle.std.proofs.Common.{[], sym, subst}
 use Rattle.rcce_ue.specs.Standing.{Tied}
-use Rattle.ue_rows.specs.Teams.{TeamView, sight_alone}
+use Rattle.chip_teams.specs.Teams.{TeamView, sight_alone}
 use Rattle.ue_rows.proofs.scripts.team_of.Goals as goal
 
 pub join-requires : goal.join-requires

@@ -1,5 +1,0 @@
-use Rattle.std.proofs.Common.{◌≡◌}
-use Rattle.scc_rows.proofs.teams.Team.rounds.Given as goal
-
-abbrev pub invariant-loop-rounds : goal.invariant-loop-rounds
-invariant-loop-rounds g l = l.self ≡ l.fn.self

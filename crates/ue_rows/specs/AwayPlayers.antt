@@ -1,0 +1,10 @@
+-- A player whose rank is away.
+use Rattle.std.specs.Prelude.{◌≡◌, ℕ, List, Option, IsSomeAnd}
+use Rattle.scc_base.specs.Setups.{SetupView}
+use Rattle.scc_base.specs.declared.events.Event.{Event}
+use Rattle.scc_mesh.specs.AwayRanks.{Ticket}
+use Rattle.scc_mesh.specs.Spaces.{ChipId}
+
+-- a rank of this chip is away, and something stands where its events stand
+abbrev pub IsAway : (SetupView → ℕ → List Event → Type 0) → SetupView → ChipId → Option Ticket → Type 0
+IsAway stands s table token = IsSomeAnd token (λ t. (t.table ≡ table) × stands s t.rank t.events)
