@@ -15,6 +15,7 @@ use Rattle.scc_proto.specs.Records.{chunk_of}
 use Rattle.scc_proto.specs.Ports.{Seat, Sight, Did, record_in}
 use Rattle.scc_proto.proofs.PortLaws.{seat_kept}
 use Rattle.put_get.specs.Cores.{Private}
+use Rattle.sync_flags.specs.Turns.{at_port}
 use Rattle.send_recv.specs.declared.stages.RecvStage.{RecvStage}
 use Rattle.send_recv.specs.declared.stages.RecvStage.TheVariants as receive
 use Rattle.send_recv.specs.declared.stages.SendStage.{SendStage}
@@ -29,91 +30,20 @@ use Rattle.send_recv.specs.Calling.{IsInNoCall}
 use Rattle.send_recv.specs.Ranks.{receiving, sending, with_slot}
 use Rattle.send_recv.proofs.Starts.{receive_starts, send_starts, slot_stays}
 use Rattle.send_recv.proofs.LookTurn.{holds_kept}
+use Rattle.send_recv.proofs.OtherPort.{free_there, receive_there, send_there, slot_there}
 use Rattle.chip_teams.specs.Teams.{sight_alone}
 use Rattle.scc_rows.specs.Talkers.{IsAtCall, IsTalking}
 use Rattle.scc_rows.proofs.EntrantLemmas.{no_event}
 
--- the same rank of the same setup, at another port
-abbrev seat_at : Seat → Gv → Gv → ℕ → Seat
-seat_at seat m r h = record seat { mark = m; rest = r; hold = h }
-
-abbrev sight_at : Sight → Gv → Gv → ℕ → Sight
-sight_at s m r h = record { seat = seat_at s.seat m r h; events = s.events }
-
-same_record : (s : Sight) (m r : Gv) (h : ℕ) → record_in (sight_at s m r h) ≡ record_in s
-unfolding record_in
-same_record s m r h = refl
-
-module _ (seat : Seat) (m r : Gv) (h : ℕ) where
-  slot_at : (rec : Record) (slot : SlotAt) → SlotStands seat rec slot → SlotStands (seat_at seat m r h) rec slot
-  slot_at rec slot st = record { to = st.to; seen = st.seen; peers = st.peers }
-
-  receive_stage : (rec : Record) (c : Private) (op : RecvAt) (bytes : List ℕ) (stage : RecvStage) → IsAtStage seat rec c op bytes stage → IsAtStage (seat_at seat m r h) rec c op bytes stage
-  receive_stage rec c op bytes receive.Look at = at
-  receive_stage rec c op bytes receive.Header at = at
-  receive_stage rec c op bytes receive.Lower at = at
-  receive_stage rec c op bytes (receive.Lines i) at = at
-  receive_stage rec c op bytes receive.Raise at = at
-  receive_stage rec c op bytes receive.Finished at = at
-
-  receive_at : (rec : Record) (c : Private) (op : RecvAt) (bytes : List ℕ) → IsReceiving seat rec c op bytes → IsReceiving (seat_at seat m r h) rec c op bytes
-  receive_at rec c op bytes st = record {
-    peers = st.peers;
-    head = st.head;
-    long = st.long;
-    empty = st.empty;
-    hands = st.hands;
-    in_hand = st.in_hand;
-    at = receive_stage rec c op bytes op.stage st.at;
-  }
-
-  waiting_at : (op : SendAt) (bytes : List ℕ) (n : ℕ) → waiting seat op bytes n ≡ waiting (seat_at seat m r h) op bytes n
-  waiting_at op bytes zero = refl
-  waiting_at op bytes (suc n) = refl
-
-  before_at : (layout : Layout) (stage : Stage) (c : Private) (op : SendAt) (bytes : List ℕ) → IsBeforeRaise layout seat stage c op bytes → IsBeforeRaise layout (seat_at seat m r h) stage c op bytes
-  before_at LineFlags stage c op bytes at = (at.0 ∙ waiting_at op bytes (lines_in_hand (chunk_of seat.setup) op), at.1)
-  before_at BitFlags stage c op bytes at = at
-
-  send_stage : (rec : Record) (c : Private) (op : SendAt) (bytes : List ℕ) (stage : SendStage) → IsAtSendStage seat rec c op bytes stage → IsAtSendStage (seat_at seat m r h) rec c op bytes stage
-  send_stage rec c op bytes sending.Header at = at
-  send_stage rec c op bytes (sending.Lines i) at = (at.0, at.1, at.2 ∙ waiting_at op bytes i, at.3)
-  send_stage rec c op bytes sending.Flush at = (at.0, at.1, at.2 ∙ waiting_at op bytes (lines_in_hand (chunk_of seat.setup) op), at.3)
-  send_stage rec c op bytes sending.Raise at = (at.0, before_at seat.setup.layout rec.stage c op bytes at.1)
-  send_stage rec c op bytes sending.Look at = at
-  send_stage rec c op bytes sending.Lower at = at
-  send_stage rec c op bytes sending.Finished at = at
-
-  send_at : (rec : Record) (c : Private) (op : SendAt) (slot : SlotAt) (bytes : List ℕ) → IsSending seat rec c op slot bytes → IsSending (seat_at seat m r h) rec c op slot bytes
-  send_at rec c op slot bytes st = record {
-    peers = st.peers;
-    head = st.head;
-    post_head = st.post_head;
-    long = st.long;
-    hands = st.hands;
-    slot_stands = slot_at rec slot st.slot_stands;
-    in_hand = st.in_hand;
-    at = send_stage rec c op bytes op.stage st.at;
-  }
-
+-- what stands at a port stands at every port of the same rank
 module _ (s : Sight) (m r : Gv) (h : ℕ) where
-  slot_there : (slot : SlotAt) → SlotStands s.seat (record_in s) slot → SlotStands (seat_at s.seat m r h) (record_in (sight_at s m r h)) slot
-  slot_there slot st = subst (λ (x : Record). SlotStands (seat_at s.seat m r h) x slot) (sym (same_record s m r h)) (slot_at s.seat m r h (record_in s) slot st)
-
-  call_at : (c : Private) (slot : SlotAt) (bytes : List ℕ) (send : Option SendAt) (get : Option RecvAt) → IsAtCall s c slot bytes send get → IsAtCall (sight_at s m r h) c slot bytes send get
-  call_at c slot bytes (Some op) get st =
-      subst (λ (x : Record). IsSending (seat_at s.seat m r h) x c op slot bytes) (sym (same_record s m r h)) (send_at s.seat m r h (record_in s) c op slot bytes st)
-  call_at c slot bytes None (Some op) st =
-      (subst (λ (x : Record). IsReceiving (seat_at s.seat m r h) x c op bytes) (sym (same_record s m r h)) (receive_at s.seat m r h (record_in s) c op bytes st.0), slot_there slot st.1)
-  call_at c slot bytes None None st = record {
-    stage = ap (λ (x : Record). x.stage) (same_record s m r h) ∙ st.stage;
-    empty = st.empty;
-    hands = subst (λ (x : Record). HoldsNone s.seat.setup.layout x) (sym (same_record s m r h)) st.hands;
-    slot_stands = slot_there slot st.slot_stands;
-  }
+  call_at : (c : Private) (slot : SlotAt) (bytes : List ℕ) (send : Option SendAt) (get : Option RecvAt) → IsAtCall s c slot bytes send get → IsAtCall (at_port s m r h) c slot bytes send get
+  call_at c slot bytes (Some op) get st = send_there s m r h c op slot bytes st
+  call_at c slot bytes None (Some op) st = (receive_there s m r h c op bytes st.0, slot_there s m r h slot st.1)
+  call_at c slot bytes None None st = free_there s m r h c slot st
 
   talk_at : (c : Private) (slot : SlotAt) (peer : ℕ) (bytes : List ℕ) (send : Option SendAt) (get : Option RecvAt) → IsTalking s c slot peer bytes send get
-      → IsTalking (sight_at s m r h) c slot peer bytes send get
+      → IsTalking (at_port s m r h) c slot peer bytes send get
   talk_at c slot peer bytes send get st = record { peers = st.peers; at = call_at c slot bytes send get st.at }
 
 -- what stands where a rank's events stand stands at a port that shows them, and the other way round
