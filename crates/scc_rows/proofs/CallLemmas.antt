@@ -1,5 +1,5 @@
 -- What stands after a whole call of a rank.
-use Rattle.std.proofs.Common.{◌≡◌, ◌≤◌, ℕ, true, List, Option, None, Some}
+use Rattle.std.proofs.Common.{◌≡◌, ℕ, true, List, Option, None, Some}
 use Rattle.scc_base.specs.Heads.{MessageHead}
 use Rattle.scc_base.specs.declared.events.Spot.{Spot}
 use Rattle.scc_proto.specs.Words.{are_peers}

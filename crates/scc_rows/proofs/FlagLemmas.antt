@@ -1,5 +1,5 @@
 -- Writes of heap flags leave a port at rest.
-use Rattle.std.proofs.Common.{◌≡◌, ℕ, zero, suc, ◌<◌, ◌≤◌, Bool, true, false, if◌then◌else◌, List, [], ◌∷◌, ◌++◌, Option, None, Some, Result, Ok, Err, IfSome, is_some, is_none, refl, sym, ◌∙◌, ap, subst}
+use Rattle.std.proofs.Common.{◌≡◌, ℕ, zero, suc, ◌<◌, ◌≤◌, Bool, true, false, if◌then◌else◌, List, ◌++◌, Option, None, Some, Result, Ok, Err, IfSome, is_some, is_none, refl, sym, ◌∙◌, ap, subst}
 use Rattle.scc_base.specs.Setups.{IsSetup, host_of}
 use Rattle.scc_base.specs.Events.{store_of, take_of, free_of}
 use Rattle.scc_base.specs.declared.events.Stalled.{Stalled}

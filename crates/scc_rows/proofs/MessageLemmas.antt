@@ -1,5 +1,5 @@
 -- How messages begin at the ranks of a chip that was just opened.
-use Rattle.std.proofs.Common.{◌≡◌, ℕ, ◌<◌, true, not, ◌==◌, ◌&&◌, nat_lt, [], None, ◌∙◌, ap}
+use Rattle.std.proofs.Common.{◌≡◌, ℕ, true, not, ◌==◌, ◌&&◌, nat_lt, None, ◌∙◌, ap}
 use Rattle.scc_proto.specs.Words.{are_peers}
 use Rattle.scc_proto.specs.Ports.{Seat, Sight}
 use Rattle.put_get.specs.Cores.{Private}

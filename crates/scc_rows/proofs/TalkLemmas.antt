@@ -1,5 +1,5 @@
 -- A message stands where the events of a rank stand, whatever port shows them.
-use Rattle.std.proofs.Common.{◌≡◌, ◌≤◌, ℕ, zero, suc, true, false, List, [], ◌++◌, Option, None, Some, option_map, length, take, refl, sym, ◌∙◌, ap, subst, arith}
+use Rattle.std.proofs.Common.{◌≡◌, ◌≤◌, ℕ, true, false, List, [], ◌++◌, Option, None, Some, option_map, length, take, refl, sym, ◌∙◌, ap, subst, arith}
 use Rattle.std.proofs.Math.Seq.{take-append_seam}
 use base.Stored.{Gv, gnil}
 use Rattle.scc_base.specs.Heads.{MessageHead, IsHead, IsPostHead, plain_head}
@@ -9,9 +9,8 @@ use Rattle.scc_base.specs.declared.layouts.Layout.TheVariants.{LineFlags, BitFla
 use Rattle.scc_base.specs.declared.events.Event.{Event}
 use Rattle.scc_base.specs.declared.events.Turn.{Turn}
 use Rattle.scc_base.specs.declared.events.Turn.TheVariants as turn
-use Rattle.scc_proto.specs.Stages.{OnItsWay, Stage, Record, Idle, blank}
+use Rattle.scc_proto.specs.Stages.{OnItsWay, Record, Idle, blank}
 use Rattle.scc_proto.specs.Words.{are_peers}
-use Rattle.scc_proto.specs.Records.{chunk_of}
 use Rattle.scc_proto.specs.Ports.{Seat, Sight, Did, record_in}
 use Rattle.scc_proto.proofs.PortLaws.{seat_kept}
 use Rattle.put_get.specs.Cores.{Private}
@@ -25,7 +24,7 @@ use Rattle.send_recv.specs.declared.answers.RecvTurn.TheVariants as recv_turn
 use Rattle.send_recv.specs.Ops.{RecvAt, SendAt, SlotAt, new_receive, new_send, empty_slot}
 use Rattle.send_recv.specs.Turns.{HoldsNone, IsSamePost}
 use Rattle.send_recv.specs.Receiving.{RecvStands, RecvTurned, IsReceiving, IsAtStage}
-use Rattle.send_recv.specs.Sending.{SlotStands, SlotTurned, SendStands, SendTurned, IsSending, IsAtSendStage, IsBeforeRaise, waiting, lines_in_hand}
+use Rattle.send_recv.specs.Sending.{SlotStands, SlotTurned, SendStands, SendTurned, IsSending, IsAtSendStage}
 use Rattle.send_recv.specs.Calling.{IsInNoCall}
 use Rattle.send_recv.specs.Ranks.{receiving, sending, with_slot}
 use Rattle.send_recv.proofs.Starts.{receive_starts, send_starts, slot_stays}
