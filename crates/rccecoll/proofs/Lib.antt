@@ -1,0 +1,4 @@
+pub mod TeamLemmas
+pub mod TextLemmas
+pub mod DigitLemmas
+pub mod RunLemmas

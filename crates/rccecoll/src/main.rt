@@ -1,0 +1,31 @@
+//! `rccecoll`: runs one gather, scatter, allgather or alltoall over the chip.
+#![tactic(auto)]
+
+mod command;
+mod launcher;
+mod lines;
+mod report;
+mod team;
+mod writing;
+
+use launcher::rccecoll;
+use rcce_io::StdSink;
+use scc_mesh::Chip;
+use std::env;
+use std::process::ExitCode;
+
+fn main(rt: HostRuntime) -> ExitCode {
+    // Arguments that cannot be read as text are taken for no words at all.
+    let words = match env::args(&rt) {
+        Ok(args) => args
+            .skip(1)
+            .collect(rt.alloc())
+            .unwrap_or(Vec::new(rt.alloc())),
+        Err(_) => Vec::new(rt.alloc()),
+    };
+    let mut out = StdSink::out(&rt);
+    let mut err = StdSink::err(&rt);
+    let mut chip = Chip::blank();
+    let status = rccecoll(rt.alloc(), words.as_slice(), &mut out, &mut err, &mut chip);
+    ExitCode::from(status.number())
+}
