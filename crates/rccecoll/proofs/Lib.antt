@@ -1,4 +1,3 @@
 pub mod TeamLemmas
 pub mod TextLemmas
-pub mod DigitLemmas
 pub mod RunLemmas

@@ -1,7 +1,7 @@
 -- The lines of `rccecoll` (this project's profile).
 use Rattle.std.specs.Prelude.{ℕ, List, [], ◌∷◌, ◌++◌, codes, decimal, map}
 use Rattle.std.specs.List.{range_with_len}
-use Rattle.hex.specs.Hex.{encode_lower}
+use Rattle.rcce_io.specs.Digits.{hex_text}
 use Rattle.rcce_io.specs.Sending.{joined}
 use Rattle.coll_more.specs.declared.kinds.More.{More}
 use Rattle.coll_more.specs.declared.kinds.More.TheVariants.{Gather, Scatter, Allgather, Alltoall}
@@ -14,11 +14,6 @@ kind_text Gather = codes "gather"
 kind_text Scatter = codes "scatter"
 kind_text Allgather = codes "allgather"
 kind_text Alltoall = codes "alltoall"
-
--- bytes as hex digits in lower case, and `-` for none
-abbrev pub hex_text : List ℕ → List ℕ
-hex_text [] = codes "-"
-hex_text (byte ∷ bytes) = encode_lower (byte ∷ bytes)
 
 -- the front of a line: the rank and the call
 abbrev pub front_of : More → (rank : ℕ) → List ℕ

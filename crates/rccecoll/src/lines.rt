@@ -1,19 +1,15 @@
 //! The lines of a run. No memory is taken.
 
-ghost use Rattle.std.specs.Prelude.{◌≡◌, ◌≤◌, ◌*◌, length};
-ghost use Rattle.hex.specs.Hex.{encode_lower};
+ghost use Rattle.std.specs.Prelude.{◌≡◌, ◌≤◌, length};
 ghost use Rattle.rcce_io.specs.Sending.{Sends};
-ghost use Rattle.rccecoll.specs.Texts.{front_of, hex_text, kind_text, line_by, lines_by, shown_of};
+ghost use Rattle.rccecoll.specs.Texts.{front_of, kind_text, line_by, lines_by, shown_of};
 ghost use Rattle.rccecoll.specs.Pieces.{dst_at};
 
 use coll_more::More;
 use coll_run::Member;
 use line_cache::Never;
 use outcomes::Piece::{Number, Text};
-use rcce_io::{Sink, WriteFault, write_all, write_texts};
-
-/// How many bytes go to the sink as hex digits at a time.
-const HEX_BLOCK: usize = 512;
+use rcce_io::{Sink, WriteFault, write_all, write_hex, write_texts};
 
 /// The word of a call.
 fn kind_word(more: More) -> &'static str
@@ -24,41 +20,6 @@ fn kind_word(more: More) -> &'static str
         More::Scatter => "scatter",
         More::Allgather => "allgather",
         More::Alltoall => "alltoall",
-    }
-}
-
-/// Writes bytes as hex digits, and `-` for none.
-fn write_hex<S: Sink>(sink: &mut S, bytes: &[u8]) -> Result<(), WriteFault>
-    ensures { Sends (hex_text bytes.now) (S.seen sink.old) (S.seen sink.new) result }
-{
-    if bytes.is_empty() {
-        write_all(sink, b"-")
-    } else {
-        write_digits(sink, bytes)
-    }
-}
-
-fn write_digits<S: Sink>(sink: &mut S, bytes: &[u8]) -> Result<(), WriteFault>
-    ensures { Sends (encode_lower bytes.now) (S.seen sink.old) (S.seen sink.new) result }
-{
-    let mut done = 0;
-    while done < bytes.len() {
-        let end = bytes.len().min(done + HEX_BLOCK);
-        write_block(sink, &bytes[done..end])?;
-        done = end;
-    }
-    Ok(())
-}
-
-fn write_block<S: Sink>(sink: &mut S, bytes: &[u8]) -> Result<(), WriteFault>
-    requires { length bytes.now ≤ HEX_BLOCK }
-    ensures { Sends (encode_lower bytes.now) (S.seen sink.old) (S.seen sink.new) result }
-{
-    let mut digits = [0u8; 2 * HEX_BLOCK];
-    let text = &mut digits[..2 * bytes.len()];
-    match hex::encode_to_slice(bytes, text) {
-        Ok(()) => write_all(sink, text),
-        Err(_) => unreachable!(),
     }
 }
 

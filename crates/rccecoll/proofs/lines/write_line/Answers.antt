@@ -1,6 +1,7 @@
 use Rattle.std.proofs.Common.{List, ℕ, ◌++◌, codes}
 use Rattle.rcce_io.proofs.SendingLemmas.{cut_after, cut_then, sends_after, sends_err}
-use Rattle.rccecoll.specs.Texts.{front_of, hex_text}
+use Rattle.rcce_io.specs.Digits.{hex_text}
+use Rattle.rccecoll.specs.Texts.{front_of}
 use Rattle.rccecoll.proofs.lines.write_line.Goals as goal
 
 pub returns-in_err-write_front : goal.returns-in_err-write_front
