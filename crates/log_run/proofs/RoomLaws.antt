@@ -1,0 +1,169 @@
+-- How many calls a rank's program makes, and how many bytes they move, counted along it.
+use Rattle.std.proofs.Common.{◌≡◌, ◌⊎◌, inl, inr, ℕ, suc, ◌+◌, ◌<◌, ◌≤◌, Bool, true, false, ◌&&◌, List, [], ◌∷◌, ◌++◌, drop, length, length-append, min, slice_get, slice_index_or, slice_set, Option, Some, None, refl, sym, ap, ◌∙◌, subst, arith}
+use Rattle.std.specs.Prelude.{nat_le}
+use Rattle.std.specs.List.{list_all, range_with_len}
+use Rattle.std.proofs.Math.Nat.{eq-or-lt_of_le}
+use Rattle.std.proofs.lemmas.Bool.{le-leb, leb-true}
+use Rattle.std.proofs.lemmas.List.Folds.{list_all_at}
+use Rattle.std.proofs.lemmas.List.FromFn.{get_or-range_with_len, length-range_with_len}
+use Rattle.scc_base.specs.Heads.{plain_head}
+use Rattle.scc_base.specs.declared.calls.Call.{Call}
+use Rattle.scc_base.specs.declared.calls.Call.TheVariants as call
+use Rattle.scc_proto.proofs.Tests.{both_first, both_second}
+use Rattle.call_tap.specs.Planned.{bytes_asked, bytes_planned, has_room_for}
+use Rattle.script_plain.specs.declared.prims.Source.TheVariants as source
+use Rattle.script_reader.specs.Script.{Script}
+use Rattle.script_plain.specs.CallLists.{called, calls_from, calls_of}
+use Rattle.script_plain.specs.Lengths.{Lengths, length_at, lengths_after}
+use Rattle.script_plain.specs.Local.{with_length}
+use Rattle.script_plain.specs.Program.{Act, Prim, program_of}
+use Rattle.script_plain.specs.Rooms.{nothing_held}
+use Rattle.script_plain.proofs.RoomLaws.{start_held}
+use Rattle.script_plain.specs.Program.Act.{Set, Apply, Print, Send, Post, Recv, Gather, Bar, Begin, Fold, Accept, Finish, Pass}
+use Rattle.log_run.specs.Sizes.{Asks, HasSameSizes, bytes_by, calls_by, has_room_for_all}
+
+-- ---- what was printed does not matter
+
+register_same : (l m : Lengths) → HasSameSizes l m → (reg : ℕ) → length_at l reg ≡ length_at m reg
+register_same l m same reg = ap (λ (r : List ℕ). slice_index_or r reg 0) (sym same.registers)
+
+called_same : (l m : Lengths) → HasSameSizes l m → (act : Act) → called l act ≡ called m act
+called_same l m same (Set reg content) = refl
+called_same l m same (Apply op ty dst src) = refl
+called_same l m same (Print reg form) = refl
+called_same l m same (Send to head (source.Own reg)) = ap (λ (n : ℕ). call.Send to (with_length head n) ∷ []) (register_same l m same reg)
+called_same l m same (Send to head source.Accumulator) = ap (λ (n : ℕ). call.Send to (with_length head n) ∷ []) (sym same.accumulator)
+called_same l m same (Post to reg) = ap (λ (n : ℕ). call.Post to (plain_head (min n 3584)) ∷ []) (register_same l m same reg)
+called_same l m same (Recv from reg head) = refl
+called_same l m same (Gather from head None) = refl
+called_same l m same (Gather from head (Some reg)) = ap (λ (n : ℕ). call.Recv from (with_length head n) ∷ []) (register_same l m same reg)
+called_same l m same (Bar comm) = refl
+called_same l m same (Begin reg) = refl
+called_same l m same (Fold op ty) = refl
+called_same l m same (Accept reg) = refl
+called_same l m same (Finish reg) = refl
+called_same l m same Pass = refl
+
+set_same : (l m : Lengths) → HasSameSizes l m → (reg n k : ℕ) → k ≡ n → slice_set m.registers reg k ≡ slice_set l.registers reg n
+set_same l m same reg n k is = λ i. slice_set (same.registers i) reg (is i)
+
+after_same : (l m : Lengths) → HasSameSizes l m → (act : Act) → HasSameSizes (lengths_after l act) (lengths_after m act)
+after_same l m same (Set reg content) = record { registers = set_same l m same reg (length content) (length content) refl; accumulator = same.accumulator; received = same.received }
+after_same l m same (Apply op ty dst src) = same
+after_same l m same (Print reg form) = record { registers = same.registers; accumulator = same.accumulator; received = same.received }
+after_same l m same (Send to head source) = same
+after_same l m same (Post to reg) = same
+after_same l m same (Recv from reg head) = record { registers = set_same l m same reg head.len head.len refl; accumulator = same.accumulator; received = same.received }
+after_same l m same (Gather from head None) = record { registers = same.registers; accumulator = same.accumulator; received = refl }
+after_same l m same (Gather from head (Some reg)) = record { registers = same.registers; accumulator = same.accumulator; received = sym (register_same l m same reg) }
+after_same l m same (Bar comm) = same
+after_same l m same (Begin reg) = record { registers = same.registers; accumulator = sym (register_same l m same reg); received = same.received }
+after_same l m same (Fold op ty) = same
+after_same l m same (Accept reg) = record { registers = set_same l m same reg l.received m.received same.received; accumulator = same.accumulator; received = same.received }
+after_same l m same (Finish reg) = record { registers = set_same l m same reg l.accumulator m.accumulator same.accumulator; accumulator = same.accumulator; received = same.received }
+after_same l m same Pass = same
+
+calls_same : (l m : Lengths) → HasSameSizes l m → (prims : List Prim) → calls_from l prims ≡ calls_from m prims
+calls_same l m same [] = refl
+calls_same l m same (prim ∷ prims) = λ i. called_same l m same prim.act i ++ calls_same (lengths_after l prim.act) (lengths_after m prim.act) (after_same l m same prim.act) prims i
+
+-- ---- one primitive more
+
+calls_front : (l : Lengths) (prims : List Prim) (prim : Prim) → slice_get prims 0 ≡ Some prim → calls_from l prims ≡ called l prim.act ++ calls_from (lengths_after l prim.act) (drop 1 prims)
+calls_front l [] prim here = absurd (cc (here))
+calls_front l (x ∷ prims) prim here =
+    let same : x ≡ prim = cc (here) in
+    ap (λ (p : Prim). called l p.act ++ calls_from (lengths_after l p.act) prims) same
+
+pub nothing_left : (l : Lengths) (prims : List Prim) → slice_get prims 0 ≡ None → calls_from l prims ≡ []
+nothing_left l [] none = refl
+nothing_left l (x ∷ prims) none = absurd (cc (none))
+
+planned_append : (one other : List Call) → bytes_planned (one ++ other) ≡ bytes_planned one + bytes_planned other
+planned_append [] other = omega arith
+planned_append (call ∷ one) other = let a = planned_append one other in omega (arith, a)
+
+-- calls and bytes counted so far, with those that are left, are those of the program
+pub record AreCounted (planned : List Call) (calls bytes : ℕ) (left : List Call) : Type 0 where
+  pub count : length planned ≡ calls + length left
+  pub sum : bytes_planned planned ≡ bytes + bytes_planned left
+
+pub counted_on : (planned : List Call) (calls bytes : ℕ) (l m : Lengths) (left : List Prim) (prim : Prim) (moved : Option ℕ) (more_calls more_bytes : ℕ) (rest : List Prim)
+    → AreCounted planned calls bytes (calls_from l left) → slice_get left 0 ≡ Some prim → Asks (called l prim.act) moved → HasSameSizes (lengths_after l prim.act) m
+    → more_calls ≡ calls + calls_by moved → more_bytes ≡ bytes + bytes_by moved → rest ≡ drop 1 left → AreCounted planned more_calls more_bytes (calls_from m rest)
+counted_on planned calls bytes l m left prim moved more_calls more_bytes rest counted here asks same is_calls is_bytes behind =
+    let parts : calls_from l left ≡ called l prim.act ++ calls_from m rest =
+    calls_front l left prim here ∙ ap (λ (c : List Call). called l prim.act ++ c) (calls_same (lengths_after l prim.act) m same (drop 1 left) ∙ ap (calls_from m) (sym behind)) in
+    let lengths = ap length parts ∙ length-append (called l prim.act) (calls_from m rest) in
+    let sums = ap bytes_planned parts ∙ planned_append (called l prim.act) (calls_from m rest) in
+    let c = counted.count in
+    let s = counted.sum in
+    let one = asks.count in
+    let own = asks.bytes in
+    record { count = omega (arith, lengths, c, one, is_calls); sum = omega (arith, sums, s, own, is_bytes) }
+
+-- ---- whether there is room
+
+pub no_room : (planned : List Call) (calls bytes : ℕ) (left : List Call) → AreCounted planned calls bytes left → (nat_le calls 10000 && nat_le bytes 262144) ≡ false → false ≡ has_room_for planned
+no_room planned calls bytes left counted none = by (has_room_for planned) refl
+  where
+    by : (room : Bool) → has_room_for planned ≡ room → false ≡ room
+    by false is = refl
+    by true is =
+        let few = leb-true (length planned) 10000 (both_first (nat_le (length planned) 10000) (nat_le (bytes_planned planned) 262144) is) in
+        let small = leb-true (bytes_planned planned) 262144 (both_second (nat_le (length planned) 10000) (nat_le (bytes_planned planned) 262144) is) in
+        let count = counted.count in
+        let sum = counted.sum in
+        let a : nat_le calls 10000 ≡ true = le-leb calls 10000 (omega (arith, few, count)) in
+        let b : nat_le bytes 262144 ≡ true = le-leb bytes 262144 (omega (arith, small, sum)) in
+        sym none ∙ ap (λ (x : Bool). x && nat_le bytes 262144) a ∙ b
+
+pub some_room : (planned : List Call) (calls bytes : ℕ) → AreCounted planned calls bytes [] → calls ≤ 10000 → bytes ≤ 262144 → true ≡ has_room_for planned
+some_room planned calls bytes counted few small =
+    let count = counted.count in
+    let sum = counted.sum in
+    let a : nat_le (length planned) 10000 ≡ true = le-leb (length planned) 10000 (omega (arith, few, count)) in
+    let b : nat_le (bytes_planned planned) 262144 ≡ true = le-leb (bytes_planned planned) 262144 (omega (arith, small, sum)) in
+    sym (ap (λ (x : Bool). x && nat_le (bytes_planned planned) 262144) a ∙ b)
+
+-- ---- and for all ranks
+
+abbrev room_at : Script → ℕ → Bool
+room_at script rank = has_room_for (calls_of script rank)
+
+all_by : {X : Type 0} (p : X → Bool) (xs : List X) → ((i : ℕ) (d : X) → i < length xs → p (slice_index_or xs i d) ≡ true) → list_all p xs ≡ true
+all_by p [] each = refl
+all_by p (x ∷ xs) each = ap (λ (b : Bool). b && list_all p xs) (each 0 x (omega arith)) ∙ all_by p xs (λ i d low. each (suc i) d (omega (arith, low)))
+
+pub all_room : (script : Script) (n : ℕ) → n ≡ script.nue → ((rank : ℕ) → rank < n → room_at script rank ≡ true) → true ≡ has_room_for_all script
+all_room script n all each =
+    sym (all_by (room_at script) (range_with_len 0 script.nue)
+    (λ i d low.
+    let within : i < script.nue = let long = length-range_with_len 0 script.nue in omega (arith, low, long) in
+    ap (room_at script) (get_or-range_with_len 0 script.nue i d within) ∙ each (0 + i) (omega (arith, within, all))))
+
+pub one_full : (script : Script) (rank : ℕ) → rank < script.nue → room_at script rank ≡ false → false ≡ has_room_for_all script
+one_full script rank low full =
+    sym (list_all_at (room_at script) (range_with_len 0 script.nue) rank 0 (let long = length-range_with_len 0 script.nue in omega (arith, low, long))
+    (ap (room_at script) (let at = get_or-range_with_len 0 script.nue rank 0 low in let same : slice_index_or (range_with_len 0 script.nue) rank 0 ≡ rank = omega (arith, at) in same) ∙ full))
+
+pub each_room : (script : Script) → has_room_for_all script ≡ true → (rank : ℕ) → rank < script.nue → has_room_for (calls_of script rank) ≡ true
+each_room script room rank low = by (room_at script rank) refl
+  where
+    by : (b : Bool) → room_at script rank ≡ b → b ≡ true
+    by true is = refl
+    by false is = absurd (let none = one_full script rank low is in cc (none, room))
+
+-- one rank more
+pub room_step : (script : Script) (n : ℕ) → ((rank : ℕ) → rank < n → room_at script rank ≡ true) → room_at script n ≡ true → (rank : ℕ) → rank < n + 1 → room_at script rank ≡ true
+room_step script n each last rank below = by (eq-or-lt_of_le (omega arith))
+  where
+    by : (rank ≡ n) ⊎ (rank < n) → room_at script rank ≡ true
+    by (inl same) = ap (room_at script) same ∙ last
+    by (inr earlier) = each rank earlier
+
+-- at the start nothing is counted
+pub start_counted : (script : Script) (rank : ℕ) (l : Lengths) (left : List Prim) → l ≡ nothing_held (length script.names) → left ≡ program_of script rank → AreCounted (calls_of script rank) 0 0 (calls_from l left)
+start_counted script rank l left sizes all =
+    let same : calls_of script rank ≡ calls_from l left = λ i. calls_from ((start_held script rank ∙ sym sizes) i) (sym all i) in
+    record { count = omega (arith, ap length same); sum = omega (arith, ap bytes_planned same) }

@@ -1,0 +1,3 @@
+pub mod Loggers
+pub mod LogRuns
+pub mod Sizes

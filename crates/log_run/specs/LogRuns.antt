@@ -1,0 +1,88 @@
+-- A run of UEs whose calls are kept: where it begins, and what it leaves (this project's profile).
+use Rattle.std.specs.Prelude.{◌≡◌, ℕ, ◌<◌, All, List, [], length, Option, Some, None, slice_get, slice_index_or}
+use Rattle.scc_base.specs.Calls.{DataCall, HasItsBytes}
+use Rattle.scc_base.specs.Setups.{SetupView, setup_key}
+use Rattle.scc_base.specs.declared.events.Event.{Event}
+use Rattle.scc_proto.specs.Legality.{IsLegal}
+use Rattle.scc_proto.specs.Passed.{open_call, slot_of}
+use Rattle.scc_mesh.specs.Scenes.{ChipView, IsWhole, about_in, events_in, records_in}
+use Rattle.call_tap.specs.declared.taps.Tap.{Tap}
+use Rattle.call_tap.specs.Kept.{AreKept}
+use Rattle.script_reader.specs.Script.{Script}
+use Rattle.script_reader.specs.Settled as settled
+use Rattle.script_plain.specs.Meaning.{State, plain_end}
+use Rattle.rcce_ue.specs.Ues.{UeView}
+use Rattle.rcce_run.specs.declared.ends.RunEnd.{RunEnd}
+use Rattle.rcce_run.specs.Crews.{EndsAs}
+use Rattle.rcce_run.specs.Turns.{WorkerView}
+use Rattle.rcce_run.specs.UeRuns.{IsFreshUe, WaitsOpen}
+use Rattle.rcce_run.specs.Ues.{UeStands, ue_seen}
+use Rattle.log_run.specs.declared.loggers.Logger.{Logger}
+use Rattle.log_run.specs.Loggers.{IsLogging, IsTapped}
+
+-- a UE before its first turn, with a tap that has read nothing
+pub record IsFresh (script : Script) (s : SetupView) (rank : ℕ) (logger : Logger UeView) : Type 0 where
+  pub fresh : IsFreshUe script s rank logger.worker
+  pub tapped : IsTapped logger.tap s rank []
+
+-- a chip that is open without events, all its ranks at home, and for each rank, in rank order, such a UE of this script, which
+-- was read, with the chip's setup
+pub record IsFreshCrew (script : Script) (chip : ChipView) (crew : List (Logger UeView)) : Type 0 where
+  pub read : settled.IsWhole script.nue script.items
+  pub whole : IsWhole chip
+  pub empty : (r : ℕ) → r < (about_in chip).nue → events_in chip r ≡ []
+  pub each : length crew ≡ (about_in chip).nue
+  pub fresh : (k : ℕ) (d : Logger UeView) → k < length crew → IsFresh script (about_in chip) k (slice_index_or crew k d)
+
+-- what a run sees of the UE, and where it stands
+abbrev pub logger_seen : Logger UeView → WorkerView
+logger_seen logger = ue_seen logger.worker
+
+abbrev pub logger_tied : Logger UeView → SetupView → ℕ → List Event → Type 0
+logger_tied logger = IsLogging (UeStands logger.worker) logger.tap
+
+-- the tap is in its place, and keeps these calls
+abbrev pub KeepsCalls : Option Tap → List DataCall → Type 0
+KeepsCalls None calls = ⊥
+KeepsCalls (Some tap) calls = AreKept tap.kept calls
+
+-- the finished calls of all ranks are legal: they can be used up, each send or post with its receive and each barrier with
+-- those of its group
+abbrev pub AreLegalCalls : ChipView → Type 0
+AreLegalCalls chip =
+    IsLegal (about_in chip).nue (setup_key (about_in chip)) (λ k. (records_in chip k).calls) (slot_of (about_in chip) (records_in chip))
+
+-- the calls that the plain meaning of a script has done for a rank, with their bytes and in order
+abbrev pub done_at : Option State → List DataCall
+done_at None = []
+done_at (Some state) = state.matched
+
+abbrev pub plain_calls : Script → ℕ → List DataCall
+plain_calls script rank = done_at (slice_get (plain_end script).cells rank)
+
+-- What a run of a script leaves on a chip of this setup: the finished calls of each rank are those that the plain meaning
+-- did for it, with their bytes and in order, and they are legal. A call is open in a record only where the plain meaning
+-- leaves the rank waiting in this call. All ranks are at home.
+pub record HasRun (script : Script) (s : SetupView) (chip : ChipView) : Type 0 where
+  pub setup : about_in chip ≡ s
+  pub whole : IsWhole chip
+  pub finished : (rank : ℕ) → (records_in chip rank).calls ≡ plain_calls script rank
+  pub legal : AreLegalCalls chip
+  pub opened : (rank : ℕ) (call : DataCall) → rank < script.nue → open_call (about_in chip) (records_in chip rank) ≡ Some call → WaitsOpen script rank call
+
+-- before the run: one logger for each rank
+pub record AreFresh (script : Script) (setup : SetupView) (crew : List (Logger UeView)) : Type 0 where
+  pub count : length crew ≡ setup.nue
+  pub each : (rank : ℕ) (d : Logger UeView) → rank < length crew → IsFresh script setup rank (slice_index_or crew rank d)
+
+-- and behind it: each tap keeps the calls that the plain meaning did for its rank
+pub record HaveKept (script : Script) (crew : List (Logger UeView)) : Type 0 where
+  pub count : length crew ≡ script.nue
+  pub each : (rank : ℕ) (d : Logger UeView) → rank < script.nue → KeepsCalls (slice_index_or crew rank d).tap (plain_calls script rank)
+  pub long : (rank : ℕ) → rank < script.nue → All HasItsBytes (plain_calls script rank)
+
+-- a run that is over
+pub record IsOver (script : Script) (s : SetupView) (chip : ChipView) (crew : List (Logger UeView)) (end : RunEnd) : Type 0 where
+  pub kept : HaveKept script crew
+  pub answer : EndsAs end script
+  pub history : HasRun script s chip
