@@ -1,7 +1,6 @@
 -- The lines of ranks that have got the same are the same.
 use Rattle.std.proofs.Common.{◌≡◌, ℕ, zero, suc, ◌+◌, ◌-◌, ◌*◌, ◌<◌, ◌≤◌, List, [], ◌∷◌, ◌++◌, map, take, drop, flat_map, Option, Some, None, slice_get, slice_index_or, length, refl, sym, ◌∙◌, ap, subst, arith, append_assoc, take-append-drop}
 use Rattle.std.specs.List.{range_with_len}
-use Rattle.hex.specs.Hex.{encode_lower}
 use Rattle.rcce_io.specs.Sending.{joined}
 use Rattle.coll_more.specs.Ops.{window}
 use Rattle.coll_more.specs.Pieces.{all_of, pieces_for, root_has}
