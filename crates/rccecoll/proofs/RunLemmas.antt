@@ -1,19 +1,18 @@
 -- What a run of a job comes to, and what words come to.
-use Rattle.std.proofs.Common.{◌≡◌, ◌⊎◌, inl, inr, ℕ, ◌<◌, ◌≤◌, List, length, codes, None, Some, Option, Result, Ok, Err, slice_index_or, refl, sym, ◌∙◌, ap, subst, arith}
+use Rattle.std.proofs.Common.{◌≡◌, inl, inr, ℕ, ◌<◌, ◌≤◌, List, length, codes, None, Some, Option, Result, Ok, Err, refl, sym, ◌∙◌, ap, subst, arith}
 use Rattle.scc_base.specs.Setups.{SetupView}
-use Rattle.scc_mesh.specs.Scenes.{ChipView, IsNew, about_in, records_in}
+use Rattle.scc_mesh.specs.Scenes.{ChipView, IsNew, about_in}
 use Rattle.coll_more.specs.Ops.{data_calls}
 use Rattle.coll_more.specs.Pieces.{pieces_for}
 use Rattle.coll_run.specs.Teams.{AreFresh, HaveEnded, IsFreshTeam, MemberView, srcs_of}
 use Rattle.coll_run.proofs.TeamLemmas.{some_member}
-use Rattle.outcomes.specs.Coming.{ByTest, Comes, IsMeant}
-use Rattle.outcomes.specs.Complaints.{complaint_outcome, outcome_of}
-use Rattle.outcomes.specs.Outcomes.{Outcome, Ran, no_memory, run_outcome, words_refused}
-use Rattle.outcomes.specs.Statuses.{is_quiet}
+use Rattle.outcomes.specs.Coming.{IsMeant}
+use Rattle.outcomes.specs.Complaints.{complaint_outcome}
+use Rattle.outcomes.specs.Outcomes.{Outcome, no_memory, run_outcome, words_refused}
 use Rattle.outcomes.specs.declared.complaint.Complaint.{Complaint}
 use Rattle.rccecoll.specs.History.{ChipTells, HasRun}
 use Rattle.rccecoll.specs.Jobs.{got_by, setup_of, src_of}
-use Rattle.rccecoll.specs.Program.{job_of, job_ran, no_files, words_plan}
+use Rattle.rccecoll.specs.Program.{job_of, no_files, words_plan}
 use Rattle.rccecoll.specs.Pieces.{IsReport, dst_at}
 use Rattle.rccecoll.specs.Reports.{report_ran}
 use Rattle.rccecoll.specs.Runs.{IsTeamOf, Launches, RunsWords}

@@ -1,5 +1,5 @@
 -- The ranks of a job and the bytes that they hand in.
-use Rattle.std.proofs.Common.{◌≡◌, ℕ, zero, suc, ◌+◌, ◌*◌, ◌<◌, ◌≤◌, List, [], ◌∷◌, ◌++◌, length, map, replicate, slice_index_or, refl, sym, ◌∙◌, ap, subst, arith, length-append}
+use Rattle.std.proofs.Common.{◌≡◌, ℕ, zero, suc, ◌+◌, ◌<◌, ◌≤◌, List, [], ◌∷◌, ◌++◌, length, map, replicate, slice_index_or, refl, sym, ◌∙◌, ap, subst, arith, length-append}
 use Rattle.std.specs.List.{range_with_len}
 use Rattle.std.proofs.lemmas.List.{length-map, map-append}
 use Rattle.std.proofs.lemmas.List.FromFn.{length-range_with_len}
@@ -11,7 +11,7 @@ use Rattle.coll_more.specs.Tables.{src_len_of}
 use Rattle.coll_more.specs.declared.kinds.More.{More}
 use Rattle.coll_more.specs.declared.kinds.More.TheVariants.{Gather, Scatter, Allgather, Alltoall}
 use Rattle.coll_more.proofs.GoodLemmas.{whole_within}
-use Rattle.coll_run.specs.Teams.{AreFresh, HasJoined, IsFreshMember, MemberView}
+use Rattle.coll_run.specs.Teams.{HasJoined, MemberView}
 use Rattle.coll_run.proofs.JoinLemmas.{each_more}
 use Rattle.rccecoll.specs.Jobs.{byte_at, src_of}
 use Rattle.rccecoll.specs.Runs.{AreRanksOf}

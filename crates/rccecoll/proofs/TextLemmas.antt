@@ -1,5 +1,5 @@
 -- The lines of ranks that have got the same are the same.
-use Rattle.std.proofs.Common.{◌≡◌, ℕ, zero, suc, ◌+◌, ◌-◌, ◌*◌, ◌<◌, ◌≤◌, List, [], ◌∷◌, ◌++◌, map, take, drop, flat_map, Option, Some, None, slice_get, slice_index_or, length, refl, sym, ◌∙◌, ap, subst, arith, append_assoc, take-append-drop}
+use Rattle.std.proofs.Common.{◌≡◌, ℕ, zero, suc, ◌+◌, ◌*◌, ◌<◌, ◌≤◌, List, [], ◌∷◌, ◌++◌, map, flat_map, Some, slice_get, slice_index_or, length, refl, ap, arith}
 use Rattle.std.specs.List.{range_with_len}
 use Rattle.rcce_io.specs.Sending.{joined}
 use Rattle.coll_more.specs.Ops.{window}

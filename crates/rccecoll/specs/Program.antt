@@ -1,5 +1,5 @@
 -- What `rccecoll` does on its words (this project's profile).
-use Rattle.std.specs.Prelude.{ℕ, true, false, if◌then◌else◌, List, [], ◌∷◌, codes, Option, Some, None, option_map, option_and_then, Result, Ok, Err}
+use Rattle.std.specs.Prelude.{ℕ, true, false, if◌then◌else◌, List, [], ◌∷◌, codes, Option, Some, None, Result, Ok, Err}
 use Rattle.std.specs.Str.{bytes_eq}
 use Rattle.rcce_io.specs.Files.{FilesView}
 use Rattle.coll_more.specs.declared.kinds.More.{More}

@@ -1,5 +1,5 @@
 -- The ranks of a job before their first turns, and what a run of it comes to.
-use Rattle.std.specs.Prelude.{◌≡◌, ℕ, ◌<◌, List, length, None, codes, slice_index_or, Result, Ok, Err}
+use Rattle.std.specs.Prelude.{◌≡◌, ℕ, ◌<◌, List, length, None, codes, Result, Ok, Err}
 use Rattle.scc_mesh.specs.Scenes.{ChipView}
 use Rattle.coll_run.specs.Teams.{AreFresh, MemberView, srcs_of}
 use Rattle.outcomes.specs.Coming.{IsMeant}

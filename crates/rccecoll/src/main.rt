@@ -6,6 +6,8 @@ mod launcher;
 mod lines;
 mod report;
 mod team;
+#[cfg(test)]
+mod tests;
 mod writing;
 
 use launcher::rccecoll;

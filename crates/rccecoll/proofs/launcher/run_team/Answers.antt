@@ -1,7 +1,7 @@
 use Rattle.std.proofs.Common.{◌≡◌, List, length, sym, ap, ◌∙◌, subst, arith, true, []}
 use Rattle.std.proofs.lemmas.List.{with_items_is}
 use Rattle.std.specs.Vec.{with_items}
-use Rattle.coll_run.specs.Teams.{IsFreshTeam, MemberView}
+use Rattle.coll_run.specs.Teams.{MemberView}
 use Rattle.rccecoll.specs.Pieces.{dst_at}
 use Rattle.rccecoll.specs.Runs.{IsTeamOf}
 use Rattle.rccecoll.specs.Texts.{lines_by}

@@ -1,4 +1,4 @@
-use Rattle.std.proofs.Common.{List, ℕ, ◌++◌, codes}
+use Rattle.std.proofs.Common.{◌++◌, codes}
 use Rattle.rcce_io.proofs.SendingLemmas.{cut_after, cut_then, sends_after, sends_err}
 use Rattle.rcce_io.specs.Digits.{hex_text}
 use Rattle.rccecoll.specs.Texts.{front_of}
