@@ -1,7 +1,7 @@
 -- The calls of a table as messages: no post is among them, and each message of a list stands in its table.
 use Rattle.std.proofs.Common.{◌≡◌, ◌≢◌, ℕ, zero, suc, ◌<◌, ◌≤◌, ◌&&◌, Bool, true, false, not, if◌then◌else◌, List, [], ◌∷◌, map, take, Option, Some, None, slice_get, refl, sym, ap, ◌∙◌, subst, arith}
 use Rattle.std.specs.List.{list_all}
-use Rattle.scc_base.specs.Calls.{DataCall, Send, Recv, Post, Bar}
+use Rattle.scc_base.specs.Calls.{DataCall, Send, Post}
 use Rattle.scc_base.specs.Heads.{plain_head}
 use Rattle.scc_base.specs.Runs.{Runs}
 use Rattle.scc_proto.specs.Legality.{CallStep, IsUsedUp, Makes, Meeting, Outgoing, OwnStep, Pairing, Posting, Standing, Taking, call_at, callers}

@@ -1,25 +1,22 @@
 -- Where a run begins, and what a sweep in which nobody moved leaves.
-use Rattle.std.proofs.Common.{◌≡◌, ℕ, zero, suc, ◌<◌, ◌≤◌, Bool, true, false, List, [], ◌∷◌, ◌++◌, length, map, take, slice_index_or, Option, Some, None, is_none, slice_get, refl, sym, ◌∙◌, ap, subst, arith}
-use Rattle.scc_base.specs.Calls.{DataCall}
+use Rattle.std.proofs.Common.{◌≡◌, ℕ, zero, suc, ◌<◌, true, List, [], ◌∷◌, length, map, take, slice_index_or, None, is_none, slice_get, refl, sym, ◌∙◌, ap, subst, arith}
 use Rattle.scc_base.specs.Setups.{SetupView, setup_key}
 use Rattle.scc_base.specs.declared.events.Event.{Event}
 use Rattle.scc_proto.specs.Agreement.{Agrees}
 use Rattle.scc_proto.specs.Passed.{open_call, open_of, passed_calls, slot_of}
-use Rattle.scc_proto.specs.Ports.{Seat, Sight, record_in}
+use Rattle.scc_proto.specs.Ports.{Sight, record_in}
 use Rattle.scc_proto.specs.Records.{chunk_of, record_of}
-use Rattle.scc_proto.specs.Stages as stage
-use Rattle.scc_proto.specs.Stages.{Record}
 use Rattle.scc_proto.specs.Words.{Memory}
-use Rattle.scc_mesh.specs.Scenes.{ChipView, IsWhole, about_in, events_in, records_in}
+use Rattle.scc_mesh.specs.Scenes.{ChipView, about_in, events_in, records_in}
 use Rattle.put_get.specs.Cores.{Private}
 use Rattle.send_recv.specs.Calling.{IsInNoCall}
-use Rattle.send_recv.specs.Ops.{SlotAt, empty_slot}
+use Rattle.send_recv.specs.Ops.{SlotAt}
 use Rattle.send_recv.proofs.Starts.{free_at_start}
 use Rattle.rcce_run.proofs.VainLike.{vain_like}
-use Rattle.coll_more.specs.Ops.{HasOwn, MoreAt, data_calls, data_of, is_copied, new_more, table_of, taking_part}
+use Rattle.coll_more.specs.Ops.{HasOwn, MoreAt, data_calls, data_of, is_copied, table_of, taking_part}
 use Rattle.coll_more.specs.Pieces.{HasMade, pieces_for}
 use Rattle.coll_more.specs.Standing.{HasEnded, IsFit, MoreStands, StandsAt}
-use Rattle.coll_more.specs.Turns.{is_over, is_over_by}
+use Rattle.coll_more.specs.Turns.{is_over_by}
 use Rattle.coll_more.specs.declared.kinds.More.{More}
 use Rattle.coll_more.specs.declared.kinds.PieceCall.{PieceCall}
 use Rattle.coll_more.specs.declared.ops.Stage.{Stage}
@@ -27,7 +24,7 @@ use Rattle.coll_more.specs.declared.ops.Stage.TheVariants.{Own, Between, Sending
 use Rattle.coll_more.proofs.EndLemmas.{begins}
 use Rattle.coll_more.proofs.PieceLemmas.{pieces_there}
 use Rattle.coll_run.specs.Resting.{AtEnd, HaveRested, Met, Rests, Waits, next_at}
-use Rattle.coll_run.specs.Teams.{HaveEnded, IsFreshMember, IsFreshTeam, IsTeam, MemberStands, MemberView, seat_of, sight_of, srcs_of}
+use Rattle.coll_run.specs.Teams.{HaveEnded, IsFreshMember, IsFreshTeam, IsTeam, MemberStands, MemberView, sight_of, srcs_of}
 use Rattle.coll_run.specs.Turns.{GoesOn, MetThen, OverThen, RestsAt, Waiting}
 use Rattle.coll_run.proofs.RestLemmas.{all_over, passed_is}
 

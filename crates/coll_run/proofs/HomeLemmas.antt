@@ -1,5 +1,5 @@
 -- A turn of a rank at home, through the port that was lent the chip, and what it leaves on the chip.
-use Rattle.std.proofs.Common.{◌≡◌, ◌≢◌, ⊎_elim, ℕ, ◌<◌, ◌≤◌, true, false, Bool, List, [], ◌∷◌, ◌++◌, Option, Some, None, refl, sym, ap, ◌∙◌, subst}
+use Rattle.std.proofs.Common.{◌≡◌, ◌≢◌, ⊎_elim, ℕ, ◌<◌, ◌≤◌, true, Bool, List, [], ◌∷◌, ◌++◌, Option, Some, refl, sym, ap, ◌∙◌, subst}
 use Rattle.std.specs.List.{list_all}
 use Rattle.std.proofs.lemmas.Bool.{cases_lt}
 use base.Stored.{gnil}
@@ -7,11 +7,10 @@ use Rattle.scc_base.specs.Setups.{SetupView}
 use Rattle.scc_base.specs.declared.events.Event.{Event}
 use Rattle.scc_base.specs.declared.events.Spot.{Spot}
 use Rattle.scc_proto.specs.Like.{Like}
-use Rattle.scc_proto.specs.Ports.{Did, Seat, Sight, record_in}
+use Rattle.scc_proto.specs.Ports.{Did, Sight, record_in}
 use Rattle.scc_proto.specs.Records.{record_from, record_of}
 use Rattle.scc_proto.specs.Resting.{is_resting}
 use Rattle.scc_proto.specs.Stages.{FlagWords, Record}
-use Rattle.scc_proto.specs.Views.{view_of}
 use Rattle.scc_proto.proofs.FlagsTold.{like_both, like_self, like_sym}
 use Rattle.scc_proto.proofs.RestLaw.{resting_part}
 use Rattle.scc_proto.proofs.Tests.{same_or_other}
@@ -25,15 +24,13 @@ use Rattle.put_get.specs.Cores.{MadeSteps}
 use Rattle.send_recv.specs.Receiving.{recv_waits}
 use Rattle.send_recv.specs.declared.answers.RecvTurn.{RecvTurn}
 use Rattle.send_recv.specs.declared.answers.RecvTurn.TheVariants as turn
-use Rattle.rcce_run.specs.Sweep.{Vain}
 use Rattle.rcce_run.specs.Turns.{NoneElseHolds}
 use Rattle.rcce_run.proofs.HomeTurns.{both_pass, record_split}
-use Rattle.coll_more.specs.Ops.{MoreAt, taking_part}
+use Rattle.coll_more.specs.Ops.{taking_part}
 use Rattle.coll_more.specs.Standing.{MoreStands}
 use Rattle.coll_more.specs.Turns.{MetOther, MoreTurned, is_over}
 use Rattle.coll_more.specs.declared.kinds.More.{More}
 use Rattle.coll_more.proofs.EndLemmas.{stands_there}
-use Rattle.coll_run.specs.Resting.{next_at}
 use Rattle.coll_run.specs.Teams.{MemberStands, MemberView, seat_of, sight_of}
 use Rattle.coll_run.specs.Turns.{CameTo, HasStayed, HasWaited, MetThen, OverThen, OwnTurn, RestsAt, StayedAtHome, TurnMeans, TurnedAtHome, Waiting, WaitsThen, has_moved}
 use Rattle.coll_run.proofs.LookLemmas.{means_by}

@@ -1,15 +1,14 @@
 -- What each answer of a collective call's turn means to a run.
-use Rattle.std.proofs.Common.{◌≡◌, ◌⊎◌, inl, inr, ⊎_elim, ℕ, ◌+◌, ◌<◌, ◌&&◌, ◌==◌, Bool, true, false, List, [], ◌∷◌, ◌++◌, Option, Some, None, is_none, option_map, slice_get, refl, sym, ap, ◌∙◌, subst}
+use Rattle.std.proofs.Common.{◌≡◌, ◌⊎◌, inl, inr, ℕ, ◌<◌, ◌&&◌, Bool, true, false, List, [], ◌∷◌, ◌++◌, Option, Some, None, is_none, option_map, refl, sym, ap, ◌∙◌, subst}
 use Rattle.std.specs.List.{list_all}
-use Rattle.scc_base.specs.Heads.{MessageHead, plain_head}
-use Rattle.scc_base.specs.Setups.{SetupView}
+use Rattle.scc_base.specs.Heads.{MessageHead}
 use Rattle.scc_base.specs.declared.events.Access.{Access}
 use Rattle.scc_base.specs.declared.events.Access.TheVariants.{Load, Store, Take, Free}
 use Rattle.scc_base.specs.declared.events.Event.{Event}
 use Rattle.scc_base.specs.declared.events.Spot.{Spot}
 use Rattle.scc_proto.specs.Agreement.{Agrees}
 use Rattle.scc_proto.specs.Like.{Like, unanswered}
-use Rattle.scc_proto.specs.Ports.{Did, Seat, Sight, WereMade, and_then, record_in, record_on}
+use Rattle.scc_proto.specs.Ports.{Did, Sight, WereMade, and_then, record_in, record_on}
 use Rattle.scc_proto.specs.Records.{IsPermitted, permits_by, record_from, record_of}
 use Rattle.scc_proto.specs.Resting as proto
 use Rattle.scc_proto.specs.Stages.{OnItsWay, Record}
@@ -20,9 +19,8 @@ use Rattle.scc_proto.proofs.PortLaws.{made_left, record_in-and_then}
 use Rattle.scc_proto.proofs.RestLaw.{resting_part}
 use Rattle.scc_proto.proofs.Tests.{both_first, both_second}
 use Rattle.put_get.specs.Accesses.{WereSteps}
-use Rattle.put_get.specs.Cores.{MadeSteps}
 use Rattle.sync_flags.specs.Tries.{Aim, Fruitful, NoTry, Tried, Vain, changing_after, is_take}
-use Rattle.send_recv.specs.Ops.{RecvAt, SendAt, SlotAt}
+use Rattle.send_recv.specs.Ops.{SendAt, SlotAt}
 use Rattle.send_recv.specs.Receiving.{recv_waits}
 use Rattle.send_recv.specs.Turns as sr
 use Rattle.send_recv.specs.declared.answers.RecvTurn.{RecvTurn}
@@ -30,7 +28,7 @@ use Rattle.send_recv.specs.declared.answers.RecvTurn.TheVariants as turn
 use Rattle.rcce_ue.proofs.WaitLemmas.{VainStep, found}
 use Rattle.rcce_run.specs.Sweep.{RaiseWaits, SlotWaits, TakeWaits}
 use Rattle.rcce_run.specs.Sweep as sweep
-use Rattle.rcce_run.specs.Turns.{NoneElseHolds, Waits}
+use Rattle.rcce_run.specs.Turns.{NoneElseHolds}
 use Rattle.rcce_run.proofs.HomeTurns.{both_pass, record_split}
 use Rattle.rcce_run.proofs.Looks.{waits_same}
 use Rattle.rcce_run.proofs.UeLooks as looks
@@ -43,7 +41,7 @@ use Rattle.coll_more.specs.declared.ops.Stage.{Stage}
 use Rattle.coll_more.specs.declared.ops.Stage.TheVariants.{Own, Between, Sending, Receiving}
 use Rattle.coll_run.specs.Resting.{next_at}
 use Rattle.coll_run.specs.Teams.{MemberView, seat_of}
-use Rattle.coll_run.specs.Turns.{HasStayed, HasWaited, LookedAt, TurnMeans, left_of}
+use Rattle.coll_run.specs.Turns.{HasStayed, HasWaited, TurnMeans, left_of}
 
 -- ---- events that rest, and records that are alike
 

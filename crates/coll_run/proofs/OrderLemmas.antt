@@ -8,7 +8,7 @@ use Rattle.coll_more.specs.declared.kinds.More.{More}
 use Rattle.coll_more.specs.declared.kinds.More.TheVariants.{Gather, Scatter, Allgather, Alltoall}
 use Rattle.coll_more.specs.declared.kinds.PieceCall.{PieceCall}
 use Rattle.coll_more.specs.declared.kinds.Way.{Way}
-use Rattle.coll_more.specs.declared.kinds.Way.TheVariants.{Gives, Shares, Takes}
+use Rattle.coll_more.specs.declared.kinds.Way.TheVariants.{Gives, Takes}
 use Rattle.coll_more.proofs.ListLemmas.{get_behind, some_same}
 use Rattle.coll_more.proofs.TableLemmas.{high_pair, low_pair, pairs_end, root_at, root_none}
 use Rattle.coll_run.specs.Order.{IsOtherSide, delay, number_at, number_of}

@@ -1,17 +1,17 @@
 -- Where every rank rests, every call is at its end: of the messages that are left both ranks of the first one stand at it, and
 -- there one of the two can move.
-use Rattle.std.proofs.Common.{◌≡◌, ◌≢◌, ◌⊎◌, inl, inr, ⊎_elim, ℕ, zero, suc, ◌+◌, ◌<◌, ◌≤◌, ◌==◌, Bool, true, false, not, if◌then◌else◌, List, [], ◌∷◌, ◌++◌, length, map, take, Option, Some, None, is_none, slice_get, refl, sym, ap, ◌∙◌, subst, arith, append-nil}
+use Rattle.std.proofs.Common.{◌≡◌, ◌≢◌, ◌⊎◌, inl, inr, ⊎_elim, ℕ, zero, suc, ◌<◌, ◌≤◌, ◌==◌, Bool, true, false, not, if◌then◌else◌, List, [], ◌∷◌, ◌++◌, length, map, take, Option, Some, None, is_none, slice_get, refl, sym, ap, ◌∙◌, subst, arith, append-nil}
 use Rattle.std.specs.List.{list_all}
 use Rattle.std.proofs.lemmas.Bool.{cases_eq, cases_lt}
 use Rattle.scc_base.specs.Calls.{DataCall}
 use Rattle.scc_base.specs.Heads.{MessageHead, plain_head}
 use Rattle.scc_base.specs.Setups.{SetupView, setup_key}
 use Rattle.scc_base.specs.declared.events.Event.{Event}
-use Rattle.scc_proto.specs.Legality.{Outgoing, no_slots, slot_message}
-use Rattle.scc_proto.specs.Messages.{Message, Notes, Progress, StandsIn, head_of, has_all, received_messages, sent_messages, with_chunk}
-use Rattle.scc_proto.specs.Pairs.{NotesStand, Offering, pair_of, resumed, sending_side}
+use Rattle.scc_proto.specs.Legality.{no_slots, slot_message}
+use Rattle.scc_proto.specs.Messages.{Notes, Progress, StandsIn, head_of, has_all, received_messages, sent_messages, with_chunk}
+use Rattle.scc_proto.specs.Pairs.{NotesStand, Offering, pair_of, sending_side}
 use Rattle.scc_proto.specs.Passed.{is_received, passed_calls, passed_open, slot_of}
-use Rattle.scc_proto.specs.Ports.{Seat, Sight, record_in}
+use Rattle.scc_proto.specs.Ports.{record_in}
 use Rattle.scc_proto.specs.Records.{chunk_of}
 use Rattle.scc_proto.specs.Stages as stage
 use Rattle.scc_proto.specs.Stages.{Idle, Raised, Record, blank}
@@ -26,15 +26,14 @@ use Rattle.scc_proto.proofs.StepLaws.{itself}
 use Rattle.scc_proto.proofs.Tests.{both_first, eqb_other, peers_are, peers_swap}
 use Rattle.scc_mesh.specs.Keeping.{records_by}
 use Rattle.put_get.specs.Cores.{Private}
-use Rattle.send_recv.specs.Ops.{RecvAt, SendAt, SlotAt}
+use Rattle.send_recv.specs.Ops.{RecvAt, SendAt}
 use Rattle.send_recv.specs.Receiving as recv
 use Rattle.send_recv.specs.Receiving.{SaysHead, progress_at}
 use Rattle.send_recv.specs.declared.stages.RecvStage.{RecvStage}
 use Rattle.send_recv.specs.declared.stages.RecvStage.TheVariants as receive
-use Rattle.script_plain.specs.Next.Next.{Recvs, Sends}
 use Rattle.rcce_run.specs.Sweep.{RaiseWaits, SlotWaits, TakeWaits, Vain}
 use Rattle.rcce_run.proofs.Still.{as_many, no_take, post_in_slot, raise_out}
-use Rattle.coll_more.specs.Ops.{MoreAt, data_of, is_taking, table_of}
+use Rattle.coll_more.specs.Ops.{data_of, is_taking, table_of}
 use Rattle.coll_more.specs.Standing.{StandsAt}
 use Rattle.coll_more.specs.Tables.{calls_of}
 use Rattle.coll_more.specs.Turns.{MetOther, is_over, is_over_by}
@@ -47,7 +46,7 @@ use Rattle.coll_more.specs.declared.ops.Stage.TheVariants.{Own, Between, Sending
 use Rattle.coll_more.proofs.ListLemmas.{some_same}
 use Rattle.coll_run.specs.Order.{IsOtherSide, number_at, number_by, number_of}
 use Rattle.coll_run.specs.Resting.{AtEnd, HaveRested, Met, Rests, Waits, next_at}
-use Rattle.coll_run.specs.Teams.{MemberStands, MemberView, seat_of, sight_of}
+use Rattle.coll_run.specs.Teams.{MemberView, seat_of, sight_of}
 use Rattle.coll_run.proofs.CallLemmas.{at_taken, got_some, is_plain, none_left, plain_made, sent_some, some_before, some_got, some_sent, taken_at}
 use Rattle.coll_run.proofs.OrderLemmas.{mirrored, rises}
 

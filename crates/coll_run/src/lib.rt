@@ -4,6 +4,8 @@
 mod laws;
 mod members;
 mod runs;
+#[cfg(test)]
+mod tests;
 mod turns;
 
 pub use laws::{order_law, rest_law};

@@ -1,4 +1,4 @@
-use Rattle.std.proofs.Common.{◌≡◌, length, ◌∙◌, arith}
+use Rattle.std.proofs.Common.{◌≡◌, length, arith}
 use Rattle.coll_more.specs.Tables.{dst_len_of}
 use Rattle.coll_run.proofs.JoinLemmas.{joined}
 use Rattle.coll_run.proofs.members.join.Goals as goal

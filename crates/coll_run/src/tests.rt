@@ -1,0 +1,201 @@
+//! Runs of each kind, over chips of several sizes.
+
+ghost use Rattle.std.specs.Prelude.{◌≡◌, ◌≤◌, IfOk, length};
+ghost use Rattle.coll_more.specs.Tables.{src_len_of};
+ghost use Rattle.coll_run.specs.Teams.{AreFresh, IsFreshTeam};
+ghost use Rattle.scc_mesh.specs.Scenes.{IsNew, about_in};
+
+use crate::{Member, join, run};
+use coll_more::{More, src_len};
+use line_cache::{Always, Evict, Never};
+use scc_base::{CommRule, CoreId, Layout, Rank, Setup};
+use scc_mesh::Chip;
+use std::alloc::Global;
+use std::test::Fail;
+
+/// The byte of a piece at a place: by the rank that hands it in, and the rank for which it is.
+fn mark(from: usize, to: usize, place: usize) -> u8 {
+    ((from % 251 * 83 + to % 251 * 29 + place % 251) % 251) as u8
+}
+
+/// Where byte i is: in which piece.
+fn piece_of(len: usize, i: usize) -> usize {
+    if len == 0 { 0 } else { i / len }
+}
+
+/// And at which place of it.
+fn place_of(len: usize, i: usize) -> usize {
+    if len == 0 { 0 } else { i % len }
+}
+
+/// Byte i of what a rank hands in.
+fn given(more: More, rank: usize, len: usize, i: usize) -> u8 {
+    match more {
+        More::Gather | More::Allgather => mark(rank, 0, i),
+        More::Scatter | More::Alltoall => mark(rank, piece_of(len, i), place_of(len, i)),
+    }
+}
+
+/// Byte i of what a rank is to get.
+fn wanted(more: More, rank: usize, len: usize, i: usize) -> u8 {
+    match more {
+        More::Gather | More::Allgather => mark(piece_of(len, i), 0, place_of(len, i)),
+        More::Scatter => mark(0, rank, i),
+        More::Alltoall => mark(piece_of(len, i), rank, place_of(len, i)),
+    }
+}
+
+/// Fills what a rank hands in.
+fn fill(bytes: &mut [u8], more: More, rank: usize, len: usize) {
+    for i in 0..bytes.len() {
+        bytes[i] = given(more, rank, len, i);
+    }
+}
+
+/// What a rank hands in.
+fn src_of(alloc: Global, more: More, rank: Rank, nue: u8, len: u32) -> Result<Vec<u8>, Fail>
+    requires few { nue ≤ 48 }
+    requires short { len ≤ 1024 }
+    ensures long { IfOk result (λ src. length src.items ≡ src_len_of more rank nue len) }
+{
+    let mut src = vec![in alloc; 0u8; src_len(more, rank, nue, len)]?;
+    fill(
+        src.as_mut_slice(),
+        more,
+        rank.number() as usize,
+        len as usize,
+    );
+    Ok(src)
+}
+
+/// The ranks of a run, one for each evictor, before their first turns.
+fn team_of<V: Evict + Drop>(
+    alloc: Global,
+    mut evictors: Vec<V>,
+    more: More,
+    nue: u8,
+    len: u32,
+) -> Result<Vec<Member<V>>, Fail>
+    requires few { nue ≤ 48 }
+    requires short { len ≤ 1024 }
+    ensures each { IfOk result (λ team. length team.items ≡ nue) }
+    ensures fresh { IfOk result (λ team. AreFresh more len nue team.items) }
+{
+    let mut team = Vec::new(alloc);
+    for number in 0..nue {
+        let src = src_of(alloc, more, Rank::of(number), nue, len)?;
+        let evict = evictors.pop().ok_or("an evictor")?;
+        join(alloc, &mut team, nue, evict, more, len, src)?;
+    }
+    Ok(team)
+}
+
+/// A chip of so many ranks that was just opened, from the highest core down.
+fn opened(alloc: Global, nue: u8, layout: Layout) -> Result<Chip, Fail>
+    ensures new { IfOk result (λ chip. IsNew (about_in chip) chip) }
+    ensures nue { IfOk result (λ chip. (about_in chip).nue ≡ nue) }
+{
+    let mut cores = [CoreId::of(0); 48];
+    for number in 0..48 {
+        cores[number] = CoreId::of(47 - number as u8);
+    }
+    let mut rules = [CommRule::Absent; 16];
+    rules[0] = CommRule::World;
+    let setup = Setup::new(nue, layout, cores, rules).ok_or("a setup")?;
+    let mut chip = Chip::blank();
+    chip.open(alloc, setup)?;
+    Ok(chip)
+}
+
+/// Whether a rank has got these bytes.
+fn is_right(bytes: &[u8], more: More, rank: usize, len: usize) -> bool {
+    for i in 0..bytes.len() {
+        if bytes[i] != wanted(more, rank, len, i) {
+            return false;
+        }
+    }
+    true
+}
+
+/// How many ranks have got what they were to get.
+fn count_right<V: Evict + Drop>(team: &[Member<V>], more: More, len: usize) -> usize {
+    let mut right: usize = 0;
+    for rank in 0..team.len() {
+        if is_right(team[rank].dst(), more, rank, len) {
+            right = right.saturating_add(1);
+        }
+    }
+    right
+}
+
+/// Whether all ranks get their pieces in a run.
+fn ends_right<V: Evict + Drop>(
+    alloc: Global,
+    evictors: Vec<V>,
+    layout: Layout,
+    more: More,
+    nue: u8,
+    len: u32,
+) -> Result<bool, Fail>
+    requires few { nue ≤ 48 }
+    requires short { len ≤ 1024 }
+{
+    let mut chip = opened(alloc, nue, layout)?;
+    let mut team = team_of(alloc, evictors, more, nue, len)?;
+    run(&mut chip, team.as_mut_slice());
+    Ok(count_right(team.as_slice(), more, len as usize) == nue as usize)
+}
+
+/// Evictors that drop no line.
+fn nevers(alloc: Global, count: u8) -> Result<Vec<Never>, Fail> {
+    let mut evictors = Vec::new(alloc);
+    for _ in 0..count {
+        evictors.push(Never)?;
+    }
+    Ok(evictors)
+}
+
+/// Evictors that drop a line at each fill.
+fn always(alloc: Global, count: u8) -> Result<Vec<Always>, Fail> {
+    let mut evictors = Vec::new(alloc);
+    for _ in 0..count {
+        evictors.push(Always::new())?;
+    }
+    Ok(evictors)
+}
+
+/// How many of the four kinds come right, in both layouts and with either evictor.
+fn kinds_right(alloc: Global, nue: u8, len: u32) -> Result<usize, Fail>
+    requires few { nue ≤ 48 }
+    requires short { len ≤ 1024 }
+{
+    let mut right: usize = 0;
+    for more in [More::Gather, More::Scatter, More::Allgather, More::Alltoall] {
+        for layout in [Layout::lines(), Layout::bits()] {
+            let never = ends_right(alloc, nevers(alloc, nue)?, layout, more, nue, len)?;
+            let evicted = ends_right(alloc, always(alloc, nue)?, layout, more, nue, len)?;
+            if never && evicted {
+                right = right.saturating_add(1);
+            }
+        }
+    }
+    Ok(right)
+}
+
+#[test]
+fn each_kind_comes_to_its_end(rt: HostRuntime) -> Result<(), Fail> {
+    for nue in [1, 2, 3] {
+        for len in [0, 1, 32, 33, 1024] {
+            assert_eq!(rt; kinds_right(rt.alloc(), nue, len)?, 8);
+        }
+    }
+    Ok(())
+}
+
+#[test]
+fn each_kind_comes_to_its_end_on_all_cores(rt: HostRuntime) -> Result<(), Fail> {
+    for len in [0, 1, 32, 33, 1024] {
+        assert_eq!(rt; kinds_right(rt.alloc(), 48, len)?, 8);
+    }
+    Ok(())
+}
