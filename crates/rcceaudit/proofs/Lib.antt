@@ -1,1 +1,4 @@
 pub mod PlanLemmas
+pub mod FileLemmas
+pub mod RunPlanLemmas
+pub mod LogLemmas

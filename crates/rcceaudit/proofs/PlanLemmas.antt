@@ -1,6 +1,6 @@
 -- What a log's file comes to.
 use Rattle.std.proofs.Common.{◌≡◌, ℕ, List, refl, sym, subst, ap, ◌∙◌, inl, inr, Option, Result, Ok, Err}
-use Rattle.rcce_io.specs.Files.{FilesView}
+use Rattle.rcce_io.specs.Files.{FilesView, NamedFile}
 use Rattle.outcomes.specs.Coming.{Comes, IsMeant}
 use Rattle.outcomes.specs.Outcomes.{Outcome, file_refused, no_memory, run_outcome}
 use Rattle.rcce_audit.specs.declared.faults.LogFault.{LogFault}
@@ -12,7 +12,9 @@ use Rattle.rcce_audit.specs.Texts.{IsFileLog}
 use Rattle.rcce_audit.specs.Verdicts.{IsVerdict}
 use Rattle.rcce_audit.proofs.ReadingLemmas.{text_back}
 use Rattle.rcce_audit.proofs.VerdictLemmas.{verdict_once}
-use Rattle.rcceaudit.specs.Program.{IsJudge, log_plan, named_plan, verdict_ran}
+use Rattle.scc_mesh.specs.Scenes.{ChipView}
+use Rattle.rcceaudit.specs.History.{ChipTells}
+use Rattle.rcceaudit.specs.Program.{Command, IsJudge, log_plan, named_plan, verdict_ran}
 
 -- want of memory may stand for each
 pub comes_memory : (judge : LogView → Verdict) (program file : List ℕ) (said : Result LogView LogFault) (files : FilesView) → Comes program (log_plan judge file said) files files (no_memory program)
@@ -34,7 +36,10 @@ comes_judged judge program file bytes log verdict files tells same judged =
     subst (λ (s : Result LogView LogFault). Comes program (log_plan judge file s) files files (run_outcome (verdict_ran verdict))) (sym same)
     (refl, inl (ap (λ (v : Verdict). run_outcome (verdict_ran v)) (sym one)))
 
--- what is meant by the file that the words name
-pub meant_by : (judge : LogView → Verdict) (program : List ℕ) (named told : Option (List ℕ)) (before after : FilesView) (o : Outcome) → named ≡ told
-    → IsMeant program (named_plan judge named) before after o → IsMeant program (named_plan judge told) before after o
-meant_by judge program named told before after o same meant = subst (λ (n : Option (List ℕ)). IsMeant program (named_plan judge n) before after o) same meant
+-- what is meant by the file that the words name, if they name one
+pub named_meant : (judge : LogView → Verdict) (program : List ℕ) (named told : Option (List ℕ)) (command : Option Command) (before after : FilesView) (o : Outcome) → named ≡ told
+    → IsMeant program (named_plan judge named command) before after o → IsMeant program (named_plan judge told command) before after o
+named_meant judge program named told command before after o same meant = subst (λ (n : Option (List ℕ)). IsMeant program (named_plan judge n command) before after o) same meant
+
+pub named_tells : (files : Option (List NamedFile)) (named told : Option (List ℕ)) (command : Option Command) (chip : ChipView) (o : Outcome) → named ≡ told → ChipTells files named command chip o → ChipTells files told command chip o
+named_tells files named told command chip o same tells = subst (λ (n : Option (List ℕ)). ChipTells files n command chip o) same tells

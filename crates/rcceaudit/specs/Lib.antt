@@ -1,1 +1,4 @@
 pub mod Program
+pub mod Job
+pub mod History
+pub mod Loading

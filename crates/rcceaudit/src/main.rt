@@ -1,13 +1,17 @@
-//! `rcceaudit`: tells whether the calls of a log are legal.
+//! `rcceaudit`: tells whether the calls of a log are legal, and writes the log of a run.
 #![tactic(auto)]
 
+mod command;
 mod launcher;
+mod logged;
+mod logging;
 mod report;
 #[cfg(test)]
 mod tests;
 
 use launcher::rcceaudit;
 use rcce_io::{HostFiles, StdSink};
+use scc_mesh::Chip;
 use std::env;
 use std::process::ExitCode;
 
@@ -23,6 +27,14 @@ fn main(rt: HostRuntime) -> ExitCode {
     let mut files = HostFiles::new(rt);
     let mut out = StdSink::out(&rt);
     let mut err = StdSink::err(&rt);
-    let status = rcceaudit(rt.alloc(), words.as_slice(), &mut files, &mut out, &mut err);
+    let mut chip = Chip::blank();
+    let status = rcceaudit(
+        rt.alloc(),
+        words.as_slice(),
+        &mut files,
+        &mut out,
+        &mut err,
+        &mut chip,
+    );
     ExitCode::from(status.number())
 }

@@ -3,6 +3,7 @@
 use crate::launcher::rcceaudit;
 use outcomes::Status;
 use rcce_io::{MemFiles, MemSink};
+use scc_mesh::Chip;
 use std::alloc::{AllocError, Global};
 use std::process::Abort;
 use std::test::Fail;
@@ -13,6 +14,7 @@ struct Ended {
     status: Status,
     out: MemSink,
     err: MemSink,
+    reads: u64,
 }
 
 /// A run on one file, of which the given calls fail.
@@ -31,7 +33,7 @@ fn run(alloc: Global, call: Call) -> Result<Ended, AllocError> {
     }
     let mut files = MemFiles::new(alloc);
     files.add("a.log", call.log)?;
-    let mut out = MemSink::new(alloc, 64, 8)?;
+    let mut out = MemSink::new(alloc, 1_100_000, 4096)?;
     let mut err = MemSink::new(alloc, 64, 8)?;
     if let Some(read) = call.read {
         files.fail_at(read);
@@ -39,8 +41,22 @@ fn run(alloc: Global, call: Call) -> Result<Ended, AllocError> {
     if let Some(write) = call.out_write {
         out.fail_at(write);
     }
-    let status = rcceaudit(alloc, words.as_slice(), &mut files, &mut out, &mut err);
-    Ok(Ended { status, out, err })
+    let mut chip = Chip::blank();
+    let status = rcceaudit(
+        alloc,
+        words.as_slice(),
+        &mut files,
+        &mut out,
+        &mut err,
+        &mut chip,
+    );
+    let reads = files.calls_made();
+    Ok(Ended {
+        status,
+        out,
+        err,
+        reads,
+    })
 }
 
 /// The run on a log, with no failures.
@@ -78,6 +94,74 @@ fn two_receives_before_their_sends(rt: HostRuntime) -> Result<(), Fail> {
     Ok(())
 }
 
+/// The script of a message of four bytes.
+const FOUR_BYTES: &[u8] = b"ue 0\nbytes x 01020304\nsend 1 x\nue 1\nrecv 0 y 4\nprint y\n";
+
+#[test]
+fn the_log_of_a_run(rt: HostRuntime) -> Result<(), Fail> {
+    let ended = run(
+        rt.alloc(),
+        judged(&["-log", "-nue", "2", "a.log"], FOUR_BYTES),
+    )?;
+    let log = b"rcce log 2\n0 send 1 plain 0 4 01020304\n1 recv 0 plain 0 4 01020304\n";
+    expect(&rt, &ended, Status::Finished, log, b"");
+    let again = run(rt.alloc(), judged(&["a.log"], ended.out.bytes()))?;
+    expect(&rt, &again, Status::Finished, b"legal\n", b"");
+    Ok(())
+}
+
+#[test]
+fn the_log_of_a_run_that_does_not_finish(rt: HostRuntime) -> Result<(), Fail> {
+    let script = b"all\nbarrier\nue 0\nbytes x 07\npost 1 x\nsend 1 x\nue 2\nsplit 3 mod 2\n";
+    let ended = run(rt.alloc(), judged(&["-log", "-nue", "3", "a.log"], script))?;
+    let log = b"rcce log 3\ncomm 3 0 mod 2\n0 bar 0\n0 post 1 plain 0 1 07\n1 bar 0\n2 bar 0\n";
+    expect(&rt, &ended, Status::Stuck, log, b"");
+    let again = run(rt.alloc(), judged(&["a.log"], ended.out.bytes()))?;
+    expect(&rt, &again, Status::Finished, b"legal\n", b"");
+    Ok(())
+}
+
+#[test]
+fn scripts_that_are_refused(rt: HostRuntime) -> Result<(), Fail> {
+    let table: [(&[u8], &[u8]); 4] = [
+        (
+            b"ue 0\nbytes x 00\nsend 0 x\n",
+            b"rcceaudit: a.log line 3: SelfMessage\n",
+        ),
+        (
+            b"all\nrepeat 10001\nbarrier\nend\n",
+            b"rcceaudit: a.log line 0: TooLong\n",
+        ),
+        (
+            b"ue 0\nfill x 65536 0\nrepeat 4\nsend 1 x\nend\nbytes y 00\nsend 1 y\n",
+            b"rcceaudit: a.log line 0: TooLong\n",
+        ),
+        (
+            b"ue 1\nrepeat 5\nrecv 0 x 65536\nend\n",
+            b"rcceaudit: a.log line 0: TooLong\n",
+        ),
+    ];
+    for (script, text) in table {
+        let ended = run(rt.alloc(), judged(&["-log", "-nue", "2", "a.log"], script))?;
+        expect(&rt, &ended, Status::Script, b"", text);
+    }
+    Ok(())
+}
+
+#[test]
+fn as_much_as_a_log_may_have(rt: HostRuntime) -> Result<(), Fail> {
+    let calls = b"all\nrepeat 10000\nbarrier\nend\n";
+    let ended = run(rt.alloc(), judged(&["-log", "-nue", "1", "a.log"], calls))?;
+    assert_eq!(rt; ended.status, Status::Finished);
+    assert_eq!(rt; ended.out.bytes().len(), 11 + 8 * 10_000);
+    let bytes =
+        b"ue 0\nfill x 65536 0\nrepeat 4\nsend 1 x\nend\nue 1\nrepeat 4\nrecv 0 x 65536\nend\n";
+    let ended = run(rt.alloc(), judged(&["-log", "-nue", "2", "a.log"], bytes))?;
+    assert_eq!(rt; ended.status, Status::Finished);
+    assert_eq!(rt; ended.out.bytes().len(), 11 + 8 * (131_072 + 24));
+    Ok(())
+}
+
 #[test]
 fn refused_logs(rt: HostRuntime) -> Result<(), Fail> {
     let empty = run(rt.alloc(), judged(&["a.log"], b""))?;
@@ -112,12 +196,14 @@ fn refused_logs(rt: HostRuntime) -> Result<(), Fail> {
 
 #[test]
 fn words_that_are_refused(rt: HostRuntime) -> Result<(), Fail> {
-    // The log of a run is not built yet: its words are refused.
-    let refused: [&[&str]; 4] = [
+    let refused: [&[&str]; 7] = [
         &[],
         &["-log"],
         &["a.log", "a.log"],
-        &["-log", "-nue", "2", "a.log"],
+        &["-log", "-nue", "49", "a.log"],
+        &["-log", "-nue", "2", "-a"],
+        &["-nue", "2", "-log", "a.log"],
+        &["-log", "-nue", "2", "a.log", "a.log"],
     ];
     for words in refused {
         let ended = run(rt.alloc(), judged(words, b"rcce log 2\n"))?;
@@ -163,5 +249,40 @@ fn faults_at_the_outside_calls(rt: HostRuntime) -> Result<(), Fail> {
     };
     let ended = run(rt.alloc(), call)?;
     expect(&rt, &ended, Status::Write, b"", b"");
+    Ok(())
+}
+
+#[test]
+fn each_outside_call_fails_in_turn(rt: HostRuntime) -> Result<(), Fail> {
+    let alloc = rt.alloc();
+    let log: &[u8] = b"rcce log 2\n0 send 1 plain 0 4 01020304\n1 recv 0 plain 0 4 01020304\n";
+    let ways: [(&[&str], &[u8]); 2] = [
+        (&["a.log"], log),
+        (&["-log", "-nue", "2", "a.log"], FOUR_BYTES),
+    ];
+    for (words, file) in ways {
+        let whole = run(alloc, judged(words, file))?;
+        assert_eq!(rt; whole.status, Status::Finished);
+        for read in 0..whole.reads {
+            let call = Call {
+                read: Some(read.saturating_add(1)),
+                ..judged(words, file)
+            };
+            let ended = run(alloc, call)?;
+            let text = b"rcceaudit: a.log: read fault\n";
+            expect(&rt, &ended, Status::Files, b"", text);
+        }
+        for write in 0..whole.out.writes_made() {
+            let call = Call {
+                out_write: Some(write.saturating_add(1)),
+                ..judged(words, file)
+            };
+            let ended = run(alloc, call)?;
+            assert_eq!(rt; ended.status, Status::Write);
+            assert!(rt; whole.out.bytes().starts_with(ended.out.bytes()));
+            assert!(rt; ended.out.bytes().len() < whole.out.bytes().len());
+            assert_eq!(rt; ended.err.bytes(), b"".as_slice());
+        }
+    }
     Ok(())
 }

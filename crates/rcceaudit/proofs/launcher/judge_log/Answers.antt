@@ -1,0 +1,5 @@
+use Rattle.std.proofs.Common.{codes}
+use Rattle.rcceaudit.proofs.launcher.judge_log.Goals as goal
+
+pub returns : goal.returns
+returns g c = λ judge is. (_, c.judge_file-ending.ensures judge is, c.deliver.ensures, tt)
