@@ -4,7 +4,6 @@ use Rattle.scc_base.specs.Setups.{SetupView}
 use Rattle.scc_base.specs.Communicators.{rule_of}
 use Rattle.scc_base.specs.declared.communicators.CommRule.TheVariants.{Absent}
 use Rattle.scc_base.specs.declared.events.Event.{Event}
-use Rattle.scc_base.specs.declared.events.Spot.{Spot}
 use Rattle.scc_base.specs.declared.events.Turn.TheVariants as turn
 use Rattle.scc_proto.specs.Stages.{Record, blank}
 use Rattle.scc_proto.specs.Records.{record_of}
@@ -19,7 +18,6 @@ use Rattle.barrier.specs.Stages.{BarAt, BarStands, IsAtStage, meeting, with_pari
 use Rattle.barrier.specs.Turns.{BarTurned}
 use Rattle.barrier.specs.Calls.{Finishes, Stalls}
 use Rattle.barrier.specs.declared.barriers.BarStop.{BarStop}
-use Rattle.barrier.specs.declared.barriers.BarStop.TheVariants.{Stalled}
 use Rattle.barrier.proofs.RestLemmas.{barrier_starts, free_after_barrier}
 use Rattle.scc_mesh.specs.Scenes.{ChipView, IsNew, about_in, sight_in}
 use Rattle.chip_teams.specs.Teams.{sight_alone}
@@ -139,13 +137,6 @@ passed_ready {s} {t} {c} {d} {op} {next} {comm} {values} {later} ready f is =
     }
 
 -- a barrier that gave up can be gone on with
-pub stalled_ready : {s t : Sight} {c d : Private} {op now : BarAt} {comm polls looks : ℕ} {values later : List Bool} {spot : Spot} → IsReady (sight_alone s.seat.setup s.seat.rank s.events) c comm op values
-    → Stalls (meeting s c op values) polls (with_parity t d later) (Stalled now spot looks) → IsReady (sight_alone t.seat.setup t.seat.rank t.events) d comm now later
-stalled_ready {s} {t} {c} {d} {op} {now} {comm} {polls} {looks} {values} {later} {spot} ready stalls =
-    let is : now ≡ stalls.now = ap (λ (x : BarStop). op_of x) stalls.is in record {
-      stands = alone (subst (λ (o : BarAt). BarStands t d o later) (sym is) stalls.stands);
-      same = ap (λ (o : BarAt). o.comm) is ∙ stalls.same ∙ ready.same;
-    }
-  where
-    op_of : BarStop → BarAt
-    op_of (Stalled o sp n) = o
+pub stalled_ready : {s t : Sight} {c d : Private} {op : BarAt} {comm polls : ℕ} {values later : List Bool} {stop : BarStop} → IsReady (sight_alone s.seat.setup s.seat.rank s.events) c comm op values
+    → (stalls : Stalls (meeting s c op values) polls (with_parity t d later) stop) → IsReady (sight_alone t.seat.setup t.seat.rank t.events) d comm stalls.now later
+stalled_ready ready stalls = record { stands = alone stalls.stands; same = stalls.same ∙ ready.same }

@@ -16,4 +16,6 @@ mod messages;
 #[cfg(test)]
 mod private_lines;
 #[cfg(test)]
+mod whole_barriers;
+#[cfg(test)]
 mod whole_messages;

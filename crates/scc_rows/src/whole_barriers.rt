@@ -1,0 +1,128 @@
+//! Barriers as whole calls, by the ranks of a chip with one seat.
+
+ghost use Rattle.std.specs.Prelude.{◌<◌};
+ghost use Rattle.scc_mesh.specs.Scenes.{IsNew, about_in};
+
+use barrier::{BarOp, BarStop, Parity, barrier};
+use chip_teams::{Player, Team, opened};
+use line_cache::Never;
+use put_get::Core;
+use scc_base::{CommRule, CoreId, Layout, Place, Spot, Turn};
+use scc_mesh::Chip;
+use scc_proto::Port;
+use std::alloc::Global;
+use std::mem;
+use std::test::Fail;
+
+/// How many vain looks in a row end a whole barrier.
+const POLLS: u32 = 3;
+
+/// A rank that passes barriers of a communicator by whole calls, one in each turn. A call that gave up goes on in the next turn.
+#[derive(Drop)]
+struct Passer {
+    core: Core<Never>,
+    comm: u8,
+    op: BarOp,
+    parity: Parity,
+}
+
+impl Passer {
+    ghost use Rattle.std.specs.Prelude.{◌≢◌, ◌<◌, ℕ, []};
+    ghost use Rattle.scc_base.specs.Setups.{SetupView};
+    ghost use Rattle.scc_base.specs.Communicators.{rule_of};
+    ghost use Rattle.scc_base.specs.declared.communicators.CommRule.TheVariants.{Absent};
+    ghost use Rattle.chip_teams.specs.Teams.{sight_alone};
+    ghost use Rattle.scc_rows.specs.Entrants.{IsReady};
+
+    fn new(comm: u8) -> Passer
+        requires below { comm < 16 }
+        ensures ready { (s : SetupView) (r : ℕ) → rule_of s.comms comm ≢ Absent
+            → IsReady (sight_alone s r []) result.core result.comm result.op result.parity }
+    {
+        Passer {
+            core: Core::new(Never),
+            comm,
+            op: BarOp::new(comm),
+            parity: Parity::new(),
+        }
+    }
+}
+
+impl Player for Passer {
+    ghost use Rattle.chip_teams.specs.Teams.{sight_alone};
+    ghost use Rattle.scc_rows.specs.Entrants.{IsReady};
+
+    ghost stands = { λ m s r events. IsReady (sight_alone s r events) m.core m.comm m.op m.parity };
+
+    fn turn<P: Port>(&mut self, port: &mut P) -> Turn {
+        let next = BarOp::new(self.comm);
+        let op = mem::replace(&mut self.op, next);
+        match barrier(&mut self.core, port, op, &mut self.parity, POLLS) {
+            Ok(()) => Turn::Done,
+            Err(BarStop::Stalled { op, spot, polls: _ }) => {
+                self.op = op;
+                Turn::Waiting(spot)
+            }
+        }
+    }
+}
+
+// All ranks of a chip, which pass barriers of this communicator by whole calls.
+fn passers(alloc: Global, chip: Chip, comm: u8) -> Result<Team<Passer>, Fail>
+    requires new { IsNew (about_in chip) chip }
+    requires below { comm < 16 }
+{
+    if chip.setup().rule(comm) == CommRule::Absent {
+        return Err("a communicator with a rule".into());
+    }
+    let nue = chip.setup().nue();
+    let mut team = Team::new(alloc, chip);
+    for _ in 0..nue {
+        team.join(Passer::new(comm))?;
+    }
+    Ok(team)
+}
+
+// Whether a turn of a rank waits at the first bit of the first word of this line on rank 1's core.
+fn waits_at(team: &mut Team<Passer>, at: usize, line: u8) -> bool {
+    let place = Place::new(CoreId::of(46), line, 0);
+    team.turn(at) == Some(Turn::Waiting(Spot::Flag { place, bit: 0 }))
+}
+
+// Whether a turn of a rank passes a barrier.
+fn passes(team: &mut Team<Passer>, at: usize) -> bool {
+    team.turn(at) == Some(Turn::Done)
+}
+
+#[test]
+fn a_barrier_that_stalled_goes_on(rt: HostRuntime) -> Result<(), Fail> {
+    for (layout, gather, release) in [(Layout::lines(), 97, 105), (Layout::bits(), 2, 10)] {
+        let chip = opened(rt.alloc(), 2, layout, CommRule::Absent)?;
+        let mut team = passers(rt.alloc(), chip, 0)?;
+        // Twice, so that the flags are flipped up and down again.
+        for _ in 0..2 {
+            assert!(rt; waits_at(&mut team, 0, gather));
+            assert!(rt; waits_at(&mut team, 1, release));
+            assert!(rt; waits_at(&mut team, 1, release));
+            assert!(rt; passes(&mut team, 0));
+            assert!(rt; passes(&mut team, 1));
+        }
+    }
+    Ok(())
+}
+
+#[test]
+fn a_groups_barrier_goes_on_without_the_other_ranks(rt: HostRuntime) -> Result<(), Fail> {
+    for layout in [Layout::lines(), Layout::bits()] {
+        // Ranks 0 and 2 are one group, and rank 1 is another.
+        let split = CommRule::Mod { parent: 0, k: 2 };
+        let chip = opened(rt.alloc(), 3, layout, split)?;
+        let mut team = passers(rt.alloc(), chip, 8)?;
+        assert!(rt; !passes(&mut team, 2));
+        assert!(rt; passes(&mut team, 0));
+        assert!(rt; !passes(&mut team, 0));
+        assert!(rt; passes(&mut team, 2));
+        assert!(rt; passes(&mut team, 1));
+    }
+    Ok(())
+}
