@@ -7,11 +7,11 @@ use Rattle.scc_proto.specs.Ports.{Seat, Sight, record_in}
 use Rattle.put_get.specs.Cores.{Private}
 use Rattle.sync_flags.specs.Flags.{flag_value}
 use Rattle.sync_flags.specs.Turns.{at_port}
-use Rattle.sync_flags.proofs.TurnLemmas.{record_at_port, record_at_start}
+use Rattle.sync_flags.proofs.TurnLemmas.{between_at_start, between_there, record_at_port, record_at_start}
 use Rattle.barrier.specs.declared.stages.BarStage.{BarStage}
 use Rattle.barrier.specs.declared.stages.BarStage.TheVariants.{Flip, Gather, Release, Await, Finished}
 use Rattle.barrier.specs.Flags.{IsParityOf, value_at}
-use Rattle.barrier.specs.Stages.{BarAt, BarStands, IsAtStage, IsBetweenCalls, meeting}
+use Rattle.barrier.specs.Stages.{BarAt, BarStands, IsAtStage, IsBetweenBarriers, meeting}
 use Rattle.barrier.specs.Turns.{BarTurned}
 
 abbrev seat_at : Seat → Gv → Gv → ℕ → Seat
@@ -37,23 +37,19 @@ module _ (s : Sight) (m r : Gv) (h : ℕ) where
     at = subst (λ (x : Record). IsAtStage (seat_at s.seat m r h) x op.comm op.stage) (sym (record_at_port s m r h)) (stage_at s.seat m r h (record_in s) op.comm op.stage st.at);
   }
 
-  pub between_there : (c : Private) (values : List Bool) → IsBetweenCalls s c values → IsBetweenCalls (at_port s m r h) c values
-  between_there c values st = record {
-    stage = ap (λ (x : Record). x.stage) (record_at_port s m r h) ∙ st.stage;
-    empty = st.empty;
-    parity = parity_there values st.parity;
-  }
+  pub free_there : (c : Private) (values : List Bool) → IsBetweenBarriers s c values → IsBetweenBarriers (at_port s m r h) c values
+  free_there c values st = record { between = between_there s m r h c st.between; parity = parity_there values st.parity }
 
 -- before its first event a rank is in no call, with no flag set
-pub between_at_start : (s : Sight) (c : Private) (values : List Bool) → s.events ≡ [] → c.out ≡ None → ((comm : ℕ) → value_at values comm ≡ false) → IsBetweenCalls s c values
-between_at_start s c values fresh empty unset =
+pub free_at_start : (s : Sight) (c : Private) (values : List Bool) → s.events ≡ [] → c.out ≡ None → ((comm : ℕ) → value_at values comm ≡ false) → IsBetweenBarriers s c values
+free_at_start s c values fresh empty unset =
     let none = record_at_start s fresh in
-    record { stage = ap (λ (x : Record). x.stage) none; empty = empty; parity = λ comm lt. ap flag_value (unset comm) ∙ (λ i. sym (ap (λ (x : Record). x.flips comm) none) i % 2) }
+    record { between = between_at_start s c fresh empty; parity = λ comm lt. ap flag_value (unset comm) ∙ (λ i. sym (ap (λ (x : Record). x.flips comm) none) i % 2) }
 
 idle_at : (seat : Seat) (rec : Record) (comm : ℕ) (stage : BarStage) → stage ≡ Finished → IsAtStage seat rec comm stage → IsAtStage seat rec comm Finished
 idle_at seat rec comm stage is at = subst (λ (x : BarStage). IsAtStage seat rec comm x) is at
 
 -- after the turn that ends a barrier it is in no call
-pub between_after : {s t : Sight} {c d : Private} {op now : BarAt} {values later : List Bool} → BarTurned (meeting s c op values) (meeting t d now later) turn.Done → BarStands t d now later → IsBetweenCalls t d later
-between_after {t = t} {now = now} turned st =
-    record { stage = idle_at t.seat (record_in t) now.comm now.stage turned.means.0 st.at; empty = st.empty; parity = st.parity }
+pub free_after_turn : {s t : Sight} {c d : Private} {op now : BarAt} {values later : List Bool} → BarTurned (meeting s c op values) (meeting t d now later) turn.Done → BarStands t d now later → IsBetweenBarriers t d later
+free_after_turn {t = t} {now = now} turned st =
+    record { between = record { stage = idle_at t.seat (record_in t) now.comm now.stage turned.means.0 st.at; empty = st.empty }; parity = st.parity }

@@ -13,7 +13,7 @@ use Rattle.barrier.specs.declared.barriers.BarStop.{BarStop}
 use Rattle.barrier.specs.declared.stages.BarStage.{BarStage}
 use Rattle.barrier.specs.declared.stages.BarStage.TheVariants.{Flip, Gather, Release, Await, Finished}
 use Rattle.barrier.specs.Flags.{value_at}
-use Rattle.barrier.specs.Stages.{BarAt, BarStands, IsAtStage, IsBetweenCalls, group_size, own_place, left_by, bar_left, bar_call, aim_at, new_barrier, meeting, with_parity}
+use Rattle.barrier.specs.Stages.{BarAt, BarStands, IsAtStage, IsBetweenBarriers, group_size, own_place, left_by, bar_left, bar_call, aim_at, new_barrier, meeting, with_parity}
 use Rattle.barrier.specs.Turns.{KeepsRest, flips_by}
 use Rattle.barrier.specs.Calls.{Finishes, Stalls}
 use Rattle.barrier.proofs.StageLemmas.{same_by}
@@ -70,12 +70,12 @@ flips_looking seat op value aim flips looks = by op.stage looks
 
 -- ---- how calls follow one another
 
-pub barrier_starts : {s : Sight} {c : Private} {values : List Bool} → IsBetweenCalls s c values → (comm : ℕ) → comm < 16 → rule_of s.seat.setup.comms comm ≢ Absent
+pub barrier_starts : {s : Sight} {c : Private} {values : List Bool} → IsBetweenBarriers s c values → (comm : ℕ) → comm < 16 → rule_of s.seat.setup.comms comm ≢ Absent
     → BarStands s c (new_barrier comm) values
-barrier_starts free comm below present = record { below = below; present = present; empty = free.empty; parity = free.parity; at = free.stage }
+barrier_starts free comm below present = record { below = below; present = present; empty = free.between.empty; parity = free.parity; at = free.between.stage }
 
-pub free_after_barrier : {s t : Sight} {c d : Private} {op : BarAt} {before values : List Bool} → Finishes (meeting s c op before) (with_parity t d values) → IsBetweenCalls t d values
-free_after_barrier f = record { stage = f.stage; empty = f.empty; parity = f.parity }
+pub free_after_barrier : {s t : Sight} {c d : Private} {op : BarAt} {before values : List Bool} → Finishes (meeting s c op before) (with_parity t d values) → IsBetweenBarriers t d values
+free_after_barrier f = record { between = record { stage = f.stage; empty = f.empty }; parity = f.parity }
 
 pub calls_of_both : {s m t : Sight} {c b d : Private} {op : BarAt} {polls : ℕ} {before values later : List Bool} {stop : BarStop} → (first : Stalls (meeting s c op before) polls (with_parity m b values) stop)
     → Finishes (meeting m b first.now values) (with_parity t d later) → (record_in t).calls ≡ (record_in s).calls ++ bar_call op

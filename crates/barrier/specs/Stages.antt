@@ -10,6 +10,7 @@ use Rattle.scc_proto.specs.Stages.{Idle, Barrier, Record}
 use Rattle.scc_proto.specs.Ports.{Seat, Sight, record_in}
 use Rattle.put_get.specs.Cores.{Private}
 use Rattle.sync_flags.specs.Tries.{Aim, AtWord}
+use Rattle.sync_flags.specs.Turns.{IsBetweenCalls}
 use Rattle.barrier.specs.declared.stages.BarStage.{BarStage}
 use Rattle.barrier.specs.declared.stages.BarStage.TheVariants.{Flip, Gather, Release, Await, Finished}
 use Rattle.barrier.specs.Flags.{IsParityOf, member_at, gather_word, release_word}
@@ -77,10 +78,9 @@ pub record BarStands (s : Sight) (c : Private) (op : BarAt) (values : List Bool)
   pub parity : IsParityOf (record_in s) values
   pub at : IsAtStage s.seat (record_in s) op.comm op.stage
 
--- the rank is in no call: nothing is open, nothing waits in the combiner, and the parity is the record's
-pub record IsBetweenCalls (s : Sight) (c : Private) (values : List Bool) : Type 0 where
-  pub stage : (record_in s).stage ≡ Idle
-  pub empty : c.out ≡ None
+-- the rank is between two calls, and the parity is the record's: a barrier can begin
+pub record IsBetweenBarriers (s : Sight) (c : Private) (values : List Bool) : Type 0 where
+  pub between : IsBetweenCalls s c
   pub parity : IsParityOf (record_in s) values
 
 -- how many turns that do not wait are left

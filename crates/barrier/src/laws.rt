@@ -13,7 +13,7 @@ ghost use Rattle.sync_flags.specs.Turns.{at_port};
 ghost use Rattle.barrier.specs.declared.barriers.BarStop.{BarStop};
 ghost use Rattle.barrier.specs.declared.stages.BarStage.TheVariants.{Flip};
 ghost use Rattle.barrier.specs.Flags.{IsParityOf, value_at};
-ghost use Rattle.barrier.specs.Stages.{BarAt, BarStands, IsBetweenCalls, new_barrier, bar_call, left_by, meeting, with_parity};
+ghost use Rattle.barrier.specs.Stages.{BarAt, BarStands, IsBetweenBarriers, new_barrier, bar_call, left_by, meeting, with_parity};
 ghost use Rattle.barrier.specs.Turns.{KeepsRest, BarTurned, flips_by};
 ghost use Rattle.barrier.specs.Calls.{Finishes, Stalls};
 
@@ -25,14 +25,14 @@ pub fn bar_bound_law()
 /// At a rank that is in no call any barrier of a communicator that has a rule can begin. Calls that flip no gather
 /// flag leave the parity the record's.
 pub fn begins_law()
-    ensures barrier { (s : Sight) (c : Private) (values : List Bool) (comm : ℕ) → IsBetweenCalls s c values → comm < 16
+    ensures barrier { (s : Sight) (c : Private) (values : List Bool) (comm : ℕ) → IsBetweenBarriers s c values → comm < 16
         → rule_of s.seat.setup.comms comm ≢ Absent → BarStands s c (new_barrier comm) values }
     ensures parity { (rec new : Record) (values : List Bool) → IsParityOf rec values → new.flips ≡ rec.flips → IsParityOf new values }
 {}
 
 /// After a barrier that answered Ok the rank is in no call again, at its seat. What it keeps besides is in `Finishes`.
 pub fn ends_law()
-    ensures between { (s t : Sight) (c d : Private) (op : BarAt) (before values : List Bool) → Finishes (meeting s c op before) (with_parity t d values) → IsBetweenCalls t d values }
+    ensures between { (s t : Sight) (c d : Private) (op : BarAt) (before values : List Bool) → Finishes (meeting s c op before) (with_parity t d values) → IsBetweenBarriers t d values }
     ensures seat { (s t : Sight) (c d : Private) (op : BarAt) (before values : List Bool) → Finishes (meeting s c op before) (with_parity t d values) → t.seat ≡ s.seat }
 {}
 
@@ -51,17 +51,17 @@ pub fn other_port_law()
     ensures barrier { (s : Sight) (mark rest : Gv) (hold : ℕ) (c : Private) (op : BarAt) (values : List Bool)
         → BarStands s c op values → BarStands (at_port s mark rest hold) c op values }
     ensures between { (s : Sight) (mark rest : Gv) (hold : ℕ) (c : Private) (values : List Bool)
-        → IsBetweenCalls s c values → IsBetweenCalls (at_port s mark rest hold) c values }
+        → IsBetweenBarriers s c values → IsBetweenBarriers (at_port s mark rest hold) c values }
 {}
 
 /// Before its first event a rank is in no call, and its parity has no flag set.
 pub fn start_law()
     ensures between { (s : Sight) (c : Private) (values : List Bool) → s.events ≡ [] → c.out ≡ None → ((comm : ℕ) → value_at values comm ≡ false)
-        → IsBetweenCalls s c values }
+        → IsBetweenBarriers s c values }
 {}
 
 /// After the turn that ends a barrier the rank is in no call.
 pub fn done_law()
     ensures between { (s t : Sight) (c d : Private) (op now : BarAt) (values later : List Bool) → BarTurned (meeting s c op values) (meeting t d now later) Done
-        → BarStands t d now later → IsBetweenCalls t d later }
+        → BarStands t d now later → IsBetweenBarriers t d later }
 {}

@@ -7,7 +7,7 @@ use Rattle.scc_base.specs.declared.layouts.Layout.{Layout}
 use Rattle.scc_proto.specs.Ports.{Seat, Sight, record_in}
 use Rattle.scc_proto.specs.Stages.{Record}
 use Rattle.put_get.specs.Cores.{Private}
-use Rattle.send_recv.specs.Calling.{IsInNoCall}
+use Rattle.send_recv.specs.Calling.{IsBetweenMessages}
 use Rattle.send_recv.specs.Ops.{SlotAt}
 use Rattle.send_recv.specs.declared.answers.RecvTurn.TheVariants as turn
 use Rattle.send_recv.proofs.OtherPort.{free_there, receive_there, send_there, slot_there}
@@ -56,7 +56,7 @@ module _ (base : List DataCall) (s : Sight) (c : Private) (m : MoreAt) (slot : S
 
 -- ---- at its start
 
-pub begins : (s : Sight) (c : Private) (slot : SlotAt) (more : More) (len : ℕ) (src dst : List ℕ) → IsInNoCall s c slot → IsFit more s.seat.rank s.seat.setup.nue len src dst
+pub begins : (s : Sight) (c : Private) (slot : SlotAt) (more : More) (len : ℕ) (src dst : List ℕ) → IsBetweenMessages s c slot → IsFit more s.seat.rank s.seat.setup.nue len src dst
     → MoreStands (record_in s).calls (taking_part s c (new_more more len) slot src dst)
 begins s c slot more len src dst free fits =
     record { fits = fits; calls = sym (append-nil (record_in s).calls); own = λ is. absurd (cc); at = (refl, free) }

@@ -7,7 +7,7 @@ use Rattle.scc_proto.specs.Records.{chunk_of}
 use Rattle.scc_proto.proofs.PortLaws.{did_nothing}
 use Rattle.scc_proto.proofs.Tests.{peers_from}
 use Rattle.put_get.specs.Cores.{Private}
-use Rattle.send_recv.specs.Calling.{IsInNoCall}
+use Rattle.send_recv.specs.Calling.{IsBetweenMessages}
 use Rattle.send_recv.specs.Ops.{SlotAt}
 use Rattle.send_recv.specs.Turns.{NoLoad}
 use Rattle.send_recv.specs.declared.answers.RecvTurn.TheVariants as turn
@@ -94,7 +94,7 @@ module _ (m : MoreAt) (s : Sight) (c : Private) (slot : SlotAt) (src dst : List 
     pub inside_here : call.first + call.len ≤ length (bytes_by call.way src dst)
     inside_here = room_here call.way good_here.inside
 
-    begun_stands : (w : Way) → call.way ≡ w → IsInNoCall s c slot → StandsAt s c slot (table_of s.seat m) m.ended src dst (begun_by w call)
+    begun_stands : (w : Way) → call.way ≡ w → IsBetweenMessages s c slot → StandsAt s c slot (table_of s.seat m) m.ended src dst (begun_by w call)
     begun_stands Gives is free = (
       next,
       record { way = ap is_taking is; to = refl; head = refl; plain = refl; unended = refl },

@@ -5,7 +5,7 @@ use Rattle.scc_base.specs.Calls.{DataCall}
 use Rattle.scc_base.specs.Heads.{plain_head}
 use Rattle.scc_proto.specs.Ports.{Sight, record_in}
 use Rattle.put_get.specs.Cores.{Private}
-use Rattle.send_recv.specs.Calling.{IsInNoCall}
+use Rattle.send_recv.specs.Calling.{IsBetweenMessages}
 use Rattle.send_recv.specs.Ops.{RecvAt, SendAt, SlotAt, is_received, is_sent}
 use Rattle.send_recv.specs.Receiving.{RecvStands}
 use Rattle.send_recv.specs.Sending.{SendStands, SlotStands}
@@ -39,8 +39,8 @@ pub record IsRecvOf (call : PieceCall) (op : RecvAt) : Type 0 where
 
 -- the record, the core, the slot and the bytes stand where the message stands that comes next in the table
 abbrev pub StandsAt : Sight → Private → SlotAt → List PieceCall → ℕ → (src dst : List ℕ) → Stage → Type 0
-StandsAt s c slot table ended src dst Own = (ended ≡ 0) × IsInNoCall s c slot
-StandsAt s c slot table ended src dst Between = IsInNoCall s c slot
+StandsAt s c slot table ended src dst Own = (ended ≡ 0) × IsBetweenMessages s c slot
+StandsAt s c slot table ended src dst Between = IsBetweenMessages s c slot
 StandsAt s c slot table ended src dst (Sending call op) = (slice_get table ended ≡ Some call) × IsSendOf call op × SendStands s c op slot (bytes_of call src dst)
 StandsAt s c slot table ended src dst (Receiving call op) = (slice_get table ended ≡ Some call) × IsRecvOf call op × SlotStands s.seat (record_in s) slot
     × RecvStands s c op (window call.first call.len dst)
@@ -61,4 +61,4 @@ Stands r = (base : List DataCall) × MoreStands base r
 pub record HasEnded (base : List DataCall) (r : Participant) : Type 0 where
   pub calls : (record_in r.sight).calls ≡ base ++ data_calls r.op.more r.sight.seat.rank r.sight.seat.setup.nue r.op.len r.src r.dst
   pub own : HasOwn r.op.more r.sight.seat.rank r.op.len r.src r.dst
-  pub no_call : IsInNoCall r.sight r.core r.slot
+  pub no_call : IsBetweenMessages r.sight r.core r.slot

@@ -6,7 +6,7 @@ ghost use Rattle.scc_base.specs.Calls.{DataCall};
 ghost use Rattle.scc_proto.specs.Legality.{IsLegal, Outgoing};
 ghost use Rattle.scc_proto.specs.Ports.{Seat, Sight, record_in};
 ghost use Rattle.put_get.specs.Cores.{Private};
-ghost use Rattle.send_recv.specs.Calling.{IsInNoCall};
+ghost use Rattle.send_recv.specs.Calling.{IsBetweenMessages};
 ghost use Rattle.send_recv.specs.Ops.{SlotAt};
 ghost use Rattle.sync_flags.specs.Turns.{at_port};
 ghost use Rattle.coll_more.specs.Ops.{MoreAt, new_more, table_of, taking_part};
@@ -17,7 +17,7 @@ ghost use Rattle.coll_more.specs.declared.kinds.More.{More};
 
 /// At a rank that is in no call any collective call can begin, with src and dst of their lengths.
 pub fn begins_law()
-    ensures begins { (s : Sight) (c : Private) (slot : SlotAt) (more : More) (len : ℕ) (src dst : List ℕ) → IsInNoCall s c slot
+    ensures begins { (s : Sight) (c : Private) (slot : SlotAt) (more : More) (len : ℕ) (src dst : List ℕ) → IsBetweenMessages s c slot
         → IsFit more s.seat.rank s.seat.setup.nue len src dst → MoreStands (record_in s).calls (taking_part s c (new_more more len) slot src dst) }
 {}
 

@@ -5,7 +5,7 @@ use Rattle.scc_base.specs.Setups.{SetupView}
 use Rattle.scc_base.specs.declared.events.Event.{Event}
 use Rattle.scc_proto.specs.Ports.{Sight, record_in}
 use Rattle.put_get.specs.Cores.{Private}
-use Rattle.send_recv.specs.Calling.{IsInNoCall}
+use Rattle.send_recv.specs.Calling.{IsBetweenMessages}
 use Rattle.send_recv.specs.Ops.{SlotAt, empty_slot}
 use Rattle.send_recv.proofs.OtherPort.{free_there}
 use Rattle.send_recv.proofs.Starts.{free_at_start}
@@ -36,15 +36,15 @@ pub op_stands : (s : Sight) (c : Private) (slot : SlotAt) (src dst : List ℕ) (
 op_stands s c slot src dst op now st is = subst (λ (x : Option MoreAt). IsAtOp s c slot src dst x) is (op_shown s c slot src dst now st)
 
 pub op_free : (s : Sight) (c : Private) (slot : SlotAt) (src dst : List ℕ) (now : Option MoreAt) → IsAtOp (sight_alone s.seat.setup s.seat.rank s.events) c slot src dst now
-    → now ≡ None → IsInNoCall s c slot
+    → now ≡ None → IsBetweenMessages s c slot
 op_free s c slot src dst now st is = subst (λ (x : Option MoreAt). IsAtOp s c slot src dst x) is (op_shown s c slot src dst now st)
 
 -- before its first event a rank is in no call
-pub op_starts : (s : SetupView) (r : ℕ) (c : Private) (slot : SlotAt) → c.out ≡ None → slot ≡ empty_slot → IsInNoCall (sight_alone s r []) c slot
-op_starts s r c slot empty new = subst (λ (x : SlotAt). IsInNoCall (sight_alone s r []) c x) (sym new) (free_at_start (sight_alone s r []) c refl empty)
+pub op_starts : (s : SetupView) (r : ℕ) (c : Private) (slot : SlotAt) → c.out ≡ None → slot ≡ empty_slot → IsBetweenMessages (sight_alone s r []) c slot
+op_starts s r c slot empty new = subst (λ (x : SlotAt). IsBetweenMessages (sight_alone s r []) c x) (sym new) (free_at_start (sight_alone s r []) c refl empty)
 
 -- a rank that is in no call begins one whose bytes fit
-pub op_begins : (s : Sight) (c : Private) (slot : SlotAt) (src dst : List ℕ) (op : MoreAt) (more : More) (len : ℕ) → IsInNoCall s c slot
+pub op_begins : (s : Sight) (c : Private) (slot : SlotAt) (src dst : List ℕ) (op : MoreAt) (more : More) (len : ℕ) → IsBetweenMessages s c slot
     → IsFit more s.seat.rank s.seat.setup.nue len src dst → op ≡ new_more more len → Stands (taking_part s c op slot src dst)
 op_begins s c slot src dst op more len free fits is =
     subst (λ (x : MoreAt). Stands (taking_part s c x slot src dst)) (sym is) ((record_in s).calls, begins s c slot more len src dst free fits)

@@ -2,7 +2,7 @@
 use Rattle.std.specs.Prelude.{ℕ, List, Option, Some, None}
 use Rattle.scc_proto.specs.Ports.{Sight}
 use Rattle.put_get.specs.Cores.{Private}
-use Rattle.send_recv.specs.Calling.{IsInNoCall}
+use Rattle.send_recv.specs.Calling.{IsBetweenMessages}
 use Rattle.send_recv.specs.Ops.{SlotAt}
 use Rattle.coll_more.specs.Ops.{MoreAt, taking_part}
 use Rattle.coll_more.specs.Standing.{Stands}
@@ -10,4 +10,4 @@ use Rattle.coll_more.specs.Standing.{Stands}
 -- in the midst of a collective call, or in no call
 abbrev pub IsAtOp : Sight → Private → SlotAt → (src dst : List ℕ) → Option MoreAt → Type 0
 IsAtOp s core slot src dst (Some op) = Stands (taking_part s core op slot src dst)
-IsAtOp s core slot src dst None = IsInNoCall s core slot
+IsAtOp s core slot src dst None = IsBetweenMessages s core slot

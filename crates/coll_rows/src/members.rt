@@ -134,7 +134,7 @@ impl<V: Evict + Drop> Member<V> {
     ghost use Rattle.scc_base.specs.Setups.{SetupView};
     ghost use Rattle.scc_base.specs.declared.events.Event.{Event};
     ghost use Rattle.scc_proto.specs.Ports.{Did};
-    ghost use Rattle.send_recv.specs.Calling.{IsInNoCall};
+    ghost use Rattle.send_recv.specs.Calling.{IsBetweenMessages};
     ghost use Rattle.coll_more.specs.Standing.{Stands};
     ghost use Rattle.coll_more.specs.Ops.{taking_part};
     ghost use Rattle.coll_rows.specs.Members.{IsAtOp};
@@ -158,7 +158,7 @@ impl<V: Evict + Drop> Member<V> {
     // Begins a call, where its bytes fit the rank.
     fn begin<P: Port>(&mut self, port: &P, job: Job)
         requires no_op { self.old.op ≡ None }
-        requires free { IsInNoCall (P.sight port.now) self.old.core self.old.slot }
+        requires free { IsBetweenMessages (P.sight port.now) self.old.core self.old.slot }
         ensures stands { IsAtOp (P.sight port.now) self.new.core self.new.slot self.new.src.items self.new.dst.items self.new.op }
     {
         let rank = port.rank();

@@ -9,7 +9,7 @@ use Rattle.scc_proto.specs.Records.{chunk_of, record_of}
 use Rattle.scc_proto.specs.Words.{Memory}
 use Rattle.scc_mesh.specs.Scenes.{ChipView, about_in, events_in, records_in}
 use Rattle.put_get.specs.Cores.{Private}
-use Rattle.send_recv.specs.Calling.{IsInNoCall}
+use Rattle.send_recv.specs.Calling.{IsBetweenMessages}
 use Rattle.send_recv.specs.Ops.{SlotAt}
 use Rattle.send_recv.proofs.Starts.{free_at_start}
 use Rattle.rcce_run.proofs.VainLike.{vain_like}
@@ -41,7 +41,7 @@ fresh_stands more len m s rank events fresh fits none =
       len_is = ap (λ (op : MoreAt). op.len) fresh.op;
       stands = subst (λ (op : MoreAt). MoreStands [] (taking_part (sight_of s rank []) m.core op m.slot m.src m.dst)) (sym fresh.op)
           (begins (sight_of s rank []) m.core m.slot more len m.src m.dst
-          (subst (λ (slot : SlotAt). IsInNoCall (sight_of s rank []) m.core slot) (sym fresh.slot) (free_at_start (sight_of s rank []) m.core refl fresh.buffer)) fits);
+          (subst (λ (slot : SlotAt). IsBetweenMessages (sight_of s rank []) m.core slot) (sym fresh.slot) (free_at_start (sight_of s rank []) m.core refl fresh.buffer)) fits);
       hands = λ core. refl;
     })
 
@@ -136,7 +136,7 @@ module _ (more : More) (len : ℕ) (chip now : ChipView) (team later : List Memb
 
   none_open : (k : ℕ) → k < s.nue → open_call s (records_in now k) ≡ None
   unfolding record_in
-  none_open k low = ap (open_of (chunk_of s)) (ended k low).no_call.stage
+  none_open k low = ap (open_of (chunk_of s)) (ended k low).no_call.between.stage
 
   same_nue : (about_in now).nue ≡ (about_in chip).nue
   same_nue = ap (λ (x : SetupView). x.nue) goes.about

@@ -200,11 +200,11 @@ module _ (stepped : List Event → Event → Type 0) (x : UeView) (s t : Sight) 
     same waits = waits_same s.seat.setup (view_of s.seat.setup memory) s.seat.rank (record_in s) (records s.seat.rank) like (recorded (record_in s).calls (local_next x.machine.local)) waits
 
     waits_by : (op : Open) → OpStands s x.core x.slot x.parity x.inbox op (local_next x.machine.local) → aim_by s.seat x.machine.local x.slot now.parity op ≡ Some sought.aim → Here (records s.seat.rank)
-    waits_by Nothing (idle, empty, none) is =
+    waits_by Nothing (between, none) is =
         let (over, aims) = if_some (not (is_stopped x.machine.local) && is_ended (local_next x.machine.local)) _ sought.aim is in
         let ends : local_next x.machine.local ≡ Ends = ended_is (local_next x.machine.local) (both_second (not (is_stopped x.machine.local)) (is_ended (local_next x.machine.local)) over) in
-        same (ends_wait s.seat.setup memory s.seat.rank (record_in s) (record_in s).calls (local_next x.machine.local) ends idle
-        (slot_waits s.seat memory records agrees (record_in s) like x.slot sought.aim tied.slot_is idle aims tells))
+        same (ends_wait s.seat.setup memory s.seat.rank (record_in s) (record_in s).calls (local_next x.machine.local) ends between.stage
+        (slot_waits s.seat memory records agrees (record_in s) like x.slot sought.aim tied.slot_is between.stage aims tells))
     waits_by (Sending op) (stands, of_next) is =
         ⊎_elim
         (λ (slot : SlotWaits (view_of s.seat.setup memory) s.seat.rank (record_in s)).
@@ -255,7 +255,7 @@ is_none_of (Some y) is = absurd (cc (is))
 
 -- nothing is open where nothing stands next
 idle_by : (x : UeView) (s : Sight) (op : Open) (n : Next Local) → n ≡ Ends → OpStands s x.core x.slot x.parity x.inbox op n → (record_in s).stage ≡ Idle
-idle_by x s Nothing n ends stands = stands.0
+idle_by x s Nothing n ends stands = stands.0.stage
 idle_by x s (Sending op) n ends stands = absurd (subst (λ (y : Next Local). IsSendOf op y) ends stands.1)
 idle_by x s (Receiving op) n ends stands = absurd (subst (λ (y : Next Local). IsRecvOf op y) ends stands.1)
 idle_by x s (Meeting op) n ends stands = absurd (subst (λ (y : Next Local). IsBarOf op y) ends stands.1)

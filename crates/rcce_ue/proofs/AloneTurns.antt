@@ -23,11 +23,11 @@ use Rattle.script_plain.specs.Moves.{is_ended, is_stopped, went}
 use Rattle.script_plain.specs.Next.{Next, is_going}
 use Rattle.script_plain.specs.Next.Next.{Ends, Goes, Posts, Sends, Recvs, Bars}
 use Rattle.rcce_ue.specs.Left.{left_of, rest_of}
-use Rattle.rcce_ue.specs.Standing.{IsNoCall, Tied}
+use Rattle.rcce_ue.specs.Standing.{IsFree, IsNoCall, Tied, keeping}
 use Rattle.rcce_ue.specs.Turns.{IsStill, Turns, slot_aim}
 use Rattle.rcce_ue.specs.Ues.{UeView, entered}
 use Rattle.rcce_ue.specs.declared.calls.Open.TheVariants.{Nothing}
-use Rattle.rcce_ue.proofs.EnterLemmas.{IsFree, entered_left, entered_tied, holds_none}
+use Rattle.rcce_ue.proofs.EnterLemmas.{entered_left, entered_tied, holds_none}
 use Rattle.rcce_ue.proofs.KeepLemmas.{begun_at, kept_tied, not_over, parity_kept, unless_below, unless_falls}
 use Rattle.rcce_ue.proofs.MeasureLemmas.{falls}
 use Rattle.rcce_ue.proofs.PathLemmas.{goes_on, stood_went, stopped_ends}
@@ -92,10 +92,10 @@ over_first true b is = refl
 over_first false b is = absurd (cc)
 
 module _ (ue : UeView) (s : Sight) (tied : Tied (record ue { op = Nothing }) s) where
-  free : IsFree s ue.core ue.slot ue.parity
+  pub free : IsFree s (keeping ue.core ue.slot ue.parity)
   free = record {
-    none = record { stage = tied.stands.0; empty = tied.stands.1; hands = holds_none s.seat.setup.layout (record_in s).held tied.hands; slot_stands = tied.slot_is };
-    parity_is = tied.parity_is;
+    messages = record { between = tied.stands.0; hands = holds_none s.seat.setup.layout (record_in s).held tied.hands; slot_stands = tied.slot_is };
+    parity = tied.parity_is;
   }
 
   -- the UE after a statement of its own
@@ -156,7 +156,7 @@ module _ (ue : UeView) (s : Sight) (tied : Tied (record ue { op = Nothing }) s) 
   -- a UE of which at most its slot is left
   module _ (idle : is_going (local_next ue.machine.local) ≡ false) (on : is_stopped ue.machine.local ≡ false) where
     ended : is_ended (local_next ue.machine.local) ≡ true
-    ended = ap (λ (n : Next Local). is_ended n) (ends_here (local_next ue.machine.local) tied.stands.2 idle)
+    ended = ap (λ (n : Next Local). is_ended n) (ends_here (local_next ue.machine.local) tied.stands.1 idle)
 
     module _ (t : Sight) (d : Private) (now : SlotAt) (slot : SlotStands t.seat (record_in t) now) where
       abbrev pub slot_ue : UeView
@@ -169,7 +169,7 @@ module _ (ue : UeView) (s : Sight) (tied : Tied (record ue { op = Nothing }) s) 
         kept : IsSameOrEmpty ue.slot now → Tied slot_ue t
         kept same =
             kept_tied (record ue { op = Nothing }) s t tied (seat_kept s r.events t r.did) on r.calls r.rest.hold d now ue.parity Nothing ue.inbox slot same
-            (parity_kept (record_in s) (record_in t) ue.parity r.rest.flips tied.parity_is) tied.room (r.stage ∙ tied.stands.0, r.buffer, tied.stands.2)
+            (parity_kept (record_in s) (record_in t) ue.parity r.rest.flips tied.parity_is) tied.room (record { stage = r.stage ∙ tied.stands.0.stage; empty = r.buffer }, tied.stands.1)
 
       pub slot_moved : SlotTurned (with_slot s ue.core ue.slot) (with_slot t d now) turn.Moved → Turns (record ue { op = Nothing }) s slot_ue t turn.Moved
       slot_moved r =

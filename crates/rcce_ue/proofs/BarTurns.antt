@@ -35,12 +35,12 @@ use Rattle.script_plain.specs.Moves.{is_ended, is_stopped, passed}
 use Rattle.script_plain.specs.Next.{Next, is_going}
 use Rattle.script_plain.specs.Next.Next.{Ends, Goes, Posts, Sends, Recvs, Bars}
 use Rattle.rcce_ue.specs.Left.{left_of, next_bound, rest_of}
-use Rattle.rcce_ue.specs.Standing.{IsBarOf, Tied}
+use Rattle.rcce_ue.specs.Standing.{IsBarOf, IsFree, Tied, keeping}
 use Rattle.rcce_ue.specs.Turns.{IsStill, Turns}
 use Rattle.rcce_ue.specs.Ues.{UeView, entered}
 use Rattle.rcce_ue.specs.declared.calls.Open.TheVariants.{Meeting}
 use Rattle.rcce_ue.proofs.CountLemmas.{bytes_same, sends_same}
-use Rattle.rcce_ue.proofs.EnterLemmas.{IsFree, entered_left, entered_tied, holds_none}
+use Rattle.rcce_ue.proofs.EnterLemmas.{entered_left, entered_tied, holds_none}
 use Rattle.rcce_ue.proofs.KeepLemmas.{begun_at, hands_kept, kept_tied, not_over, unless_below, unless_falls}
 use Rattle.rcce_ue.proofs.MeasureLemmas.{falls}
 use Rattle.rcce_ue.proofs.PathLemmas.{goes_on, stood_met}
@@ -229,17 +229,16 @@ module _ (ue : UeView) (s t : Sight) (op : BarAt) (tied : Tied (record ue { op =
     done_bar n = entered (record ue { machine = record ue.machine { local = passed n ue.machine.local }; core = d; parity = values })
 
     module _ (r : Turned turn.Done) where
-      free : IsFree t d ue.slot values
+      free : IsFree t (keeping d ue.slot values)
       free =
           let at = subst (λ (x : BarStage). IsAtStage t.seat (record_in t) now.comm x) r.means.0 stands.at in
           record {
-            none = record {
-              stage = at;
-              empty = stands.empty;
+            messages = record {
+              between = record { stage = at; empty = stands.empty };
               hands = holds_none t.seat.setup.layout (record_in t).held (hands_kept (record_in s) (record_in t) r.rest.registers tied.hands);
               slot_stands = slot_here turn.Done r;
             };
-            parity_is = stands.parity;
+            parity = stands.parity;
           }
 
       done_by : (n : Next Local) → local_next ue.machine.local ≡ n → Turns (record ue { op = Meeting op }) s (done_bar n) t turn.Moved

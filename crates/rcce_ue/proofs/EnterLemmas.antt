@@ -17,11 +17,9 @@ use Rattle.scc_proto.specs.Stages.{FlagWords, Record}
 use Rattle.scc_proto.specs.Words.{are_peers}
 use Rattle.scc_proto.proofs.Tests.{eqb_other}
 use Rattle.put_get.specs.Cores.{Private}
-use Rattle.send_recv.specs.Calling.{IsInNoCall}
 use Rattle.send_recv.specs.Ops.{SlotAt, slot_left}
 use Rattle.send_recv.specs.Turns.{HoldsNoneBy}
 use Rattle.send_recv.proofs.Starts.{receive_starts, send_starts}
-use Rattle.barrier.specs.Flags.{IsParityOf}
 use Rattle.script_plain.specs.Collectives.{started}
 use Rattle.script_plain.specs.Local.{Local, local_next}
 use Rattle.script_plain.specs.Machine.{MachineView, on_its_way}
@@ -33,7 +31,7 @@ use Rattle.script_plain.specs.declared.posts.Posted.{Posted}
 use Rattle.script_plain.proofs.ReadyLemmas.{ready-law}
 use Rattle.script_plain.proofs.StepLaws as steps
 use Rattle.rcce_ue.specs.Left.{left_of, next_bound, open_left, rest_behind, rest_of, unless}
-use Rattle.rcce_ue.specs.Standing.{IsLastTarget, OpStands, Stood, Tied, bytes_sent}
+use Rattle.rcce_ue.specs.Standing.{IsFree, IsLastTarget, OpStands, Stood, Tied, bytes_sent, keeping}
 use Rattle.rcce_ue.specs.Standing.Stood.{Runs, Refused}
 use Rattle.rcce_ue.specs.Ues.{IsBegun, UeView, counted, entered, is_sending, opened}
 use Rattle.rcce_ue.proofs.MeasureLemmas.{falls, opened_by}
@@ -68,11 +66,6 @@ post_valid head post =
     let short = post.len_within in
     record { kind_below = omega (arith, plain); comm_below = omega (arith, world); len_within = omega (arith, short); plain_in_world = λ same. world }
 
--- a rank in no call
-pub record IsFree (s : Sight) (c : Private) (slot : SlotAt) (parity : List Bool) : Type 0 where
-  pub none : IsInNoCall s c slot
-  pub parity_is : IsParityOf (record_in s) parity
-
 module _ (m : MachineView) (s : Sight) (begun : IsBegun m) (setup_is : s.seat.setup ≡ m.setup) (rank_is : s.seat.rank ≡ m.rank) where
   peers_here : (j : ℕ) → IsPeer m.script.nue m.rank j → are_peers s.seat.setup s.seat.rank j ≡ true
   peers_here j peer =
@@ -80,37 +73,37 @@ module _ (m : MachineView) (s : Sight) (begun : IsBegun m) (setup_is : s.seat.se
       (peers_of s.seat.setup m.script.nue m.rank j (ap (λ (x : SetupView). x.nue) setup_is ∙ begun.ranks) begun.within peer)
 
   -- it stands at the beginning of the call that it comes to
-  pub opened_stands : (c : Private) (slot : SlotAt) (parity : List Bool) (inbox : List ℕ) → IsFree s c slot parity → length inbox ≡ 65536 → (n : Next Local) → IsReady m.script m.rank n
+  pub opened_stands : (c : Private) (slot : SlotAt) (parity : List Bool) (inbox : List ℕ) → IsFree s (keeping c slot parity) → length inbox ≡ 65536 → (n : Next Local) → IsReady m.script m.rank n
       → OpStands s c slot parity inbox (opened n) n
-  opened_stands c slot parity inbox free room Ends ready = (free.none.stage, free.none.empty, tt)
-  opened_stands c slot parity inbox free room (Goes after) ready = (free.none.stage, free.none.empty, tt)
+  opened_stands c slot parity inbox free room Ends ready = (free.messages.between, tt)
+  opened_stands c slot parity inbox free room (Goes after) ready = (free.messages.between, tt)
   opened_stands c slot parity inbox free room (Posts message after) ready = (
-    send_starts free.none message.to message.head true message.bytes (peers_here message.to ready.0) (post_valid message.head ready.1) (λ same. ready.1) ready.2,
+    send_starts free.messages message.to message.head true message.bytes (peers_here message.to ready.0) (post_valid message.head ready.1) (λ same. ready.1) ready.2,
     (refl, refl, refl, refl),
   )
   opened_stands c slot parity inbox free room (Sends to head bytes after) ready = (
-    send_starts free.none to head false bytes (peers_here to ready.0) ready.1 (λ same. absurd (cc)) ready.2,
+    send_starts free.messages to head false bytes (peers_here to ready.0) ready.1 (λ same. absurd (cc)) ready.2,
     (refl, refl, refl, refl),
   )
   opened_stands c slot parity inbox free room (Recvs from head take_in refuse) ready =
       let short = ready.1.len_within in (
-        receive_starts free.none from head (take head.len inbox) (peers_here from ready.0) ready.1 (length-take-le head.len inbox (omega (arith, room, short))),
+        receive_starts free.messages from head (take head.len inbox) (peers_here from ready.0) ready.1 (length-take-le head.len inbox (omega (arith, room, short))),
         (refl, refl, refl),
       )
   opened_stands c slot parity inbox free room (Bars comm after) ready = (
     record {
       below = ready.0;
       present = λ same. ready.1 (sym (ap (λ (l : List CommRule). rule_of l comm) (ap (λ (x : SetupView). x.comms) setup_is ∙ begun.comms)) ∙ same);
-      empty = free.none.empty;
-      parity = free.parity_is;
-      at = free.none.stage;
+      empty = free.messages.between.empty;
+      parity = free.parity;
+      at = free.messages.between.stage;
     },
     (refl, refl),
   )
 
 -- a UE that comes to what stands next and the record fit together
 pub entered_tied : (ue : UeView) (s : Sight) (last : Option Posted) → IsBegun ue.machine → s.seat.setup ≡ ue.machine.setup → s.seat.rank ≡ ue.machine.rank
-    → Stood (started ue.machine.script ue.machine.rank) (record_in s) ue.machine.local last → IsFree s ue.core ue.slot ue.parity → ((core : ℕ) → (record_in s).held core ≡ None)
+    → Stood (started ue.machine.script ue.machine.rank) (record_in s) ue.machine.local last → IsFree s (keeping ue.core ue.slot ue.parity) → ((core : ℕ) → (record_in s).held core ≡ None)
     → length ue.inbox ≡ 65536 → ue.posted ≡ option_map on_its_way last → IsLastTarget ue.slot last
     → ue.sent ≡ counted (count_by is_sending (record_in s).calls) → ue.sent_bytes ≡ counted (sum_by bytes_sent (record_in s).calls) → Tied (entered ue) s
 entered_tied ue s last begun setup_is rank_is stood free hands room posted target sends bytes = record {
@@ -121,8 +114,8 @@ entered_tied ue s last begun setup_is rank_is stood free hands room posted targe
   stood = stood;
   stands = opened_stands ue.machine s begun setup_is rank_is ue.core ue.slot ue.parity ue.inbox free room (local_next ue.machine.local) (ready_here ue.machine (record_in s) last begun stood);
   hands = hands;
-  slot_is = free.none.slot_stands;
-  parity_is = free.parity_is;
+  slot_is = free.messages.slot_stands;
+  parity_is = free.parity;
   room = room;
   posted_is = posted;
   target = target;

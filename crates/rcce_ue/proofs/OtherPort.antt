@@ -8,7 +8,7 @@ use Rattle.put_get.specs.Cores.{Private}
 use Rattle.send_recv.specs.Ops.{SlotAt}
 use Rattle.send_recv.proofs.OtherPort.{receive_there, send_there, slot_there}
 use Rattle.sync_flags.specs.Turns.{at_port}
-use Rattle.sync_flags.proofs.TurnLemmas.{record_at_port}
+use Rattle.sync_flags.proofs.TurnLemmas.{between_there, record_at_port}
 use Rattle.barrier.specs.Flags.{IsParityOf}
 use Rattle.barrier.proofs.OtherPort.{barrier_there}
 use Rattle.script_plain.specs.Collectives.{started}
@@ -25,7 +25,7 @@ module _ (s : Sight) (m r : Gv) (h : ℕ) where
   there P is = subst P (sym (record_at_port s m r h)) is
 
   op_there : (c : Private) (slot : SlotAt) (parity : List Bool) (inbox : List ℕ) (op : Open) (n : Next Local) → OpStands s c slot parity inbox op n → OpStands (at_port s m r h) c slot parity inbox op n
-  op_there c slot parity inbox Nothing n st = (ap (λ (rec : Record). rec.stage) (record_at_port s m r h) ∙ st.0, st.1, st.2)
+  op_there c slot parity inbox Nothing n st = (between_there s m r h c st.0, st.1)
   op_there c slot parity inbox (Sending op) n st = (send_there s m r h c op slot (bytes_out n) st.0, st.1)
   op_there c slot parity inbox (Receiving op) n st = (receive_there s m r h c op (take (length_in n) inbox) st.0, st.1)
   op_there c slot parity inbox (Meeting op) n st = (barrier_there s m r h c op parity st.0, st.1)

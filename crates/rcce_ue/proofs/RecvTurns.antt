@@ -28,12 +28,12 @@ use Rattle.script_plain.specs.Moves.{is_ended, is_stopped, length_in, refused, t
 use Rattle.script_plain.specs.Next.{Next, is_going}
 use Rattle.script_plain.specs.Next.Next.{Ends, Goes, Posts, Sends, Recvs, Bars}
 use Rattle.rcce_ue.specs.Left.{left_of, next_bound, rest_of, unless}
-use Rattle.rcce_ue.specs.Standing.{IsRecvOf, Tied, bytes_sent}
+use Rattle.rcce_ue.specs.Standing.{IsFree, IsRecvOf, Tied, bytes_sent, keeping}
 use Rattle.rcce_ue.specs.Turns.{IsStill, Turns}
 use Rattle.rcce_ue.specs.Ues.{UeView, counted, entered, is_sending}
 use Rattle.rcce_ue.specs.declared.calls.Open.TheVariants.{Receiving}
 use Rattle.rcce_ue.proofs.CountLemmas.{bytes_same, sends_same}
-use Rattle.rcce_ue.proofs.EnterLemmas.{IsFree, entered_left, entered_tied}
+use Rattle.rcce_ue.proofs.EnterLemmas.{entered_left, entered_tied}
 use Rattle.rcce_ue.proofs.KeepLemmas.{begun_at, hands_kept, kept_tied, not_over, parity_kept, unless_below, unless_falls}
 use Rattle.rcce_ue.proofs.MeasureLemmas.{falls}
 use Rattle.rcce_ue.proofs.PathLemmas.{goes_on, refused_stops, stood_got, stood_refused}
@@ -161,15 +161,14 @@ module _ (ue : UeView) (s t : Sight) (op : RecvAt) (tied : Tied (record ue { op 
       seat : t.seat ≡ s.seat
       seat = seat_kept s r.events t r.did
 
-      free : (record_in t).stage ≡ Idle → IsFree t d ue.slot ue.parity
+      free : (record_in t).stage ≡ Idle → IsFree t (keeping d ue.slot ue.parity)
       free idle = record {
-        none = record {
-          stage = idle;
-          empty = stands.empty;
+        messages = record {
+          between = record { stage = idle; empty = stands.empty };
           hands = stands.hands;
           slot_stands = subst (λ (x : Seat). SlotStands x (record_in t) ue.slot) (sym seat) (slot_stays s.seat (record_in s) (record_in t) ue.slot r.post tied.slot_is);
         };
-        parity_is = parity_kept (record_in s) (record_in t) ue.parity r.rest.flips tied.parity_is;
+        parity = parity_kept (record_in s) (record_in t) ue.parity r.rest.flips tied.parity_is;
       }
 
     module _ (r : Turned receive.Done) where

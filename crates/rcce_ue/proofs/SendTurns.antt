@@ -24,12 +24,12 @@ use Rattle.script_plain.specs.Moves.{bytes_out, is_ended, is_stopped, passed}
 use Rattle.script_plain.specs.Next.{Next, is_going}
 use Rattle.script_plain.specs.Next.Next.{Ends, Goes, Posts, Sends, Recvs, Bars}
 use Rattle.rcce_ue.specs.Left.{at_end, left_of, next_bound, rest_of}
-use Rattle.rcce_ue.specs.Standing.{IsSendOf, Tied}
+use Rattle.rcce_ue.specs.Standing.{IsFree, IsSendOf, Tied, keeping}
 use Rattle.rcce_ue.specs.Turns.{IsStill, Turns}
 use Rattle.rcce_ue.specs.Ues.{UeView, counted, entered, posted_by}
 use Rattle.rcce_ue.specs.declared.calls.Open.TheVariants.{Sending}
 use Rattle.rcce_ue.proofs.CountLemmas.{bytes_more, sends_more}
-use Rattle.rcce_ue.proofs.EnterLemmas.{IsFree, entered_left, entered_tied}
+use Rattle.rcce_ue.proofs.EnterLemmas.{entered_left, entered_tied}
 use Rattle.rcce_ue.proofs.KeepLemmas.{begun_at, empty_left, hands_kept, kept_tied, not_over, parity_kept, unless_below, unless_falls}
 use Rattle.rcce_ue.proofs.MeasureLemmas.{falls}
 use Rattle.rcce_ue.proofs.PathLemmas.{goes_on, stood_left, stood_sent}
@@ -164,10 +164,13 @@ module _ (ue : UeView) (s t : Sight) (op : SendAt) (tied : Tied (record ue { op 
         })
 
     module _ (r : Turned turn.Done) where
-      free : IsFree t d after ue.parity
+      free : IsFree t (keeping d after ue.parity)
       free =
           let at = subst (λ (stage : SendStage). IsAtSendStage t.seat (record_in t) d now (bytes_out (local_next ue.machine.local)) stage) r.means.0 stands.at in
-          record { none = record { stage = at.0; empty = at.1; hands = stands.hands; slot_stands = stands.slot_stands }; parity_is = parity_kept (record_in s) (record_in t) ue.parity r.rest.flips tied.parity_is }
+          record {
+            messages = record { between = record { stage = at.0; empty = at.1 }; hands = stands.hands; slot_stands = stands.slot_stands };
+            parity = parity_kept (record_in s) (record_in t) ue.parity r.rest.flips tied.parity_is;
+          }
 
       seat : t.seat ≡ s.seat
       seat = seat_kept s r.events t r.did

@@ -3,29 +3,24 @@ use Rattle.std.proofs.Common.{◌≡◌, ℕ, ◌+◌, ◌≤◌, false, List, [
 use Rattle.std.specs.List.{count_by}
 use Rattle.scc_base.specs.Calls.{DataCall}
 use Rattle.scc_proto.specs.Ports.{Sight, record_in}
-use Rattle.scc_proto.specs.Records.{record_of}
 use Rattle.scc_proto.specs.Stages.{Record, blank}
-use Rattle.scc_proto.proofs.PortLaws.{record_of-nil}
 use Rattle.send_recv.specs.Ops.{SlotAt, empty_slot}
-use Rattle.send_recv.specs.Sending.{SlotStands}
-use Rattle.sync_flags.specs.Flags.{flag_value}
-use Rattle.barrier.specs.Flags.{IsParityOf, value_at}
+use Rattle.send_recv.specs.Calling.{IsBetweenMessages}
+use Rattle.send_recv.proofs.Starts as message
+use Rattle.sync_flags.proofs.TurnLemmas.{record_at_start}
+use Rattle.barrier.specs.Flags.{value_at}
+use Rattle.barrier.proofs.OtherPort as barrier
 use Rattle.script_plain.specs.Collectives.{started}
 use Rattle.script_plain.specs.Local.{Local, local_start}
 use Rattle.script_plain.specs.Paths.Came.{Began}
 use Rattle.rcce_ue.specs.Bounds.{bounds_of, visits}
 use Rattle.rcce_ue.specs.Left.{left_of, rest_of}
-use Rattle.rcce_ue.specs.Standing.{Stood, Tied, bytes_sent}
+use Rattle.rcce_ue.specs.Standing.{IsFree, Stood, Tied, bytes_sent, keeping}
 use Rattle.rcce_ue.specs.Standing.Stood.{Runs}
 use Rattle.rcce_ue.specs.Ues.{IsBegun, UeView, counted, entered, is_sending}
-use Rattle.rcce_ue.proofs.EnterLemmas.{IsFree, entered_left, entered_tied, holds_none}
+use Rattle.rcce_ue.proofs.EnterLemmas.{entered_left, entered_tied}
 use Rattle.rcce_ue.proofs.KeepLemmas.{empty_left}
 use Rattle.rcce_ue.proofs.VisitLemmas.{program_within}
-
--- the record of no event
-fresh : (s : Sight) → s.events ≡ [] → record_in s ≡ blank
-unfolding record_in
-fresh s none = ap (record_of s.seat.setup s.seat.rank) none ∙ record_of-nil s.seat.setup s.seat.rank
 
 -- a UE of which nothing is done, and any port of its rank without events
 pub record IsFresh (ue : UeView) : Type 0 where
@@ -42,32 +37,17 @@ pub record IsFresh (ue : UeView) : Type 0 where
 module _ (ue : UeView) (new : IsFresh ue) where
   module _ (s : Sight) (none : s.events ≡ []) where
     is_blank : record_in s ≡ blank
-    is_blank = fresh s none
+    is_blank = record_at_start s none
 
     stood_start : Stood (started ue.machine.script ue.machine.rank) (record_in s) ue.machine.local None
     stood_start =
         subst (λ (rec : Record). Stood (started ue.machine.script ue.machine.rank) rec ue.machine.local None) (sym is_blank)
         (subst (λ (u : Local). Stood (started ue.machine.script ue.machine.rank) blank u None) (sym new.start) (Runs Began))
 
-    slot_start : SlotStands s.seat (record_in s) ue.slot
-    slot_start =
-        subst (λ (rec : Record). SlotStands s.seat rec ue.slot) (sym is_blank)
-        (subst (λ (slot : SlotAt). SlotStands s.seat blank slot) (sym new.slot) (record { to = refl; seen = λ seen. absurd (cc); peers = tt }))
-
-    parity_start : IsParityOf (record_in s) ue.parity
-    parity_start =
-        subst (λ (rec : Record). IsParityOf rec ue.parity) (sym is_blank)
-        (λ comm low. ap flag_value (new.unset comm))
-
-    free_start : IsFree s ue.core ue.slot ue.parity
+    free_start : IsFree s (keeping ue.core ue.slot ue.parity)
     free_start = record {
-      none = record {
-        stage = ap (λ (rec : Record). rec.stage) is_blank;
-        empty = new.empty;
-        hands = holds_none s.seat.setup.layout (record_in s).held (λ core. ap (λ (rec : Record). rec.held core) is_blank);
-        slot_stands = slot_start;
-      };
-      parity_is = parity_start;
+      messages = subst (λ (slot : SlotAt). IsBetweenMessages s ue.core slot) (sym new.slot) (message.free_at_start s ue.core none new.empty);
+      parity = (barrier.free_at_start s ue.core ue.parity none new.empty new.unset).parity;
     }
 
     pub start_tied : s.seat.setup ≡ ue.machine.setup → s.seat.rank ≡ ue.machine.rank → Tied (entered ue) s

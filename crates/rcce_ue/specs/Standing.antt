@@ -7,9 +7,11 @@ use Rattle.scc_base.specs.Calls.DataCall.{Send, Post}
 use Rattle.scc_base.specs.Heads.{MessageHead}
 use Rattle.scc_proto.specs.Messages.{Notes}
 use Rattle.scc_proto.specs.Ports.{Sight, record_in}
-use Rattle.scc_proto.specs.Stages.{Idle, Record}
+use Rattle.scc_proto.specs.Stages.{Record}
 use Rattle.put_get.specs.Cores.{Private}
+use Rattle.sync_flags.specs.Turns.{IsBetweenCalls}
 use Rattle.send_recv.specs.Ops.{RecvAt, SendAt, SlotAt, is_received, is_sent}
+use Rattle.send_recv.specs.Calling.{IsBetweenMessages}
 use Rattle.send_recv.specs.Receiving.{RecvStands, SaysHead}
 use Rattle.send_recv.specs.Sending.{SendStands, SlotStands}
 use Rattle.barrier.specs.Flags.{IsParityOf}
@@ -61,9 +63,24 @@ abbrev pub IsBarOf : BarAt → Next Local → Type 0
 IsBarOf op (Bars comm after) = (op.comm ≡ comm) × (is_finished op.stage ≡ false)
 IsBarOf op _ = ⊥
 
+-- what a rank keeps to itself: its core, the slot of its posted message, and the values of its own gather flags
+pub record OwnState : Type 0 where
+  pub core : Private
+  pub slot : SlotAt
+  pub parity : List Bool
+
+-- that of a rank with this core, slot and parity
+abbrev pub keeping : Private → SlotAt → List Bool → OwnState
+keeping core slot parity = record { core = core; slot = slot; parity = parity }
+
+-- the rank is between two calls, and what it keeps is the record's: any message and any barrier can begin
+pub record IsFree (s : Sight) (own : OwnState) : Type 0 where
+  pub messages : IsBetweenMessages s own.core own.slot
+  pub parity : IsParityOf (record_in s) own.parity
+
 -- the record, the core and the bytes stand where the call stands that comes next
 abbrev pub OpStands : Sight → Private → SlotAt → List Bool → List ℕ → Open → Next Local → Type 0
-OpStands s c slot parity inbox Nothing next = ((record_in s).stage ≡ Idle) × (c.out ≡ None) × IsNoCall next
+OpStands s c slot parity inbox Nothing next = IsBetweenCalls s c × IsNoCall next
 OpStands s c slot parity inbox (Sending op) next = SendStands s c op slot (bytes_out next) × IsSendOf op next
 OpStands s c slot parity inbox (Receiving op) next = RecvStands s c op (take (length_in next) inbox) × IsRecvOf op next
 OpStands s c slot parity inbox (Meeting op) next = BarStands s c op parity × IsBarOf op next

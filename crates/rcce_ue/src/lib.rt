@@ -6,5 +6,5 @@ mod laws;
 mod receiving;
 mod ues;
 
-pub use laws::other_port_law;
+pub use laws::{free_law, other_port_law};
 pub use ues::Ue;

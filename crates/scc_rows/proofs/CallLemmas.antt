@@ -39,5 +39,5 @@ module _ {s t : Sight} {peer : ℕ} (peers : are_peers s.seat.setup s.seat.rank 
   receive_differs_whole st slot r = record { peers = peers_kept peer r.events r.did peers; at = free_after_other_head st.hands slot r }
 
 module _ {s t : Sight} {c d : Private} {slot : SlotAt} {peer : ℕ} {old any : List ℕ} (talk : IsTalking s c slot peer old None None) where
-  pub found_nothing : {op : RecvAt} {bytes after : List ℕ} → FoundUnset (receiving s c op bytes) (with_bytes t d after) → IsTalking t d slot peer any None None
+  pub found_nothing : {aim : Aim} {op : RecvAt} {bytes after : List ℕ} → FoundUnset aim (receiving s c op bytes) (with_bytes t d after) → IsTalking t d slot peer any None None
   found_nothing r = record { peers = peers_kept peer r.events r.did talk.peers; at = free_after_test talk.at r }

@@ -1,85 +1,39 @@
 -- A barrier stands where the events of a rank stand, whatever port shows them.
-use Rattle.std.proofs.Common.{◌≡◌, ◌≢◌, ℕ, ◌%◌, ◌<◌, Bool, false, List, [], None, refl, sym, ◌∙◌, ap, subst, arith}
+use Rattle.std.proofs.Common.{◌≡◌, ◌≢◌, ℕ, ◌<◌, Bool, false, List, [], None, refl, sym, ◌∙◌, ap, subst, arith}
+use base.Stored.{gnil}
 use Rattle.scc_base.specs.Setups.{SetupView}
 use Rattle.scc_base.specs.Communicators.{rule_of}
 use Rattle.scc_base.specs.declared.communicators.CommRule.TheVariants.{Absent}
-use Rattle.scc_base.specs.declared.events.Event.{Event}
 use Rattle.scc_base.specs.declared.events.Turn.TheVariants as turn
-use Rattle.scc_proto.specs.Stages.{Record, blank}
-use Rattle.scc_proto.specs.Records.{record_of}
-use Rattle.scc_proto.specs.Ports.{Seat, Sight, record_in}
-use Rattle.scc_proto.proofs.PortLaws.{record_of-nil, seat_kept}
+use Rattle.scc_proto.specs.Ports.{Seat, Sight}
+use Rattle.scc_proto.proofs.PortLaws.{seat_kept}
 use Rattle.put_get.specs.Cores.{Private}
-use Rattle.sync_flags.specs.Flags.{flag_value}
-use Rattle.barrier.specs.declared.stages.BarStage.{BarStage}
-use Rattle.barrier.specs.declared.stages.BarStage.TheVariants.{Flip, Gather, Release, Await, Finished}
-use Rattle.barrier.specs.Flags.{IsParityOf, value_at}
-use Rattle.barrier.specs.Stages.{BarAt, BarStands, IsAtStage, meeting, with_parity}
+use Rattle.barrier.specs.declared.stages.BarStage.TheVariants.{Flip}
+use Rattle.barrier.specs.Flags.{value_at}
+use Rattle.barrier.specs.Stages.{BarAt, BarStands, meeting, with_parity}
 use Rattle.barrier.specs.Turns.{BarTurned}
 use Rattle.barrier.specs.Calls.{Finishes, Stalls}
 use Rattle.barrier.specs.declared.barriers.BarStop.{BarStop}
+use Rattle.barrier.proofs.OtherPort.{barrier_there, free_after_turn, free_at_start}
 use Rattle.barrier.proofs.RestLemmas.{barrier_starts, free_after_barrier}
 use Rattle.scc_mesh.specs.Scenes.{ChipView, IsNew, about_in, sight_in}
 use Rattle.chip_teams.specs.Teams.{sight_alone}
 use Rattle.scc_rows.specs.Entrants.{IsReady}
 
-at_seat : (seat other : Seat) (rec : Record) (comm : ℕ) (stage : BarStage) → other.setup ≡ seat.setup → other.rank ≡ seat.rank → IsAtStage seat rec comm stage → IsAtStage other rec comm stage
-at_seat seat other rec comm stage setup rank at = by stage at
-  where
-    by : (st : BarStage) → IsAtStage seat rec comm st → IsAtStage other rec comm st
-    by Flip h = h
-    by (Gather seen) h = subst (λ (x : SetupView). IsAtStage (record other { setup = x }) rec comm (Gather seen)) (sym setup)
-        (subst (λ (r : ℕ). IsAtStage (record other { setup = seat.setup; rank = r }) rec comm (Gather seen)) (sym rank) h)
-    by (Release released) h = subst (λ (x : SetupView). IsAtStage (record other { setup = x }) rec comm (Release released)) (sym setup)
-        (subst (λ (r : ℕ). IsAtStage (record other { setup = seat.setup; rank = r }) rec comm (Release released)) (sym rank) h)
-    by Await h = subst (λ (x : SetupView). IsAtStage (record other { setup = x }) rec comm Await) (sym setup)
-        (subst (λ (r : ℕ). IsAtStage (record other { setup = seat.setup; rank = r }) rec comm Await) (sym rank) h)
-    by Finished h = h
-
-pub same_record : (s : Sight) → record_in (sight_alone s.seat.setup s.seat.rank s.events) ≡ record_in s
-unfolding record_in
-same_record s = refl
-
 -- what stands where a rank's events stand stands at a port that shows them, and the other way round
 pub shown : {s : Sight} {c : Private} {op : BarAt} {values : List Bool} → BarStands (sight_alone s.seat.setup s.seat.rank s.events) c op values → BarStands s c op values
-shown {s} {c} {op} {values} st = record {
-  below = st.below;
-  present = st.present;
-  empty = st.empty;
-  parity = subst (λ (r : Record). IsParityOf r values) (same_record s) st.parity;
-  at = at_seat (sight_alone s.seat.setup s.seat.rank s.events).seat s.seat (record_in s) op.comm op.stage refl refl
-      (subst (λ (r : Record). IsAtStage (sight_alone s.seat.setup s.seat.rank s.events).seat r op.comm op.stage) (same_record s) st.at);
-}
+shown {s} {c} {op} {values} st = barrier_there (sight_alone s.seat.setup s.seat.rank s.events) s.seat.mark s.seat.rest s.seat.hold c op values st
 
 pub alone : {s : Sight} {c : Private} {op : BarAt} {values : List Bool} → BarStands s c op values → BarStands (sight_alone s.seat.setup s.seat.rank s.events) c op values
-alone {s} {c} {op} {values} st = record {
-  below = st.below;
-  present = st.present;
-  empty = st.empty;
-  parity = subst (λ (r : Record). IsParityOf r values) (sym (same_record s)) st.parity;
-  at = at_seat s.seat (sight_alone s.seat.setup s.seat.rank s.events).seat (record_in (sight_alone s.seat.setup s.seat.rank s.events)) op.comm op.stage refl refl
-      (subst (λ (r : Record). IsAtStage s.seat r op.comm op.stage) (sym (same_record s)) st.at);
-}
+alone {s} {c} {op} {values} st = barrier_there s gnil gnil 0 c op values st
 
 -- ---- how a rank starts, and how it enters one barrier after the other
-
-pub no_event : (s : Sight) → s.events ≡ [] → record_in s ≡ blank
-unfolding record_in
-no_event s none = ap (λ (es : List Event). record_of s.seat.setup s.seat.rank es) none ∙ record_of-nil s.seat.setup s.seat.rank
 
 -- before its first event a rank can enter a barrier
 pub starts : (s : Sight) (core : Private) (comm : ℕ) (op : BarAt) (values : List Bool) → s.events ≡ [] → core.out ≡ None → op ≡ record { comm = comm; stage = Flip }
     → ((c : ℕ) → value_at values c ≡ false) → comm < 16 → rule_of s.seat.setup.comms comm ≢ Absent → BarStands s core op values
 starts s core comm op values fresh empty is unset small present =
-    let none = no_event s fresh in
-    subst (λ (o : BarAt). BarStands s core o values) (sym is)
-    (record {
-      below = small;
-      present = present;
-      empty = empty;
-      parity = λ c lt. ap flag_value (unset c) ∙ (λ i. (sym none i).flips c % 2);
-      at = ap (λ (r : Record). r.stage) none;
-    })
+    subst (λ (o : BarAt). BarStands s core o values) (sym is) (barrier_starts (free_at_start s core values fresh empty unset) comm small present)
 
 pub starts_ready : (s : SetupView) (r : ℕ) (core : Private) (comm : ℕ) (op : BarAt) (values : List Bool) → core.out ≡ None → op ≡ record { comm = comm; stage = Flip }
     → ((c : ℕ) → value_at values c ≡ false) → comm < 16 → rule_of s.comms comm ≢ Absent → IsReady (sight_alone s r []) core comm op values
@@ -106,15 +60,10 @@ pub ready_anew : {s t : Sight} {c d : Private} {op now next : BarAt} {comm : ℕ
     → IsReady (sight_alone t.seat.setup t.seat.rank t.events) d comm next later
 ready_anew {t = t} {d = d} {now = now} {next = next} {comm = comm} {later = later} ready st turned is =
     let same : now.comm ≡ comm = turned.same ∙ ready.same in
-    let idle = subst (λ (x : BarStage). IsAtStage t.seat (record_in t) now.comm x) turned.means.0 st.at in
-    let anew : BarStands t d (record { comm = comm; stage = Flip }) later = record {
-      below = subst (λ (k : ℕ). k < 16) same st.below;
-      present = subst (λ (k : ℕ). rule_of t.seat.setup.comms k ≢ Absent) same st.present;
-      empty = st.empty;
-      parity = st.parity;
-      at = idle;
-    } in record {
-      stands = alone (subst (λ (o : BarAt). BarStands t d o later) (sym is) anew);
+    let small : comm < 16 = subst (λ (k : ℕ). k < 16) same st.below in
+    let present : rule_of t.seat.setup.comms comm ≢ Absent = subst (λ (k : ℕ). rule_of t.seat.setup.comms k ≢ Absent) same st.present in
+    record {
+      stands = alone (subst (λ (o : BarAt). BarStands t d o later) (sym is) (barrier_starts (free_after_turn turned st) comm small present));
       same = ap (λ (o : BarAt). o.comm) is;
     }
 

@@ -4,12 +4,12 @@ use Rattle.scc_proto.specs.Words.{are_peers}
 use Rattle.scc_proto.specs.Ports.{Seat, Sight}
 use Rattle.put_get.specs.Cores.{Private}
 use Rattle.send_recv.specs.Ops.{SlotAt, empty_slot}
-use Rattle.send_recv.specs.Calling.{IsInNoCall}
+use Rattle.send_recv.specs.Calling.{IsBetweenMessages}
 use Rattle.scc_rows.specs.Rests.{IsAtRest, IsFresh}
 use Rattle.scc_rows.proofs.TalkLemmas.{starts_free}
 
 -- a rank that has made no event is in no call
-pub fresh_free : {s : Sight} {c : Private} {slot : SlotAt} {r : ℕ} → IsFresh s r → c.out ≡ None → slot ≡ empty_slot → IsInNoCall s c slot
+pub fresh_free : {s : Sight} {c : Private} {slot : SlotAt} {r : ℕ} → IsFresh s r → c.out ≡ None → slot ≡ empty_slot → IsBetweenMessages s c slot
 fresh_free {s} {c} {slot} fresh empty new = starts_free s c slot fresh.none empty new
 
 -- the two ranks of a pair

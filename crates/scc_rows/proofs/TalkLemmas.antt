@@ -1,38 +1,28 @@
 -- A message stands where the events of a rank stand, whatever port shows them.
-use Rattle.std.proofs.Common.{◌≡◌, ◌≤◌, ℕ, true, false, List, [], ◌++◌, Option, None, Some, option_map, length, take, refl, sym, ◌∙◌, ap, subst, arith}
+use Rattle.std.proofs.Common.{◌≡◌, ◌≤◌, ℕ, true, false, List, [], ◌++◌, Option, None, Some, length, take, refl, sym, ◌∙◌, ap, subst, arith}
 use Rattle.std.proofs.Math.Seq.{take-append_seam}
 use base.Stored.{Gv, gnil}
 use Rattle.scc_base.specs.Heads.{MessageHead, IsHead, IsPostHead, plain_head}
 use Rattle.scc_base.specs.Setups.{SetupView}
-use Rattle.scc_base.specs.declared.layouts.Layout.{Layout}
-use Rattle.scc_base.specs.declared.layouts.Layout.TheVariants.{LineFlags, BitFlags}
 use Rattle.scc_base.specs.declared.events.Event.{Event}
 use Rattle.scc_base.specs.declared.events.Turn.{Turn}
 use Rattle.scc_base.specs.declared.events.Turn.TheVariants as turn
-use Rattle.scc_proto.specs.Stages.{OnItsWay, Record, Idle, blank}
 use Rattle.scc_proto.specs.Words.{are_peers}
 use Rattle.scc_proto.specs.Ports.{Seat, Sight, Did, record_in}
 use Rattle.scc_proto.proofs.PortLaws.{seat_kept}
 use Rattle.put_get.specs.Cores.{Private}
 use Rattle.sync_flags.specs.Turns.{at_port}
-use Rattle.send_recv.specs.declared.stages.RecvStage.{RecvStage}
-use Rattle.send_recv.specs.declared.stages.RecvStage.TheVariants as receive
-use Rattle.send_recv.specs.declared.stages.SendStage.{SendStage}
-use Rattle.send_recv.specs.declared.stages.SendStage.TheVariants as sending
 use Rattle.send_recv.specs.declared.answers.RecvTurn.{RecvTurn}
 use Rattle.send_recv.specs.declared.answers.RecvTurn.TheVariants as recv_turn
 use Rattle.send_recv.specs.Ops.{RecvAt, SendAt, SlotAt, new_receive, new_send, empty_slot}
-use Rattle.send_recv.specs.Turns.{HoldsNone, IsSamePost}
-use Rattle.send_recv.specs.Receiving.{RecvStands, RecvTurned, IsReceiving, IsAtStage}
-use Rattle.send_recv.specs.Sending.{SlotStands, SlotTurned, SendStands, SendTurned, IsSending, IsAtSendStage}
-use Rattle.send_recv.specs.Calling.{IsInNoCall}
+use Rattle.send_recv.specs.Receiving.{RecvStands, RecvTurned}
+use Rattle.send_recv.specs.Sending.{SlotStands, SlotTurned, SendStands, SendTurned}
+use Rattle.send_recv.specs.Calling.{IsBetweenMessages}
 use Rattle.send_recv.specs.Ranks.{receiving, sending, with_slot}
-use Rattle.send_recv.proofs.Starts.{receive_starts, send_starts, slot_stays}
-use Rattle.send_recv.proofs.LookTurn.{holds_kept}
+use Rattle.send_recv.proofs.Starts.{free_after_mismatch, free_after_received, free_after_sent, free_after_slot, free_at_start, receive_starts, send_starts, slot_after}
 use Rattle.send_recv.proofs.OtherPort.{free_there, receive_there, send_there, slot_there}
 use Rattle.chip_teams.specs.Teams.{sight_alone}
 use Rattle.scc_rows.specs.Talkers.{IsAtCall, IsTalking}
-use Rattle.scc_rows.proofs.EntrantLemmas.{no_event}
 
 -- what stands at a port stands at every port of the same rank
 module _ (s : Sight) (m r : Gv) (h : ℕ) where
@@ -73,21 +63,9 @@ is_free {s} {c} {slot} {peer} {bytes} {send} {get} st none free = record {
 
 -- ---- how a rank starts, and how it begins a call
 
-holds_blank : (layout : Layout) (rec : Record) → rec ≡ blank → HoldsNone layout rec
-holds_blank LineFlags rec new = tt
-holds_blank BitFlags rec new = λ core. ap (λ (x : Record). x.held core) new
-
 -- before its first event a rank is in no call
-pub starts_free : (s : Sight) (c : Private) (slot : SlotAt) → s.events ≡ [] → c.out ≡ None → slot ≡ empty_slot → IsInNoCall s c slot
-starts_free s c slot fresh empty new =
-    let none = no_event s fresh in
-    record {
-      stage = ap (λ (x : Record). x.stage) none;
-      empty = empty;
-      hands = holds_blank s.seat.setup.layout (record_in s) none;
-      slot_stands = subst (λ (x : SlotAt). SlotStands s.seat (record_in s) x) (sym new)
-          (record { to = sym (ap (λ (x : Record). option_map (λ (post : OnItsWay). post.to) x.post) none); seen = λ h. absurd (cc); peers = tt });
-    }
+pub starts_free : (s : Sight) (c : Private) (slot : SlotAt) → s.events ≡ [] → c.out ≡ None → slot ≡ empty_slot → IsBetweenMessages s c slot
+starts_free s c slot fresh empty new = subst (λ (x : SlotAt). IsBetweenMessages s c x) (sym new) (free_at_start s c fresh empty)
 
 pub talk_starts : (s : SetupView) (r : ℕ) (c : Private) (slot : SlotAt) (peer : ℕ) (bytes : List ℕ) → are_peers s r peer ≡ true → c.out ≡ None → slot ≡ empty_slot
     → IsTalking (sight_alone s r []) c slot peer bytes None None
@@ -127,11 +105,6 @@ begins_post {s} {c} {slot} {peer} {old} {bytes} {op} st le is = record {
 pub peers_kept : {s t : Sight} (peer : ℕ) (es : List Event) → Did s es t → are_peers s.seat.setup s.seat.rank peer ≡ true → are_peers t.seat.setup t.seat.rank peer ≡ true
 peers_kept {s} {t} peer es did peers = subst (λ (x : Seat). are_peers x.setup x.rank peer ≡ true) (sym (seat_kept s es t did)) peers
 
-slot_there_after : {s t : Sight} {slot : SlotAt} (es : List Event) → Did s es t → IsSamePost (record_in s).post (record_in t).post → SlotStands s.seat (record_in s) slot
-    → SlotStands t.seat (record_in t) slot
-slot_there_after {s} {t} {slot} es did post st =
-    subst (λ (x : Seat). SlotStands x (record_in t) slot) (sym (seat_kept s es t did)) (slot_stays s.seat (record_in s) (record_in t) slot post st)
-
 -- bytes that were written through a slice of a list
 pub written_back : (n : ℕ) (xs ys : List ℕ) → length xs ≡ n → take n (xs ++ ys) ≡ xs
 written_back n xs ys long = ap (λ (k : ℕ). take k (xs ++ ys)) (sym long) ∙ take-append_seam xs ys
@@ -144,63 +117,27 @@ send_goes_on peers turned st = record { peers = peers_kept _ turned.events turne
 pub receive_goes_on : {s t : Sight} {c d : Private} {op now : RecvAt} {slot : SlotAt} {bytes after : List ℕ} {peer : ℕ} {answer : RecvTurn}
     → are_peers s.seat.setup s.seat.rank peer ≡ true → SlotStands s.seat (record_in s) slot → RecvTurned (receiving s c op bytes) (receiving t d now after) answer → RecvStands t d now after
     → IsTalking t d slot peer after None (Some now)
-receive_goes_on peers slot turned st = record { peers = peers_kept _ turned.events turned.did peers; at = (st, slot_there_after turned.events turned.did turned.post slot) }
+receive_goes_on peers slot turned st = record { peers = peers_kept _ turned.events turned.did peers; at = (st, slot_after turned.events turned.did turned.post slot) }
 
 -- a call that is at its end
-sent_at : (seat : Seat) (rec : Record) (c : Private) (op : SendAt) (slot : SlotAt) (bytes : List ℕ) → op.stage ≡ sending.Finished → IsSending seat rec c op slot bytes → (rec.stage ≡ Idle) × (c.out ≡ None)
-sent_at seat rec c op slot bytes is st = subst (λ (x : SendStage). IsAtSendStage seat rec c op bytes x) is st.at
-
 pub send_is_over : {s t : Sight} {c d : Private} {op now : SendAt} {slot after : SlotAt} {bytes : List ℕ} {peer : ℕ}
     → are_peers s.seat.setup s.seat.rank peer ≡ true → SendTurned (sending s c op slot bytes) (sending t d now after bytes) turn.Done → SendStands t d now after bytes → IsTalking t d after peer bytes None None
-send_is_over {t = t} {d = d} {now = now} {after = after} {bytes = bytes} peers turned st =
-    let end = sent_at t.seat (record_in t) d now after bytes turned.means.0 st in
-    record { peers = peers_kept _ turned.events turned.did peers; at = record { stage = end.0; empty = end.1; hands = st.hands; slot_stands = st.slot_stands } }
-
-received_at : (seat : Seat) (rec : Record) (c : Private) (op : RecvAt) (bytes : List ℕ) → op.stage ≡ receive.Finished → IsReceiving seat rec c op bytes → rec.stage ≡ Idle
-received_at seat rec c op bytes is st = subst (λ (x : RecvStage). IsAtStage seat rec c op bytes x) is st.at
-
-untaken_at : (seat : Seat) (rec : Record) (c : Private) (op : RecvAt) (bytes : List ℕ) → op.stage ≡ receive.Header → IsReceiving seat rec c op bytes → rec.stage ≡ Idle
-untaken_at seat rec c op bytes is st = (subst (λ (x : RecvStage). IsAtStage seat rec c op bytes x) is st.at).1
+send_is_over peers turned st = record { peers = peers_kept _ turned.events turned.did peers; at = free_after_sent turned st }
 
 pub receive_is_over : {s t : Sight} {c d : Private} {op now : RecvAt} {slot : SlotAt} {bytes after : List ℕ} {peer : ℕ}
     → are_peers s.seat.setup s.seat.rank peer ≡ true → SlotStands s.seat (record_in s) slot → RecvTurned (receiving s c op bytes) (receiving t d now after) recv_turn.Done → RecvStands t d now after
     → IsTalking t d slot peer after None None
-receive_is_over {t = t} {d = d} {now = now} {after = after} peers slot turned st = record {
-  peers = peers_kept _ turned.events turned.did peers;
-  at = record {
-    stage = received_at t.seat (record_in t) d now after turned.means.0 st;
-    empty = st.empty;
-    hands = st.hands;
-    slot_stands = slot_there_after turned.events turned.did turned.post slot;
-  };
-}
+receive_is_over peers slot turned st = record { peers = peers_kept _ turned.events turned.did peers; at = free_after_received slot turned st }
 
 pub receive_differs : {s t : Sight} {c d : Private} {op now : RecvAt} {slot : SlotAt} {bytes after : List ℕ} {peer : ℕ} {sent : MessageHead}
     → are_peers s.seat.setup s.seat.rank peer ≡ true → SlotStands s.seat (record_in s) slot → RecvTurned (receiving s c op bytes) (receiving t d now after) (recv_turn.Mismatch sent) → RecvStands t d now after
     → IsTalking t d slot peer after None None
-receive_differs {t = t} {d = d} {now = now} {after = after} peers slot turned st = record {
-  peers = peers_kept _ turned.events turned.did peers;
-  at = record {
-    stage = untaken_at t.seat (record_in t) d now after (ap (λ (o : RecvAt). o.stage) turned.means.0 ∙ turned.means.2) st;
-    empty = st.empty;
-    hands = st.hands;
-    slot_stands = slot_there_after turned.events turned.did turned.post slot;
-  };
-}
+receive_differs peers slot turned st = record { peers = peers_kept _ turned.events turned.did peers; at = free_after_mismatch slot turned st }
 
 -- a turn of the slot
 pub slot_goes_on : {s t : Sight} {c d : Private} {slot now : SlotAt} {bytes : List ℕ} {peer : ℕ} {answer : Turn} → IsTalking s c slot peer bytes None None
     → SlotTurned (with_slot s c slot) (with_slot t d now) answer → SlotStands t.seat (record_in t) now → IsTalking t d now peer bytes None None
-slot_goes_on {s} {t} talk turned st = record {
-  peers = peers_kept _ turned.events turned.did talk.peers;
-  at = record {
-    stage = turned.stage ∙ talk.at.stage;
-    empty = turned.buffer;
-    hands = subst (λ (x : Seat). HoldsNone x.setup.layout (record_in t)) (sym (seat_kept s turned.events t turned.did))
-        (holds_kept s.seat.setup.layout (record_in s) (record_in t) turned.rest.hold talk.at.hands);
-    slot_stands = st;
-  };
-}
+slot_goes_on talk turned st = record { peers = peers_kept _ turned.events turned.did talk.peers; at = free_after_slot talk.at turned st }
 
 -- ---- the two ranks of a pair
 

@@ -6,13 +6,13 @@ use Rattle.put_get.specs.Cores.{Private}
 use Rattle.send_recv.specs.Ops.{RecvAt, SendAt, SlotAt}
 use Rattle.send_recv.specs.Receiving.{RecvStands}
 use Rattle.send_recv.specs.Sending.{SlotStands, SendStands}
-use Rattle.send_recv.specs.Calling.{IsInNoCall}
+use Rattle.send_recv.specs.Calling.{IsBetweenMessages}
 
 -- in the midst of a send or a post, of a receive, or in no call
 abbrev pub IsAtCall : Sight → Private → SlotAt → List ℕ → Option SendAt → Option RecvAt → Type 0
 IsAtCall s core slot bytes (Some op) receive = SendStands s core op slot bytes
 IsAtCall s core slot bytes None (Some op) = RecvStands s core op bytes × SlotStands s.seat (record_in s) slot
-IsAtCall s core slot bytes None None = IsInNoCall s core slot
+IsAtCall s core slot bytes None None = IsBetweenMessages s core slot
 
 -- the calls of a rank with its peer stand where its events stand
 pub record IsTalking (s : Sight) (core : Private) (slot : SlotAt) (peer : ℕ) (bytes : List ℕ) (send : Option SendAt) (receive : Option RecvAt) : Type 0 where

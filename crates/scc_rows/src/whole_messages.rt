@@ -2,7 +2,7 @@
 
 ghost use Rattle.std.specs.Prelude.{◌≡◌, ◌≤◌, length, true, IfOk};
 ghost use Rattle.scc_proto.specs.Words.{are_peers};
-ghost use Rattle.send_recv.specs.Calling.{IsInNoCall};
+ghost use Rattle.send_recv.specs.Calling.{IsBetweenMessages};
 
 use crate::callers::{Caller, Deed, End, POLLS, calling};
 use crate::fixtures::{counted, pair_in};
@@ -22,7 +22,7 @@ fn receive<P: Port, V: Evict>(
     bytes: &mut [u8],
     polls: u32,
 ) -> Result<(), RecvStop>
-    requires free { IsInNoCall (P.sight port.old) core.old slot.now }
+    requires free { IsBetweenMessages (P.sight port.old) core.old slot.now }
     requires peers { are_peers (P.sight port.old).seat.setup (P.sight port.old).seat.rank 0 ≡ true }
     requires short { length bytes.old ≤ 65536 }
     requires some { 1 ≤ polls }
@@ -41,7 +41,7 @@ fn receive_if_sent<P: Port, V: Evict>(
     bytes: &mut [u8],
     polls: u32,
 ) -> Result<bool, RecvStop>
-    requires free { IsInNoCall (P.sight port.old) core.old slot.now }
+    requires free { IsBetweenMessages (P.sight port.old) core.old slot.now }
     requires peers { are_peers (P.sight port.old).seat.setup (P.sight port.old).seat.rank 0 ≡ true }
     requires short { length bytes.old ≤ 65536 }
     requires some { 1 ≤ polls }
@@ -60,11 +60,11 @@ fn post<P: Port, V: Evict>(
     bytes: &[u8],
     polls: u32,
 ) -> Result<(), SendStop>
-    requires free { IsInNoCall (P.sight port.old) core.old slot.old }
+    requires free { IsBetweenMessages (P.sight port.old) core.old slot.old }
     requires peers { are_peers (P.sight port.old).seat.setup (P.sight port.old).seat.rank 1 ≡ true }
     requires short { length bytes.now ≤ 3584 }
     requires some { 1 ≤ polls }
-    ensures free { IfOk result (λ done. IsInNoCall (P.sight port.new) core.new slot.new) }
+    ensures free { IfOk result (λ done. IsBetweenMessages (P.sight port.new) core.new slot.new) }
     ensures seat { IfOk result (λ done. (P.sight port.new).seat ≡ (P.sight port.old).seat) }
 {
     let Some(head) = PostHead::plain(bytes.len() as u32) else {

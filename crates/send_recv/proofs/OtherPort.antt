@@ -8,7 +8,7 @@ use Rattle.scc_proto.specs.Records.{chunk_of}
 use Rattle.scc_proto.specs.Ports.{Seat, Sight, record_in}
 use Rattle.put_get.specs.Cores.{Private}
 use Rattle.sync_flags.specs.Turns.{at_port}
-use Rattle.sync_flags.proofs.TurnLemmas.{record_at_port}
+use Rattle.sync_flags.proofs.TurnLemmas.{between_there, record_at_port}
 use Rattle.send_recv.specs.declared.stages.RecvStage.{RecvStage}
 use Rattle.send_recv.specs.declared.stages.RecvStage.TheVariants as receive
 use Rattle.send_recv.specs.declared.stages.SendStage.{SendStage}
@@ -17,7 +17,7 @@ use Rattle.send_recv.specs.Ops.{RecvAt, SendAt, SlotAt}
 use Rattle.send_recv.specs.Turns.{HoldsNone}
 use Rattle.send_recv.specs.Receiving.{RecvStands, IsReceiving, IsAtStage}
 use Rattle.send_recv.specs.Sending.{SlotStands, SendStands, IsSending, IsAtSendStage, IsBeforeRaise, waiting, lines_in_hand}
-use Rattle.send_recv.specs.Calling.{IsInNoCall}
+use Rattle.send_recv.specs.Calling.{IsBetweenMessages}
 
 abbrev seat_at : Seat → Gv → Gv → ℕ → Seat
 seat_at seat m r h = record seat { mark = m; rest = r; hold = h }
@@ -86,10 +86,9 @@ module _ (s : Sight) (m r : Gv) (h : ℕ) where
   send_there c op slot bytes st =
       subst (λ (x : Record). IsSending (seat_at s.seat m r h) x c op slot bytes) (sym (record_at_port s m r h)) (send_at s.seat m r h (record_in s) c op slot bytes st)
 
-  pub free_there : (c : Private) (slot : SlotAt) → IsInNoCall s c slot → IsInNoCall (at_port s m r h) c slot
+  pub free_there : (c : Private) (slot : SlotAt) → IsBetweenMessages s c slot → IsBetweenMessages (at_port s m r h) c slot
   free_there c slot st = record {
-    stage = ap (λ (x : Record). x.stage) (record_at_port s m r h) ∙ st.stage;
-    empty = st.empty;
+    between = between_there s m r h c st.between;
     hands = subst (λ (x : Record). HoldsNone s.seat.setup.layout x) (sym (record_at_port s m r h)) st.hands;
     slot_stands = slot_there slot st.slot_stands;
   }

@@ -13,7 +13,8 @@ use Rattle.scc_proto.specs.Words.{are_peers}
 use Rattle.scc_proto.specs.Ports.{Seat, Sight, Did, record_in}
 use Rattle.scc_proto.proofs.PortLaws.{seat_kept}
 use Rattle.put_get.specs.Cores.{Private}
-use Rattle.sync_flags.proofs.TurnLemmas.{record_at_start}
+use Rattle.sync_flags.specs.Tries.{Aim}
+use Rattle.sync_flags.proofs.TurnLemmas.{between_at_start, record_at_start}
 use Rattle.send_recv.specs.declared.stages.RecvStage.{RecvStage}
 use Rattle.send_recv.specs.declared.stages.RecvStage.TheVariants as receive
 use Rattle.send_recv.specs.declared.stages.SendStage.{SendStage}
@@ -23,7 +24,7 @@ use Rattle.send_recv.specs.Chunks.{chunk_count, lines_of, lines_from}
 use Rattle.send_recv.specs.Ops.{RecvAt, SendAt, SlotAt, new_receive, new_send, empty_slot, slot_left, slot_left_by}
 use Rattle.send_recv.specs.Receiving.{RecvStands, RecvTurned, IsReceiving, IsAtStage, recv_left}
 use Rattle.send_recv.specs.Sending.{SlotStands, SlotTurned, SendStands, SendTurned, IsSending, IsAtSendStage, was_answered, send_left, of_chunk}
-use Rattle.send_recv.specs.Calling.{IsInNoCall, Received, RecvDiffers, FoundUnset, Sent}
+use Rattle.send_recv.specs.Calling.{IsBetweenMessages, Received, RecvDiffers, FoundUnset, Sent}
 use Rattle.send_recv.specs.Turns.{HoldsNone, IsSamePost, KeepsRest}
 use Rattle.send_recv.specs.Ranks.{receiving, sending, with_slot, with_bytes}
 use Rattle.send_recv.proofs.LookTurn.{holds_kept}
@@ -32,12 +33,12 @@ some_chunk : (layout : Layout) (len : ℕ) → 0 < chunk_count (chunk_size layou
 some_chunk LineFlags len = omega arith
 some_chunk BitFlags len = omega arith
 
-pub receive_starts : {s : Sight} {c : Private} {slot : SlotAt} → IsInNoCall s c slot → (from : ℕ) (head : MessageHead) (bytes : List ℕ) → are_peers s.seat.setup s.seat.rank from ≡ true
+pub receive_starts : {s : Sight} {c : Private} {slot : SlotAt} → IsBetweenMessages s c slot → (from : ℕ) (head : MessageHead) (bytes : List ℕ) → are_peers s.seat.setup s.seat.rank from ≡ true
     → IsHead head → length bytes ≡ head.len → RecvStands s c (new_receive from head) bytes
 receive_starts {s} free from head bytes peers valid long =
-    record { peers = peers; head = valid; long = long; empty = free.empty; hands = free.hands; in_hand = some_chunk s.seat.setup.layout head.len; at = free.stage }
+    record { peers = peers; head = valid; long = long; empty = free.between.empty; hands = free.hands; in_hand = some_chunk s.seat.setup.layout head.len; at = free.between.stage }
 
-pub send_starts : {s : Sight} {c : Private} {slot : SlotAt} → IsInNoCall s c slot → (to : ℕ) (head : MessageHead) (posted : Bool) (bytes : List ℕ) → are_peers s.seat.setup s.seat.rank to ≡ true
+pub send_starts : {s : Sight} {c : Private} {slot : SlotAt} → IsBetweenMessages s c slot → (to : ℕ) (head : MessageHead) (posted : Bool) (bytes : List ℕ) → are_peers s.seat.setup s.seat.rank to ≡ true
     → IsHead head → (posted ≡ true → IsPostHead head) → length bytes ≡ head.len → SendStands s c (new_send to head posted) slot bytes
 send_starts {s} free to head posted bytes peers valid short long = record {
   peers = peers;
@@ -47,7 +48,7 @@ send_starts {s} free to head posted bytes peers valid short long = record {
   hands = free.hands;
   slot_stands = free.slot_stands;
   in_hand = some_chunk s.seat.setup.layout head.len;
-  at = (refl, free.stage, free.empty);
+  at = (refl, free.between.stage, free.between.empty);
 }
 
 -- ---- what stands afterwards
@@ -77,27 +78,25 @@ hands_after {s} {t} events did rest hands =
     subst (λ (x : Seat). HoldsNone x.setup.layout (record_in t)) (sym (seat_kept s events t did)) (holds_kept s.seat.setup.layout (record_in s) (record_in t) rest.hold hands)
 
 pub free_after_receive : {s t : Sight} {c d : Private} {slot : SlotAt} {op : RecvAt} {polls : ℕ} {bytes after : List ℕ} → HoldsNone s.seat.setup.layout (record_in s) → SlotStands s.seat (record_in s) slot
-    → Received (receiving s c op bytes) polls (with_bytes t d after) → IsInNoCall t d slot
+    → Received (receiving s c op bytes) polls (with_bytes t d after) → IsBetweenMessages t d slot
 free_after_receive hands st r =
-    record { stage = r.stage; empty = r.empty; hands = hands_after r.events r.did r.rest hands; slot_stands = slot_after r.events r.did r.post st }
+    record { between = record { stage = r.stage; empty = r.empty }; hands = hands_after r.events r.did r.rest hands; slot_stands = slot_after r.events r.did r.post st }
 
 pub free_after_other_head : {s t : Sight} {c d : Private} {slot : SlotAt} {op : RecvAt} {polls : ℕ} {bytes after : List ℕ} {sent asked : MessageHead} → HoldsNone s.seat.setup.layout (record_in s)
-    → SlotStands s.seat (record_in s) slot → RecvDiffers (receiving s c op bytes) polls (with_bytes t d after) sent asked → IsInNoCall t d slot
+    → SlotStands s.seat (record_in s) slot → RecvDiffers (receiving s c op bytes) polls (with_bytes t d after) sent asked → IsBetweenMessages t d slot
 free_after_other_head hands st r =
-    record { stage = r.untaken; empty = r.empty; hands = hands_after r.events r.did r.rest hands; slot_stands = slot_after r.events r.did r.post st }
+    record { between = record { stage = r.untaken; empty = r.empty }; hands = hands_after r.events r.did r.rest hands; slot_stands = slot_after r.events r.did r.post st }
 
-pub free_after_test : {s t : Sight} {c d : Private} {slot : SlotAt} {op : RecvAt} {bytes after : List ℕ} → IsInNoCall s c slot → FoundUnset (receiving s c op bytes) (with_bytes t d after) → IsInNoCall t d slot
+pub free_after_test : {s t : Sight} {c d : Private} {slot : SlotAt} {aim : Aim} {op : RecvAt} {bytes after : List ℕ} → IsBetweenMessages s c slot → FoundUnset aim (receiving s c op bytes) (with_bytes t d after) → IsBetweenMessages t d slot
 free_after_test free r = record {
-  stage = r.at_rest.stage ∙ free.stage;
-  empty = r.empty;
+  between = record { stage = r.at_rest.stage ∙ free.between.stage; empty = r.empty };
   hands = hands_after r.events r.did r.at_rest.rest free.hands;
   slot_stands = slot_after r.events r.did r.at_rest.post free.slot_stands;
 }
 
-pub free_after_send : {s t : Sight} {c d : Private} {op : SendAt} {slot after : SlotAt} {bytes : List ℕ} → SendStands s c op slot bytes → Sent (sending s c op slot bytes) (with_slot t d after) → IsInNoCall t d after
+pub free_after_send : {s t : Sight} {c d : Private} {op : SendAt} {slot after : SlotAt} {bytes : List ℕ} → SendStands s c op slot bytes → Sent (sending s c op slot bytes) (with_slot t d after) → IsBetweenMessages t d after
 free_after_send {s} {t} st r = record {
-  stage = r.stage;
-  empty = r.empty;
+  between = record { stage = r.stage; empty = r.empty };
   hands = hands_after r.events r.did r.rest st.hands;
   slot_stands = r.slot_stands;
 }
@@ -109,12 +108,11 @@ holds_blank LineFlags rec new = tt
 holds_blank BitFlags rec new = λ core. ap (λ (x : Record). x.held core) new
 
 -- before its first event a rank is in no call
-pub free_at_start : (s : Sight) (c : Private) → s.events ≡ [] → c.out ≡ None → IsInNoCall s c empty_slot
+pub free_at_start : (s : Sight) (c : Private) → s.events ≡ [] → c.out ≡ None → IsBetweenMessages s c empty_slot
 free_at_start s c fresh empty =
     let none = record_at_start s fresh in
     record {
-      stage = ap (λ (x : Record). x.stage) none;
-      empty = empty;
+      between = between_at_start s c fresh empty;
       hands = holds_blank s.seat.setup.layout (record_in s) none;
       slot_stands = record { to = sym (ap (λ (x : Record). option_map (λ (post : OnItsWay). post.to) x.post) none); seen = λ h. absurd (cc); peers = tt };
     }
@@ -129,34 +127,34 @@ untaken_at : (seat : Seat) (rec : Record) (c : Private) (op : RecvAt) (bytes : L
 untaken_at seat rec c op bytes is st = (subst (λ (x : RecvStage). IsAtStage seat rec c op bytes x) is st.at).1
 
 pub free_after_sent : {s t : Sight} {c d : Private} {op now : SendAt} {slot after : SlotAt} {bytes : List ℕ} → SendTurned (sending s c op slot bytes) (sending t d now after bytes) turn.Done
-    → SendStands t d now after bytes → IsInNoCall t d after
+    → SendStands t d now after bytes → IsBetweenMessages t d after
 free_after_sent {t = t} {d = d} {now = now} {after = after} {bytes = bytes} turned st =
     let end = sent_at t.seat (record_in t) d now after bytes turned.means.0 st in
-    record { stage = end.0; empty = end.1; hands = st.hands; slot_stands = st.slot_stands }
+    record { between = record { stage = end.0; empty = end.1 }; hands = st.hands; slot_stands = st.slot_stands }
 
 pub free_after_received : {s t : Sight} {c d : Private} {op now : RecvAt} {slot : SlotAt} {bytes after : List ℕ} → SlotStands s.seat (record_in s) slot
-    → RecvTurned (receiving s c op bytes) (receiving t d now after) recv_turn.Done → RecvStands t d now after → IsInNoCall t d slot
+    → RecvTurned (receiving s c op bytes) (receiving t d now after) recv_turn.Done → RecvStands t d now after → IsBetweenMessages t d slot
 free_after_received {t = t} {d = d} {now = now} {after = after} slot turned st = record {
-  stage = received_at t.seat (record_in t) d now after turned.means.0 st;
-  empty = st.empty;
+  between = record { stage = received_at t.seat (record_in t) d now after turned.means.0 st; empty = st.empty };
   hands = st.hands;
   slot_stands = slot_after turned.events turned.did turned.post slot;
 }
 
 pub free_after_mismatch : {s t : Sight} {c d : Private} {op now : RecvAt} {slot : SlotAt} {bytes after : List ℕ} {sent : MessageHead} → SlotStands s.seat (record_in s) slot
-    → RecvTurned (receiving s c op bytes) (receiving t d now after) (recv_turn.Mismatch sent) → RecvStands t d now after → IsInNoCall t d slot
+    → RecvTurned (receiving s c op bytes) (receiving t d now after) (recv_turn.Mismatch sent) → RecvStands t d now after → IsBetweenMessages t d slot
 free_after_mismatch {t = t} {d = d} {now = now} {after = after} slot turned st = record {
-  stage = untaken_at t.seat (record_in t) d now after (ap (λ (o : RecvAt). o.stage) turned.means.0 ∙ turned.means.2) st;
-  empty = st.empty;
+  between = record {
+    stage = untaken_at t.seat (record_in t) d now after (ap (λ (o : RecvAt). o.stage) turned.means.0 ∙ turned.means.2) st;
+    empty = st.empty;
+  };
   hands = st.hands;
   slot_stands = slot_after turned.events turned.did turned.post slot;
 }
 
-pub free_after_slot : {s t : Sight} {c d : Private} {slot now : SlotAt} {answer : Turn} → IsInNoCall s c slot → SlotTurned (with_slot s c slot) (with_slot t d now) answer
-    → SlotStands t.seat (record_in t) now → IsInNoCall t d now
+pub free_after_slot : {s t : Sight} {c d : Private} {slot now : SlotAt} {answer : Turn} → IsBetweenMessages s c slot → SlotTurned (with_slot s c slot) (with_slot t d now) answer
+    → SlotStands t.seat (record_in t) now → IsBetweenMessages t d now
 free_after_slot free turned st = record {
-  stage = turned.stage ∙ free.stage;
-  empty = turned.buffer;
+  between = record { stage = turned.stage ∙ free.between.stage; empty = turned.buffer };
   hands = hands_after turned.events turned.did turned.rest free.hands;
   slot_stands = st;
 }

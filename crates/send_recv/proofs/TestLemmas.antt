@@ -146,7 +146,7 @@ found_first {s} {m} {t} {op = op} {answer = answer} start v goes later did =
     record { first = v.events; rest = later; did = did_both s v.events m later t v.did did; one = w.0; found = w.1 }
 
 pub found_unset : {s m : Sight} {c b : Private} {op cur : RecvAt} {bytes mid : List ℕ} {spot : Spot} → op ≡ new_receive op.from op.head → RecvStands m b cur mid → RecvTurned (receiving s c op bytes) (receiving m b cur mid) (turn.Waiting spot)
-    → FoundUnset (receiving s c op bytes) (with_bytes m b mid)
+    → FoundUnset (sent_aim s.seat op) (receiving s c op bytes) (with_bytes m b mid)
 found_unset {s} {m} {op = op} {spot = spot} start st v =
     let w = waited v.tried in
     let aim : w.at ≡ sent_aim s.seat op = some_aim w.at (sent_aim s.seat op) (sym w.is ∙ at_start s.seat op start) in

@@ -11,6 +11,7 @@ use Rattle.scc_proto.specs.Ports.{Seat, Sight, Did, record_in}
 use Rattle.put_get.specs.Cores.{Private}
 use Rattle.put_get.specs.Transfers.{load_count}
 use Rattle.sync_flags.specs.Tries.{Aim, TriedInVain, tries_at, vain_tries, all_vain}
+use Rattle.sync_flags.specs.Turns.{IsBetweenCalls}
 use Rattle.send_recv.specs.declared.calls.RecvStop.{RecvStop}
 use Rattle.send_recv.specs.declared.calls.RecvStop.TheVariants.{Stalled, Mismatch}
 use Rattle.send_recv.specs.declared.deliveries.SendStop.{SendStop}
@@ -97,21 +98,21 @@ pub record FoundFirst (aim : Aim) (s t : Sight) : Type 0 where
   pub found : all_vain aim false first ≡ false
 
 -- the one look found the flag unset, and nothing else was done
-pub record FoundUnset (old : Receiver) (now : BufferHolder) : Type 0 where
+pub record FoundUnset (aim : Aim) (old : Receiver) (now : BufferHolder) : Type 0 where
   pub events : List Event
   pub did : Did old.sight events now.sight
-  pub one : tries_at (sent_aim old.sight.seat old.op) events ≡ 1
-  pub unset : all_vain (sent_aim old.sight.seat old.op) false events ≡ true
+  pub one : tries_at aim events ≡ 1
+  pub unset : all_vain aim false events ≡ true
   pub nothing : list_all is_resting events ≡ true
   -- the four loads of the flag's line, and no other
-  pub only : IsOneTry (sent_aim old.sight.seat old.op) events
+  pub only : IsOneTry aim events
   pub unchanged : now.bytes ≡ old.bytes
   pub at_rest : IsAtRest (record_in old.sight) (record_in now.sight)
   pub empty : now.core.out ≡ None
 
 -- what a test comes to: it answers false exactly where its first look found the flag unset
 abbrev pub TestEnds : Receiver → ℕ → BufferHolder → Result Bool RecvStop → Type 0
-TestEnds old polls now (Ok false) = FoundUnset old now
+TestEnds old polls now (Ok false) = FoundUnset (sent_aim old.sight.seat old.op) old now
 TestEnds old polls now (Ok true) = FoundFirst (sent_aim old.sight.seat old.op) old.sight now.sight × Received old polls now
 TestEnds old polls now (Err stop) = FoundFirst (sent_aim old.sight.seat old.op) old.sight now.sight × RecvStops old polls now stop
 
@@ -151,9 +152,8 @@ SendEnds old polls now (Err (send_stop.Stalled op spot count)) = (count ≡ poll
 
 -- ---- between calls
 
--- the rank is in no call: a message can begin
-pub record IsInNoCall (s : Sight) (c : Private) (slot : SlotAt) : Type 0 where
-  pub stage : (record_in s).stage ≡ Idle
-  pub empty : c.out ≡ None
+-- the rank is between two calls, holds no register, and its slot is the record's: a message can begin
+pub record IsBetweenMessages (s : Sight) (c : Private) (slot : SlotAt) : Type 0 where
+  pub between : IsBetweenCalls s c
   pub hands : HoldsNone s.seat.setup.layout (record_in s)
   pub slot_stands : SlotStands s.seat (record_in s) slot

@@ -10,6 +10,7 @@ ghost use Rattle.scc_base.specs.declared.layouts.Layout.{Layout};
 ghost use Rattle.scc_proto.specs.Words.{are_peers};
 ghost use Rattle.scc_proto.specs.Ports.{Sight, record_in};
 ghost use Rattle.put_get.specs.Cores.{Private};
+ghost use Rattle.sync_flags.specs.Tries.{Aim};
 ghost use Rattle.sync_flags.specs.Turns.{at_port};
 ghost use Rattle.send_recv.specs.declared.answers.RecvTurn.TheVariants as recv_turn;
 ghost use Rattle.send_recv.specs.Chunks.{chunk_count, lines_of};
@@ -17,7 +18,7 @@ ghost use Rattle.send_recv.specs.Ops.{SlotAt, RecvAt, SendAt, new_receive, new_s
 ghost use Rattle.send_recv.specs.Receiving.{RecvStands, RecvTurned, recv_left};
 ghost use Rattle.send_recv.specs.Turns.{HoldsNone};
 ghost use Rattle.send_recv.specs.Sending.{SlotStands, SlotTurned, SendStands, SendTurned, send_left};
-ghost use Rattle.send_recv.specs.Calling.{IsInNoCall, Received, RecvStalled, RecvDiffers, FoundUnset, Sent};
+ghost use Rattle.send_recv.specs.Calling.{IsBetweenMessages, Received, RecvStalled, RecvDiffers, FoundUnset, Sent};
 ghost use Rattle.send_recv.specs.Ranks.{receiving, sending, with_slot, with_bytes};
 
 /// A new receive, a new send and a new post have at most 4 + 5c + l turns left that do not wait, for c chunks
@@ -31,9 +32,9 @@ pub fn turns_law()
 
 /// At a rank that is in no call any message to or from a peer can begin.
 pub fn begins_law()
-    ensures receive { (s : Sight) (c : Private) (slot : SlotAt) (from : ℕ) (head : MessageHead) (bytes : List ℕ) → IsInNoCall s c slot
+    ensures receive { (s : Sight) (c : Private) (slot : SlotAt) (from : ℕ) (head : MessageHead) (bytes : List ℕ) → IsBetweenMessages s c slot
         → are_peers s.seat.setup s.seat.rank from ≡ true → IsHead head → length bytes ≡ head.len → RecvStands s c (new_receive from head) bytes }
-    ensures send { (s : Sight) (c : Private) (slot : SlotAt) (to : ℕ) (head : MessageHead) (posted : Bool) (bytes : List ℕ) → IsInNoCall s c slot
+    ensures send { (s : Sight) (c : Private) (slot : SlotAt) (to : ℕ) (head : MessageHead) (posted : Bool) (bytes : List ℕ) → IsBetweenMessages s c slot
         → are_peers s.seat.setup s.seat.rank to ≡ true → IsHead head → (posted ≡ true → IsPostHead head) → length bytes ≡ head.len
         → SendStands s c (new_send to head posted) slot bytes }
 {}
@@ -42,12 +43,12 @@ pub fn begins_law()
 /// test that found nothing. A receive may have been at its start before, or handed back by a call that gave up.
 pub fn ends_law()
     ensures receive { (s t : Sight) (c d : Private) (slot : SlotAt) (op : RecvAt) (polls : ℕ) (old bytes : List ℕ) → HoldsNone s.seat.setup.layout (record_in s)
-        → SlotStands s.seat (record_in s) slot → Received (receiving s c op old) polls (with_bytes t d bytes) → IsInNoCall t d slot }
+        → SlotStands s.seat (record_in s) slot → Received (receiving s c op old) polls (with_bytes t d bytes) → IsBetweenMessages t d slot }
     ensures other_head { (s t : Sight) (c d : Private) (slot : SlotAt) (op : RecvAt) (polls : ℕ) (old bytes : List ℕ) (sent asked : MessageHead) → HoldsNone s.seat.setup.layout (record_in s)
-        → SlotStands s.seat (record_in s) slot → RecvDiffers (receiving s c op old) polls (with_bytes t d bytes) sent asked → IsInNoCall t d slot }
-    ensures test { (s t : Sight) (c d : Private) (slot : SlotAt) (op : RecvAt) (old bytes : List ℕ) → IsInNoCall s c slot
-        → FoundUnset (receiving s c op old) (with_bytes t d bytes) → IsInNoCall t d slot }
-    ensures send { (s t : Sight) (c d : Private) (op : SendAt) (slot after : SlotAt) (bytes : List ℕ) → SendStands s c op slot bytes → Sent (sending s c op slot bytes) (with_slot t d after) → IsInNoCall t d after }
+        → SlotStands s.seat (record_in s) slot → RecvDiffers (receiving s c op old) polls (with_bytes t d bytes) sent asked → IsBetweenMessages t d slot }
+    ensures test { (s t : Sight) (c d : Private) (slot : SlotAt) (aim : Aim) (op : RecvAt) (old bytes : List ℕ) → IsBetweenMessages s c slot
+        → FoundUnset aim (receiving s c op old) (with_bytes t d bytes) → IsBetweenMessages t d slot }
+    ensures send { (s t : Sight) (c d : Private) (op : SendAt) (slot after : SlotAt) (bytes : List ℕ) → SendStands s c op slot bytes → Sent (sending s c op slot bytes) (with_slot t d after) → IsBetweenMessages t d after }
 {}
 
 /// A slot stands after a receive that gave up as it stood before.
@@ -64,24 +65,24 @@ pub fn other_port_law()
         → SendStands s c op slot bytes → SendStands (at_port s mark rest hold) c op slot bytes }
     ensures slot { (s : Sight) (mark rest : Gv) (hold : ℕ) (slot : SlotAt) → SlotStands s.seat (record_in s) slot
         → SlotStands (at_port s mark rest hold).seat (record_in (at_port s mark rest hold)) slot }
-    ensures no_call { (s : Sight) (mark rest : Gv) (hold : ℕ) (c : Private) (slot : SlotAt) → IsInNoCall s c slot
-        → IsInNoCall (at_port s mark rest hold) c slot }
+    ensures no_call { (s : Sight) (mark rest : Gv) (hold : ℕ) (c : Private) (slot : SlotAt) → IsBetweenMessages s c slot
+        → IsBetweenMessages (at_port s mark rest hold) c slot }
 {}
 
 /// Before its first event a rank is in no call.
 pub fn start_law()
-    ensures no_call { (s : Sight) (c : Private) → s.events ≡ [] → c.out ≡ None → IsInNoCall s c empty_slot }
+    ensures no_call { (s : Sight) (c : Private) → s.events ≡ [] → c.out ≡ None → IsBetweenMessages s c empty_slot }
 {}
 
 /// After a turn that ends a message, done or with another head, the rank is in no call; so it is after a turn of the
 /// slot if it was before.
 pub fn done_law()
     ensures receive { (s t : Sight) (c d : Private) (op now : RecvAt) (slot : SlotAt) (bytes after : List ℕ) → SlotStands s.seat (record_in s) slot
-        → RecvTurned (receiving s c op bytes) (receiving t d now after) recv_turn.Done → RecvStands t d now after → IsInNoCall t d slot }
+        → RecvTurned (receiving s c op bytes) (receiving t d now after) recv_turn.Done → RecvStands t d now after → IsBetweenMessages t d slot }
     ensures other_head { (s t : Sight) (c d : Private) (op now : RecvAt) (slot : SlotAt) (bytes after : List ℕ) (sent : MessageHead) → SlotStands s.seat (record_in s) slot
-        → RecvTurned (receiving s c op bytes) (receiving t d now after) (recv_turn.Mismatch sent) → RecvStands t d now after → IsInNoCall t d slot }
+        → RecvTurned (receiving s c op bytes) (receiving t d now after) (recv_turn.Mismatch sent) → RecvStands t d now after → IsBetweenMessages t d slot }
     ensures send { (s t : Sight) (c d : Private) (op now : SendAt) (slot after : SlotAt) (bytes : List ℕ) → SendTurned (sending s c op slot bytes) (sending t d now after bytes) turn.Done
-        → SendStands t d now after bytes → IsInNoCall t d after }
-    ensures slot { (s t : Sight) (c d : Private) (slot now : SlotAt) (answer : Turn) → IsInNoCall s c slot → SlotTurned (with_slot s c slot) (with_slot t d now) answer
-        → SlotStands t.seat (record_in t) now → IsInNoCall t d now }
+        → SendStands t d now after bytes → IsBetweenMessages t d after }
+    ensures slot { (s t : Sight) (c d : Private) (slot now : SlotAt) (answer : Turn) → IsBetweenMessages s c slot → SlotTurned (with_slot s c slot) (with_slot t d now) answer
+        → SlotStands t.seat (record_in t) now → IsBetweenMessages t d now }
 {}

@@ -1,5 +1,5 @@
-use Rattle.barrier.proofs.OtherPort.{between_at_start}
+use Rattle.barrier.proofs.OtherPort.{free_at_start}
 use Rattle.barrier.proofs.laws.start_law.Goals as goal
 
 pub returns : goal.returns
-returns c = record { between = λ s core values fresh empty unset. between_at_start s core values fresh empty unset }
+returns c = record { between = λ s core values fresh empty unset. free_at_start s core values fresh empty unset }
