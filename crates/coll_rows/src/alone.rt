@@ -42,17 +42,17 @@ fn a_rank_of_one_ends_and_a_rank_of_two_waits(rt: HostRuntime) -> Result<(), Fai
     let mut port = chip(rt.alloc(), 1)?;
     let mut alone = member(rt.alloc(), More::Alltoall, 1)?;
     // The call begins, copies the own piece, and is at its end.
-    assert_eq!(rt; alone.turn(&mut port), Turn::Moved);
-    assert_eq!(rt; alone.turn(&mut port), Turn::Moved);
-    assert_eq!(rt; alone.turn(&mut port), Turn::Done);
-    assert_eq!(rt; alone.right, 1);
+    assert!(rt; alone.turn(&mut port) == Turn::Moved);
+    assert!(rt; alone.turn(&mut port) == Turn::Moved);
+    assert!(rt; alone.turn(&mut port) == Turn::Done);
+    assert!(rt; alone.right == 1);
     let mut port = chip(rt.alloc(), 2)?;
     let mut first = member(rt.alloc(), More::Gather, 2)?;
     // The call begins, copies the own piece, begins the message of rank 1, and waits for it.
-    assert_eq!(rt; first.turn(&mut port), Turn::Moved);
-    assert_eq!(rt; first.turn(&mut port), Turn::Moved);
-    assert_eq!(rt; first.turn(&mut port), Turn::Moved);
+    assert!(rt; first.turn(&mut port) == Turn::Moved);
+    assert!(rt; first.turn(&mut port) == Turn::Moved);
+    assert!(rt; first.turn(&mut port) == Turn::Moved);
     assert!(rt; matches!(first.turn(&mut port), Turn::Waiting(_)));
-    assert_eq!(rt; first.right, 0);
+    assert!(rt; first.right == 0);
     Ok(())
 }

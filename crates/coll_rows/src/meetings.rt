@@ -111,9 +111,9 @@ fn times_right(alloc: Global, layout: Layout, order: &[usize]) -> Result<u32, Fa
 #[test]
 fn the_pieces_come_to_two_and_three_ranks(rt: HostRuntime) -> Result<(), Fail> {
     for layout in [Layout::lines(), Layout::bits()] {
-        assert_eq!(rt; times_right(rt.alloc(), layout, &[0, 1])?, 12);
-        assert_eq!(rt; times_right(rt.alloc(), layout, &[0, 1, 2])?, 12);
-        assert_eq!(rt; times_right(rt.alloc(), layout, &[2, 0, 1])?, 12);
+        assert!(rt; times_right(rt.alloc(), layout, &[0, 1])? == 12);
+        assert!(rt; times_right(rt.alloc(), layout, &[0, 1, 2])? == 12);
+        assert!(rt; times_right(rt.alloc(), layout, &[2, 0, 1])? == 12);
     }
     Ok(())
 }

@@ -66,9 +66,9 @@ fn expect_runs<R: Threads + Sync + Alloc<A = Global> + Abort>(
         };
         let out = lines(rt.alloc(), case.out)?;
         let err = lines(rt.alloc(), case.err)?;
-        assert_eq!(rt; run.out.bytes(), out.as_slice(), "out: {}", case.shows);
-        assert_eq!(rt; run.err.bytes(), err.as_slice(), "err: {}", case.shows);
-        assert_eq!(rt; run.status, status, "status: {}", case.shows);
+        assert!(rt; run.out.bytes() == out.as_slice(), "out: {}", case.shows);
+        assert!(rt; run.err.bytes() == err.as_slice(), "err: {}", case.shows);
+        assert!(rt; run.status == status, "status: {}", case.shows);
     }
     Ok(())
 }
@@ -281,9 +281,9 @@ fn expect_refusals<R: Threads + Sync + Alloc<A = Global> + Abort>(
     for case in cases {
         let run = run_lines(rt, case.nue, case.script)?;
         let err = lines(rt.alloc(), case.err)?;
-        assert_eq!(rt; run.err.bytes(), err.as_slice());
-        assert_eq!(rt; run.out.bytes(), b"".as_slice());
-        assert_eq!(rt; run.status, Status::Script);
+        assert!(rt; run.err.bytes() == err.as_slice());
+        assert!(rt; run.out.bytes() == b"".as_slice());
+        assert!(rt; run.status == Status::Script);
     }
     Ok(())
 }
@@ -354,11 +354,11 @@ fn expect_message<R: Threads + Sync + Alloc<A = Global> + Abort>(
 ) -> Result<(), Fail> {
     let run = run_lines(rt, "2", script)?;
     let out = run.out.bytes();
-    assert_eq!(rt; out.len(), len);
+    assert!(rt; out.len() == len);
     assert!(rt; out.starts_with(b"ue 1 y 05060708".as_slice()));
     assert!(rt; out.ends_with(last));
-    assert_eq!(rt; run.err.bytes(), b"".as_slice());
-    assert_eq!(rt; run.status, Status::Finished);
+    assert!(rt; run.err.bytes() == b"".as_slice());
+    assert!(rt; run.status == Status::Finished);
     Ok(())
 }
 
@@ -375,12 +375,12 @@ fn messages_of_many_bytes_arrive_whole(rt: HostRuntime) -> Result<(), Fail> {
 #[test]
 fn the_most_operations_and_printed_bytes_finish(rt: HostRuntime) -> Result<(), Fail> {
     let run = run_lines(&rt, "2", b"all/repeat 50000/bytes x 00/end/")?;
-    assert_eq!(rt; run.out.bytes(), b"".as_slice());
-    assert_eq!(rt; run.status, Status::Finished);
+    assert!(rt; run.out.bytes() == b"".as_slice());
+    assert!(rt; run.status == Status::Finished);
     let script = b"all/fill x 65536 0/repeat 16/print x/end/";
     let run = run_lines(&rt, "2", script.as_slice())?;
-    assert_eq!(rt; run.out.bytes().len(), 2 * 16 * 131_080);
-    assert_eq!(rt; run.status, Status::Finished);
+    assert!(rt; run.out.bytes().len() == 2 * 16 * 131_080);
+    assert!(rt; run.status == Status::Finished);
     Ok(())
 }
 
@@ -404,9 +404,9 @@ fn a_fault_that_cannot_be_written_is_a_failed_write(rt: HostRuntime) -> Result<(
         &mut chip,
         &Open,
     );
-    assert_eq!(rt; status, Status::Write);
-    assert_eq!(rt; out.bytes(), b"".as_slice());
-    assert_eq!(rt; err.bytes(), b"".as_slice());
+    assert!(rt; status == Status::Write);
+    assert!(rt; out.bytes() == b"".as_slice());
+    assert!(rt; err.bytes() == b"".as_slice());
     Ok(())
 }
 
@@ -424,8 +424,8 @@ fn the_plain_run_has_the_same_lines(rt: HostRuntime) -> Result<(), Fail> {
     let mut err = MemSink::new(alloc, 4096, 4096)?;
     write_printed(&mut out, &scripts, &end)?;
     write_unfinished(&mut err, &scripts, &end)?;
-    assert_eq!(rt; run.out.bytes(), out.bytes());
-    assert_eq!(rt; run.err.bytes(), err.bytes());
-    assert_eq!(rt; run.status, Status::Stuck);
+    assert!(rt; run.out.bytes() == out.bytes());
+    assert!(rt; run.err.bytes() == err.bytes());
+    assert!(rt; run.status == Status::Stuck);
     Ok(())
 }

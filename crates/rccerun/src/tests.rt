@@ -70,9 +70,9 @@ fn run_script<R: Threads + Sync + Alloc<A = Global>>(
 }
 
 pub fn expect(rt: &impl Abort, run: &Ended, status: Status, out: &[u8], err: &[u8]) {
-    assert_eq!(rt; run.out.bytes(), out);
-    assert_eq!(rt; run.err.bytes(), err);
-    assert_eq!(rt; run.status, status);
+    assert!(rt; run.out.bytes() == out);
+    assert!(rt; run.err.bytes() == err);
+    assert!(rt; run.status == status);
 }
 
 #[test]
@@ -249,19 +249,12 @@ fn each_kind_of_call_has_a_text(rt: HostRuntime) -> Result<(), Fail> {
         call: Call::Bar { comm: 15 },
     };
     let sink = end_line(rt.alloc(), &sends)?;
-    assert_eq!(rt;
-        sink.bytes(),
-        b"ue 12 waits at line 7: send to 47 alldown 3 65536\n".as_slice()
-    );
+    assert!(rt; sink.bytes() == b"ue 12 waits at line 7: send to 47 alldown 3 65536\n".as_slice());
     let sink = end_line(rt.alloc(), &posts)?;
-    assert_eq!(rt;
-        sink.bytes(),
-        b"ue 12 waits at line 100000: post to 47 plain 0 3584\n".as_slice()
+    assert!(rt;
+        sink.bytes() == b"ue 12 waits at line 100000: post to 47 plain 0 3584\n".as_slice()
     );
     let sink = end_line(rt.alloc(), &enters)?;
-    assert_eq!(rt;
-        sink.bytes(),
-        b"ue 12 waits at line 1: barrier 15\n".as_slice()
-    );
+    assert!(rt; sink.bytes() == b"ue 12 waits at line 1: barrier 15\n".as_slice());
     Ok(())
 }

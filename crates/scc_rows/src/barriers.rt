@@ -97,7 +97,7 @@ fn rounds_of(alloc: Global, layout: Layout, nue: u8, order: &[usize]) -> Result<
 #[test]
 fn members_pass_twice_in_every_order(rt: HostRuntime) -> Result<(), Fail> {
     for layout in [Layout::lines(), Layout::bits()] {
-        assert_eq!(rt; rounds_of(rt.alloc(), layout, 1, &[0])?, 2);
+        assert!(rt; rounds_of(rt.alloc(), layout, 1, &[0])? == 2);
         for order in [[0, 1], [1, 0]] {
             assert!(rt; rounds_of(rt.alloc(), layout, 2, &order)? > 0);
         }
@@ -181,7 +181,7 @@ fn the_root_alone_is_stalled_at_the_other_gather_flag(rt: HostRuntime) -> Result
             return Err("a barrier that one rank alone passes".into());
         };
         assert!(rt; spot == Spot::Flag { place, bit: 0 });
-        assert_eq!(rt; polls, 2);
+        assert!(rt; polls == 2);
     }
     Ok(())
 }

@@ -118,6 +118,6 @@ fn a_bit_stalls_at_a_register_that_another_rank_holds(rt: HostRuntime) -> Result
     assert!(rt; written.is_ok());
     assert!(rt; set);
     // A look at the line each, and none where the register was held.
-    assert_eq!(rt; ports.second.loads(), 8);
+    assert!(rt; ports.second.loads() == 8);
     Ok(())
 }

@@ -317,10 +317,10 @@ fn evicted_arrived(alloc: Global, layout: Layout) -> Result<u32, Fail> {
 #[test]
 fn messages_arrive_whole_and_in_order(rt: HostRuntime) -> Result<(), Fail> {
     for layout in [Layout::lines(), Layout::bits()] {
-        assert_eq!(rt; lengths_arrived(rt.alloc(), layout)?, 7);
-        assert_eq!(rt; two_arrived(rt.alloc(), layout, Deed::Send)?, 2);
-        assert_eq!(rt; two_arrived(rt.alloc(), layout, Deed::Post)?, 2);
-        assert_eq!(rt; evicted_arrived(rt.alloc(), layout)?, 2);
+        assert!(rt; lengths_arrived(rt.alloc(), layout)? == 7);
+        assert!(rt; two_arrived(rt.alloc(), layout, Deed::Send)? == 2);
+        assert!(rt; two_arrived(rt.alloc(), layout, Deed::Post)? == 2);
+        assert!(rt; evicted_arrived(rt.alloc(), layout)? == 2);
     }
     Ok(())
 }

@@ -18,9 +18,9 @@ fn a_get_of_more_lines_than_the_buffer_has_makes_no_event(rt: HostRuntime) -> Re
     let at = Buf::new(225, 2).ok_or("a buffer")?;
     let mut lines = [[9; 4]; 3];
     let refused = get(&mut core, &mut port, Rank::of(1), at, &mut lines);
-    assert_eq!(rt; refused, Err(RangeFault { asked: 3, len: 2 }));
-    assert_eq!(rt; lines, [[9; 4]; 3]);
-    assert_eq!(rt; port.loads(), 0);
+    assert!(rt; refused == Err(RangeFault { asked: 3, len: 2 }));
+    assert!(rt; lines == [[9; 4]; 3]);
+    assert!(rt; port.loads() == 0);
     Ok(())
 }
 
@@ -35,9 +35,9 @@ fn a_put_is_seen_by_another_ranks_get(rt: HostRuntime) -> Result<(), Fail> {
     let mut reader = Core::new(Never);
     let mut lines = [[9; 4]; 3];
     get(&mut reader, &mut ports.first, Rank::of(0), at, &mut lines)?;
-    assert_eq!(rt; lines, [[1, 2, 3, 4], [5, 6, 7, u64::MAX], [0; 4]]);
-    assert_eq!(rt; ports.first.loads(), 12);
-    assert_eq!(rt; ports.second.loads(), 0);
+    assert!(rt; lines == [[1, 2, 3, 4], [5, 6, 7, u64::MAX], [0; 4]]);
+    assert!(rt; ports.first.loads() == 12);
+    assert!(rt; ports.second.loads() == 0);
     Ok(())
 }
 
@@ -49,8 +49,8 @@ fn a_held_line_stays_old_until_cl1invmb(rt: HostRuntime) -> Result<(), Fail> {
     let place = Line::new(CoreId::of(0), 225).word(0);
     let mut reader = Core::new(Never);
     let mut writer = Core::new(Never);
-    assert_eq!(rt; read(&mut reader, &mut ports.first, place), 0);
-    assert_eq!(rt; ports.first.loads(), 4);
+    assert!(rt; read(&mut reader, &mut ports.first, place) == 0);
+    assert!(rt; ports.first.loads() == 4);
     put(
         &mut writer,
         &mut ports.second,
@@ -58,11 +58,11 @@ fn a_held_line_stays_old_until_cl1invmb(rt: HostRuntime) -> Result<(), Fail> {
         at,
         &[[7, 0, 0, 0]],
     )?;
-    assert_eq!(rt; read(&mut reader, &mut ports.first, place), 0);
-    assert_eq!(rt; ports.first.loads(), 4);
+    assert!(rt; read(&mut reader, &mut ports.first, place) == 0);
+    assert!(rt; ports.first.loads() == 4);
     reader.cl1invmb();
-    assert_eq!(rt; read(&mut reader, &mut ports.first, place), 7);
-    assert_eq!(rt; ports.first.loads(), 8);
+    assert!(rt; read(&mut reader, &mut ports.first, place) == 7);
+    assert!(rt; ports.first.loads() == 8);
     Ok(())
 }
 
@@ -80,9 +80,9 @@ fn a_get_loads_each_line_once_where_none_is_dropped(rt: HostRuntime) -> Result<(
     let at = Buf::new(225, 2).ok_or("a buffer")?;
     let mut lines = [[9; 4]; 2];
     get(&mut core, &mut port, Rank::of(1), at, &mut lines)?;
-    assert_eq!(rt; lines, [[0; 4]; 2]);
-    assert_eq!(rt; port.loads(), 8);
-    assert_eq!(rt; (asked.get(), dropped.get()), (2, 0));
+    assert!(rt; lines == [[0; 4]; 2]);
+    assert!(rt; port.loads() == 8);
+    assert!(rt; (asked.get(), dropped.get()) == (2, 0));
     Ok(())
 }
 
@@ -100,9 +100,9 @@ fn a_get_loads_each_line_for_each_word_where_all_are_dropped(rt: HostRuntime) ->
     let at = Buf::new(225, 2).ok_or("a buffer")?;
     let mut lines = [[9; 4]; 2];
     get(&mut core, &mut port, Rank::of(1), at, &mut lines)?;
-    assert_eq!(rt; lines, [[0; 4]; 2]);
-    assert_eq!(rt; port.loads(), 32);
-    assert_eq!(rt; (asked.get(), dropped.get()), (8, 8));
+    assert!(rt; lines == [[0; 4]; 2]);
+    assert!(rt; port.loads() == 32);
+    assert!(rt; (asked.get(), dropped.get()) == (8, 8));
     Ok(())
 }
 
@@ -118,14 +118,14 @@ fn the_evictor_is_not_asked_where_the_line_is_held(rt: HostRuntime) -> Result<()
         dropped: &dropped,
     });
     let place = heap_word(&port, Rank::of(1), 230, 0);
-    assert_eq!(rt; read(&mut core, &mut port, place), 0);
-    assert_eq!(rt; (port.loads(), asked.get()), (4, 1));
+    assert!(rt; read(&mut core, &mut port, place) == 0);
+    assert!(rt; (port.loads(), asked.get()) == (4, 1));
     let beside = heap_word(&port, Rank::of(1), 230, 3);
-    assert_eq!(rt; read(&mut core, &mut port, beside), 0);
-    assert_eq!(rt; (port.loads(), asked.get()), (4, 1));
+    assert!(rt; read(&mut core, &mut port, beside) == 0);
+    assert!(rt; (port.loads(), asked.get()) == (4, 1));
     let other = heap_word(&port, Rank::of(1), 231, 0);
-    assert_eq!(rt; read(&mut core, &mut port, other), 0);
-    assert_eq!(rt; (port.loads(), asked.get()), (8, 2));
+    assert!(rt; read(&mut core, &mut port, other) == 0);
+    assert!(rt; (port.loads(), asked.get()) == (8, 2));
     Ok(())
 }
 
@@ -137,13 +137,13 @@ fn a_written_word_is_stored_when_another_line_is_written(rt: HostRuntime) -> Res
     let first = heap_word(&ports.second, Rank::of(0), 225, 1);
     let second = heap_word(&ports.second, Rank::of(0), 226, 2);
     write(&mut core, &mut ports.first, Rank::of(0), 225, 1, 7);
-    assert_eq!(rt; ports.second.load(first), 0);
+    assert!(rt; ports.second.load(first) == 0);
     write(&mut core, &mut ports.first, Rank::of(0), 226, 2, 8);
-    assert_eq!(rt; ports.second.load(first), 7);
-    assert_eq!(rt; ports.second.load(second), 0);
+    assert!(rt; ports.second.load(first) == 7);
+    assert!(rt; ports.second.load(second) == 0);
     flush(&mut core, &mut ports.first);
-    assert_eq!(rt; ports.second.load(second), 8);
-    assert_eq!(rt; ports.first.loads(), 0);
+    assert!(rt; ports.second.load(second) == 8);
+    assert!(rt; ports.first.loads() == 0);
     Ok(())
 }
 
@@ -158,8 +158,8 @@ fn a_flush_of_nothing_stores_nothing(rt: HostRuntime) -> Result<(), Fail> {
     flush(&mut core, &mut ports.first);
     store(&mut ports.second, Rank::of(0), 225, 0, 9);
     flush(&mut core, &mut ports.first);
-    assert_eq!(rt; ports.second.load(place), 9);
-    assert_eq!(rt; ports.first.loads(), 0);
+    assert!(rt; ports.second.load(place) == 9);
+    assert!(rt; ports.first.loads() == 0);
     Ok(())
 }
 
@@ -170,16 +170,16 @@ fn a_refused_put_and_get_change_nothing(rt: HostRuntime) -> Result<(), Fail> {
     let mut core = Core::new(Never);
     let at = Buf::new(250, 2).ok_or("a buffer")?;
     let place = heap_word(&ports.first, Rank::of(1), 250, 0);
-    assert_eq!(rt; read(&mut core, &mut ports.first, place), 0);
+    assert!(rt; read(&mut core, &mut ports.first, place) == 0);
     let put_three = put(&mut core, &mut ports.first, Rank::of(1), at, &[[7; 4]; 3]);
-    assert_eq!(rt; put_three, Err(RangeFault { asked: 3, len: 2 }));
+    assert!(rt; put_three == Err(RangeFault { asked: 3, len: 2 }));
     store(&mut ports.second, Rank::of(1), 250, 0, 5);
     let mut lines = [[9; 4]; 3];
     let get_three = get(&mut core, &mut ports.first, Rank::of(1), at, &mut lines);
-    assert_eq!(rt; get_three, Err(RangeFault { asked: 3, len: 2 }));
-    assert_eq!(rt; lines, [[9; 4]; 3]);
-    assert_eq!(rt; read(&mut core, &mut ports.first, place), 0);
-    assert_eq!(rt; ports.first.loads(), 4);
+    assert!(rt; get_three == Err(RangeFault { asked: 3, len: 2 }));
+    assert!(rt; lines == [[9; 4]; 3]);
+    assert!(rt; read(&mut core, &mut ports.first, place) == 0);
+    assert!(rt; ports.first.loads() == 4);
     get(
         &mut core,
         &mut ports.first,
@@ -187,7 +187,7 @@ fn a_refused_put_and_get_change_nothing(rt: HostRuntime) -> Result<(), Fail> {
         at,
         &mut lines[..2],
     )?;
-    assert_eq!(rt; lines, [[5, 0, 0, 0], [0; 4], [9; 4]]);
-    assert_eq!(rt; ports.first.loads(), 12);
+    assert!(rt; lines == [[5, 0, 0, 0], [0; 4], [9; 4]]);
+    assert!(rt; ports.first.loads() == 12);
     Ok(())
 }

@@ -94,11 +94,11 @@ fn a_receive_of_nothing_stalls_after_its_polls(rt: HostRuntime) -> Result<(), Fa
         ) else {
             return Err("a receive that finds nothing".into());
         };
-        assert_eq!(rt; port.loads(), 12);
+        assert!(rt; port.loads() == 12);
         let place = Place::new(CoreId::of(1), 1, 0);
         assert!(rt; spot == Spot::Flag { place, bit: 0 });
-        assert_eq!(rt; polls, 3);
-        assert_eq!(rt; got, [7; 4]);
+        assert!(rt; polls == 3);
+        assert!(rt; got == [7; 4]);
     }
     Ok(())
 }
@@ -116,8 +116,8 @@ fn a_test_of_nothing_makes_one_look(rt: HostRuntime) -> Result<(), Fail> {
             return Err("a test that finds nothing".into());
         };
         assert!(rt; !found);
-        assert_eq!(rt; port.loads(), 4);
-        assert_eq!(rt; got, [7; 4]);
+        assert!(rt; port.loads() == 4);
+        assert!(rt; got == [7; 4]);
     }
     Ok(())
 }
@@ -150,7 +150,7 @@ fn a_second_post_waits_for_the_first(rt: HostRuntime) -> Result<(), Fail> {
                 bit: layout.ready(Rank::of(1)).bit()
             }
         );
-        assert_eq!(rt; polls, 2);
+        assert!(rt; polls == 2);
     }
     Ok(())
 }

@@ -70,7 +70,7 @@ fn has_printed<R: Abort>(
 fn four_bytes_arrive_and_are_printed(rt: HostRuntime) -> Result<(), Fail> {
     let text = b"ue 0\nbytes x 01020304\nsend 1 x\nue 1\nrecv 0 y 4\nprint y\n";
     let end = end_of(rt.alloc(), text, 2)?;
-    assert_eq!(rt; end.nue(), 2);
+    assert!(rt; end.nue() == 2);
     assert!(rt; is_finished(&rt, &end, 0)?);
     assert!(rt; is_finished(&rt, &end, 1)?);
     assert!(rt; has_printed(&rt, &end, 0, &[])?);
@@ -107,7 +107,7 @@ fn with_one_receive_less_the_sender_waits(rt: HostRuntime) -> Result<(), Fail> {
         to: rank(1)?,
         head: plain(1)?,
     };
-    assert_eq!(rt; ue(&rt, &end, 0)?, UeEnd::Waits { line: 4, call });
+    assert!(rt; ue(&rt, &end, 0)? == UeEnd::Waits { line: 4, call });
     assert!(rt; is_finished(&rt, &end, 1)?);
     assert!(rt; has_printed(&rt, &end, 1, &[(1, &[0xaa])])?);
     Ok(())
@@ -127,8 +127,8 @@ fn lengths_that_differ_are_a_mismatch(rt: HostRuntime) -> Result<(), Fail> {
         sent: plain(8)?,
         asked: plain(4)?,
     };
-    assert_eq!(rt; ue(&rt, &end, 0)?, UeEnd::Waits { line: 3, call });
-    assert_eq!(rt; ue(&rt, &end, 1)?, mismatch);
+    assert!(rt; ue(&rt, &end, 0)? == UeEnd::Waits { line: 3, call });
+    assert!(rt; ue(&rt, &end, 1)? == mismatch);
     assert!(rt; has_printed(&rt, &end, 1, &[])?);
     Ok(())
 }

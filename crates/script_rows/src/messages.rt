@@ -101,6 +101,6 @@ fn busy_script(alloc: Global) -> Result<Vec<u8>, Fail> {
 fn memory_suffices_for_many_messages(rt: HostRuntime) -> Result<(), Fail> {
     let text = busy_script(rt.alloc())?;
     let matches = matches_of(rt.alloc(), text.as_slice(), 48)?;
-    assert_eq!(rt; matches.len(), 24 * 99 * 99);
+    assert!(rt; matches.len() == 24 * 99 * 99);
     Ok(())
 }

@@ -37,10 +37,10 @@ fn comes_to<V: Fresh, R: Abort>(
         return Err("a run of 1 to 48 ranks".into());
     }
     let all = run::<V>(alloc, text, nue as u8, layout, backwards)?;
-    assert_eq!(rt; all.len(), nue);
+    assert!(rt; all.len() == nue);
     for (told, rank) in all.iter().zip(wanted) {
-        assert_eq!(rt; told.end, rank.end);
-        assert_eq!(rt; told.printed.as_slice(), rank.printed);
+        assert!(rt; told.end == rank.end);
+        assert!(rt; told.printed.as_slice() == rank.printed);
         assert!(rt; told.moved <= rank.most);
     }
     Ok(())
@@ -162,11 +162,11 @@ fn ranks_stop_wait_and_only_print(rt: HostRuntime) -> Result<(), Fail> {
 fn a_message_on_its_way_is_counted_once(rt: HostRuntime) -> Result<(), Fail> {
     let text = b"ue 0\nbytes x 01020304\nsend 1 x\npost 1 x\npost 1 x\nue 1\nrecv 0 y 4\n";
     let told = run::<Never>(rt.alloc(), text, 2, Layout::lines(), false)?;
-    assert_eq!(rt; told.len(), 2);
+    assert!(rt; told.len() == 2);
     // The first post is on its way, and the second waits for its slot.
     assert!(rt; told[0].end == End::Waits { line: 5 });
-    assert_eq!(rt; told[0].sent, 2);
-    assert_eq!(rt; told[0].sent_bytes, 8);
-    assert_eq!(rt; told[1].sent, 0);
+    assert!(rt; told[0].sent == 2);
+    assert!(rt; told[0].sent_bytes == 8);
+    assert!(rt; told[1].sent == 0);
     Ok(())
 }
