@@ -6,8 +6,6 @@ mod expansion;
 mod folds;
 mod laws;
 mod operations;
-#[cfg(test)]
-mod tests;
 
 pub use collectives::{Coll, Step};
 pub use expansion::{step, steps};

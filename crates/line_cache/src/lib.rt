@@ -3,8 +3,6 @@
 
 mod cache;
 mod evict;
-#[cfg(test)]
-mod tests;
 
 pub use cache::{Cache, Entry};
 pub use evict::{Always, Choice, Evict, Never, Seeded};

@@ -5,8 +5,6 @@
 mod accesses;
 mod cores;
 pub mod laws;
-#[cfg(test)]
-mod tests;
 mod transfers;
 
 pub use cores::Core;

@@ -14,8 +14,6 @@ mod names;
 mod orders;
 mod places;
 mod setups;
-#[cfg(test)]
-mod tests;
 
 pub use bytes::byte_of;
 pub use calls::Call;

@@ -8,8 +8,6 @@ mod laws;
 mod port;
 mod rule;
 mod space;
-#[cfg(test)]
-mod tests;
 mod tokens;
 
 pub use away::{SeatPort, Words};

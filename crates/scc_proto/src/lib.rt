@@ -8,8 +8,6 @@ mod history;
 pub mod laws;
 pub mod legal_examples;
 mod lone;
-#[cfg(test)]
-mod lone_tests;
 mod numbers;
 pub mod permits;
 mod ports;

@@ -6,3 +6,5 @@ pub mod MessageLemmas
 pub mod TalkLemmas
 pub mod CallLemmas
 pub mod FlagLemmas
+pub mod QuietLemmas
+pub mod QuietFlags

@@ -2,3 +2,4 @@ pub mod Rests
 pub mod Entrants
 pub mod Talkers
 pub mod Writers
+pub mod Quiet

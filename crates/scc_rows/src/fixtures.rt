@@ -15,17 +15,22 @@ use std::cell::Cell;
 use std::test::Fail;
 use tas_lock::{Held, release, try_acquire};
 
-/// A setup of two ranks, on cores 0 and 1.
-fn two_ranks(layout: Layout) -> Option<Setup>
-    ensures two { IfSome result (λ s. s.nue ≡ 2) }
-{
+/// The cores in the order of their numbers.
+pub(crate) fn cores_in_order() -> [CoreId; 48] {
     let mut cores = [CoreId::of(0); 48];
     for number in 0..48 {
         cores[number] = CoreId::of(number as u8);
     }
+    cores
+}
+
+/// A setup of so many ranks, each on the core of its number, with the world alone.
+pub(crate) fn world_of(nue: u8, layout: Layout) -> Option<Setup>
+    ensures ranks { IfSome result (λ s. s.nue ≡ nue) }
+{
     let mut rules = [CommRule::Absent; 16];
     rules[0] = CommRule::World;
-    Setup::new(2, layout, cores, rules)
+    Setup::new(nue, layout, cores_in_order(), rules)
 }
 
 /// A chip of two ranks that was just opened, with line flags.
@@ -39,7 +44,7 @@ pub(crate) fn new_pair(alloc: Global) -> Result<Chip, Fail>
 pub(crate) fn pair_in(alloc: Global, layout: Layout) -> Result<Chip, Fail>
     ensures pair { IfOk result (λ chip. IsNewPair chip) }
 {
-    let setup = two_ranks(layout).ok_or("a setup")?;
+    let setup = world_of(2, layout).ok_or("a setup")?;
     let _nue = setup.nue();
     let mut chip = Chip::blank();
     chip.open(alloc, setup)?;

@@ -1,6 +1,9 @@
-//! Tests of the chip and of the crates above it, which need several of them at once. There is no other code.
+//! Tests of the chip and of the crates around it, in one crate, since a crate with tests is proved twice. There is no
+//! other code.
 #![tactic(auto)]
 
+#[cfg(test)]
+mod away_ranks;
 #[cfg(test)]
 mod barriers;
 #[cfg(test)]
@@ -8,11 +11,31 @@ mod callers;
 #[cfg(test)]
 mod chip;
 #[cfg(test)]
+mod collectives;
+#[cfg(test)]
+mod combiners;
+#[cfg(test)]
+mod evictors;
+#[cfg(test)]
 mod fixtures;
 #[cfg(test)]
 mod flags;
 #[cfg(test)]
+mod heaps;
+#[cfg(test)]
+mod line_caches;
+#[cfg(test)]
+mod listed_ports;
+#[cfg(test)]
+mod locks;
+#[cfg(test)]
+mod lone_ports;
+#[cfg(test)]
 mod messages;
+#[cfg(test)]
+mod names;
+#[cfg(test)]
+mod own_flags;
 #[cfg(test)]
 mod private_lines;
 #[cfg(test)]

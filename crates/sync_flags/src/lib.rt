@@ -4,8 +4,6 @@
 mod flags;
 mod laws;
 mod looks;
-#[cfg(test)]
-mod tests;
 mod writes;
 
 pub use flags::{Flag, flag_alloc, flag_free, is_set_in};

@@ -2,7 +2,5 @@
 #![tactic(auto)]
 
 mod locks;
-#[cfg(test)]
-mod tests;
 
 pub use locks::{Held, release, try_acquire};

@@ -2,7 +2,5 @@
 #![tactic(auto)]
 
 mod combiner;
-#[cfg(test)]
-mod tests;
 
 pub use combiner::{Combiner, Out};

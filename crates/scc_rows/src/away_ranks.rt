@@ -1,0 +1,212 @@
+//! Blank chips, and ranks that are away, in this thread and in others.
+
+ghost use Rattle.std.specs.Prelude.{◌≡◌, ◌<◌, ◌⊎◌, ℕ, [], IsSomeAnd, Contains};
+ghost use Rattle.scc_base.specs.Events.{load_of};
+ghost use Rattle.scc_base.specs.Places.{WordAt};
+ghost use Rattle.scc_base.specs.Setups.{IsSetup, setup_key, host_of};
+ghost use Rattle.scc_proto.specs.Words.{HeapWord, Memory, role_of};
+ghost use Rattle.scc_proto.specs.Passed.{passed_calls, slot_of};
+ghost use Rattle.scc_proto.specs.Legality.{IsLegal};
+ghost use Rattle.scc_proto.specs.PairMessages.{PairMessages};
+ghost use Rattle.scc_proto.specs.Agreement.{Agrees};
+ghost use Rattle.scc_mesh.specs.Keeping.{IsStoredAt};
+ghost use Rattle.scc_mesh.specs.Scenes.{IsOpen, IsWhole, IsHomeBelow, about_in, table_in, events_in, records_in};
+
+use crate::fixtures::world_of;
+use scc_base::{CoreId, Layout, Place, Rank};
+use scc_mesh::{Chip, SeatPort, Token, Words};
+use scc_proto::Port;
+use std::test::Fail;
+use std::thread;
+use std::thread::Threads;
+
+#[test]
+fn a_blank_chip_opens(rt: HostRuntime) -> Result<(), Fail> {
+    let mut chip = Chip::blank();
+    assert_eq!(rt; chip.is_open(), false);
+    let setup = world_of(48, Layout::lines()).ok_or("a setup")?;
+    chip.open(rt.alloc(), setup)?;
+    assert_eq!(rt; chip.is_open(), true);
+    assert_eq!(rt; chip.setup().nue(), 48);
+    Ok(())
+}
+
+#[test]
+fn all_words_are_zero_at_the_start(rt: HostRuntime) -> Result<(), Fail> {
+    let mut chip = Chip::blank();
+    let setup = world_of(2, Layout::lines()).ok_or("a setup")?;
+    chip.open(rt.alloc(), setup)?;
+    let mut sum = 0;
+    let mut port = chip.port(Rank::of(0));
+    for core in 0..48 {
+        for line in 0..=255 {
+            sum |= port.load(Place::new(CoreId::of(core), line, 3));
+        }
+    }
+    assert_eq!(rt; sum, 0);
+    Ok(())
+}
+
+fn load_once(words: Words<'_>, token: Token) -> Token
+    requires of_chip { token.table ≡ words.space.now.table }
+    ensures same { result.table ≡ token.table }
+{
+    let mut port = words.port(token);
+    port.load(Place::new(CoreId::of(0), 240, 0));
+    port.into_token()
+}
+
+/// A heap word at the own core.
+fn own_word<P: Port>(port: &P) -> Place
+    ensures gives { result ≡ record {
+      core = host_of (P.sight port.now).seat.setup.hosts (P.sight port.now).seat.rank;
+      line = 240;
+      word = 0;
+    } }
+    ensures valid { IsSetup (P.sight port.now).seat.setup }
+    ensures below { (P.sight port.now).seat.rank < (P.sight port.now).seat.setup.nue }
+{
+    let setup = port.setup();
+    let _nue = setup.nue();
+    Place::new(setup.core_of(port.rank()), 240, 0)
+}
+
+/// Stores that word, and loads it.
+fn store_and_load<P: Port>(port: &mut P, value: u64)
+    requires none { (P.sight port.old).events ≡ [] }
+    ensures kept { (P.sight port.new).seat ≡ (P.sight port.old).seat }
+{
+    let place = own_word(port);
+    port.store(place, value);
+    port.load(place);
+}
+
+fn step_port(port: &mut SeatPort<'_>, value: u64)
+    requires none { port.old.ticket.events ≡ [] }
+    ensures same { (port.new.ticket.table ≡ port.old.ticket.table) × (port.new.ticket.rank ≡ port.old.ticket.rank) }
+{
+    store_and_load(port, value);
+}
+
+fn step_token(words: Words<'_>, token: Token, value: u64) -> Token
+    requires of_chip { token.table ≡ words.space.now.table }
+    requires none { token.events ≡ [] }
+    ensures same { (result.table ≡ token.table) × (result.rank ≡ token.rank) }
+{
+    let mut port = words.port(token);
+    step_port(&mut port, value);
+    port.into_token()
+}
+
+fn step_held(words: Words<'_>, token: &mut Option<Token>, rank: Rank, value: u64)
+    requires there { IsSomeAnd token.old (λ t. (t.table ≡ words.space.now.table) × (t.rank ≡ rank) × (t.events ≡ [])) }
+    ensures there { IsSomeAnd token.new (λ t. (t.table ≡ words.entry.space.now.table) × (t.rank ≡ rank)) }
+{
+    let Some(held) = token.take() else {
+        unreachable!()
+    };
+    *token = Some(step_token(words, held, value));
+}
+
+// Two ranks step on the same words, each in a thread of its own: the words and a token go into the one, a port
+// into the other.
+fn both_step<R: Threads + Sync>(
+    rt: &R,
+    words: Words<'_>,
+    first: &mut Option<Token>,
+    second: &mut SeatPort<'_>,
+)
+    requires first { IsSomeAnd first.old (λ t. (t.table ≡ words.space.now.table) × (t.rank ≡ 0) × (t.events ≡ [])) }
+    requires second { second.old.ticket.events ≡ [] }
+    ensures first { IsSomeAnd first.new (λ t. (t.table ≡ words.entry.space.now.table) × (t.rank ≡ 0)) }
+    ensures second { (second.new.ticket.table ≡ second.old.ticket.table) × (second.new.ticket.rank ≡ second.old.ticket.rank) }
+{
+    let rank = Rank::of(0);
+    thread::join_mut(
+        rt,
+        &mut || step_held(words, first, rank, 7),
+        &mut || step_port(second, 8),
+    );
+}
+
+fn spread_both(chip: &mut Chip) -> (Token, Token)
+    requires whole { IsWhole chip.old }
+    requires ranks { (about_in chip.old).nue ≡ 2 }
+    requires none { (r : ℕ) → events_in chip.old r ≡ [] }
+    ensures away { IsHomeBelow chip.new 0 }
+    ensures ranks { (about_in chip.new).nue ≡ 2 }
+    ensures first { (result.0.table ≡ table_in chip.new) × (result.0.rank ≡ 0) × (result.0.events ≡ []) }
+    ensures second { (result.1.table ≡ table_in chip.new) × (result.1.rank ≡ 1) × (result.1.events ≡ []) }
+{
+    let first = chip.spread(Rank::of(0));
+    let second = chip.spread(Rank::of(1));
+    (first, second)
+}
+
+fn gather_both(chip: &mut Chip, first: Token, second: Token)
+    requires away { IsHomeBelow chip.old 0 }
+    requires ranks { (about_in chip.old).nue ≡ 2 }
+    requires first { (first.table ≡ table_in chip.old) × (first.rank ≡ 0) }
+    requires second { (second.table ≡ table_in chip.old) × (second.rank ≡ 1) }
+    ensures whole { IsWhole chip.new }
+{
+    chip.gather(first);
+    chip.gather(second);
+}
+
+// After all ranks came home from their threads, the chip's words and their records agree.
+fn step_apart<R: Threads + Sync>(rt: &R, chip: &mut Chip)
+    requires whole { IsWhole chip.old }
+    requires ranks { (about_in chip.old).nue ≡ 2 }
+    requires none { (r : ℕ) → events_in chip.old r ≡ [] }
+    ensures whole { IsWhole chip.new }
+    ensures words { (memory : Memory) × Agrees (about_in chip.new) memory (records_in chip.new) }
+    ensures messages { (from to : ℕ) → from < (about_in chip.new).nue → PairMessages (about_in chip.new) from to (records_in chip.new) }
+    ensures calls { IsLegal (about_in chip.new).nue (setup_key (about_in chip.new))
+        (passed_calls (about_in chip.new) (records_in chip.new)) (slot_of (about_in chip.new) (records_in chip.new)) }
+    ensures heap { (r : ℕ) (place : WordAt) (value : ℕ) → role_of (about_in chip.new) place ≡ HeapWord
+        → Contains (events_in chip.new r) (load_of place value) → (value ≡ 0) ⊎ IsStoredAt (events_in chip.new) place value }
+{
+    let (first, second) = spread_both(chip);
+    let words = chip.words();
+    let mut first = Some(first);
+    let mut second = words.port(second);
+    both_step(rt, words, &mut first, &mut second);
+    let second = second.into_token();
+    let Some(first) = first else { unreachable!() };
+    gather_both(chip, first, second);
+    chip.agrees();
+}
+
+#[test]
+fn two_ranks_step_in_threads_of_their_own(rt: HostRuntime) -> Result<(), Fail> {
+    let mut chip = Chip::blank();
+    let setup = world_of(2, Layout::lines()).ok_or("a setup")?;
+    chip.open(rt.alloc(), setup)?;
+    step_apart(&rt, &mut chip);
+    let _nue = chip.setup().nue();
+    let mut port = chip.port(Rank::of(0));
+    assert_eq!(rt; port.load(Place::new(CoreId::of(0), 240, 0)), 7);
+    assert_eq!(rt; port.load(Place::new(CoreId::of(1), 240, 0)), 8);
+    Ok(())
+}
+
+fn away_and_home(chip: &mut Chip)
+    requires whole { IsWhole chip.old }
+    requires ranks { 0 < (about_in chip.old).nue }
+    ensures opened { IsOpen chip.new }
+{
+    let token = chip.spread(Rank::of(0));
+    let token = load_once(chip.words(), token);
+    chip.gather(token);
+}
+
+#[test]
+fn a_rank_goes_away_and_comes_home(rt: HostRuntime) -> Result<(), Fail> {
+    let mut chip = Chip::blank();
+    let setup = world_of(2, Layout::lines()).ok_or("a setup")?;
+    chip.open(rt.alloc(), setup)?;
+    away_and_home(&mut chip);
+    assert_eq!(rt; chip.is_open(), true);
+    Ok(())
+}

@@ -1,0 +1,64 @@
+//! The entry that an evictor names leaves the cache, and no other; and the text of a refused range.
+
+ghost use Rattle.std.specs.Prelude.{◌≡◌, [], None, if◌then◌else◌};
+
+use crate::fixtures::{counted, new_pair};
+use line_cache::Evict;
+use put_get::{Core, RangeFault};
+use scc_base::{CoreId, Place, Rank};
+use scc_proto::{CountingPort, Port};
+use std::test::Fail;
+
+#[test]
+fn the_text_of_the_fault(rt: HostRuntime) -> Result<(), Fail> {
+    let text = RangeFault { asked: 3, len: 2 }.to_string(rt.alloc())?;
+    assert_eq!(rt; text.as_str(), "asked 3 lines of a buffer of 2");
+    Ok(())
+}
+
+/// The evictor that names the middle one of three entries, once.
+#[derive(Drop)]
+struct MiddleOnce {
+    done: bool,
+}
+
+impl Evict for MiddleOnce {
+    ghost count = { λ e. if e.done then 1 else 0 };
+
+    ghost asked = { λ _. None };
+
+    ghost answers = { λ _. [] };
+
+    fn drop_one(&mut self, held: usize) -> Option<usize> {
+        if held != 3 || self.done {
+            return None;
+        }
+        self.done = true;
+        Some(1)
+    }
+}
+
+/// How many loads a read of a line's first word made.
+fn loads_for<V: Evict, P: Port>(core: &mut Core<V>, port: &mut CountingPort<P>, line: u8) -> u64
+    requires { core.old.out ≡ None }
+    ensures { core.new.out ≡ None }
+{
+    let before = port.loads();
+    core.word_read(port, Place::new(CoreId::of(0), line, 0));
+    port.loads().saturating_sub(before)
+}
+
+#[test]
+fn the_named_entry_leaves_and_no_other(rt: HostRuntime) -> Result<(), Fail> {
+    let mut chip = new_pair(rt.alloc())?;
+    let mut port = counted(&mut chip, Rank::of(0));
+    let mut core = Core::new(MiddleOnce { done: false });
+    assert_eq!(rt; loads_for(&mut core, &mut port, 225), 4);
+    assert_eq!(rt; loads_for(&mut core, &mut port, 226), 4);
+    assert_eq!(rt; loads_for(&mut core, &mut port, 227), 4);
+    assert_eq!(rt; loads_for(&mut core, &mut port, 225), 0);
+    assert_eq!(rt; loads_for(&mut core, &mut port, 227), 0);
+    assert_eq!(rt; loads_for(&mut core, &mut port, 226), 4);
+    assert_eq!(rt; loads_for(&mut core, &mut port, 226), 0);
+    Ok(())
+}

@@ -1,0 +1,149 @@
+//! A rank's own heap flags can be had, written and waited for, over a port that lists the events.
+
+ghost use Rattle.std.specs.Prelude.{◌≡◌, ◌<◌, ◌≤◌, [], None};
+
+use crate::listed_ports::{ListedPort, listed_port};
+use line_cache::Never;
+use mpb_alloc::{Heap, MallocFault};
+use put_get::Core;
+use scc_base::{Buf, CoreId, Place, Rank, Spot, Stalled};
+use std::process::Abort;
+use sync_flags::{Flag, flag_alloc, flag_free, flag_read, flag_write, wait_until};
+
+fn write<R: Abort>(core: &mut Core<Never>, port: &mut ListedPort<'_, R>, f: Flag, set: bool)
+    requires empty { core.old.out ≡ None }
+    requires word { f.bit ≡ None }
+    requires heap { 225 ≤ f.line }
+    ensures { core.new.out ≡ None }
+{
+    let rt = port.rt;
+    let _ = port.setup.nue();
+    flag_write(core, port, Rank::of(0), f, set, 1).expect(rt, "a word is always written");
+}
+
+fn write_bit<R: Abort>(
+    core: &mut Core<Never>,
+    port: &mut ListedPort<'_, R>,
+    buffer: &Buf,
+    bit: u8,
+) -> Result<(), Stalled>
+    requires empty { core.old.out ≡ None }
+    requires fresh { port.old.events.items ≡ [] }
+    requires below { bit < 64 }
+    ensures { core.new.out ≡ None }
+{
+    let _ = port.setup.nue();
+    flag_write(core, port, Rank::of(0), Flag::bit(buffer, bit), true, 2)
+}
+
+// One bit after the other, both of one word.
+fn write_two_bits<R: Abort>(
+    core: &mut Core<Never>,
+    port: &mut ListedPort<'_, R>,
+    buffer: &Buf,
+    first: u8,
+    second: u8,
+) -> bool
+    requires empty { core.old.out ≡ None }
+    requires fresh { port.old.events.items ≡ [] }
+    requires below { first < 64 }
+    requires second_below { second < 64 }
+{
+    let _ = port.setup.nue();
+    let me = Rank::of(0);
+    let one = flag_write(core, port, me, Flag::bit(buffer, first), true, 2);
+    let other = flag_write(core, port, me, Flag::bit(buffer, second), true, 2);
+    one.is_ok() && other.is_ok()
+}
+
+#[test]
+fn a_heap_flag_is_written_and_waited_for(rt: HostRuntime) {
+    let mut port = listed_port(&rt, rt.alloc());
+    let mut core = Core::new(Never);
+    let mut heap = Heap::new();
+    let buffer = flag_alloc(&mut heap).expect(&rt, "a line");
+    let flag = Flag::line(&buffer);
+    write(&mut core, &mut port, flag, true);
+    assert_eq!(rt; port.events.len(), 1);
+    assert!(rt; wait_until(&mut core, &mut port, flag, true, 1).is_ok());
+    assert_eq!(rt; port.events.len(), 5);
+    write(&mut core, &mut port, flag, false);
+    assert!(rt; wait_until(&mut core, &mut port, flag, false, 1).is_ok());
+    assert_eq!(rt; port.events.len(), 10);
+    assert!(rt; heap.is_out(buffer));
+    flag_free(&mut heap, buffer);
+    assert!(rt; !heap.is_out(buffer));
+}
+
+#[test]
+fn a_wait_stalls_after_its_polls(rt: HostRuntime) {
+    let mut port = listed_port(&rt, rt.alloc());
+    let mut core = Core::new(Never);
+    let buffer = Buf::new(230, 1).expect(&rt, "a line");
+    let stalled = Err(Stalled {
+        spot: Spot::Flag {
+            place: Place::new(CoreId::of(0), 230, 0),
+            bit: 7,
+        },
+        polls: 3,
+    });
+    assert!(rt; wait_until(&mut core, &mut port, Flag::bit(&buffer, 7), true, 3) == stalled);
+    assert_eq!(rt; port.events.len(), 12);
+}
+
+#[test]
+fn a_bit_is_changed_alone(rt: HostRuntime) {
+    let mut port = listed_port(&rt, rt.alloc());
+    port.words[20] = 0b1000_0001;
+    let mut core = Core::new(Never);
+    let buffer = Buf::new(230, 1).expect(&rt, "a line");
+    assert!(rt; write_bit(&mut core, &mut port, &buffer, 5).is_ok());
+    let word = port.words[20];
+    assert_eq!(rt; word, 0b1010_0001);
+    assert_eq!(rt; port.events.len(), 7);
+    assert!(rt; !port.taken[0]);
+    let _ = port.setup.nue();
+    assert!(rt; flag_read(&mut core, &mut port, Rank::of(0), Flag::bit(&buffer, 5)));
+    assert_eq!(rt; port.events.len(), 11);
+}
+
+#[test]
+fn a_second_bit_is_changed_on_the_same_port(rt: HostRuntime) {
+    let mut port = listed_port(&rt, rt.alloc());
+    let mut core = Core::new(Never);
+    let buffer = Buf::new(230, 1).expect(&rt, "a line");
+    assert!(rt; write_two_bits(&mut core, &mut port, &buffer, 5, 7));
+    let word = port.words[20];
+    assert_eq!(rt; word, 0b1010_0000);
+    assert_eq!(rt; port.events.len(), 14);
+    assert!(rt; !port.taken[0]);
+}
+
+#[test]
+fn a_bit_stalls_where_its_register_is_taken(rt: HostRuntime) {
+    let mut port = listed_port(&rt, rt.alloc());
+    port.taken[0] = true;
+    let mut core = Core::new(Never);
+    let buffer = Buf::new(230, 1).expect(&rt, "a line");
+    let stalled = Err(Stalled {
+        spot: Spot::Register {
+            core: CoreId::of(0),
+        },
+        polls: 2,
+    });
+    assert!(rt; write_bit(&mut core, &mut port, &buffer, 5) == stalled);
+    assert_eq!(rt; port.events.len(), 2);
+}
+
+#[test]
+fn a_flag_is_refused_where_no_line_is_free(rt: HostRuntime) {
+    let mut heap = Heap::new();
+    for _ in 0..31 {
+        assert!(rt; flag_alloc(&mut heap).is_ok());
+    }
+    let full = Err(MallocFault::Full {
+        asked: 1,
+        longest: 0,
+    });
+    assert!(rt; flag_alloc(&mut heap) == full);
+}

@@ -1,5 +1,0 @@
-use Rattle.tas_lock.proofs.QuietLemmas.{nothing_held}
-use Rattle.tas_lock.proofs.tests.a_taken_register_is_taken_after_its_release.Goals as goal
-
-pub could_take-requires : goal.could_take-requires
-could_take-requires g c = nothing_held _ c.port-port.ensures c.of-core.result
