@@ -8,8 +8,6 @@ mod laws;
 mod ports;
 mod steps;
 mod taps;
-#[cfg(test)]
-mod tests;
 mod uses;
 mod watches;
 

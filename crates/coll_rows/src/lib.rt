@@ -1,4 +1,4 @@
-//! Tests of gather, scatter, allgather and alltoall. There is no other code.
+//! Tests of gather, scatter, allgather and alltoall, and of their runs. There is no other code.
 #![tactic(auto)]
 
 #[cfg(test)]
@@ -7,3 +7,5 @@ mod alone;
 mod meetings;
 #[cfg(test)]
 mod members;
+#[cfg(test)]
+mod runs;

@@ -75,8 +75,8 @@ fn end_right<V: Evict + Drop>(
     Ok(ends && are_right(&team, order, calls.len()))
 }
 
-// Evictors that drop no line.
-fn nevers(alloc: Global, count: usize) -> Result<Vec<Never>, Fail> {
+/// Evictors that drop no line.
+pub(crate) fn nevers(alloc: Global, count: usize) -> Result<Vec<Never>, Fail> {
     let mut evictors = Vec::new(alloc);
     for _ in 0..count {
         evictors.push(Never)?;
@@ -84,8 +84,8 @@ fn nevers(alloc: Global, count: usize) -> Result<Vec<Never>, Fail> {
     Ok(evictors)
 }
 
-// Evictors that drop a line at each fill.
-fn always(alloc: Global, count: usize) -> Result<Vec<Always>, Fail> {
+/// Evictors that drop a line at each fill.
+pub(crate) fn always(alloc: Global, count: usize) -> Result<Vec<Always>, Fail> {
     let mut evictors = Vec::new(alloc);
     for _ in 0..count {
         evictors.push(Always::new())?;

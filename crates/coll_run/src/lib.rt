@@ -4,8 +4,6 @@
 mod laws;
 mod members;
 mod runs;
-#[cfg(test)]
-mod tests;
 mod turns;
 
 pub use laws::{order_law, rest_law};

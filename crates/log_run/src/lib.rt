@@ -9,8 +9,6 @@ mod runs;
 mod script_runs;
 mod sizes;
 mod sweeps;
-#[cfg(test)]
-mod tests;
 mod turns;
 mod ue_runs;
 

@@ -5,8 +5,6 @@
 mod adding;
 mod links;
 mod tables;
-#[cfg(test)]
-mod tests;
 
 pub use adding::load;
 pub use links::{Dir, Load};

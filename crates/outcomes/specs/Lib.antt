@@ -1,7 +1,6 @@
 pub mod Coming
 pub mod Complaints
 pub mod Delivery
-pub mod LineCount
 pub mod Numbers
 pub mod Outcomes
 pub mod Pieces

@@ -16,8 +16,3 @@ pub use reading::read_file;
 pub use report::Report;
 pub use status::Status;
 pub use words::{is_option, number_in, ue_count};
-
-#[cfg(test)]
-mod line_count;
-#[cfg(test)]
-mod tests;

@@ -12,8 +12,6 @@ mod progress;
 mod reader;
 mod reading;
 mod steps;
-#[cfg(test)]
-mod tests;
 mod verdicts;
 mod words;
 mod writing;

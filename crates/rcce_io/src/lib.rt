@@ -26,6 +26,3 @@ pub use reading::{ReadEnd, read_all};
 pub use sink::{Put, Sink};
 pub use text_source::TextSource;
 pub use writing::{WriteFault, write_all, write_texts};
-
-#[cfg(test)]
-mod tests;

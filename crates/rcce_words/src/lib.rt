@@ -6,8 +6,6 @@ mod cores;
 mod flags;
 mod host_file;
 mod said;
-#[cfg(test)]
-mod tests;
 
 pub use command::{Job, WordFault, Work, complaint, parse_words, word_at};
 pub use host_file::{HostFault, HostKind, default_hosts, read_hosts};

@@ -4,8 +4,6 @@
 mod generate;
 mod laws;
 mod pieces;
-#[cfg(test)]
-mod tests;
 
 pub use generate::gen_script;
 pub use laws::{generated_scripts_are_read, generated_scripts_are_short, sent_messages_came};

@@ -1,8 +1,12 @@
-//! Tests of the script language and of what scripts mean. There is no other code.
+//! Tests of the script language, of what scripts mean, of generated scripts and of the load of the mesh. There is no other code.
 #![tactic(auto)]
 
 #[cfg(test)]
 mod ends;
+#[cfg(test)]
+mod generated;
+#[cfg(test)]
+mod loads;
 #[cfg(test)]
 mod messages;
 #[cfg(test)]

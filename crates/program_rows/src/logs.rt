@@ -1,6 +1,6 @@
-//! What no clause says: logs of a kind each, each fault at each of its causes, and that there is memory.
+//! Logs of calls: logs of a kind each, each fault at each of its causes, and that there is memory.
 
-use crate::{LogFault, LogKind, LogStop, Verdict, audit, read_log};
+use rcce_audit::{LogFault, LogKind, LogStop, Verdict, audit, read_log};
 use scc_base::Rank;
 use std::alloc::{AllocError, Global};
 use std::process::Abort;

@@ -1,8 +1,8 @@
-//! What the clauses do not say: the loads of whole scripts, link by link.
+//! The load of the mesh by whole scripts, link by link.
 
 ghost use Rattle.std.specs.Prelude.{◌≤◌};
 
-use super::*;
+use mesh_load::{Dir, Load, load};
 use scc_base::CoreId;
 use script_plain::plain_matches;
 use script_reader::read_script;

@@ -2,8 +2,8 @@
 
 ghost use Rattle.std.specs.Prelude.{◌≤◌};
 
-use super::*;
 use scc_base::Rank;
+use script_gen::gen_script;
 use script_plain::{End, Matches, plain_matches, plain_run};
 use script_reader::read_script;
 use std::alloc::Global;

@@ -1,6 +1,6 @@
-//! What no contract says: that memory for a tap can be had.
+//! A tap, which keeps the calls of a log: that memory for it can be had.
 
-use crate::Tap;
+use call_tap::Tap;
 use scc_base::{CommRule, CoreId, Layout, Rank, Setup};
 use std::test::Fail;
 

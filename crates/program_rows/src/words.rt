@@ -2,11 +2,11 @@
 
 ghost use Rattle.std.specs.Prelude.{◌<◌};
 
-use crate::{
-    HostFault, HostKind, Job, WordFault, Work, complaint, default_hosts, parse_words, read_hosts,
-};
 use outcomes::{Complaint, Status};
 use rcce_io::MemSink;
+use rcce_words::{
+    HostFault, HostKind, Job, WordFault, Work, complaint, default_hosts, parse_words, read_hosts,
+};
 use scc_base::{CommRule, CoreId, Layout, Setup};
 use std::alloc::{AllocError, Global};
 use std::process::Abort;

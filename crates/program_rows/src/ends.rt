@@ -1,7 +1,7 @@
-//! What no clause says: texts, the ends of a program of the tests, and that there is memory.
+//! Ends of programs: texts of complaints, the ends of the program of the tests, numbers among words, and that there is memory.
 
 use crate::line_count::line_count;
-use crate::{Complaint, Status, number_in, ue_count};
+use outcomes::{Complaint, Status, number_in, ue_count};
 use rcce_io::{MemFiles, MemSink};
 use std::alloc::{AllocError, Global};
 use std::process::Abort;

@@ -1,6 +1,6 @@
-//! What no contract says: that there is memory, and the calls of a few scripts.
+//! Runs whose calls are kept: that there is memory, and the calls of a script.
 
-use crate::{has_room, run_script};
+use log_run::{has_room, run_script};
 use rcce_run::RunEnd;
 use scc_base::{CoreId, Layout, Rank, Setup};
 use scc_mesh::Chip;

@@ -4,11 +4,11 @@ ghost use Rattle.std.specs.Prelude.{◌≡◌, ◌≤◌, codes, length, map, st
 ghost use Rattle.outcomes.specs.Coming.{Comes, IsMeant};
 ghost use Rattle.outcomes.specs.Complaints.{outcome_of};
 ghost use Rattle.outcomes.specs.Delivery.{sinks};
-ghost use Rattle.outcomes.specs.LineCount.{count_ran, file_plan, lines, lines_in, words_plan};
 ghost use Rattle.outcomes.specs.Promises.{Promises};
+ghost use Rattle.program_rows.specs.LineCount.{count_ran, file_plan, lines, lines_in, words_plan};
 
-use crate::Piece::{Number, Text};
-use crate::{Complaint, Report, Status, deliver, is_option, read_file};
+use outcomes::Piece::{Number, Text};
+use outcomes::{Complaint, Report, Status, deliver, is_option, read_file};
 use rcce_io::{Files, Sink, WriteFault, write_texts};
 use std::alloc::Global;
 use std::marker::Model;

@@ -1,8 +1,8 @@
 use Rattle.std.proofs.Common.{inl, ap, refl, ◌∙◌}
 use Rattle.outcomes.specs.Coming.{Comes}
 use Rattle.outcomes.specs.Outcomes.{run_outcome}
-use Rattle.outcomes.specs.LineCount.{bytes_plan, count_ran, lines, lines_in}
-use Rattle.outcomes.proofs.line_count.count_file.Goals as goal
+use Rattle.program_rows.specs.LineCount.{bytes_plan, count_ran, lines, lines_in}
+use Rattle.program_rows.proofs.line_count.count_file.Goals as goal
 
 pub returns-in-Ok : goal.returns-in-Ok
 returns-in-Ok g c =

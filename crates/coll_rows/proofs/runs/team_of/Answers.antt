@@ -1,6 +1,6 @@
 use Rattle.std.proofs.Common.{ℕ, [], ◌∷◌, length, length-append, sym, ap, ◌∙◌, arith}
 use Rattle.coll_more.specs.Tables.{src_len_of}
-use Rattle.coll_run.proofs.tests.team_of.Goals as goal
+use Rattle.coll_rows.proofs.runs.team_of.Goals as goal
 
 pub join-requires-clause-src : goal.join-requires-clause-src
 join-requires-clause-src g c =

@@ -1,6 +1,6 @@
 use Rattle.std.proofs.Common.{◌≡◌, length}
 use Rattle.coll_run.specs.Teams.{AreFresh}
-use Rattle.coll_run.proofs.tests.team_of.Given as goal
+use Rattle.coll_rows.proofs.runs.team_of.Given as goal
 
 abbrev pub invariant-loop-number : goal.invariant-loop-number
 invariant-loop-number g l = record {

@@ -1,15 +1,15 @@
-//! Runs of each kind, over chips of several sizes.
+//! Whole runs of a collective call: each kind, over chips of several sizes.
 
 ghost use Rattle.std.specs.Prelude.{◌≡◌, ◌≤◌, IfOk, length};
 ghost use Rattle.coll_more.specs.Tables.{src_len_of};
 ghost use Rattle.coll_run.specs.Teams.{AreFresh, IsFreshTeam};
-ghost use Rattle.scc_mesh.specs.Scenes.{IsNew, about_in};
 
-use crate::{Member, join, run};
+use crate::meetings::{always, nevers};
+use chip_teams::opened;
 use coll_more::{More, src_len};
-use line_cache::{Always, Evict, Never};
-use scc_base::{CommRule, CoreId, Layout, Rank, Setup};
-use scc_mesh::Chip;
+use coll_run::{Member, join, run};
+use line_cache::Evict;
+use scc_base::{CommRule, Layout, Rank};
 use std::alloc::Global;
 use std::test::Fail;
 
@@ -90,23 +90,6 @@ fn team_of<V: Evict + Drop>(
     Ok(team)
 }
 
-/// A chip of so many ranks that was just opened, from the highest core down.
-fn opened(alloc: Global, nue: u8, layout: Layout) -> Result<Chip, Fail>
-    ensures new { IfOk result (λ chip. IsNew (about_in chip) chip) }
-    ensures nue { IfOk result (λ chip. (about_in chip).nue ≡ nue) }
-{
-    let mut cores = [CoreId::of(0); 48];
-    for number in 0..48 {
-        cores[number] = CoreId::of(47 - number as u8);
-    }
-    let mut rules = [CommRule::Absent; 16];
-    rules[0] = CommRule::World;
-    let setup = Setup::new(nue, layout, cores, rules).ok_or("a setup")?;
-    let mut chip = Chip::blank();
-    chip.open(alloc, setup)?;
-    Ok(chip)
-}
-
 /// Whether a rank has got these bytes.
 fn is_right(bytes: &[u8], more: More, rank: usize, len: usize) -> bool {
     for i in 0..bytes.len() {
@@ -140,28 +123,10 @@ fn ends_right<V: Evict + Drop>(
     requires few { nue ≤ 48 }
     requires short { len ≤ 1024 }
 {
-    let mut chip = opened(alloc, nue, layout)?;
+    let mut chip = opened(alloc, nue, layout, CommRule::Absent)?;
     let mut team = team_of(alloc, evictors, more, nue, len)?;
     run(&mut chip, team.as_mut_slice());
     Ok(count_right(team.as_slice(), more, len as usize) == nue as usize)
-}
-
-/// Evictors that drop no line.
-fn nevers(alloc: Global, count: u8) -> Result<Vec<Never>, Fail> {
-    let mut evictors = Vec::new(alloc);
-    for _ in 0..count {
-        evictors.push(Never)?;
-    }
-    Ok(evictors)
-}
-
-/// Evictors that drop a line at each fill.
-fn always(alloc: Global, count: u8) -> Result<Vec<Always>, Fail> {
-    let mut evictors = Vec::new(alloc);
-    for _ in 0..count {
-        evictors.push(Always::new())?;
-    }
-    Ok(evictors)
 }
 
 /// How many of the four kinds come right, in both layouts and with either evictor.
@@ -172,8 +137,8 @@ fn kinds_right(alloc: Global, nue: u8, len: u32) -> Result<usize, Fail>
     let mut right: usize = 0;
     for more in [More::Gather, More::Scatter, More::Allgather, More::Alltoall] {
         for layout in [Layout::lines(), Layout::bits()] {
-            let never = ends_right(alloc, nevers(alloc, nue)?, layout, more, nue, len)?;
-            let evicted = ends_right(alloc, always(alloc, nue)?, layout, more, nue, len)?;
+            let never = ends_right(alloc, nevers(alloc, nue as usize)?, layout, more, nue, len)?;
+            let evicted = ends_right(alloc, always(alloc, nue as usize)?, layout, more, nue, len)?;
             if never && evicted {
                 right = right.saturating_add(1);
             }

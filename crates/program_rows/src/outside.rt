@@ -1,4 +1,6 @@
-use crate::{
+//! The outside of a program: sinks, buffers and files, in memory and of the system.
+
+use rcce_io::{
     Buffer, Files, Got, HostFiles, MemFiles, MemSink, Opened, Put, ReadEnd, Sink, StdSink,
     TextSource, WriteFault, read_all, write_all, write_texts,
 };

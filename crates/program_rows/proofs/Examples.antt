@@ -5,7 +5,7 @@ use Rattle.rcce_io.specs.Files.{NamedFile}
 use Rattle.outcomes.specs.declared.status.Status.TheVariants as status
 use Rattle.outcomes.specs.Outcomes.{Outcome}
 use Rattle.outcomes.specs.Plans.{expected}
-use Rattle.outcomes.specs.LineCount.{lines}
+use Rattle.program_rows.specs.LineCount.{lines}
 
 abbrev one_file : List NamedFile
 one_file = record { name = codes "a"; contents = codes "one\ntwo\nthree" } ∷ []
