@@ -23,11 +23,11 @@ use std::thread::Threads;
 #[test]
 fn a_blank_chip_opens(rt: HostRuntime) -> Result<(), Fail> {
     let mut chip = Chip::blank();
-    assert_eq!(rt; chip.is_open(), false);
+    assert!(rt; !chip.is_open());
     let setup = world_of(48, Layout::lines()).ok_or("a setup")?;
     chip.open(rt.alloc(), setup)?;
-    assert_eq!(rt; chip.is_open(), true);
-    assert_eq!(rt; chip.setup().nue(), 48);
+    assert!(rt; chip.is_open());
+    assert!(rt; chip.setup().nue() == 48);
     Ok(())
 }
 
@@ -43,7 +43,7 @@ fn all_words_are_zero_at_the_start(rt: HostRuntime) -> Result<(), Fail> {
             sum |= port.load(Place::new(CoreId::of(core), line, 3));
         }
     }
-    assert_eq!(rt; sum, 0);
+    assert!(rt; sum == 0);
     Ok(())
 }
 
@@ -186,8 +186,8 @@ fn two_ranks_step_in_threads_of_their_own(rt: HostRuntime) -> Result<(), Fail> {
     step_apart(&rt, &mut chip);
     let _nue = chip.setup().nue();
     let mut port = chip.port(Rank::of(0));
-    assert_eq!(rt; port.load(Place::new(CoreId::of(0), 240, 0)), 7);
-    assert_eq!(rt; port.load(Place::new(CoreId::of(1), 240, 0)), 8);
+    assert!(rt; port.load(Place::new(CoreId::of(0), 240, 0)) == 7);
+    assert!(rt; port.load(Place::new(CoreId::of(1), 240, 0)) == 8);
     Ok(())
 }
 
@@ -207,6 +207,6 @@ fn a_rank_goes_away_and_comes_home(rt: HostRuntime) -> Result<(), Fail> {
     let setup = world_of(2, Layout::lines()).ok_or("a setup")?;
     chip.open(rt.alloc(), setup)?;
     away_and_home(&mut chip);
-    assert_eq!(rt; chip.is_open(), true);
+    assert!(rt; chip.is_open());
     Ok(())
 }

@@ -66,13 +66,13 @@ fn roots_and_others_have_so_many_steps(rt: HostRuntime) -> Result<(), Fail> {
     for (comm, root, rank, [bcast, reduce]) in rows {
         let len = 8;
         let spread = count_of(&setup, rank, Coll::Bcast { comm, root, len });
-        assert_eq!(rt; spread, Some(bcast), "bcast of {comm} at {rank}");
+        assert!(rt; spread == Some(bcast), "bcast of {comm} at {rank}");
         let gathered = count_of(&setup, rank, Coll::Reduce { comm, root, len });
-        assert_eq!(rt; gathered, Some(reduce), "reduce of {comm} at {rank}");
+        assert!(rt; gathered == Some(reduce), "reduce of {comm} at {rank}");
     }
     for (comm, rank, count) in [(0, 0, 14), (0, 1, 3), (1, 1, 5), (1, 3, 3), (15, 4, 2)] {
         let all = count_of(&setup, rank, Coll::Allreduce { comm, len: 8 });
-        assert_eq!(rt; all, Some(count), "allreduce of {comm} at {rank}");
+        assert!(rt; all == Some(count), "allreduce of {comm} at {rank}");
     }
     Ok(())
 }
@@ -91,10 +91,10 @@ fn a_bcast_goes_to_the_others_in_order(rt: HostRuntime) -> Result<(), Fail> {
         send(3, Kind::Bcast, 0, 8)?,
         send(4, Kind::Bcast, 0, 8)?,
     ];
-    assert_eq!(rt; has_steps(&setup, 2, coll, &sends), true);
+    assert!(rt; has_steps(&setup, 2, coll, &sends));
     for rank in [0, 1, 3, 4] {
         let other = [recv(2, Kind::Bcast, 0, 8)?, Step::Accept];
-        assert_eq!(rt; has_steps(&setup, rank, coll, &other), true, "rank {rank}");
+        assert!(rt; has_steps(&setup, rank, coll, &other), "rank {rank}");
     }
     Ok(())
 }
@@ -119,10 +119,10 @@ fn a_reduce_folds_the_others_in_order(rt: HostRuntime) -> Result<(), Fail> {
         Step::Fold,
         Step::Finish,
     ];
-    assert_eq!(rt; has_steps(&setup, 1, coll, &root), true);
+    assert!(rt; has_steps(&setup, 1, coll, &root));
     for rank in [0, 2, 3, 4] {
         let other = [send(1, Kind::Reduce, 0, 65_536)?];
-        assert_eq!(rt; has_steps(&setup, rank, coll, &other), true, "rank {rank}");
+        assert!(rt; has_steps(&setup, rank, coll, &other), "rank {rank}");
     }
     Ok(())
 }
@@ -136,16 +136,16 @@ fn a_root_is_counted_inside_its_group(rt: HostRuntime) -> Result<(), Fail> {
         len: 0,
     };
     let even = [send(0, Kind::Bcast, 1, 0)?, send(4, Kind::Bcast, 1, 0)?];
-    assert_eq!(rt; has_steps(&setup, 2, coll, &even), true);
+    assert!(rt; has_steps(&setup, 2, coll, &even));
     let odd = [send(1, Kind::Bcast, 1, 0)?];
-    assert_eq!(rt; has_steps(&setup, 3, coll, &odd), true);
+    assert!(rt; has_steps(&setup, 3, coll, &odd));
     let none = Coll::Bcast {
         comm: 1,
         root: 2,
         len: 0,
     };
-    assert_eq!(rt; none.is_callable(&setup, Rank::of(2)), true);
-    assert_eq!(rt; none.is_callable(&setup, Rank::of(3)), false);
+    assert!(rt; none.is_callable(&setup, Rank::of(2)));
+    assert!(rt; !none.is_callable(&setup, Rank::of(3)));
     Ok(())
 }
 
@@ -160,17 +160,14 @@ fn nested_groups_reduce_to_all_of_their_own(rt: HostRuntime) -> Result<(), Fail>
         send(2, Kind::AllDown, 2, 4)?,
         Step::Finish,
     ];
-    assert_eq!(rt; has_steps(&setup, 0, coll, &first), true);
+    assert!(rt; has_steps(&setup, 0, coll, &first));
     let second = [
         send(0, Kind::AllUp, 2, 4)?,
         recv(0, Kind::AllDown, 2, 4)?,
         Step::Accept,
     ];
-    assert_eq!(rt; has_steps(&setup, 2, coll, &second), true);
-    assert_eq!(rt;
-        has_steps(&setup, 4, coll, &[Step::Begin, Step::Finish]),
-        true
-    );
+    assert!(rt; has_steps(&setup, 2, coll, &second));
+    assert!(rt; has_steps(&setup, 4, coll, &[Step::Begin, Step::Finish]));
     Ok(())
 }
 
@@ -188,9 +185,8 @@ fn calls_need_what_they_name(rt: HostRuntime) -> Result<(), Fail> {
     for (comm, root, len, rank, callable) in rows {
         let me = Rank::new(rank).ok_or("a rank")?;
         let reduce = Coll::Reduce { comm, root, len };
-        assert_eq!(rt;
-            reduce.is_callable(&setup, me),
-            callable,
+        assert!(rt;
+            reduce.is_callable(&setup, me) == callable,
             "{reduce:?} at {rank}"
         );
     }
@@ -281,12 +277,11 @@ fn values_fold_one_by_one(rt: HostRuntime) {
     ];
     for (op, ty, acc, more, wanted) in rows {
         let mut folded = acc;
-        assert_eq!(rt;
+        assert!(rt;
             fold_into(op, ty, &mut folded, &more).is_ok(),
-            true,
             "{op:?} {ty:?}"
         );
-        assert_eq!(rt; folded, wanted, "{op:?} {ty:?}");
+        assert!(rt; folded == wanted, "{op:?} {ty:?}");
     }
 }
 
@@ -307,12 +302,12 @@ fn lengths_that_do_not_fit_are_refused(rt: HostRuntime) -> Result<(), Fail> {
         let mut acc = [1; 16];
         let folded = fold_into(Op::Sum, ty, &mut acc[..acc_len], &more[..more_len]);
         match folded {
-            Ok(()) => assert_eq!(rt; fits, true, "{ty:?} {acc_len} {more_len}"),
+            Ok(()) => assert!(rt; fits, "{ty:?} {acc_len} {more_len}"),
             Err(shape) => {
-                assert_eq!(rt; fits, false, "{ty:?} {acc_len} {more_len}");
-                assert_eq!(rt; shape.acc, acc_len);
-                assert_eq!(rt; shape.more, more_len);
-                assert_eq!(rt; acc, [1; 16], "{ty:?} {acc_len} {more_len}");
+                assert!(rt; !fits, "{ty:?} {acc_len} {more_len}");
+                assert!(rt; shape.acc == acc_len);
+                assert!(rt; shape.more == more_len);
+                assert!(rt; acc == [1; 16], "{ty:?} {acc_len} {more_len}");
             }
         }
     }
@@ -326,9 +321,9 @@ fn a_shape_has_a_text(rt: HostRuntime) -> Result<(), Fail> {
         Ok(()) => return Err("folded".into()),
         Err(shape) => shape,
     };
-    assert_eq!(rt; shape == Shape { acc: 4, more: 8 }, true);
-    assert_eq!(rt; acc, [1, 2, 3, 4]);
+    assert!(rt; shape == Shape { acc: 4, more: 8 });
+    assert!(rt; acc == [1, 2, 3, 4]);
     let text = format!(in rt.alloc(); "{shape}")?;
-    assert_eq!(rt; text.as_str(), "lengths 4 and 8 do not fit");
+    assert!(rt; text.as_str() == "lengths 4 and 8 do not fit");
     Ok(())
 }

@@ -23,15 +23,15 @@ fn a_whole_heap_goes_out_and_comes_back(rt: HostRuntime) -> Result<(), Fail> {
     assert!(rt; !heap.fits(993));
     assert!(rt; !heap.fits(0));
     let whole = heap.malloc(992)?;
-    assert_eq!(rt; (whole.first(), whole.lines()), (225, 31));
+    assert!(rt; (whole.first(), whole.lines()) == (225, 31));
     let full = MallocFault::Full {
         asked: 1,
         longest: 0,
     };
-    assert_eq!(rt; run_of(heap.malloc(1)), Err(full));
+    assert!(rt; run_of(heap.malloc(1)) == Err(full));
     assert!(rt; give_back(&mut heap, whole));
-    assert_eq!(rt; run_of(heap.malloc(33)), Ok((225, 2)));
-    assert_eq!(rt; run_of(heap.malloc(0)), Err(MallocFault::Empty));
+    assert!(rt; run_of(heap.malloc(33)) == Ok((225, 2)));
+    assert!(rt; run_of(heap.malloc(0)) == Err(MallocFault::Empty));
     Ok(())
 }
 
@@ -44,26 +44,26 @@ fn the_lowest_run_that_fits_is_taken_and_neighbours_join(rt: HostRuntime) -> Res
     assert!(rt; give_back(&mut heap, first));
     assert!(rt; give_back(&mut heap, third));
     assert!(rt; !give_back(&mut heap, third));
-    assert_eq!(rt; run_of(heap.malloc(96)), Ok((230, 3)));
+    assert!(rt; run_of(heap.malloc(96)) == Ok((230, 3)));
     let full = MallocFault::Full {
         asked: 24,
         longest: 23,
     };
-    assert_eq!(rt; run_of(heap.malloc(768)), Err(full));
+    assert!(rt; run_of(heap.malloc(768)) == Err(full));
     assert!(rt; give_back(&mut heap, second));
-    assert_eq!(rt; run_of(heap.malloc(160)), Ok((225, 5)));
+    assert!(rt; run_of(heap.malloc(160)) == Ok((225, 5)));
     Ok(())
 }
 
 #[test]
 fn the_texts_of_the_faults(rt: HostRuntime) -> Result<(), Fail> {
     let empty = MallocFault::Empty.to_string(rt.alloc())?;
-    assert_eq!(rt; empty.as_str(), "nothing asked");
+    assert!(rt; empty.as_str() == "nothing asked");
     let full = MallocFault::Full {
         asked: 4,
         longest: 3,
     }
     .to_string(rt.alloc())?;
-    assert_eq!(rt; full.as_str(), "asked 4 lines, longest run 3");
+    assert!(rt; full.as_str() == "asked 4 lines, longest run 3");
     Ok(())
 }

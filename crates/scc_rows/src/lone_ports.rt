@@ -38,23 +38,23 @@ fn taken<P: Port>(port: &mut P) -> bool
 #[test]
 fn a_word_has_what_was_stored(rt: HostRuntime) -> Result<(), Fail> {
     let mut port = chip(rt.alloc())?;
-    assert_eq!(rt; kept(&mut port, 7), 7);
-    assert_eq!(rt; port.load(Place::new(CoreId::of(7), 240, 2)), 0);
-    assert_eq!(rt; port.load(Place::new(CoreId::of(7), 240, 1)), 7);
+    assert!(rt; kept(&mut port, 7) == 7);
+    assert!(rt; port.load(Place::new(CoreId::of(7), 240, 2)) == 0);
+    assert!(rt; port.load(Place::new(CoreId::of(7), 240, 1)) == 7);
     Ok(())
 }
 
 #[test]
 fn loads_are_counted(rt: HostRuntime) -> Result<(), Fail> {
     let mut port = CountingPort::new(chip(rt.alloc())?);
-    assert_eq!(rt; kept(&mut port, 9), 9);
-    assert_eq!(rt; port.loads(), 1);
+    assert!(rt; kept(&mut port, 9) == 9);
+    assert!(rt; port.loads() == 1);
     Ok(())
 }
 
 #[test]
 fn a_free_register_is_taken(rt: HostRuntime) -> Result<(), Fail> {
     let mut port = chip(rt.alloc())?;
-    assert_eq!(rt; taken(&mut port), true);
+    assert!(rt; taken(&mut port));
     Ok(())
 }

@@ -10,11 +10,11 @@ use std::test::Fail;
 #[test]
 fn numbers_end_at_48(rt: HostRuntime) {
     for (number, fits) in [(0, true), (47, true), (48, false), (255, false)] {
-        assert_eq!(rt; Rank::new(number).is_some(), fits, "rank {number}");
-        assert_eq!(rt; CoreId::new(number).is_some(), fits, "core {number}");
+        assert!(rt; Rank::new(number).is_some() == fits, "rank {number}");
+        assert!(rt; CoreId::new(number).is_some() == fits, "core {number}");
     }
-    assert_eq!(rt; Rank::of(7).number(), 7);
-    assert_eq!(rt; CoreId::of(47).number(), 47);
+    assert!(rt; Rank::of(7).number() == 7);
+    assert!(rt; CoreId::of(47).number() == 47);
 }
 
 #[test]
@@ -28,29 +28,28 @@ fn heads_have_bounds(rt: HostRuntime) {
         (Kind::AllDown, 16, 4, false),
     ];
     for (kind, comm, len, fits) in rows {
-        assert_eq!(rt;
-            Head::new(kind, comm, len).is_some(),
-            fits,
+        assert!(rt;
+            Head::new(kind, comm, len).is_some() == fits,
             "{kind:?} {comm} {len}"
         );
     }
-    assert_eq!(rt; PostHead::plain(3_584).is_some(), true);
-    assert_eq!(rt; PostHead::plain(3_585).is_some(), false);
+    assert!(rt; PostHead::plain(3_584).is_some());
+    assert!(rt; PostHead::plain(3_585).is_none());
 }
 
 #[test]
 fn heads_become_heads_of_posts(rt: HostRuntime) -> Result<(), Fail> {
     let short = Head::plain(3_584).ok_or("short")?;
     let post = PostHead::new(short).ok_or("a post")?;
-    assert_eq!(rt; post.len(), 3_584);
-    assert_eq!(rt; post.head() == short, true);
+    assert!(rt; post.len() == 3_584);
+    assert!(rt; post.head() == short);
     let long = Head::plain(3_585).ok_or("long")?;
-    assert_eq!(rt; PostHead::new(long).is_none(), true);
+    assert!(rt; PostHead::new(long).is_none());
     let reduce = Head::new(Kind::Reduce, 0, 8).ok_or("reduce")?;
-    assert_eq!(rt; PostHead::new(reduce).is_none(), true);
-    assert_eq!(rt; reduce.kind(), Kind::Reduce);
-    assert_eq!(rt; reduce.comm(), 0);
-    assert_eq!(rt; reduce.len(), 8);
+    assert!(rt; PostHead::new(reduce).is_none());
+    assert!(rt; reduce.kind() == Kind::Reduce);
+    assert!(rt; reduce.comm() == 0);
+    assert!(rt; reduce.len() == 8);
     Ok(())
 }
 
@@ -64,10 +63,10 @@ fn kinds_have_their_numbers(rt: HostRuntime) {
         Kind::AllDown,
     ];
     for (number, kind) in [0, 1, 2, 3, 4].into_iter().zip(kinds) {
-        assert_eq!(rt; kind.number(), number);
-        assert_eq!(rt; Kind::from_number(number), Some(kind));
+        assert!(rt; kind.number() == number);
+        assert!(rt; Kind::from_number(number) == Some(kind));
     }
-    assert_eq!(rt; Kind::from_number(5), None);
+    assert!(rt; Kind::from_number(5).is_none());
 }
 
 fn stands_at(flag: FlagAt, line: u8, word: u8, bit: u8) -> bool {
@@ -77,9 +76,9 @@ fn stands_at(flag: FlagAt, line: u8, word: u8, bit: u8) -> bool {
 #[test]
 fn line_flags_stand_in_lines_of_their_own(rt: HostRuntime) {
     let layout = Layout::lines();
-    assert_eq!(rt; layout.is_bits(), false);
-    assert_eq!(rt; layout.chunk_bytes(), 3_584);
-    assert_eq!(rt; layout.first_chunk_line(), 113);
+    assert!(rt; !layout.is_bits());
+    assert!(rt; layout.chunk_bytes() == 3_584);
+    assert!(rt; layout.first_chunk_line() == 113);
     for (rank, sent, ready) in [(0, 1, 49), (1, 2, 50), (47, 48, 96)] {
         assert!(rt; stands_at(layout.sent(Rank::of(rank)), sent, 0, 0));
         assert!(rt; stands_at(layout.ready(Rank::of(rank)), ready, 0, 0));
@@ -98,9 +97,9 @@ fn line_flags_stand_in_lines_of_their_own(rt: HostRuntime) {
 #[test]
 fn bit_flags_share_line_1(rt: HostRuntime) {
     let layout = Layout::bits();
-    assert_eq!(rt; layout.is_bits(), true);
-    assert_eq!(rt; layout.chunk_bytes(), 6_624);
-    assert_eq!(rt; layout.first_chunk_line(), 18);
+    assert!(rt; layout.is_bits());
+    assert!(rt; layout.chunk_bytes() == 6_624);
+    assert!(rt; layout.first_chunk_line() == 18);
     for rank in [0, 1, 47] {
         assert!(rt; stands_at(layout.sent(Rank::of(rank)), 1, 0, rank));
         assert!(rt; stands_at(layout.ready(Rank::of(rank)), 1, 1, rank));
@@ -120,18 +119,15 @@ fn bit_flags_share_line_1(rt: HostRuntime) {
 fn places_name_words(rt: HostRuntime) {
     let line = Line::new(CoreId::of(3), 97);
     let word = line.word(2);
-    assert_eq!(rt; word, Place::new(CoreId::of(3), 97, 2));
-    assert_eq!(rt; word.core().number(), 3);
-    assert_eq!(rt; word.line(), 97);
-    assert_eq!(rt; word.word(), 2);
-    assert_eq!(rt; word.line_at().is(line), true);
-    assert_eq!(rt; Line::new(CoreId::of(4), 97).is(line), false);
-    assert_eq!(rt; line.core().number(), 3);
-    assert_eq!(rt; line.line(), 97);
-    assert_eq!(rt;
-        FlagAt::new(97, 1, 0).place(CoreId::of(3)),
-        Place::new(CoreId::of(3), 97, 1)
-    );
+    assert!(rt; word == Place::new(CoreId::of(3), 97, 2));
+    assert!(rt; word.core().number() == 3);
+    assert!(rt; word.line() == 97);
+    assert!(rt; word.word() == 2);
+    assert!(rt; word.line_at().is(line));
+    assert!(rt; !Line::new(CoreId::of(4), 97).is(line));
+    assert!(rt; line.core().number() == 3);
+    assert!(rt; line.line() == 97);
+    assert!(rt; FlagAt::new(97, 1, 0).place(CoreId::of(3)) == Place::new(CoreId::of(3), 97, 1));
 }
 
 #[test]
@@ -145,24 +141,21 @@ fn buffers_lie_in_the_heap(rt: HostRuntime) {
         (0, 255, false),
     ];
     for (first, lines, fits) in rows {
-        assert_eq!(rt; Buf::new(first, lines).is_some(), fits, "{first} {lines}");
+        assert!(rt; Buf::new(first, lines).is_some() == fits, "{first} {lines}");
     }
     if let Some(buf) = Buf::new(230, 4) {
-        assert_eq!(rt; buf.first(), 230);
-        assert_eq!(rt; buf.lines(), 4);
+        assert!(rt; buf.first() == 230);
+        assert!(rt; buf.lines() == 4);
     }
 }
 
 #[test]
 fn events_have_their_values(rt: HostRuntime) {
     let place = Place::new(CoreId::of(1), 49, 0);
-    assert_eq!(rt; Event::load(place, 1) == Event::store(place, 1), false);
-    assert_eq!(rt; Event::take(CoreId::of(1), true).value, 1);
-    assert_eq!(rt; Event::take(CoreId::of(1), false).value, 0);
-    assert_eq!(rt;
-        Event::free(CoreId::of(1)).place,
-        Place::register(CoreId::of(1))
-    );
+    assert!(rt; Event::load(place, 1) != Event::store(place, 1));
+    assert!(rt; Event::take(CoreId::of(1), true).value == 1);
+    assert!(rt; Event::take(CoreId::of(1), false).value == 0);
+    assert!(rt; Event::free(CoreId::of(1)).place == Place::register(CoreId::of(1)));
 }
 
 #[test]
@@ -171,11 +164,11 @@ fn spots_are_copied(rt: HostRuntime) {
         place: Place::new(CoreId::of(1), 49, 0),
         bit: 0,
     };
-    assert_eq!(rt; spot.copy(), spot);
+    assert!(rt; spot.copy() == spot);
     let turn = Turn::Waiting(Spot::Register {
         core: CoreId::of(5),
     });
-    assert_eq!(rt; turn.copy(), turn);
+    assert!(rt; turn.copy() == turn);
 }
 
 #[test]
@@ -185,13 +178,12 @@ fn calls_are_copied(rt: HostRuntime) -> Result<(), Fail> {
         to: Rank::of(1),
         head,
     };
-    assert_eq!(rt; call.copy(), call);
-    assert_eq!(rt;
-        call == Call::Recv {
+    assert!(rt; call.copy() == call);
+    assert!(rt;
+        call != Call::Recv {
             from: Rank::of(1),
             head
-        },
-        false
+        }
     );
     Ok(())
 }
@@ -214,7 +206,7 @@ fn setups_are_refused(rt: HostRuntime) {
             cores,
             rules_of(CommRule::World, absent),
         );
-        assert_eq!(rt; setup.is_some(), stands, "{nue} ranks");
+        assert!(rt; setup.is_some() == stands, "{nue} ranks");
     }
     let rows = [
         (absent, absent, false),
@@ -228,14 +220,11 @@ fn setups_are_refused(rt: HostRuntime) {
     ];
     for (first, second, stands) in rows {
         let setup = Setup::new(4, Layout::bits(), cores, rules_of(first, second));
-        assert_eq!(rt; setup.is_some(), stands, "{first:?} {second:?}");
+        assert!(rt; setup.is_some() == stands, "{first:?} {second:?}");
     }
     let mut later = rules_of(CommRule::World, absent);
     later[3] = CommRule::Mod { parent: 2, k: 2 };
-    assert_eq!(rt;
-        Setup::new(4, Layout::lines(), cores, later).is_some(),
-        false
-    );
+    assert!(rt; Setup::new(4, Layout::lines(), cores, later).is_none());
 }
 
 #[test]
@@ -243,14 +232,8 @@ fn two_ranks_need_two_cores(rt: HostRuntime) {
     let mut cores = cores_in_order();
     cores[3] = CoreId::of(1);
     let rules = rules_of(CommRule::World, CommRule::Absent);
-    assert_eq!(rt;
-        Setup::new(4, Layout::lines(), cores, rules).is_some(),
-        false
-    );
-    assert_eq!(rt;
-        Setup::new(3, Layout::lines(), cores, rules).is_some(),
-        true
-    );
+    assert!(rt; Setup::new(4, Layout::lines(), cores, rules).is_none());
+    assert!(rt; Setup::new(3, Layout::lines(), cores, rules).is_some());
 }
 
 // Whether these are the members of the rank's group, in order, and its place and root are theirs.
@@ -282,9 +265,9 @@ fn splits_nest(rt: HostRuntime) -> Result<(), Fail> {
     rules[9] = CommRule::Mod { parent: 1, k: 2 };
     rules[10] = CommRule::Mod { parent: 0, k: 3 };
     let setup = Setup::new(8, Layout::lines(), cores_in_order(), rules).ok_or("a setup")?;
-    assert_eq!(rt; setup.nue(), 8);
-    assert_eq!(rt; setup.layout(), Layout::lines());
-    assert_eq!(rt; setup.rule(9), CommRule::Mod { parent: 1, k: 2 });
+    assert!(rt; setup.nue() == 8);
+    assert!(rt; setup.layout() == Layout::lines());
+    assert!(rt; setup.rule(9) == CommRule::Mod { parent: 1, k: 2 });
     assert!(rt; has_members(&setup, 0, 5, [0, 1, 2, 3, 4, 5, 6, 7].as_slice()));
     assert!(rt; has_members(&setup, 1, 5, [4, 5, 6, 7].as_slice()));
     assert!(rt; has_members(&setup, 9, 0, [0, 2].as_slice()));
@@ -301,7 +284,7 @@ fn ranks_sit_on_their_hosts(rt: HostRuntime) -> Result<(), Fail> {
     let rules = rules_of(CommRule::World, CommRule::Absent);
     let setup = Setup::new(2, Layout::bits(), cores, rules).ok_or("a setup")?;
     assert!(rt; setup.nue() == 2);
-    assert_eq!(rt; setup.core_of(Rank::of(0)).number(), 47);
-    assert_eq!(rt; setup.core_of(Rank::of(1)).number(), 1);
+    assert!(rt; setup.core_of(Rank::of(0)).number() == 47);
+    assert!(rt; setup.core_of(Rank::of(1)).number() == 1);
     Ok(())
 }

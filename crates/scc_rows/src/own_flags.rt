@@ -64,12 +64,12 @@ fn a_heap_flag_is_written_and_waited_for(rt: HostRuntime) {
     let buffer = flag_alloc(&mut heap).expect(&rt, "a line");
     let flag = Flag::line(&buffer);
     write(&mut core, &mut port, flag, true);
-    assert_eq!(rt; port.events.len(), 1);
+    assert!(rt; port.events.len() == 1);
     assert!(rt; wait_until(&mut core, &mut port, flag, true, 1).is_ok());
-    assert_eq!(rt; port.events.len(), 5);
+    assert!(rt; port.events.len() == 5);
     write(&mut core, &mut port, flag, false);
     assert!(rt; wait_until(&mut core, &mut port, flag, false, 1).is_ok());
-    assert_eq!(rt; port.events.len(), 10);
+    assert!(rt; port.events.len() == 10);
     assert!(rt; heap.is_out(buffer));
     flag_free(&mut heap, buffer);
     assert!(rt; !heap.is_out(buffer));
@@ -88,7 +88,7 @@ fn a_wait_stalls_after_its_polls(rt: HostRuntime) {
         polls: 3,
     });
     assert!(rt; wait_until(&mut core, &mut port, Flag::bit(&buffer, 7), true, 3) == stalled);
-    assert_eq!(rt; port.events.len(), 12);
+    assert!(rt; port.events.len() == 12);
 }
 
 #[test]
@@ -99,12 +99,12 @@ fn a_bit_is_changed_alone(rt: HostRuntime) {
     let buffer = Buf::new(230, 1).expect(&rt, "a line");
     assert!(rt; write_bit(&mut core, &mut port, &buffer, 5).is_ok());
     let word = port.words[20];
-    assert_eq!(rt; word, 0b1010_0001);
-    assert_eq!(rt; port.events.len(), 7);
+    assert!(rt; word == 0b1010_0001);
+    assert!(rt; port.events.len() == 7);
     assert!(rt; !port.taken[0]);
     let _ = port.setup.nue();
     assert!(rt; flag_read(&mut core, &mut port, Rank::of(0), Flag::bit(&buffer, 5)));
-    assert_eq!(rt; port.events.len(), 11);
+    assert!(rt; port.events.len() == 11);
 }
 
 #[test]
@@ -114,8 +114,8 @@ fn a_second_bit_is_changed_on_the_same_port(rt: HostRuntime) {
     let buffer = Buf::new(230, 1).expect(&rt, "a line");
     assert!(rt; write_two_bits(&mut core, &mut port, &buffer, 5, 7));
     let word = port.words[20];
-    assert_eq!(rt; word, 0b1010_0000);
-    assert_eq!(rt; port.events.len(), 14);
+    assert!(rt; word == 0b1010_0000);
+    assert!(rt; port.events.len() == 14);
     assert!(rt; !port.taken[0]);
 }
 
@@ -132,7 +132,7 @@ fn a_bit_stalls_where_its_register_is_taken(rt: HostRuntime) {
         polls: 2,
     });
     assert!(rt; write_bit(&mut core, &mut port, &buffer, 5) == stalled);
-    assert_eq!(rt; port.events.len(), 2);
+    assert!(rt; port.events.len() == 2);
 }
 
 #[test]
