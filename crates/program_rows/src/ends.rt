@@ -55,9 +55,9 @@ fn run(alloc: Global, call: Call) -> Result<Ended, AllocError> {
 }
 
 fn expect(rt: &impl Abort, run: &Ended, status: Status, out: &[u8], err: &[u8]) {
-    assert_eq!(rt; run.out.bytes(), out);
-    assert_eq!(rt; run.err.bytes(), err);
-    assert_eq!(rt; run.status, status);
+    assert!(rt; run.out.bytes() == out);
+    assert!(rt; run.err.bytes() == err);
+    assert!(rt; run.status == status);
 }
 
 /// A call with no failures.
@@ -74,7 +74,7 @@ fn words<'a>(words: &'a [&'a str]) -> Call<'a> {
 fn lines_are_counted(rt: HostRuntime) -> Result<(), Fail> {
     let run = run(rt.alloc(), words(&["a"]))?;
     expect(&rt, &run, Status::Finished, b"2\n", b"");
-    assert_eq!(rt; run.status.number(), 0);
+    assert!(rt; run.status.number() == 0);
     Ok(())
 }
 
@@ -84,7 +84,7 @@ fn words_are_refused_before_a_file_is_asked_for(rt: HostRuntime) -> Result<(), F
     for given in refused {
         let run = run(rt.alloc(), words(given))?;
         expect(&rt, &run, Status::Words, b"", b"lines: words refused\n");
-        assert_eq!(rt; run.reads, 0);
+        assert!(rt; run.reads == 0);
     }
     Ok(())
 }
@@ -105,7 +105,7 @@ fn nothing_is_read_behind_a_read_fault(rt: HostRuntime) -> Result<(), Fail> {
         };
         let run = run(rt.alloc(), call)?;
         expect(&rt, &run, Status::Files, b"", b"lines: a: read fault\n");
-        assert_eq!(rt; run.reads, read);
+        assert!(rt; run.reads == read);
     }
     Ok(())
 }
@@ -118,14 +118,14 @@ fn nothing_is_written_behind_a_failed_write(rt: HostRuntime) -> Result<(), Fail>
     };
     let ended = run(rt.alloc(), call)?;
     expect(&rt, &ended, Status::Write, b"2", b"");
-    assert_eq!(rt; (ended.out.writes_made(), ended.err.writes_made()), (2, 0));
+    assert!(rt; (ended.out.writes_made(), ended.err.writes_made()) == (2, 0));
     let call = Call {
         err_write: Some(3),
         ..words(&["b"])
     };
     let ended = run(rt.alloc(), call)?;
     expect(&rt, &ended, Status::Write, b"", b"line");
-    assert_eq!(rt; (ended.out.writes_made(), ended.err.writes_made()), (0, 3));
+    assert!(rt; (ended.out.writes_made(), ended.err.writes_made()) == (0, 3));
     Ok(())
 }
 
@@ -145,9 +145,9 @@ fn a_longer_file_is_refused(rt: HostRuntime) -> Result<(), Fail> {
         let mut out = MemSink::new(alloc, 64, 64)?;
         let mut err = MemSink::new(alloc, 64, 64)?;
         let ended = line_count(alloc, words.as_slice(), &mut files, &mut out, &mut err);
-        assert_eq!(rt; ended, status);
-        assert_eq!(rt; out.bytes(), out_text.as_bytes());
-        assert_eq!(rt; err.bytes(), err_text.as_bytes());
+        assert!(rt; ended == status);
+        assert!(rt; out.bytes() == out_text.as_bytes());
+        assert!(rt; err.bytes() == err_text.as_bytes());
     }
     Ok(())
 }
@@ -187,8 +187,8 @@ fn each_complaint_has_one_line(rt: HostRuntime) -> Result<(), Fail> {
     for (complaint, status, text) in table {
         let mut sink = MemSink::new(rt.alloc(), 64, 64)?;
         complaint.write("rccerun", &mut sink)?;
-        assert_eq!(rt; sink.bytes(), text.as_bytes());
-        assert_eq!(rt; complaint.status(), status);
+        assert!(rt; sink.bytes() == text.as_bytes());
+        assert!(rt; complaint.status() == status);
     }
     Ok(())
 }
@@ -208,13 +208,10 @@ fn numbers_have_one_to_ten_digits(rt: HostRuntime) {
         ("4294967296", None),
     ];
     for (word, count) in counts {
-        assert_eq!(rt; ue_count(word), count, "{word}");
+        assert!(rt; ue_count(word) == count, "{word}");
     }
-    assert_eq!(rt;
-        number_in("4294967295", 0, 4_294_967_295),
-        Some(4_294_967_295)
-    );
-    assert_eq!(rt; number_in("9999999999", 0, 4_294_967_295), None);
-    assert_eq!(rt; number_in("0", 0, 1_024), Some(0));
-    assert_eq!(rt; number_in("1025", 0, 1_024), None);
+    assert!(rt; number_in("4294967295", 0, 4_294_967_295) == Some(4_294_967_295));
+    assert!(rt; number_in("9999999999", 0, 4_294_967_295) == None);
+    assert!(rt; number_in("0", 0, 1_024) == Some(0));
+    assert!(rt; number_in("1025", 0, 1_024) == None);
 }

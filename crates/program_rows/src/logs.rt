@@ -15,7 +15,7 @@ fn verdict(rt: &impl Abort, alloc: Global, text: &[u8]) -> Verdict {
 }
 
 fn expect_legal(rt: &impl Abort, alloc: Global, text: &[u8]) {
-    assert_eq!(rt; verdict(rt, alloc, text), Verdict::Yes);
+    assert!(rt; verdict(rt, alloc, text) == Verdict::Yes);
 }
 
 fn expect_not(rt: &impl Abort, alloc: Global, text: &[u8], rank: u8, call: u32) {
@@ -24,8 +24,8 @@ fn expect_not(rt: &impl Abort, alloc: Global, text: &[u8], rank: u8, call: u32) 
             rank: first,
             call: left,
         } => {
-            assert_eq!(rt; first.number(), rank);
-            assert_eq!(rt; left, call);
+            assert!(rt; first.number() == rank);
+            assert!(rt; left == call);
         }
         Verdict::Yes => panic!(rt; "legal"),
     }
@@ -34,7 +34,7 @@ fn expect_not(rt: &impl Abort, alloc: Global, text: &[u8], rank: u8, call: u32) 
 fn expect_fault(rt: &impl Abort, alloc: Global, text: &[u8], line: u32, kind: LogKind) {
     match read_log(alloc, text) {
         Ok(_) => panic!(rt; "accepted"),
-        Err(stop) => assert_eq!(rt; stop, LogStop::Fault(LogFault { line, kind })),
+        Err(stop) => assert!(rt; stop == LogStop::Fault(LogFault { line, kind })),
     }
 }
 

@@ -10,9 +10,9 @@ use std::test::Fail;
 #[test]
 fn a_text_is_taken_piece_by_piece(rt: HostRuntime) -> Result<(), Fail> {
     let mut sink = MemSink::new(rt.alloc(), 16, 3)?;
-    assert_eq!(rt; write_all(&mut sink, b"ue 1 y 0102"), Ok(()));
-    assert_eq!(rt; write_all(&mut sink, b"0304\n"), Ok(()));
-    assert_eq!(rt; sink.bytes(), b"ue 1 y 01020304\n".as_slice());
+    assert!(rt; write_all(&mut sink, b"ue 1 y 0102") == Ok(()));
+    assert!(rt; write_all(&mut sink, b"0304\n") == Ok(()));
+    assert!(rt; sink.bytes() == b"ue 1 y 01020304\n".as_slice());
     Ok(())
 }
 
@@ -20,17 +20,17 @@ fn a_text_is_taken_piece_by_piece(rt: HostRuntime) -> Result<(), Fail> {
 fn a_sink_of_one_byte_that_fails_at_its_second_write(rt: HostRuntime) -> Result<(), Fail> {
     let mut sink = MemSink::new(rt.alloc(), 16, 1)?;
     sink.fail_at(2);
-    assert_eq!(rt; write_all(&mut sink, b"ue 1"), Err(WriteFault));
-    assert_eq!(rt; sink.bytes(), b"u".as_slice());
+    assert!(rt; write_all(&mut sink, b"ue 1") == Err(WriteFault));
+    assert!(rt; sink.bytes() == b"u".as_slice());
     Ok(())
 }
 
 #[test]
 fn a_sink_fails_where_no_room_is_left(rt: HostRuntime) -> Result<(), Fail> {
     let mut sink = MemSink::new(rt.alloc(), 3, 8)?;
-    assert_eq!(rt; write_all(&mut sink, b"ue 1"), Err(WriteFault));
-    assert_eq!(rt; sink.bytes(), b"ue ".as_slice());
-    assert_eq!(rt; sink.write(b"1"), Put::Failed);
+    assert!(rt; write_all(&mut sink, b"ue 1") == Err(WriteFault));
+    assert!(rt; sink.bytes() == b"ue ".as_slice());
+    assert!(rt; sink.write(b"1") == Put::Failed);
     Ok(())
 }
 
@@ -39,9 +39,9 @@ fn the_last_number_set_counts(rt: HostRuntime) -> Result<(), Fail> {
     let mut sink = MemSink::new(rt.alloc(), 16, 8)?;
     sink.fail_at(1);
     sink.fail_at(2);
-    assert_eq!(rt; sink.write(b"a"), Put::Took(1));
-    assert_eq!(rt; sink.write(b"b"), Put::Failed);
-    assert_eq!(rt; sink.write(b"c"), Put::Took(1));
+    assert!(rt; sink.write(b"a") == Put::Took(1));
+    assert!(rt; sink.write(b"b") == Put::Failed);
+    assert!(rt; sink.write(b"c") == Put::Took(1));
     Ok(())
 }
 
@@ -102,7 +102,7 @@ fn short_texts_wait_and_go_by_one_write(rt: HostRuntime) -> Result<(), Fail> {
         (4, 1_703, Ok(())),
     ];
     for (write, len, sent) in table {
-        assert_eq!(rt; taken_before(rt.alloc(), write)?, (len, sent));
+        assert!(rt; taken_before(rt.alloc(), write)? == (len, sent));
     }
     Ok(())
 }
@@ -124,9 +124,9 @@ fn gathered(alloc: Global, len: usize) -> Result<(usize, u64), Fail> {
 
 #[test]
 fn a_text_that_does_not_fit_goes_by_itself(rt: HostRuntime) -> Result<(), Fail> {
-    assert_eq!(rt; gathered(rt.alloc(), 1_023)?, (0, 0));
-    assert_eq!(rt; gathered(rt.alloc(), 1_024)?, (1_025, 2));
-    assert_eq!(rt; gathered(rt.alloc(), 1_025)?, (1_025, 1));
+    assert!(rt; gathered(rt.alloc(), 1_023)? == (0, 0));
+    assert!(rt; gathered(rt.alloc(), 1_024)? == (1_025, 2));
+    assert!(rt; gathered(rt.alloc(), 1_025)? == (1_025, 1));
     Ok(())
 }
 
@@ -136,16 +136,13 @@ fn no_call_is_made_behind_a_failed_one(rt: HostRuntime) -> Result<(), Fail> {
     let mut sink = MemSink::new(alloc, 16, 1)?;
     sink.fail_at(2);
     let texts = [Line { bytes: b"ue 1" }, Line { bytes: b" y\n" }];
-    assert_eq!(rt; write_texts(&mut sink, &texts), Err(WriteFault));
-    assert_eq!(rt; sink.writes_made(), 2);
+    assert!(rt; write_texts(&mut sink, &texts) == Err(WriteFault));
+    assert!(rt; sink.writes_made() == 2);
     let mut files = MemFiles::new(alloc);
     files.add("a", b"one")?;
     files.fail_at(2);
-    assert_eq!(rt;
-        read_all(alloc, &mut files, "a", 9).err(),
-        Some(ReadEnd::Failed)
-    );
-    assert_eq!(rt; files.calls_made(), 2);
+    assert!(rt; read_all(alloc, &mut files, "a", 9).err() == Some(ReadEnd::Failed));
+    assert!(rt; files.calls_made() == 2);
     Ok(())
 }
 
@@ -170,7 +167,7 @@ fn a_file_is_read_up_to_one_byte_past_the_limit(rt: HostRuntime) -> Result<(), F
     ];
     for (limit, read) in table {
         let bytes = read_all(alloc, &mut files, "long", limit)?;
-        assert_eq!(rt; bytes.as_slice().len(), read);
+        assert!(rt; bytes.as_slice().len() == read);
     }
     Ok(())
 }
@@ -181,12 +178,12 @@ fn a_file_that_is_read_in_pieces_arrives_whole(rt: HostRuntime) -> Result<(), Fa
     let mut files = MemFiles::new(alloc);
     files.add("a", b"three")?;
     files.piece(2);
-    assert_eq!(rt; files.open("a"), Opened::Open);
-    assert_eq!(rt; files.read(&mut [0; 4]), Got::Bytes(2));
-    assert_eq!(rt; files.read(&mut [0; 1]), Got::Bytes(1));
+    assert!(rt; files.open("a") == Opened::Open);
+    assert!(rt; files.read(&mut [0; 4]) == Got::Bytes(2));
+    assert!(rt; files.read(&mut [0; 1]) == Got::Bytes(1));
     let bytes = read_all(alloc, &mut files, "a", 9)?;
-    assert_eq!(rt; bytes.as_slice(), b"three".as_slice());
-    assert_eq!(rt; files.calls_made(), 8);
+    assert!(rt; bytes.as_slice() == b"three".as_slice());
+    assert!(rt; files.calls_made() == 8);
     Ok(())
 }
 
@@ -196,14 +193,8 @@ fn each_name_has_its_own_contents(rt: HostRuntime) -> Result<(), Fail> {
     let mut files = MemFiles::new(alloc);
     files.add("a", b"one")?;
     files.add("b", b"")?;
-    assert_eq!(rt;
-        read_all(alloc, &mut files, "a", 9)?.as_slice(),
-        b"one".as_slice()
-    );
-    assert_eq!(rt;
-        read_all(alloc, &mut files, "b", 9)?.as_slice(),
-        b"".as_slice()
-    );
+    assert!(rt; read_all(alloc, &mut files, "a", 9)?.as_slice() == b"one".as_slice());
+    assert!(rt; read_all(alloc, &mut files, "b", 9)?.as_slice() == b"".as_slice());
     assert!(rt; files.has_file("b"));
     assert!(rt; !files.has_file("c"));
     Ok(())
@@ -214,10 +205,7 @@ fn a_name_that_was_not_added_is_absent(rt: HostRuntime) -> Result<(), Fail> {
     let alloc = rt.alloc();
     let mut files = MemFiles::new(alloc);
     files.add("a", b"one")?;
-    assert_eq!(rt;
-        read_all(alloc, &mut files, "none", 9).err(),
-        Some(ReadEnd::Absent)
-    );
+    assert!(rt; read_all(alloc, &mut files, "none", 9).err() == Some(ReadEnd::Absent));
     Ok(())
 }
 
@@ -228,14 +216,8 @@ fn a_fault_at_each_call_of_a_reading(rt: HostRuntime) -> Result<(), Fail> {
         let mut files = MemFiles::new(alloc);
         files.add("a", b"one")?;
         files.fail_at(call);
-        assert_eq!(rt;
-            read_all(alloc, &mut files, "a", 9).err(),
-            Some(ReadEnd::Failed)
-        );
-        assert_eq!(rt;
-            read_all(alloc, &mut files, "a", 9)?.as_slice(),
-            b"one".as_slice()
-        );
+        assert!(rt; read_all(alloc, &mut files, "a", 9).err() == Some(ReadEnd::Failed));
+        assert!(rt; read_all(alloc, &mut files, "a", 9)?.as_slice() == b"one".as_slice());
     }
     Ok(())
 }
@@ -245,14 +227,14 @@ fn a_fault_leaves_the_rest_of_the_file(rt: HostRuntime) -> Result<(), Fail> {
     let mut files = MemFiles::new(rt.alloc());
     files.add("a", b"one")?;
     files.fail_at(3);
-    assert_eq!(rt; files.open("a"), Opened::Open);
+    assert!(rt; files.open("a") == Opened::Open);
     let mut buf = [0; 2];
-    assert_eq!(rt; files.read(&mut buf), Got::Bytes(2));
-    assert_eq!(rt; buf, *b"on");
-    assert_eq!(rt; files.read(&mut buf), Got::Failed);
-    assert_eq!(rt; files.read(&mut buf), Got::Bytes(1));
-    assert_eq!(rt; buf, *b"en");
-    assert_eq!(rt; files.read(&mut buf), Got::End);
+    assert!(rt; files.read(&mut buf) == Got::Bytes(2));
+    assert!(rt; buf == *b"on");
+    assert!(rt; files.read(&mut buf) == Got::Failed);
+    assert!(rt; files.read(&mut buf) == Got::Bytes(1));
+    assert!(rt; buf == *b"en");
+    assert!(rt; files.read(&mut buf) == Got::End);
     Ok(())
 }
 
@@ -268,21 +250,15 @@ fn absent_is_what_the_system_does_not_find(rt: HostRuntime) -> Result<(), Fail> 
     ];
     let mut files = HostFiles::new(rt);
     for (name, end) in table {
-        assert_eq!(rt; read_all(alloc, &mut files, name, 9).err(), Some(end));
+        assert!(rt; read_all(alloc, &mut files, name, 9).err() == Some(end));
     }
-    assert_eq!(rt;
-        read_all(alloc, &mut files, "/dev/null", 9)?.as_slice(),
-        b"".as_slice()
-    );
-    assert_eq!(rt;
-        read_all(alloc, &mut files, "/dev/zero", 9)?.as_slice(),
-        [0; 10].as_slice()
-    );
+    assert!(rt; read_all(alloc, &mut files, "/dev/null", 9)?.as_slice() == b"".as_slice());
+    assert!(rt; read_all(alloc, &mut files, "/dev/zero", 9)?.as_slice() == [0; 10].as_slice());
     Ok(())
 }
 
 #[test]
 fn the_standard_streams_take_a_text(rt: HostRuntime) {
-    assert_eq!(rt; write_all(&mut StdSink::out(&rt), b"out\n"), Ok(()));
-    assert_eq!(rt; write_all(&mut StdSink::err(&rt), b"err\n"), Ok(()));
+    assert!(rt; write_all(&mut StdSink::out(&rt), b"out\n") == Ok(()));
+    assert!(rt; write_all(&mut StdSink::err(&rt), b"err\n") == Ok(()));
 }

@@ -10,6 +10,6 @@ fn a_tap_has_memory(rt: HostRuntime) -> Result<(), Fail> {
     comms[0] = CommRule::World;
     let setup = Setup::new(1, Layout::lines(), [CoreId::of(7); 48], comms).ok_or("a setup")?;
     let tap = Tap::new(rt.alloc(), setup, Rank::of(0))?;
-    assert_eq!(rt; tap.kept.calls.len(), 0);
+    assert!(rt; tap.kept.calls.len() == 0);
     Ok(())
 }

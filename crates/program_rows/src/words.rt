@@ -66,8 +66,8 @@ fn each_refusal_has_its_text(rt: HostRuntime) -> Result<(), Fail> {
                 let mut sink = MemSink::new(rt.alloc(), 64, 64)?;
                 complaint.write("", &mut sink)?;
                 let written = sink.bytes();
-                assert_eq!(rt; &written[2..written.len() - 1], text.as_bytes(), "{line}");
-                assert_eq!(rt; complaint.status(), Status::Words);
+                assert!(rt; &written[2..written.len() - 1] == text.as_bytes(), "{line}");
+                assert!(rt; complaint.status() == Status::Words);
             }
         }
     }
@@ -121,7 +121,7 @@ fn what_the_words_ask_for(rt: HostRuntime) -> Result<(), Fail> {
     ];
     for (line, job) in table {
         let words = words_of(rt.alloc(), line)?;
-        assert_eq!(rt; parse_words(words.as_slice()), Ok(job), "{line}");
+        assert!(rt; parse_words(words.as_slice()) == Ok(job), "{line}");
     }
     Ok(())
 }
@@ -147,7 +147,7 @@ fn host_files(rt: HostRuntime) {
         (b"\n\n7\n\n6\n\n", two(7, 6)),
     ];
     for (bytes, hosts) in table {
-        assert_eq!(rt; read_hosts(bytes, 2), Ok(hosts));
+        assert!(rt; read_hosts(bytes, 2) == Ok(hosts));
     }
 }
 
@@ -178,15 +178,15 @@ fn each_fault_of_a_host_file(rt: HostRuntime) {
         (&[b'\xff'; 65_537], 0, HostKind::TooLong, "TooLong"),
     ];
     for (bytes, line, kind, name) in table {
-        assert_eq!(rt; read_hosts(bytes, 2), Err(HostFault { line, kind }));
-        assert_eq!(rt; kind.name(), name);
+        assert!(rt; read_hosts(bytes, 2) == Err(HostFault { line, kind }));
+        assert!(rt; kind.name() == name);
     }
-    assert_eq!(rt;
-        read_hosts(&[b'\n'; 65_536], 1),
-        Err(HostFault {
-            line: 65_537,
-            kind: HostKind::TooFew
-        })
+    assert!(rt;
+        read_hosts(&[b'\n'; 65_536], 1)
+            == Err(HostFault {
+                line: 65_537,
+                kind: HostKind::TooFew
+            })
     );
 }
 
