@@ -34,7 +34,7 @@ past_all (x ∷ xs) zero none = absurd (cc)
 past_all (x ∷ xs) (suc k) none = ap (λ (l : List PieceCall). x ∷ l) (past_all xs k none)
 
 module _ (base : List DataCall) (s : Sight) (c : Private) (m : MoreAt) (slot : SlotAt) (src dst : List ℕ) where
-  ended_by : (stage : Stage) → m.stage ≡ stage → is_over_by (table_of s.seat m) m.ended stage ≡ true → MoreStands base (taking_part s c m slot src dst) → HasEnded base (taking_part s c m slot src dst)
+  pub ended_by : (stage : Stage) → m.stage ≡ stage → is_over_by (table_of s.seat m) m.ended stage ≡ true → MoreStands base (taking_part s c m slot src dst) → HasEnded base (taking_part s c m slot src dst)
   ended_by Own is over st = absurd (cc)
   ended_by Between is over st = record {
     calls = st.calls ∙ ap (λ (xs : List PieceCall). base ++ map (data_of src dst) xs) (past_all (table_of s.seat m) m.ended (none_past (slice_get (table_of s.seat m) m.ended) over));

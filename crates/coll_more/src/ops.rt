@@ -154,7 +154,8 @@ impl MoreOp {
     ) -> RecvTurn
         requires sending { IsTrue (is_sending self.old.stage) }
         requires stands { Stands (taking_part (P.sight port.old) core.old self.old slot.old src.now dst.now) }
-        ensures turns { Turns (taking_part (P.sight port.old) core.old self.old slot.old src.now dst.now) (taking_part (P.sight port.new) core.new self.new slot.new src.now dst.now) result }
+        ensures turns { Turns (taking_part (P.sight port.old) core.old self.old slot.old src.now dst.now)
+            (taking_part (P.sight port.new) core.new self.new slot.new src.now dst.now) result }
         ensures steps { (spot : Spot) → recv_waits result ≡ Some spot → MadeSteps P.stepped (P.sight port.old) (P.sight port.new) }
     {
         known(port);
@@ -184,7 +185,8 @@ impl MoreOp {
         requires receiving { IsTrue (is_receiving self.old.stage) }
         requires stands { (slot : SlotAt) × (src : List ℕ) × Stands (taking_part (P.sight port.old) core.old self.old slot src dst.old) }
         ensures turns { (slot : SlotAt) (src : List ℕ) → Stands (taking_part (P.sight port.old) core.old self.old slot src dst.old)
-            → Turns (taking_part (P.sight port.old) core.old self.old slot src dst.old) (taking_part (P.sight port.new) core.new self.new slot src dst.new) result }
+            → Turns (taking_part (P.sight port.old) core.old self.old slot src dst.old)
+            (taking_part (P.sight port.new) core.new self.new slot src dst.new) result }
         ensures steps { (spot : Spot) → recv_waits result ≡ Some spot → MadeSteps P.stepped (P.sight port.old) (P.sight port.new) }
     {
         known(port);
@@ -219,10 +221,11 @@ impl MoreOp {
         // The op and the rank fit together as before, over the same earlier calls.
         ensures stands { (base : List DataCall) → MoreStands base (taking_part (P.sight port.old) core.old self.old slot.old src.now dst.old)
             → MoreStands base (taking_part (P.sight port.new) core.new self.new slot.new src.now dst.new) }
-        ensures turned { MoreTurned (taking_part (P.sight port.old) core.old self.old slot.old src.now dst.old) (taking_part (P.sight port.new) core.new self.new slot.new src.now dst.new) result }
+        ensures turned { MoreTurned (taking_part (P.sight port.old) core.old self.old slot.old src.now dst.old)
+            (taking_part (P.sight port.new) core.new self.new slot.new src.now dst.new) result }
         // Done: the record has gained exactly the calls of the table, with the bytes of src and dst.
-        ensures ended { (base : List DataCall) → MoreStands base (taking_part (P.sight port.old) core.old self.old slot.old src.now dst.old) → result ≡ turn.Done
-            → HasEnded base (taking_part (P.sight port.new) core.new self.new slot.new src.now dst.new) }
+        ensures ended { (base : List DataCall) → MoreStands base (taking_part (P.sight port.old) core.old self.old slot.old src.now dst.old)
+            → result ≡ turn.Done → HasEnded base (taking_part (P.sight port.new) core.new self.new slot.new src.now dst.new) }
         ensures steps { (spot : Spot) → recv_waits result ≡ Some spot → MadeSteps P.stepped (P.sight port.old) (P.sight port.new) }
     {
         match &self.stage {

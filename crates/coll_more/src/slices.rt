@@ -55,7 +55,8 @@ pub(crate) fn take_turn<V: Evict, P: Port>(
     requires within { first + len ≤ length dst.old }
     requires stands { RecvStands (P.sight port.old) core.old op.old (window first len dst.old) }
     ensures stands { RecvStands (P.sight port.new) core.new op.new (window first len dst.new) }
-    ensures turned { RecvTurned (receiving (P.sight port.old) core.old op.old (window first len dst.old)) (receiving (P.sight port.new) core.new op.new (window first len dst.new)) result }
+    ensures turned { RecvTurned (receiving (P.sight port.old) core.old op.old (window first len dst.old))
+        (receiving (P.sight port.new) core.new op.new (window first len dst.new)) result }
     ensures steps { (spot : Spot) → recv_waits result ≡ Some spot → MadeSteps P.stepped (P.sight port.old) (P.sight port.new) }
     ensures before { take first dst.new ≡ take first dst.old }
     ensures behind { drop (first + len) dst.new ≡ drop (first + len) dst.old }

@@ -1,27 +1,22 @@
 -- Where a run begins, and what a sweep in which nobody moved leaves.
-use Rattle.std.proofs.Common.{◌≡◌, ℕ, zero, suc, ◌<◌, true, List, [], ◌∷◌, length, map, take, slice_index_or, None, is_none, slice_get, refl, sym, ◌∙◌, ap, subst, arith}
+use Rattle.std.proofs.Common.{◌≡◌, ℕ, ◌<◌, List, [], ◌∷◌, length, slice_index_or, None, refl, sym, ◌∙◌, ap, subst, arith}
 use Rattle.scc_base.specs.Setups.{SetupView, setup_key}
 use Rattle.scc_base.specs.declared.events.Event.{Event}
 use Rattle.scc_proto.specs.Agreement.{Agrees}
 use Rattle.scc_proto.specs.Passed.{open_call, open_of, passed_calls, slot_of}
-use Rattle.scc_proto.specs.Ports.{Sight, record_in}
+use Rattle.scc_proto.specs.Ports.{record_in}
 use Rattle.scc_proto.specs.Records.{chunk_of, record_of}
 use Rattle.scc_proto.specs.Words.{Memory}
 use Rattle.scc_mesh.specs.Scenes.{ChipView, about_in, events_in, records_in}
-use Rattle.put_get.specs.Cores.{Private}
 use Rattle.send_recv.specs.Calling.{IsBetweenMessages}
 use Rattle.send_recv.specs.Ops.{SlotAt}
 use Rattle.send_recv.proofs.Starts.{free_at_start}
 use Rattle.rcce_run.proofs.VainLike.{vain_like}
-use Rattle.coll_more.specs.Ops.{HasOwn, MoreAt, data_calls, data_of, is_copied, table_of, taking_part}
+use Rattle.coll_more.specs.Ops.{HasOwn, MoreAt, data_calls, taking_part}
 use Rattle.coll_more.specs.Pieces.{HasMade, pieces_for}
-use Rattle.coll_more.specs.Standing.{HasEnded, IsFit, MoreStands, StandsAt}
-use Rattle.coll_more.specs.Turns.{is_over_by}
+use Rattle.coll_more.specs.Standing.{HasEnded, IsFit, MoreStands}
 use Rattle.coll_more.specs.declared.kinds.More.{More}
-use Rattle.coll_more.specs.declared.kinds.PieceCall.{PieceCall}
-use Rattle.coll_more.specs.declared.ops.Stage.{Stage}
-use Rattle.coll_more.specs.declared.ops.Stage.TheVariants.{Own, Between, Sending, Receiving}
-use Rattle.coll_more.proofs.EndLemmas.{begins}
+use Rattle.coll_more.proofs.EndLemmas.{begins, ended_by}
 use Rattle.coll_more.proofs.PieceLemmas.{pieces_there}
 use Rattle.coll_run.specs.Resting.{AtEnd, HaveRested, Met, Rests, Waits, next_at}
 use Rattle.coll_run.specs.Teams.{HaveEnded, IsFreshMember, IsFreshTeam, IsTeam, MemberStands, MemberView, sight_of, srcs_of}
@@ -52,25 +47,6 @@ team_at_start more len chip team fresh = record {
   stands = λ k d low.
       fresh_stands more len (slice_index_or team k d) (about_in chip) k (events_in chip k) (fresh.fresh.fresh k d low) (fresh.fresh.fits k d low) (fresh.empty k (subst (λ (n : ℕ). k < n) fresh.each low));
 }
-
--- ---- a call at its end
-
-past_all : (xs : List PieceCall) (k : ℕ) → is_none (slice_get xs k) ≡ true → take k xs ≡ xs
-past_all [] zero none = refl
-past_all [] (suc k) none = refl
-past_all (x ∷ xs) zero none = absurd (cc)
-past_all (x ∷ xs) (suc k) none = ap (λ (l : List PieceCall). x ∷ l) (past_all xs k none)
-
-module _ (s : Sight) (c : Private) (m : MoreAt) (slot : SlotAt) (src dst : List ℕ) (st : MoreStands [] (taking_part s c m slot src dst)) where
-  ended_by : (stage : Stage) → m.stage ≡ stage → is_over_by (table_of s.seat m) m.ended stage ≡ true → HasEnded [] (taking_part s c m slot src dst)
-  ended_by Own is over = absurd (cc)
-  ended_by Between is over = record {
-    calls = st.calls ∙ ap (λ (xs : List PieceCall). map (data_of src dst) xs) (past_all (table_of s.seat m) m.ended over);
-    own = st.own (ap is_copied is);
-    no_call = subst (λ (x : Stage). StandsAt s c slot (table_of s.seat m) m.ended src dst x) is st.at;
-  }
-  ended_by (Sending call op) is over = absurd (cc)
-  ended_by (Receiving call op) is over = absurd (cc)
 
 -- ---- behind the last sweep
 
@@ -103,8 +79,8 @@ module _ (more : More) (len : ℕ) (chip now : ChipView) (team later : List Memb
   ended : (k : ℕ) → k < s.nue → HasEnded [] (taking_part (sight_of s k (events_in now k)) (member k).core (member k).op (member k).slot (member k).src (member k).dst)
   ended k low =
       let st = is.stands k d (within k low) in
-      ended_by (sight_of s k (events_in now k)) (member k).core (member k).op (member k).slot (member k).src (member k).dst st.stands (member k).op.stage refl
-      (all_over more len s memory (events_in now) member rested k low)
+      ended_by [] (sight_of s k (events_in now k)) (member k).core (member k).op (member k).slot (member k).src (member k).dst (member k).op.stage refl
+      (all_over more len s memory (events_in now) member rested k low) st.stands
 
   -- the calls, by the kind and the length of the run
   calls_are : (k : ℕ) → k < s.nue → (records_in now k).calls ≡ data_calls more k s.nue len (member k).src (member k).dst

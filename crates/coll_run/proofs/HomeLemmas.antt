@@ -1,19 +1,13 @@
 -- A turn of a rank at home, through the port that was lent the chip, and what it leaves on the chip.
-use Rattle.std.proofs.Common.{◌≡◌, ◌≢◌, ⊎_elim, ℕ, ◌<◌, ◌≤◌, true, Bool, List, [], ◌∷◌, ◌++◌, Option, Some, refl, sym, ap, ◌∙◌, subst}
-use Rattle.std.specs.List.{list_all}
-use Rattle.std.proofs.lemmas.Bool.{cases_lt}
+use Rattle.std.proofs.Common.{◌≡◌, ℕ, ◌<◌, ◌≤◌, true, Bool, List, [], ◌++◌, Option, Some, refl, sym, ap, ◌∙◌, subst}
 use base.Stored.{gnil}
 use Rattle.scc_base.specs.Setups.{SetupView}
 use Rattle.scc_base.specs.declared.events.Event.{Event}
 use Rattle.scc_base.specs.declared.events.Spot.{Spot}
 use Rattle.scc_proto.specs.Like.{Like}
 use Rattle.scc_proto.specs.Ports.{Did, Sight, record_in}
-use Rattle.scc_proto.specs.Records.{record_from, record_of}
-use Rattle.scc_proto.specs.Resting.{is_resting}
+use Rattle.scc_proto.specs.Records.{record_of}
 use Rattle.scc_proto.specs.Stages.{FlagWords, Record}
-use Rattle.scc_proto.proofs.FlagsTold.{like_both, like_self, like_sym}
-use Rattle.scc_proto.proofs.RestLaw.{resting_part}
-use Rattle.scc_proto.proofs.Tests.{same_or_other}
 use Rattle.scc_mesh.specs.Keeping.{WasStep, records_by}
 use Rattle.scc_mesh.specs.Scenes.{ChipView, IsWhole, WasSeatStep, about_in, events_in, home_in, is_port_of, records_in, sight_in}
 use Rattle.scc_mesh.specs.Turns.{IsTurned, Saw}
@@ -25,7 +19,7 @@ use Rattle.send_recv.specs.Receiving.{recv_waits}
 use Rattle.send_recv.specs.declared.answers.RecvTurn.{RecvTurn}
 use Rattle.send_recv.specs.declared.answers.RecvTurn.TheVariants as turn
 use Rattle.rcce_run.specs.Turns.{NoneElseHolds}
-use Rattle.rcce_run.proofs.HomeTurns.{both_pass, record_split}
+use Rattle.rcce_run.proofs.HomeTurns.{alike_then, none_else}
 use Rattle.coll_more.specs.Ops.{taking_part}
 use Rattle.coll_more.specs.Standing.{MoreStands}
 use Rattle.coll_more.specs.Turns.{MetOther, MoreTurned, is_over}
@@ -143,54 +137,17 @@ module _ (more : More) (len : ℕ) where
     rests_so stayed rests = record { op = stayed.op; slot = stayed.slot; alike = like_now stayed; rests = rests }
 
     module _ (free : NoneElseHolds (about_in chip) (records_in chip) r) (waited : HasWaited (Saw now r) (about_in now) r (events_in chip r) events old new) where
-      abbrev own : List Event
-      own = events_in chip r
-
-      abbrev rec : Record
-      rec = record_of (about_in now) r own
-
-      was : WasStep (about_in now) (home_in now) r (own ++ waited.look.before) waited.look.look
+      was : WasStep (about_in now) (home_in now) r (events_in chip r ++ waited.look.before) waited.look.look
       was = waited.look.step.step
-
-      -- the record before the look is alike
-      like_before : Like rec (record_of (about_in now) r (own ++ waited.look.before))
-      like_before =
-          let (front, behind) = both_pass waited.look.before (waited.look.look ∷ waited.look.behind) (subst (λ (es : List Event). list_all is_resting es ≡ true) waited.look.is waited.rests) in
-          let whole : Like rec (record_from (about_in now) r rec (waited.look.before ++ waited.look.look ∷ waited.look.behind)) =
-          subst (λ (x : Record). Like rec x) (ap (λ (es : List Event). record_of (about_in now) r (own ++ es)) waited.look.is ∙ record_split (about_in now) r own (waited.look.before ++ waited.look.look ∷ waited.look.behind)) waited.stayed.alike in
-          subst (λ (x : Record). Like rec x) (sym (record_split (about_in now) r own waited.look.before))
-          (resting_part (about_in now) r rec waited.look.before (waited.look.look ∷ waited.look.behind) front behind whole)
-
-      mine : Like (record_of (about_in now) r (was.lists r)) (records_in now r)
-      mine =
-          subst (λ (es : List Event). Like (record_of (about_in now) r es) (records_in now r)) (sym was.own)
-          (like_both (record_of (about_in now) r (own ++ waited.look.before)) rec (records_in now r)
-          (like_sym rec (record_of (about_in now) r (own ++ waited.look.before)) like_before)
-          (subst (λ (es : List Event). Like rec (record_of (about_in now) r es)) (sym longer) waited.stayed.alike))
-
-      same_list : (j : ℕ) → j ≢ r → was.lists j ≡ events_in now j
-      same_list j ne =
-          ⊎_elim
-          (λ (low : j < (about_in now).nue). was.others j (events_in now j) ne (is.whole.home j low))
-          (λ (past : (about_in now).nue ≤ j). was.before.beyond j past ∙ sym (beyond j past))
-          (cases_lt j (about_in now).nue)
-
-      -- no other rank held a register when the look was made
-      none_else : NoneElseHolds (about_in now) (records_by (about_in now) was.lists) r
-      none_else k core low ne =
-          ap (λ (es : List Event). (record_of (about_in now) k es).held core) (same_list k ne ∙ is.others k ne)
-          ∙ ap (λ (s : SetupView). (record_of s k (events_in chip k)).held core) is.about
-          ∙ free k core (subst (λ (s : SetupView). k < s.nue) is.about low) ne
 
       waits_then : WaitsThen (about_in now) (records_in now) r new.op
       waits_then = record {
         memory = was.memory;
         records = records_by (about_in now) was.lists;
         agrees = was.before.agree;
-        alike = λ j. same_or_other (Like (record_of (about_in now) j (was.lists j)) (records_in now j)) j r
-            (λ t e. subst (λ (k : ℕ). Like (record_of (about_in now) k (was.lists k)) (records_in now k)) (sym e) mine)
-            (λ t ne. subst (λ (es : List Event). Like (record_of (about_in now) j (was.lists j)) (record_of (about_in now) j es)) (same_list j ne) (like_self (record_of (about_in now) j (was.lists j))));
-        vain = waited.look.vain was.memory (records_by (about_in now) was.lists) was.before.agree (ap (record_of (about_in now) r) was.own) none_else was.step;
+        alike = alike_then chip now r is events longer beyond waited.look.before waited.look.behind waited.look.look waited.look.is waited.rests waited.stayed.alike was;
+        vain = waited.look.vain was.memory (records_by (about_in now) was.lists) was.before.agree (ap (record_of (about_in now) r) was.own)
+            (none_else chip now r is events longer beyond waited.look.before waited.look.behind waited.look.look waited.look.is waited.rests waited.stayed.alike was free) was.step;
       }
 
     comes_by : (answer : RecvTurn) → NoneElseHolds (about_in chip) (records_in chip) r → TurnMeans (Saw now r) (about_in chip) r (events_in chip r) events old new answer → CameTo (has_moved answer) chip r now old new

@@ -1,38 +1,31 @@
 -- What each answer of a collective call's turn means to a run.
-use Rattle.std.proofs.Common.{◌≡◌, ◌⊎◌, inl, inr, ℕ, ◌<◌, ◌&&◌, Bool, true, false, List, [], ◌∷◌, ◌++◌, Option, Some, None, is_none, option_map, refl, sym, ap, ◌∙◌, subst}
+use Rattle.std.proofs.Common.{◌≡◌, ◌⊎◌, inl, inr, ℕ, ◌<◌, true, false, List, [], ◌∷◌, ◌++◌, Some, is_none, refl, sym, ap, ◌∙◌, subst}
 use Rattle.std.specs.List.{list_all}
 use Rattle.scc_base.specs.Heads.{MessageHead}
-use Rattle.scc_base.specs.declared.events.Access.{Access}
-use Rattle.scc_base.specs.declared.events.Access.TheVariants.{Load, Store, Take, Free}
 use Rattle.scc_base.specs.declared.events.Event.{Event}
 use Rattle.scc_base.specs.declared.events.Spot.{Spot}
 use Rattle.scc_proto.specs.Agreement.{Agrees}
-use Rattle.scc_proto.specs.Like.{Like, unanswered}
-use Rattle.scc_proto.specs.Ports.{Did, Sight, WereMade, and_then, record_in, record_on}
-use Rattle.scc_proto.specs.Records.{IsPermitted, permits_by, record_from, record_of}
+use Rattle.scc_proto.specs.Like.{Like}
+use Rattle.scc_proto.specs.Ports.{Sight, and_then, record_in}
+use Rattle.scc_proto.specs.Records.{record_of}
 use Rattle.scc_proto.specs.Resting as proto
-use Rattle.scc_proto.specs.Stages.{OnItsWay, Record}
+use Rattle.scc_proto.specs.Stages.{Record}
 use Rattle.scc_proto.specs.Views.{view_of}
 use Rattle.scc_proto.specs.Words.{IsStep, Memory}
 use Rattle.scc_proto.proofs.FlagsTold.{like_self}
-use Rattle.scc_proto.proofs.PortLaws.{made_left, record_in-and_then}
-use Rattle.scc_proto.proofs.RestLaw.{resting_part}
-use Rattle.scc_proto.proofs.Tests.{both_first, both_second}
 use Rattle.put_get.specs.Accesses.{WereSteps}
-use Rattle.sync_flags.specs.Tries.{Aim, Fruitful, NoTry, Tried, Vain, changing_after, is_take}
+use Rattle.sync_flags.specs.Tries.{changing_after}
 use Rattle.send_recv.specs.Ops.{SendAt, SlotAt}
 use Rattle.send_recv.specs.Receiving.{recv_waits}
-use Rattle.send_recv.specs.Turns as sr
 use Rattle.send_recv.specs.declared.answers.RecvTurn.{RecvTurn}
 use Rattle.send_recv.specs.declared.answers.RecvTurn.TheVariants as turn
-use Rattle.rcce_ue.proofs.WaitLemmas.{VainStep, found}
-use Rattle.rcce_run.specs.Sweep.{RaiseWaits, SlotWaits, TakeWaits}
+use Rattle.rcce_run.specs.Sweep.{RaiseWaits, SlotWaits}
 use Rattle.rcce_run.specs.Sweep as sweep
 use Rattle.rcce_run.specs.Turns.{NoneElseHolds}
-use Rattle.rcce_run.proofs.HomeTurns.{both_pass, record_split}
 use Rattle.rcce_run.proofs.Looks.{waits_same}
 use Rattle.rcce_run.proofs.UeLooks as looks
-use Rattle.rcce_run.proofs.UeLooks.{Tells, take_is, told}
+use Rattle.rcce_run.proofs.UeLooks.{Tells, told}
+use Rattle.rcce_run.proofs.UeTurns.{Sought, all_rest, like_before, rest_alike, sought_by, take_allowed}
 use Rattle.coll_more.specs.Ops.{MoreAt, bytes_of, table_of, window, taking_part}
 use Rattle.coll_more.specs.Standing.{MoreStands, StandsAt}
 use Rattle.coll_more.specs.Turns.{MetOther, MoreTurned, aim_by, is_over, left_by, more_left}
@@ -43,69 +36,7 @@ use Rattle.coll_run.specs.Resting.{next_at}
 use Rattle.coll_run.specs.Teams.{MemberView, seat_of}
 use Rattle.coll_run.specs.Turns.{HasStayed, HasWaited, TurnMeans, left_of}
 
--- ---- events that rest, and records that are alike
-
-rest_same : (a : Access) (v : ℕ) → sr.is_resting_by a v ≡ true → proto.is_resting_by a v ≡ true
-rest_same Load v is = refl
-rest_same Store v is = absurd (cc (is))
-rest_same Take v is = is
-rest_same Free v is = absurd (cc (is))
-
-both_true : (a b : Bool) → a ≡ true → b ≡ true → (a && b) ≡ true
-both_true a b one two = ap (λ (x : Bool). x && b) one ∙ two
-
-all_rest : (es : List Event) → list_all sr.is_resting es ≡ true → list_all proto.is_resting es ≡ true
-all_rest [] all = refl
-all_rest (e ∷ es) all =
-    both_true (proto.is_resting e) (list_all proto.is_resting es) (rest_same e.access e.value (both_first (sr.is_resting e) (list_all sr.is_resting es) all))
-    (all_rest es (both_second (sr.is_resting e) (list_all sr.is_resting es) all))
-
-post_alike : (o new : Option OnItsWay) → sr.IsSamePost o new → option_map unanswered o ≡ option_map unanswered new
-post_alike None new same = ap (option_map unanswered) (sym same)
-post_alike (Some post) new (answered, is, kept) = ap (option_map unanswered) (sym is)
-
-rest_alike : (rec new : Record) → sr.IsAtRest rec new → Like rec new
-rest_alike rec new rest = record {
-  stage = sym rest.stage;
-  post = post_alike rec.post new.post rest.post;
-  flips = λ comm. ap (λ (flips : ℕ → ℕ). flips comm) (sym rest.rest.flips);
-  calls = sym rest.calls;
-}
-
--- the record before a part of events that rest is alike
-like_before : (s t : Sight) (events before behind : List Event) → Did s events t → list_all proto.is_resting events ≡ true → events ≡ before ++ behind → Like (record_in s) (record_in t)
-    → Like (record_in s) (record_in (and_then s before))
-unfolding record_in
-like_before s t events before behind did rests is alike =
-    let (front, rest) = both_pass before behind (subst (λ (es : List Event). list_all proto.is_resting es ≡ true) is rests) in
-    let rec : Record = record_of s.seat.setup s.seat.rank s.events in
-    let whole : Like rec (record_from s.seat.setup s.seat.rank rec (before ++ behind)) =
-    subst (λ (x : Record). Like rec x)
-    (ap record_in did.continues ∙ ap (λ (es : List Event). record_of s.seat.setup s.seat.rank (s.events ++ es)) is ∙ record_split s.seat.setup s.seat.rank s.events (before ++ behind)) alike in
-    subst (λ (x : Record). Like rec x) (sym (record_split s.seat.setup s.seat.rank s.events before)) (resting_part s.seat.setup s.seat.rank rec before behind front rest whole)
-
--- a register is taken only where the rank does not hold it
-take_allowed : (s t : Sight) (events before behind : List Event) (e : Event) → Did s events t → events ≡ before ++ e ∷ behind → is_take e.access ≡ true
-    → is_none ((record_in (and_then s before)).held e.place.core) ≡ true
-take_allowed s t events before behind e did is takes =
-    let made : WereMade s.seat (record_in s) (before ++ e ∷ behind) = subst (WereMade s.seat (record_in s)) is did.made in
-    let may : IsPermitted s.seat.setup s.seat.rank (record_on s.seat (record_in s) before) e = (made_left s.seat (record_in s) before (e ∷ behind) made).0.permitted in
-    let here : IsPermitted s.seat.setup s.seat.rank (record_in (and_then s before)) e = subst (λ (r : Record). IsPermitted s.seat.setup s.seat.rank r e) (sym (record_in-and_then s before)) may in
-    subst (λ (a : Access). permits_by s.seat.setup s.seat.rank (record_in (and_then s before)) a e.place e.value ≡ true) (take_is e.access takes) here
-
 -- ---- a turn that waits
-
--- the one try of the turn, which was vain
-record Sought (stepped : List Event → Event → Type 0) (tried : Option Aim) (past events : List Event) : Type 0 where
-  aim : Aim
-  aim_is : tried ≡ Some aim
-  look : VainStep stepped past aim false events
-
-sought_by : (stepped : List Event → Event → Type 0) (tried : Option Aim) (past events : List Event) (waits : Option Spot) (spot : Spot) → waits ≡ Some spot → WereSteps stepped past events
-    → Tried tried events waits → Sought stepped tried past events
-sought_by stepped tried past events waits spot is steps (NoTry none no_spot) = absurd (cc (is, no_spot))
-sought_by stepped tried past events waits spot is steps (Vain at aims one vain here) = record { aim = at; aim_is = aims; look = found stepped past at false 0 events one vain steps }
-sought_by stepped tried past events waits spot is steps (Fruitful at aims one vain no_spot) = absurd (cc (is, no_spot))
 
 module _ (stepped : List Event → Event → Type 0) (s t : Sight) (old new : MemberView) where
   module _ (spot : Spot) (stands : MoreStands [] (taking_part s old.core old.op old.slot old.src old.dst))

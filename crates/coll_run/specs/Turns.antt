@@ -51,8 +51,8 @@ pub record LookedAt (stepped : List Event → Event → Type 0) (s : SetupView) 
   pub behind : List Event
   pub is : events ≡ before ++ look ∷ behind
   pub step : stepped (own ++ before) look
-  pub vain : (memory : Memory) (records : ℕ → Record) → Agrees s memory records → records rank ≡ record_of s rank (own ++ before) → run.NoneElseHolds s records rank → IsStep memory look
-      → Vain s (view_of s memory) rank (records rank) (next_at op.stage)
+  pub vain : (memory : Memory) (records : ℕ → Record) → Agrees s memory records → records rank ≡ record_of s rank (own ++ before)
+      → run.NoneElseHolds s records rank → IsStep memory look → Vain s (view_of s memory) rank (records rank) (next_at op.stage)
 
 -- a turn that waited: it stored nothing, and its look was vain
 pub record HasWaited (stepped : List Event → Event → Type 0) (s : SetupView) (rank : ℕ) (own events : List Event) (old new : MemberView) : Type 0 where
@@ -65,7 +65,8 @@ abbrev pub TurnMeans : (List Event → Event → Type 0) → SetupView → ℕ �
 TurnMeans stepped s rank own events old new turn.Moved = left_of s rank new < left_of s rank old
 TurnMeans stepped s rank own events old new (turn.Waiting spot) = HasWaited stepped s rank own events old new
 TurnMeans stepped s rank own events old new turn.Done = HasStayed s rank own events old new × (is_over (seat_of s rank) new.op ≡ true)
-TurnMeans stepped s rank own events old new (turn.Mismatch sent) = HasStayed s rank own events old new × MetOther (record_of s rank (own ++ events)) sent new.op.stage
+TurnMeans stepped s rank own events old new (turn.Mismatch sent) =
+    HasStayed s rank own events old new × MetOther (record_of s rank (own ++ events)) sent new.op.stage
 
 -- a turn of a rank at home, through a port of its own
 pub record OwnTurn (more : More) (len : ℕ) (chip : ChipView) (r : ℕ) (old : MemberView) (now : ChipView) (new : MemberView) (answer : RecvTurn) : Type 0 where

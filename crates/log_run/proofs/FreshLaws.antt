@@ -1,8 +1,6 @@
 -- Where a run of UEs whose calls are kept begins.
-use Rattle.std.proofs.Common.{◌≡◌, ◌⊎◌, inl, inr, ℕ, ◌+◌, ◌<◌, ◌≤◌, true, List, [], ◌∷◌, ◌++◌, length, slice_index_or, Option, Some, None, sym, ap, ◌∙◌, subst, arith}
+use Rattle.std.proofs.Common.{◌≡◌, ℕ, ◌+◌, ◌<◌, ◌≤◌, true, List, [], ◌∷◌, ◌++◌, length, slice_index_or, Option, Some, None, sym, ap, ◌∙◌, subst, arith}
 use Rattle.std.specs.Prelude.{All}
-use Rattle.std.proofs.Math.Nat.{eq-or-lt_of_le}
-use Rattle.std.proofs.lemmas.List.{get_or_append_left, get_or_push}
 use Rattle.scc_base.specs.Calls.{DataCall, HasItsBytes}
 use Rattle.scc_base.specs.Setups.{SetupView}
 use Rattle.scc_base.specs.declared.layouts.Layout.TheVariants.{LineFlags}
@@ -16,6 +14,7 @@ use Rattle.rcce_ue.specs.Ues.{UeView}
 use Rattle.rcce_run.specs.declared.ends.RunEnd.{RunEnd}
 use Rattle.rcce_run.specs.Crews.{AllRun, EndsAs, IsCrew}
 use Rattle.rcce_run.specs.UeRuns.{IsSameChip, WaitsOpen}
+use Rattle.rcce_run.proofs.CrewGrowth.{each_more}
 use Rattle.rcce_run.proofs.UeFits.{ue_stands}
 use Rattle.call_tap.specs.declared.taps.Tap.{Tap}
 use Rattle.call_tap.specs.Kept.{AreKept}
@@ -63,15 +62,7 @@ fresh_crew script s chip crew read new fresh = record {
 pub fresh_more : (script : Script) (s : SetupView) (n : ℕ) (crew : List (Logger UeView)) (logger : Logger UeView) → length crew ≡ n
     → ((rank : ℕ) (d : Logger UeView) → rank < n → IsFresh script s rank (slice_index_or crew rank d)) → IsFresh script s n logger
     → (rank : ℕ) (d : Logger UeView) → rank < n + 1 → IsFresh script s rank (slice_index_or (crew ++ logger ∷ []) rank d)
-fresh_more script s n crew logger count each last rank d below = by (eq-or-lt_of_le (omega arith))
-  where
-    by : (rank ≡ n) ⊎ (rank < n) → IsFresh script s rank (slice_index_or (crew ++ logger ∷ []) rank d)
-    by (inl same) =
-        let here : slice_index_or (crew ++ logger ∷ []) rank d ≡ logger = get_or_push crew logger d rank (count ∙ sym same) in
-        subst (λ (l : Logger UeView). IsFresh script s rank l) (sym here) (subst (λ (r : ℕ). IsFresh script s r logger) (sym same) last)
-    by (inr earlier) =
-        let there : slice_index_or (crew ++ logger ∷ []) rank d ≡ slice_index_or crew rank d = get_or_append_left crew (logger ∷ []) d rank (omega (arith, count, earlier)) in
-        subst (λ (l : Logger UeView). IsFresh script s rank l) (sym there) (each rank d earlier)
+fresh_more script s n crew logger count each last = each_more (IsFresh script s) n crew logger count each last
 
 -- ---- the end
 

@@ -1,5 +1,5 @@
 -- How many calls a rank's program makes, and how many bytes they move, counted along it.
-use Rattle.std.proofs.Common.{◌≡◌, ◌⊎◌, inl, inr, ℕ, suc, ◌+◌, ◌<◌, ◌≤◌, Bool, true, false, ◌&&◌, List, [], ◌∷◌, ◌++◌, drop, length, length-append, min, slice_get, slice_index_or, slice_set, Option, Some, None, refl, sym, ap, ◌∙◌, subst, arith}
+use Rattle.std.proofs.Common.{◌≡◌, ◌⊎◌, inl, inr, ℕ, suc, ◌+◌, ◌<◌, ◌≤◌, Bool, true, false, ◌&&◌, List, [], ◌∷◌, ◌++◌, drop, length, length-append, min, slice_get, slice_index_or, slice_set, Option, Some, None, refl, sym, ap, ◌∙◌, arith}
 use Rattle.std.specs.Prelude.{nat_le}
 use Rattle.std.specs.List.{list_all, range_with_len}
 use Rattle.std.proofs.Math.Nat.{eq-or-lt_of_le}
@@ -10,7 +10,7 @@ use Rattle.scc_base.specs.Heads.{plain_head}
 use Rattle.scc_base.specs.declared.calls.Call.{Call}
 use Rattle.scc_base.specs.declared.calls.Call.TheVariants as call
 use Rattle.scc_proto.proofs.Tests.{both_first, both_second}
-use Rattle.call_tap.specs.Planned.{bytes_asked, bytes_planned, has_room_for}
+use Rattle.call_tap.specs.Planned.{bytes_planned, has_room_for}
 use Rattle.script_plain.specs.declared.prims.Source.TheVariants as source
 use Rattle.script_reader.specs.Script.{Script}
 use Rattle.script_plain.specs.CallLists.{called, calls_from, calls_of}

@@ -3,7 +3,6 @@
 
 mod crew;
 mod loggers;
-mod rests;
 mod rooms;
 mod runs;
 mod script_runs;

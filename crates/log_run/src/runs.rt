@@ -6,7 +6,6 @@ ghost use Rattle.script_reader.specs.Script.{Script};
 ghost use Rattle.log_run.specs.Loggers.{IsLogging};
 
 use crate::loggers::Logger;
-use crate::rests::end_of;
 use crate::sweeps::sweep;
 use rcce_run::{RunEnd, Worker};
 use scc_mesh::Chip;
@@ -24,7 +23,7 @@ pub fn run_loggers<W: Worker + Drop>(chip: &mut Chip, crew: &mut [Logger<W>]) ->
 {
     loop {
         let came = sweep(chip, crew);
-        if let Some(end) = end_of(came) {
+        if let Some(end) = came.end() {
             chip.agrees();
             return end;
         }

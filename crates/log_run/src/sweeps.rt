@@ -5,7 +5,6 @@ ghost use Rattle.rcce_run.specs.Crews.{IsCrew, OneTurn, SweepStands};
 ghost use Rattle.log_run.specs.Loggers.{IsLogging};
 
 use crate::loggers::Logger;
-use crate::rests::both_rest;
 use crate::turns::turn_at_home;
 use rcce_run::{Rest, Worker};
 use scc_base::Rank;
@@ -29,7 +28,7 @@ pub fn sweep<W: Worker + Drop>(chip: &mut Chip, crew: &mut [Logger<W>]) -> Rest
     let mut so_far = Rest::Finished;
     for at in 0..crew.len() {
         let came = turn_at(chip, crew, at);
-        so_far = both_rest(so_far, came);
+        so_far = so_far.and(came);
     }
     so_far
 }

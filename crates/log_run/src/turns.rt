@@ -6,7 +6,6 @@ ghost use Rattle.rcce_run.specs.Turns.{NoneElseHolds, OwnTurn, TurnedAtHome};
 ghost use Rattle.log_run.specs.Loggers.{HasReadOn, IsLogging};
 
 use crate::loggers::Logger;
-use crate::rests::rest_of;
 use call_tap::{Tap, Tapped};
 use rcce_run::{Rest, Worker};
 use scc_base::{Rank, Turn};
@@ -22,7 +21,7 @@ pub fn turn_at_home<W: Worker + Drop>(chip: &mut Chip, rank: Rank, logger: &mut 
 {
     let answer = own_turn(chip, rank, logger);
     chip.agrees();
-    rest_of(&answer, logger.worker.is_stopped())
+    Rest::of(&answer, logger.worker.is_stopped())
 }
 
 /// The same, with the answer of the turn.

@@ -1,9 +1,10 @@
 -- What the reading of a file says to the plan that asks for it.
-use Rattle.std.proofs.Common.{ℕ, ◌<◌, ◌≤◌, List, length, refl, Ok}
+use Rattle.std.proofs.Common.{◌≡◌, ℕ, ◌+◌, ◌<◌, ◌≤◌, List, length, take, refl, sym, subst, ap, ◌∙◌, arith, Option, Some, None, IfSome, Ok}
+use Rattle.std.proofs.lemmas.List.{length-take, take_all}
 use Rattle.std.proofs.lemmas.Bool.{le-ltb, lt-ltb}
-use Rattle.rcce_io.specs.Files.{FilesView}
+use Rattle.rcce_io.specs.Files.{FilesView, NamedFile, contents_of}
 use Rattle.rcce_io.specs.Reading.{ReadsAll}
-use Rattle.outcomes.specs.Coming.{Comes}
+use Rattle.outcomes.specs.Coming.{Comes, Holds}
 use Rattle.outcomes.specs.Outcomes.{Outcome, too_long}
 use Rattle.outcomes.specs.Plans.{Plan}
 use Rattle.outcomes.specs.Plans.Plan.{Reads}
@@ -18,3 +19,15 @@ pub reads_short : (file : List ℕ) (limit : ℕ) (before between : FilesView) (
     (program : List ℕ) (next : List ℕ → Plan) (after : FilesView) (o : Outcome) → Comes program (next bytes) between after o → Comes program (Reads file limit next) before after o
 reads_short file limit before between bytes reads short program next after o came =
     (between, Ok bytes, reads, rw (le-ltb limit (length bytes) short) came)
+
+-- the first bytes that are fewer are all
+take_whole : (n : ℕ) (whole bytes : List ℕ) → bytes ≡ take (n + 1) whole → length bytes ≤ n → whole ≡ bytes
+take_whole n whole bytes is few =
+    let count : length (take (n + 1) whole) ≤ n = subst (λ (b : List ℕ). length b ≤ n) is few in
+    sym (is ∙ take_all (n + 1) whole (omega (arith, length-take (n + 1) whole, count)))
+
+-- bytes within the limit stand in the file, where files are told
+pub holds_short : (told : Option (List NamedFile)) (file : List ℕ) (limit : ℕ) (bytes : List ℕ) → length bytes ≤ limit
+    → IfSome told (λ files. (whole : List ℕ) × (contents_of file files ≡ Some whole) × (bytes ≡ take (limit + 1) whole)) → Holds told file bytes
+holds_short None file limit bytes few found = found
+holds_short (Some files) file limit bytes few found = found.1 ∙ ap Some (take_whole limit found.0 bytes found.2 few)

@@ -59,6 +59,54 @@ means_later P Q turns s r own events old new (turn.Waiting spot) means = record 
 }
 means_later P Q turns s r own events old new turn.Done means = means
 
+-- a look among the events of a turn that stored nothing: the words at the look agreed with records that are alike to those behind
+-- the turn
+module _ (chip now : ChipView) (r : ℕ) (is : IsTurned chip r now) (events : List Event) (longer : events_in now r ≡ events_in chip r ++ events)
+    (beyond : (q : ℕ) → (about_in now).nue ≤ q → events_in now q ≡ []) (before behind : List Event) (look : Event) (parts : events ≡ before ++ look ∷ behind)
+    (rests : list_all is_resting events ≡ true) (stayed : Like (record_of (about_in now) r (events_in chip r)) (record_of (about_in now) r (events_in chip r ++ events)))
+    (was : WasStep (about_in now) (home_in now) r (events_in chip r ++ before) look) where
+  abbrev own : List Event
+  own = events_in chip r
+
+  abbrev rec : Record
+  rec = record_of (about_in now) r own
+
+  -- the record before the look is alike
+  like_before : Like rec (record_of (about_in now) r (own ++ before))
+  like_before =
+      let (front, rest) = both_pass before (look ∷ behind) (subst (λ (es : List Event). list_all is_resting es ≡ true) parts rests) in
+      let whole : Like rec (record_from (about_in now) r rec (before ++ look ∷ behind)) =
+      subst (λ (x : Record). Like rec x) (ap (λ (es : List Event). record_of (about_in now) r (own ++ es)) parts ∙ record_split (about_in now) r own (before ++ look ∷ behind)) stayed in
+      subst (λ (x : Record). Like rec x) (sym (record_split (about_in now) r own before))
+      (resting_part (about_in now) r rec before (look ∷ behind) front rest whole)
+
+  mine : Like (record_of (about_in now) r (was.lists r)) (records_in now r)
+  mine =
+      subst (λ (es : List Event). Like (record_of (about_in now) r es) (records_in now r)) (sym was.own)
+      (like_both (record_of (about_in now) r (own ++ before)) rec (records_in now r)
+      (like_sym rec (record_of (about_in now) r (own ++ before)) like_before)
+      (subst (λ (es : List Event). Like rec (record_of (about_in now) r es)) (sym longer) stayed))
+
+  same_list : (j : ℕ) → j ≢ r → was.lists j ≡ events_in now j
+  same_list j ne =
+      ⊎_elim
+      (λ (low : j < (about_in now).nue). was.others j (events_in now j) ne (is.whole.home j low))
+      (λ (past : (about_in now).nue ≤ j). was.before.beyond j past ∙ sym (beyond j past))
+      (cases_lt j (about_in now).nue)
+
+  -- no other rank held a register when the look was made
+  pub none_else : NoneElseHolds (about_in chip) (records_in chip) r → NoneElseHolds (about_in now) (records_by (about_in now) was.lists) r
+  none_else free k core low ne =
+      ap (λ (es : List Event). (record_of (about_in now) k es).held core) (same_list k ne ∙ is.others k ne)
+      ∙ ap (λ (s : SetupView). (record_of s k (events_in chip k)).held core) is.about
+      ∙ free k core (subst (λ (s : SetupView). k < s.nue) is.about low) ne
+
+  pub alike_then : (j : ℕ) → Like (records_by (about_in now) was.lists j) (records_in now j)
+  alike_then j =
+      same_or_other (Like (record_of (about_in now) j (was.lists j)) (records_in now j)) j r
+      (λ t e. subst (λ (k : ℕ). Like (record_of (about_in now) k (was.lists k)) (records_in now k)) (sym e) mine)
+      (λ t ne. subst (λ (es : List Event). Like (record_of (about_in now) j (was.lists j)) (record_of (about_in now) j es)) (same_list j ne) (like_self (record_of (about_in now) j (was.lists j))))
+
 module _ {A : Type 0} (seen : A → WorkerView) (tied : A → SetupView → ℕ → List Event → Type 0) where
   own_turn_of : (chip now : ChipView) (r later hold name : ℕ) (w x : A) (answer : Turn) → IsWhole chip → r < (about_in chip).nue → is_port_of now later ≡ true
       → Turned (WasSeatStep (sight_in chip r hold).seat) (seen w) (sight_in chip r hold) (seen x) (sight_in now later name) answer
@@ -138,59 +186,22 @@ module _ {A : Type 0} (seen : A → WorkerView) (tied : A → SetupView → ℕ 
         }
 
     module _ (free : NoneElseHolds (about_in chip) (records_in chip) r) (waited : HasWaited (Saw now r) (about_in now) r (events_in chip r) events (seen w) (seen x)) where
-      abbrev own : List Event
-      own = events_in chip r
-
-      abbrev rec : Record
-      rec = record_of (about_in now) r own
-
-      was : WasStep (about_in now) (home_in now) r (own ++ waited.look.before) waited.look.look
+      was : WasStep (about_in now) (home_in now) r (events_in chip r ++ waited.look.before) waited.look.look
       was = waited.look.step.step
-
-      -- the record before the look is alike
-      like_before : Like rec (record_of (about_in now) r (own ++ waited.look.before))
-      like_before =
-          let (front, behind) = both_pass waited.look.before (waited.look.look ∷ waited.look.behind) (subst (λ (es : List Event). list_all is_resting es ≡ true) waited.look.is waited.rests) in
-          let whole : Like rec (record_from (about_in now) r rec (waited.look.before ++ waited.look.look ∷ waited.look.behind)) =
-          subst (λ (x : Record). Like rec x) (ap (λ (es : List Event). record_of (about_in now) r (own ++ es)) waited.look.is ∙ record_split (about_in now) r own (waited.look.before ++ waited.look.look ∷ waited.look.behind)) waited.alike in
-          subst (λ (x : Record). Like rec x) (sym (record_split (about_in now) r own waited.look.before))
-          (resting_part (about_in now) r rec waited.look.before (waited.look.look ∷ waited.look.behind) front behind whole)
-
-      mine : Like (record_of (about_in now) r (was.lists r)) (records_in now r)
-      mine =
-          subst (λ (es : List Event). Like (record_of (about_in now) r es) (records_in now r)) (sym was.own)
-          (like_both (record_of (about_in now) r (own ++ waited.look.before)) rec (records_in now r)
-          (like_sym rec (record_of (about_in now) r (own ++ waited.look.before)) like_before)
-          (subst (λ (es : List Event). Like rec (record_of (about_in now) r es)) (sym longer) waited.alike))
-
-      same_list : (j : ℕ) → j ≢ r → was.lists j ≡ events_in now j
-      same_list j ne =
-          ⊎_elim
-          (λ (low : j < (about_in now).nue). was.others j (events_in now j) ne (is.whole.home j low))
-          (λ (past : (about_in now).nue ≤ j). was.before.beyond j past ∙ sym (beyond j past))
-          (cases_lt j (about_in now).nue)
-
-      -- no other rank held a register when the look was made
-      none_else : NoneElseHolds (about_in now) (records_by (about_in now) was.lists) r
-      none_else k core low ne =
-          ap (λ (es : List Event). (record_of (about_in now) k es).held core) (same_list k ne ∙ is.others k ne)
-          ∙ ap (λ (s : SetupView). (record_of s k (events_in chip k)).held core) is.about
-          ∙ free k core (subst (λ (s : SetupView). k < s.nue) is.about low) ne
 
       stayed_waits : WaitsThen (about_in now) (records_in now) r (state_of (seen x).local (records_in now r))
       stayed_waits = record {
         memory = was.memory;
         records = records_by (about_in now) was.lists;
         agrees = was.before.agree;
-        alike = λ j. same_or_other (Like (record_of (about_in now) j (was.lists j)) (records_in now j)) j r
-            (λ t e. subst (λ (k : ℕ). Like (record_of (about_in now) k (was.lists k)) (records_in now k)) (sym e) mine)
-            (λ t ne. subst (λ (es : List Event). Like (record_of (about_in now) j (was.lists j)) (record_of (about_in now) j es)) (same_list j ne) (like_self (record_of (about_in now) j (was.lists j))));
+        alike = alike_then chip now r is events longer beyond waited.look.before waited.look.behind waited.look.look waited.look.is waited.rests waited.alike was;
         waits = subst (λ (u : State). Waits (about_in now) (view_of (about_in now) was.memory) r (record_of (about_in now) r (was.lists r)) (next_of u))
             (λ i. record { local = sym waited.local i; matched = calls i })
-            (waited.look.waits was.memory (records_by (about_in now) was.lists) was.before.agree (ap (record_of (about_in now) r) was.own) none_else was.step);
+            (waited.look.waits was.memory (records_by (about_in now) was.lists) was.before.agree (ap (record_of (about_in now) r) was.own)
+            (none_else chip now r is events longer beyond waited.look.before waited.look.behind waited.look.look waited.look.is waited.rests waited.alike was free) was.step);
       }
         where
-          calls : rec.calls ≡ (records_in now r).calls
+          calls : (record_of (about_in now) r (events_in chip r)).calls ≡ (records_in now r).calls
           calls = waited.alike.calls ∙ ap (λ (es : List Event). (record_of (about_in now) r es).calls) (sym longer)
 
   -- what a turn at home came to

@@ -25,3 +25,5 @@ pub mod ThreadLaws
 pub mod OrderLaws
 pub mod RunLaws
 pub mod SentLaws
+pub mod FinishedLaws
+pub mod CrewGrowth

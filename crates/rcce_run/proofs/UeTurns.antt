@@ -61,7 +61,7 @@ rest_same Free v is = absurd (cc (is))
 both_true : (a b : Bool) → a ≡ true → b ≡ true → (a && b) ≡ true
 both_true a b one two = ap (λ (x : Bool). x && b) one ∙ two
 
-all_rest : (es : List Event) → list_all sr.is_resting es ≡ true → list_all proto.is_resting es ≡ true
+pub all_rest : (es : List Event) → list_all sr.is_resting es ≡ true → list_all proto.is_resting es ≡ true
 all_rest [] all = refl
 all_rest (e ∷ es) all =
     both_true (proto.is_resting e) (list_all proto.is_resting es) (rest_same e.access e.value (both_first (sr.is_resting e) (list_all sr.is_resting es) all))
@@ -71,7 +71,7 @@ post_alike : (o new : Option OnItsWay) → sr.IsSamePost o new → option_map un
 post_alike None new same = ap (option_map unanswered) (sym same)
 post_alike (Some post) new (answered, is, kept) = ap (option_map unanswered) (sym is)
 
-rest_alike : (rec new : Record) → sr.IsAtRest rec new → Like rec new
+pub rest_alike : (rec new : Record) → sr.IsAtRest rec new → Like rec new
 rest_alike rec new rest = record {
   stage = sym rest.stage;
   post = post_alike rec.post new.post rest.post;
@@ -137,7 +137,7 @@ if_some false o aim is = absurd (cc (is))
 -- ---- a turn that waits
 
 -- the record before a part of events that rest is alike
-like_before : (s t : Sight) (events before behind : List Event) → Did s events t → list_all proto.is_resting events ≡ true → events ≡ before ++ behind → Like (record_in s) (record_in t)
+pub like_before : (s t : Sight) (events before behind : List Event) → Did s events t → list_all proto.is_resting events ≡ true → events ≡ before ++ behind → Like (record_in s) (record_in t)
     → Like (record_in s) (record_in (and_then s before))
 unfolding record_in
 like_before s t events before behind did rests is alike =
@@ -149,7 +149,7 @@ like_before s t events before behind did rests is alike =
     subst (λ (x : Record). Like rec x) (sym (record_split s.seat.setup s.seat.rank s.events before)) (resting_part s.seat.setup s.seat.rank rec before behind front rest whole)
 
 -- a register is taken only where the rank does not hold it
-take_allowed : (s t : Sight) (events before behind : List Event) (e : Event) → Did s events t → events ≡ before ++ e ∷ behind → is_take e.access ≡ true
+pub take_allowed : (s t : Sight) (events before behind : List Event) (e : Event) → Did s events t → events ≡ before ++ e ∷ behind → is_take e.access ≡ true
     → is_none ((record_in (and_then s before)).held e.place.core) ≡ true
 take_allowed s t events before behind e did is takes =
     let made : WereMade s.seat (record_in s) (before ++ e ∷ behind) = subst (WereMade s.seat (record_in s)) is did.made in
@@ -158,20 +158,21 @@ take_allowed s t events before behind e did is takes =
     subst (λ (a : Access). permits_by s.seat.setup s.seat.rank (record_in (and_then s before)) a e.place e.value ≡ true) (take_is e.access takes) here
 
 -- the one try of the turn, which was vain
-record Sought (stepped : List Event → Event → Type 0) (tried : Option Aim) (past events : List Event) : Type 0 where
+pub record Sought (stepped : List Event → Event → Type 0) (tried : Option Aim) (past events : List Event) : Type 0 where
   pub aim : Aim
   pub aim_is : tried ≡ Some aim
   pub look : VainStep stepped past aim false events
 
+pub sought_by : (stepped : List Event → Event → Type 0) (tried : Option Aim) (past events : List Event) (waits : Option Spot) (spot : Spot) → waits ≡ Some spot
+    → WereSteps stepped past events → Tried tried events waits → Sought stepped tried past events
+sought_by stepped tried past events waits spot is steps (NoTry none no_spot) = absurd (cc (is, no_spot))
+sought_by stepped tried past events waits spot is steps (Vain at aims one vain here) = record { aim = at; aim_is = aims; look = found stepped past at false 0 events one vain steps }
+sought_by stepped tried past events waits spot is steps (Fruitful at aims one vain no_spot) = absurd (cc (is, no_spot))
+
 module _ (stepped : List Event → Event → Type 0) (x : UeView) (s t : Sight) (now : UeView) (spot : Spot) (tied : Tied x s) (later : Tied now t) (turned : UeTurned x s now t (turn.Waiting spot))
     (steps : WereSteps stepped s.events turned.events) where
-  sought_by : (waits : Option Spot) → waits ≡ Some spot → Tried (ue_aim s.seat x now.parity) turned.events waits → Sought stepped (ue_aim s.seat x now.parity) s.events turned.events
-  sought_by waits is (NoTry none no_spot) = absurd (cc (is, no_spot))
-  sought_by waits is (Vain at aims one vain here) = record { aim = at; aim_is = aims; look = found stepped s.events at false 0 turned.events one vain steps }
-  sought_by waits is (Fruitful at aims one vain no_spot) = absurd (cc (is, no_spot))
-
   sought : Sought stepped (ue_aim s.seat x now.parity) s.events turned.events
-  sought = sought_by (Some spot) refl turned.tried
+  sought = sought_by stepped (ue_aim s.seat x now.parity) s.events turned.events (Some spot) spot refl steps turned.tried
 
   alike : Like (record_in s) (record_in t)
   alike = rest_alike (record_in s) (record_in t) turned.means.2

@@ -20,7 +20,7 @@ pub enum Rest {
 
 impl Rest {
     /// What a turn with this answer came to.
-    pub(crate) fn of(answer: &Turn, stopped: bool) -> Rest
+    pub fn of(answer: &Turn, stopped: bool) -> Rest
         ensures gives { result ≡ rest_by answer.now stopped }
     {
         match answer {
@@ -37,7 +37,7 @@ impl Rest {
     }
 
     /// What these turns and the next ones came to together.
-    pub(crate) fn and(self, next: Rest) -> Rest
+    pub fn and(self, next: Rest) -> Rest
         ensures gives { result ≡ both_rest self next }
     {
         match self {
@@ -51,7 +51,7 @@ impl Rest {
     }
 
     /// The end of a run whose last sweep came to this, and None where a rank moved in it.
-    pub(crate) fn end(self) -> Option<RunEnd>
+    pub fn end(self) -> Option<RunEnd>
         ensures gives { result ≡ end_by self }
     {
         match self {

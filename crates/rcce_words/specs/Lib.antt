@@ -2,3 +2,4 @@ pub mod CommandLine
 pub mod Cores
 pub mod FaultTexts
 pub mod HostFile
+pub mod Setups

@@ -1,4 +1,3 @@
 pub mod PlanLemmas
-pub mod FileLemmas
 pub mod RunPlanLemmas
 pub mod LogLemmas

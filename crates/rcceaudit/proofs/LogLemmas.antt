@@ -1,30 +1,23 @@
 -- The log that a run holds is that of its script.
-use Rattle.std.proofs.Common.{◌≡◌, ◌≢◌, ◌⊎◌, inl, inr, ℕ, suc, ◌+◌, ◌<◌, ◌≤◌, Bool, true, false, ◌&&◌, List, [], ◌∷◌, ◌++◌, length, map, replicate, set, slice_index_or, take, drop, refl, sym, ap, ◌∙◌, subst, arith}
+use Rattle.std.proofs.Common.{◌≡◌, ◌≢◌, ◌⊎◌, inl, inr, ℕ, ◌+◌, ◌<◌, ◌≤◌, List, [], ◌∷◌, ◌++◌, length, map, replicate, set, slice_index_or, take, drop, refl, sym, ap, ◌∙◌, arith}
 use Rattle.std.specs.Prelude.{All, flat_map}
-use Rattle.std.specs.List.{list_all, range_with_len}
+use Rattle.std.specs.List.{range_with_len}
 use Rattle.std.proofs.Math.Seq.{drop-append_seam, take-append_seam}
 use Rattle.std.proofs.Math.Nat.{eq-or-lt_of_le}
 use Rattle.std.proofs.lemmas.Bool.{cases_lt}
-use Rattle.std.proofs.lemmas.List.{ext_get_or, get_or-replicate, get_or-set_other, get_or-set_same, get_or_default, length-map, length-replicate, length-set}
+use Rattle.std.proofs.lemmas.List.{ext_get_or, get_or-replicate, get_or-set_other, get_or-set_same, length-map, length-replicate, length-set}
 use Rattle.std.proofs.lemmas.Option.{slice_get_past}
 use Rattle.std.proofs.lemmas.List.Elements.{All-head, All-tail}
-use Rattle.std.proofs.lemmas.List.Folds.{list_all_at}
-use Rattle.std.proofs.lemmas.List.FromFn.{get_or-map-range_with_len, length-map-range_with_len, length-range_with_len}
+use Rattle.std.proofs.lemmas.List.FromFn.{get_or-map-range_with_len, length-map-range_with_len}
 use Rattle.scc_base.specs.Calls.{DataCall, Send, Recv, Post, Bar, HasItsBytes, call_of}
 use Rattle.call_tap.specs.Watching.{bytes_of}
 use Rattle.script_reader.specs.Script.{Script}
-use Rattle.script_plain.specs.declared.ends.UeEnd.{UeEnd}
-use Rattle.script_plain.specs.declared.ends.UeEnd.TheVariants as ue_end
-use Rattle.script_plain.specs.Ends.{Ended, ended_at, nothing_ended}
-use Rattle.script_plain.specs.Meaning.{State, locals_of, plain_end, plain_ends}
+use Rattle.script_plain.specs.Meaning.{State, plain_end}
 use Rattle.script_plain.proofs.PlainLaws.{length-plain_end}
-use Rattle.rcce_run.specs.Crews.{EndsAs}
-use Rattle.rcce_run.specs.declared.ends.RunEnd.TheVariants as run_end
 use Rattle.rcce_audit.specs.declared.held.CallList.{CallList}
 use Rattle.rcce_audit.specs.Held.{bytes_in, data_by, held_calls, with_bytes}
 use Rattle.rcce_audit.proofs.ListLemmas.{get_or-map_within}
 use Rattle.log_run.specs.LogRuns.{done_at, plain_calls}
-use Rattle.rcceaudit.specs.Program.{all_finished, is_finished}
 
 -- ---- calls with their bytes
 
@@ -49,32 +42,6 @@ bytes_back (call ∷ calls) long =
     let behind : drop (bytes_in (call_of call)) (bytes_of call ++ flat_map bytes_of calls) ≡ flat_map bytes_of calls =
     ap (λ (k : ℕ). drop k (bytes_of call ++ flat_map bytes_of calls)) n ∙ drop-append_seam (bytes_of call) (flat_map bytes_of calls) in
     λ i. (ap (data_by (call_of call)) front ∙ one_back call) i ∷ (ap (with_bytes (map call_of calls)) behind ∙ bytes_back calls (All-tail HasItsBytes call calls long)) i
-
--- ---- how a run ended
-
-plain_count : (script : Script) → length (plain_ends script) ≡ script.nue
-plain_count script =
-    length-map (range_with_len 0 (length (locals_of (plain_end script)))) _
-    ∙ length-range_with_len 0 (length (locals_of (plain_end script))) ∙ length-plain_end script
-
-all_by : {X : Type 0} (p : X → Bool) (xs : List X) → ((i : ℕ) (d : X) → i < length xs → p (slice_index_or xs i d) ≡ true) → list_all p xs ≡ true
-all_by p [] each = refl
-all_by p (x ∷ xs) each = ap (λ (b : Bool). b && list_all p xs) (each 0 x (omega arith)) ∙ all_by p xs (λ i d low. each (suc i) d (omega (arith, low)))
-
-unfinished : (end : UeEnd) → end ≢ ue_end.Finished → is_finished end ≡ false
-unfinished ue_end.Finished not = absurd (not refl)
-unfinished (ue_end.Waits line call) not = refl
-unfinished (ue_end.Mismatch line from sent asked) not = refl
-
-pub finished_all : (script : Script) → EndsAs run_end.Finished script → all_finished (plain_ends script) ≡ true
-finished_all script ends =
-    all_by (λ (ue : Ended). is_finished ue.end) (plain_ends script) (λ i d low.
-    ap is_finished (ap (λ (ue : Ended). ue.end) (get_or_default (plain_ends script) i d nothing_ended low) ∙ ends i (omega (arith, low, plain_count script))))
-
-pub stuck_one : (script : Script) → EndsAs run_end.Stuck script → all_finished (plain_ends script) ≡ false
-stuck_one script ends =
-    list_all_at (λ (ue : Ended). is_finished ue.end) (plain_ends script) ends.0 nothing_ended
-    (let few = ends.1 in omega (arith, few, plain_count script)) (unfinished (ended_at (plain_ends script) ends.0).end ends.2)
 
 -- ---- the lists of the ranks
 

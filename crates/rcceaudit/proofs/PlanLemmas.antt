@@ -1,5 +1,5 @@
 -- What a log's file comes to.
-use Rattle.std.proofs.Common.{◌≡◌, ℕ, List, refl, sym, subst, ap, ◌∙◌, inl, inr, Option, Result, Ok, Err}
+use Rattle.std.proofs.Common.{◌≡◌, ℕ, List, refl, sym, subst, ap, inl, inr, Option, Result, Ok, Err}
 use Rattle.rcce_io.specs.Files.{FilesView, NamedFile}
 use Rattle.outcomes.specs.Coming.{Comes, IsMeant}
 use Rattle.outcomes.specs.Outcomes.{Outcome, file_refused, no_memory, run_outcome}
@@ -8,7 +8,6 @@ use Rattle.rcce_audit.specs.declared.verdicts.Verdict.{Verdict}
 use Rattle.rcce_audit.specs.Grammar.{log_of}
 use Rattle.rcce_audit.specs.Kinds.{fault_name}
 use Rattle.rcce_audit.specs.Logs.{LogView}
-use Rattle.rcce_audit.specs.Texts.{IsFileLog}
 use Rattle.rcce_audit.specs.Verdicts.{IsVerdict}
 use Rattle.rcce_audit.proofs.ReadingLemmas.{text_back}
 use Rattle.rcce_audit.proofs.VerdictLemmas.{verdict_once}

@@ -3,13 +3,13 @@ use Rattle.std.specs.Prelude.{◌≡◌, ◌≤◌, ℕ, List, length, map, Opti
 use Rattle.std.specs.List.{range_with_len}
 use Rattle.rcce_io.specs.Files.{NamedFile}
 use Rattle.scc_base.specs.Setups.{SetupView}
-use Rattle.scc_base.specs.declared.layouts.Layout.TheVariants.{LineFlags}
 use Rattle.scc_mesh.specs.Scenes.{ChipView, about_in, records_in}
 use Rattle.script_reader.specs.Reading.{parse_script}
 use Rattle.script_reader.specs.Script.{Script, rules_of}
 use Rattle.outcomes.specs.Coming.{ByTest, Holds}
 use Rattle.outcomes.specs.Outcomes.{Outcome, run_outcome}
 use Rattle.outcomes.specs.Statuses.{is_quiet}
+use Rattle.rcce_words.specs.Setups.{default_setup}
 use Rattle.rcce_audit.specs.Logs.{LogView}
 use Rattle.log_run.specs.LogRuns.{HasRun}
 use Rattle.rcceaudit.specs.Program.{Command, log_ran, script_log}
@@ -20,7 +20,7 @@ ScriptIn told command script = (bytes : List ℕ) × (length bytes ≤ 4194304) 
 
 -- the setup of a run: line flags, and rank r on core r
 abbrev pub setup_by : Script → SetupView
-setup_by script = record { nue = script.nue; layout = LineFlags; hosts = range_with_len 0 48; comms = rules_of script.items }
+setup_by script = default_setup script.nue (rules_of script.items)
 
 -- the log of the finished calls of a chip's ranks
 abbrev pub chip_log : ChipView → LogView

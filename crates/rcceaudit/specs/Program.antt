@@ -1,6 +1,6 @@
 -- What `rcceaudit` does on its words (this project's profile).
-use Rattle.std.specs.Prelude.{◌≡◌, ℕ, Bool, true, false, ◌&&◌, not, if◌then◌else◌, List, [], ◌∷◌, codes, decimal, map, Option, Some, None, option_map, Result, Ok, Err}
-use Rattle.std.specs.List.{list_all, range_with_len}
+use Rattle.std.specs.Prelude.{ℕ, true, false, ◌&&◌, not, if◌then◌else◌, List, [], ◌∷◌, codes, decimal, map, Option, Some, None, option_map, Result, Ok, Err}
+use Rattle.std.specs.List.{range_with_len}
 use Rattle.std.specs.Str.{bytes_eq}
 use Rattle.outcomes.specs.Numbers.{is_option, ue_count_of}
 use Rattle.outcomes.specs.Outcomes.{Ran}
@@ -20,10 +20,8 @@ use Rattle.script_reader.specs.declared.fault.ReadFault.{ReadFault}
 use Rattle.script_reader.specs.Faults.{kind_name}
 use Rattle.script_reader.specs.Reading.{parse_script}
 use Rattle.script_reader.specs.Script.{Script, rules_of}
-use Rattle.script_plain.specs.declared.ends.UeEnd.{UeEnd}
-use Rattle.script_plain.specs.declared.ends.UeEnd.TheVariants as ue_end
-use Rattle.script_plain.specs.Ends.{Ended}
 use Rattle.script_plain.specs.Meaning.{plain_ends}
+use Rattle.script_plain.specs.Ends.{all_finished}
 use Rattle.log_run.specs.LogRuns.{plain_calls}
 use Rattle.log_run.specs.Sizes.{has_room_for_all}
 
@@ -67,16 +65,6 @@ command_of (log ∷ option ∷ number ∷ script ∷ []) =
     if bytes_eq log (codes "-log") && (bytes_eq option (codes "-nue") && not (is_option script))
     then option_map (λ nue. record { nue = nue; script = script }) (ue_count_of number) else None
 command_of _ = None
-
--- a rank has finished
-abbrev pub is_finished : UeEnd → Bool
-is_finished ue_end.Finished = true
-is_finished (ue_end.Waits line call) = false
-is_finished (ue_end.Mismatch line from sent asked) = false
-
--- whether each rank has finished
-abbrev pub all_finished : List Ended → Bool
-all_finished ends = list_all (λ ended. is_finished ended.end) ends
 
 -- the log of a script's run: the calls that the plain meaning does for each rank, with their bytes and in order
 abbrev pub script_log : Script → LogView

@@ -3,8 +3,7 @@ use Rattle.std.specs.Prelude.{ℕ, ◌+◌, ◌*◌, ◌/◌, ◌%◌, List, ◌
 use Rattle.std.specs.List.{range_with_len}
 use Rattle.scc_base.specs.Setups.{SetupView}
 use Rattle.scc_base.specs.declared.communicators.CommRule.TheVariants.{Absent, World}
-use Rattle.scc_base.specs.declared.layouts.Layout.TheVariants.{LineFlags}
-use Rattle.rcce_words.specs.HostFile.{default_hosts}
+use Rattle.rcce_words.specs.Setups.{default_setup}
 use Rattle.coll_more.specs.Pieces.{pieces_for}
 use Rattle.coll_more.specs.Tables.{src_len_of}
 use Rattle.coll_more.specs.declared.kinds.More.{More}
@@ -28,9 +27,4 @@ got_by job rank = pieces_for job.more job.nue job.len (src_of job) rank
 
 -- the setup of a run: rank r on core r, with line flags, and the world alone as communicator
 abbrev pub setup_of : ℕ → SetupView
-setup_of nue = record {
-  nue = nue;
-  layout = LineFlags;
-  hosts = default_hosts;
-  comms = World ∷ replicate 15 Absent;
-}
+setup_of nue = default_setup nue (World ∷ replicate 15 Absent)

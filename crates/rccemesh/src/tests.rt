@@ -1,4 +1,4 @@
-//! What no clause says: the loads of whole scripts, words, files and sinks that fail, and that there is memory.
+//! What no clause says: the loads of whole scripts, words, writes that fail, and that there is memory.
 
 use crate::launcher::rccemesh;
 use outcomes::Status;
@@ -193,43 +193,6 @@ fn a_script_is_refused_by_line_and_kind(rt: HostRuntime) -> Result<(), Fail> {
     Ok(())
 }
 
-#[test]
-fn an_absent_file_is_named(rt: HostRuntime) -> Result<(), Fail> {
-    let run = run(rt.alloc(), &["-nue", "2", "none.rcce"], FOUR_BYTES)?;
-    expect(
-        &rt,
-        &run,
-        Status::Files,
-        b"",
-        b"rccemesh: none.rcce: absent\n",
-    );
-    Ok(())
-}
-
-/// Each call on the files fails in turn.
-#[test]
-fn a_read_fault_is_told(rt: HostRuntime) -> Result<(), Fail> {
-    let alloc = rt.alloc();
-    for call in 1..4 {
-        let words = words_of(alloc, &["-nue", "2", "s.rcce"])?;
-        let mut files = MemFiles::new(alloc);
-        files.add("s.rcce", FOUR_BYTES)?;
-        files.fail_at(call);
-        let mut out = MemSink::new(alloc, MOST_BYTES, MOST_BYTES)?;
-        let mut err = MemSink::new(alloc, MOST_BYTES, MOST_BYTES)?;
-        let status = rccemesh(alloc, words.as_slice(), &mut files, &mut out, &mut err);
-        let run = Ended { status, out, err };
-        expect(
-            &rt,
-            &run,
-            Status::Files,
-            b"",
-            b"rccemesh: s.rcce: read fault\n",
-        );
-    }
-    Ok(())
-}
-
 /// Each write to out fails in turn: what was taken is a front of the text, and nothing is written behind it.
 #[test]
 fn a_failed_write_is_the_last(rt: HostRuntime) -> Result<(), Fail> {
@@ -264,18 +227,5 @@ fn a_failed_write_to_err_is_told(rt: HostRuntime) -> Result<(), Fail> {
     let status = rccemesh(alloc, words.as_slice(), &mut files, &mut out, &mut err);
     let run = Ended { status, out, err };
     expect(&rt, &run, Status::Write, b"0,0 -> 1,0 2\n", b"");
-    Ok(())
-}
-
-#[test]
-fn a_failed_write_of_a_complaint_is_told(rt: HostRuntime) -> Result<(), Fail> {
-    let alloc = rt.alloc();
-    let words = words_of(alloc, &["-nue", "2", "none.rcce"])?;
-    let mut files = MemFiles::new(alloc);
-    let mut out = MemSink::new(alloc, MOST_BYTES, MOST_BYTES)?;
-    let mut err = MemSink::new(alloc, 0, 1)?;
-    let status = rccemesh(alloc, words.as_slice(), &mut files, &mut out, &mut err);
-    let run = Ended { status, out, err };
-    expect(&rt, &run, Status::Write, b"", b"");
     Ok(())
 }

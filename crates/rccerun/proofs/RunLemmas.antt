@@ -1,21 +1,14 @@
 -- The units of execution of a run, before its start and at its end.
-use Rattle.std.proofs.Common.{◌≡◌, ◌≢◌, ◌⊎◌, inl, inr, ℕ, ◌+◌, ◌<◌, ◌≤◌, Bool, true, false, ◌&&◌, List, [], ◌∷◌, ◌++◌, length, refl, sym, subst, ap, ◌∙◌, arith, slice_index_or, suc, Option, Some, None}
-use Rattle.std.specs.List.{list_all, range_with_len}
-use Rattle.std.proofs.Math.Nat.{eq-or-lt_of_le}
-use Rattle.std.proofs.lemmas.List.{get_or_append_left, get_or_default, get_or_push, length-map}
-use Rattle.std.proofs.lemmas.List.Folds.{list_all_at}
-use Rattle.std.proofs.lemmas.List.FromFn.{get_or-range_with_len, length-range_with_len}
-use Rattle.scc_base.specs.Setups.{AreApart, SetupView}
+use Rattle.std.proofs.Common.{◌≡◌, ℕ, ◌+◌, ◌<◌, List, [], ◌∷◌, ◌++◌, length, refl, sym, subst, ap, ◌∙◌, arith, slice_index_or, Option, Some, None}
+use Rattle.scc_base.specs.Setups.{SetupView}
 use Rattle.script_reader.specs.Script.{Script}
-use Rattle.script_plain.specs.declared.ends.UeEnd.{UeEnd}
-use Rattle.script_plain.specs.declared.ends.UeEnd.TheVariants as ue_end
-use Rattle.script_plain.specs.Ends.{Ended, ended_at, nothing_ended}
-use Rattle.script_plain.specs.Meaning.{locals_of, plain_end, plain_ends}
-use Rattle.script_plain.proofs.PlainLaws.{length-plain_end}
+use Rattle.script_plain.specs.Ends.{all_finished, ended_at}
+use Rattle.script_plain.specs.Meaning.{plain_ends}
 use Rattle.rcce_run.specs.Crews.{EndsAs}
-use Rattle.rcce_run.specs.declared.ends.RunEnd.TheVariants as run_end
 use Rattle.rcce_ue.specs.Ues.{UeView}
-use Rattle.rccerun.specs.Reports.{all_finished, by_rank, is_finished, ran_by, unfinished_text}
+use Rattle.rccerun.specs.Reports.{by_rank, ran_by, unfinished_text}
+use Rattle.rcce_run.proofs.CrewGrowth.{each_more}
+use Rattle.rcce_run.proofs.FinishedLaws.{plain_count}
 use Rattle.rcce_run.specs.Sent.{CountsSends}
 use Rattle.rcce_run.specs.UeRuns.{AreHome, HasPlainCalls, IsFreshCrew, IsFreshUe, IsSameChip, ShowsEnd, WaitsOpen}
 use Rattle.rcce_run.specs.declared.ends.RunEnd.{RunEnd}
@@ -27,54 +20,11 @@ use Rattle.rccerun.specs.History.{Asked}
 use Rattle.rccerun.specs.Runs.{HaveEnded, IsAtStart, IsFresh, IsOver}
 use Rattle.rccerun.proofs.SentLemmas.{counts_plain}
 
--- one end for each rank
-pub plain_count : (script : Script) → length (plain_ends script) ≡ script.nue
-plain_count script =
-    length-map (range_with_len 0 (length (locals_of (plain_end script)))) _
-    ∙ length-range_with_len 0 (length (locals_of (plain_end script))) ∙ length-plain_end script
-
 -- one unit of execution more
 pub fresh_more : (script : Script) (setup : SetupView) (n : ℕ) (crew : List (Member UeView)) (ue : Member UeView) → length crew ≡ n
     → ((rank : ℕ) (d : Member UeView) → rank < n → IsAtStart script setup rank (slice_index_or crew rank d)) → IsAtStart script setup n ue
     → (rank : ℕ) (d : Member UeView) → rank < n + 1 → IsAtStart script setup rank (slice_index_or (crew ++ ue ∷ []) rank d)
-fresh_more script setup n crew ue count each last rank d below = by (eq-or-lt_of_le (omega arith))
-  where
-    by : (rank ≡ n) ⊎ (rank < n) → IsAtStart script setup rank (slice_index_or (crew ++ ue ∷ []) rank d)
-    by (inl same) =
-        let here : slice_index_or (crew ++ ue ∷ []) rank d ≡ ue = get_or_push crew ue d rank (count ∙ sym same) in
-        subst (λ (u : Member UeView). IsAtStart script setup rank u) (sym here) (subst (λ (r : ℕ). IsAtStart script setup r ue) (sym same) last)
-    by (inr earlier) =
-        let there : slice_index_or (crew ++ ue ∷ []) rank d ≡ slice_index_or crew rank d = get_or_append_left crew (ue ∷ []) d rank (omega (arith, count, earlier)) in
-        subst (λ (u : Member UeView). IsAtStart script setup rank u) (sym there) (each rank d earlier)
-
--- the first cores are apart
-pub cores_apart : (nue : ℕ) → nue ≤ 48 → AreApart nue (range_with_len 0 48)
-cores_apart nue few r q before within same =
-    let here : slice_index_or (range_with_len 0 48) r 0 ≡ 0 + r = get_or-range_with_len 0 48 r 0 (omega arith) in
-    let there : slice_index_or (range_with_len 0 48) q 0 ≡ 0 + q = get_or-range_with_len 0 48 q 0 (omega arith) in
-    absurd (omega (arith, sym here ∙ same ∙ there, before))
-
--- all pass where each does
-all_by : {X : Type 0} (p : X → Bool) (xs : List X) → ((i : ℕ) (d : X) → i < length xs → p (slice_index_or xs i d) ≡ true) → list_all p xs ≡ true
-all_by p [] each = refl
-all_by p (x ∷ xs) each = ap (λ (b : Bool). b && list_all p xs) (each 0 x (omega arith)) ∙ all_by p xs (λ i d low. each (suc i) d (omega (arith, low)))
-
-unfinished : (end : UeEnd) → end ≢ ue_end.Finished → is_finished end ≡ false
-unfinished ue_end.Finished not = absurd (not refl)
-unfinished (ue_end.Waits line call) not = refl
-unfinished (ue_end.Mismatch line from sent asked) not = refl
-
--- a run that finished, by its answer
-pub finished_all : (script : Script) → EndsAs run_end.Finished script → all_finished (plain_ends script) ≡ true
-finished_all script ends =
-    all_by (λ (ue : Ended). is_finished ue.end) (plain_ends script) (λ i d low.
-    ap is_finished (ap (λ (ue : Ended). ue.end) (get_or_default (plain_ends script) i d nothing_ended low) ∙ ends i (omega (arith, low, plain_count script))))
-
--- and one that did not
-pub stuck_one : (script : Script) → EndsAs run_end.Stuck script → all_finished (plain_ends script) ≡ false
-stuck_one script ends =
-    list_all_at (λ (ue : Ended). is_finished ue.end) (plain_ends script) ends.0 nothing_ended
-    (let few = ends.1 in omega (arith, few, plain_count script)) (unfinished (ended_at (plain_ends script) ends.0).end ends.2)
+fresh_more script setup n crew ue count each last = each_more (IsAtStart script setup) n crew ue count each last
 
 module _ (script view : Script) (same : script ≡ view) (crew : List (Member UeView)) (ended : HaveEnded script crew) where
   -- as many units of execution as ends

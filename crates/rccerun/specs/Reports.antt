@@ -1,10 +1,9 @@
 -- What a run of `rccerun` writes (this project's profile).
-use Rattle.std.specs.Prelude.{ℕ, ◌+◌, Bool, List, [], ◌∷◌, ◌++◌, map, slice_index_or, true, false, Option, Some, None}
-use Rattle.std.specs.List.{list_all}
+use Rattle.std.specs.Prelude.{ℕ, ◌+◌, List, [], ◌∷◌, ◌++◌, map, slice_index_or, Option, Some, None}
 use Rattle.script_plain.specs.declared.ends.UeEnd.{UeEnd}
 use Rattle.script_plain.specs.declared.ends.UeEnd.TheVariants as ue_end
 use Rattle.script_plain.specs.Printed.{Printed}
-use Rattle.script_plain.specs.Ends.{Ended}
+use Rattle.script_plain.specs.Ends.{Ended, all_finished}
 use Rattle.script_plain.specs.Meaning.{plain_ends}
 use Rattle.script_reader.specs.Script.{Script}
 use Rattle.rcce_io.specs.Sending.{joined}
@@ -34,16 +33,6 @@ end_text rank (ue_end.Mismatch line from sent asked) = mismatch_line rank line f
 -- the line of a unit of execution that has not finished, and nothing of one that has
 abbrev pub unfinished_text : ℕ → Ended → List ℕ
 unfinished_text rank ue = end_text rank ue.end
-
--- the unit of execution has finished
-abbrev pub is_finished : UeEnd → Bool
-is_finished ue_end.Finished = true
-is_finished (ue_end.Waits line call) = false
-is_finished (ue_end.Mismatch line from sent asked) = false
-
--- each unit of execution has finished
-abbrev pub all_finished : List Ended → Bool
-all_finished ues = list_all (λ ue. is_finished ue.end) ues
 
 -- what the run of a script came to: whether each unit of execution finished, what they printed, and where those stand
 -- that have not finished

@@ -1,8 +1,9 @@
 //! The lines of units of execution: what each printed, and where one stands that has not finished.
 
-ghost use Rattle.std.specs.Prelude.{◌≡◌, ◌≤◌, [], ◌∷◌, codes, decimal};
+ghost use Rattle.std.specs.Prelude.{◌≡◌, [], ◌∷◌, codes, decimal};
 ghost use Rattle.rcce_io.specs.Sending.{Sends};
-ghost use Rattle.rccerun.specs.Reports.{end_text, is_finished};
+ghost use Rattle.script_plain.specs.Ends.{is_finished};
+ghost use Rattle.rccerun.specs.Reports.{end_text};
 ghost use Rattle.rccerun.specs.Texts.{call_pieces, item_line, message_pieces, mismatch_line, type_text, waiting_line};
 
 use crate::pieces::Piece::{Hex, Number, Text, Values};

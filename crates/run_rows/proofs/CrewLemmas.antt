@@ -1,13 +1,13 @@
 -- A crew of fresh UEs, which grows by one member after the other.
-use Rattle.std.proofs.Common.{◌≡◌, ◌⊎◌, inl, inr, ℕ, ◌+◌, ◌<◌, List, [], ◌∷◌, ◌++◌, length, sym, subst, ap, ◌∙◌, arith, slice_index_or, None}
-use Rattle.std.proofs.Math.Nat.{eq-or-lt_of_le}
-use Rattle.std.proofs.lemmas.List.{get_or_append_left, get_or_push, length_push}
+use Rattle.std.proofs.Common.{◌≡◌, ℕ, ◌+◌, ◌<◌, List, [], ◌∷◌, ◌++◌, length, sym, subst, ap, ◌∙◌, arith, slice_index_or, None}
+use Rattle.std.proofs.lemmas.List.{length_push}
 use Rattle.scc_base.specs.Setups.{SetupView}
 use Rattle.scc_mesh.specs.Scenes.{ChipView, IsNew}
 use Rattle.script_reader.specs.Script.{Script}
 use Rattle.rcce_ue.specs.Ues.{UeView}
 use Rattle.rcce_run.specs.UeRuns.{IsFreshCrew, IsFreshUe}
 use Rattle.rcce_run.specs.declared.members.Member.{Member}
+use Rattle.rcce_run.proofs.CrewGrowth.{each_more}
 
 -- a member with a fresh UE of this rank, and with no token
 pub record IsFreshMember (script : Script) (s : SetupView) (rank : ℕ) (member : Member UeView) : Type 0 where
@@ -24,16 +24,8 @@ pub fresh_more : (script : Script) (s : SetupView) (n : ℕ) (crew : List (Membe
     → IsFreshMember script s n member → AreFresh script s (n + 1) (crew ++ member ∷ [])
 fresh_more script s n crew member are last = record {
   count = omega (arith, length_push crew member, are.count);
-  each = λ rank d low. by rank d (eq-or-lt_of_le (omega (arith, low)));
+  each = each_more (IsFreshMember script s) n crew member are.count are.each last;
 }
-  where
-    by : (rank : ℕ) (d : Member UeView) → (rank ≡ n) ⊎ (rank < n) → IsFreshMember script s rank (slice_index_or (crew ++ member ∷ []) rank d)
-    by rank d (inl same) =
-        let here : slice_index_or (crew ++ member ∷ []) rank d ≡ member = get_or_push crew member d rank (are.count ∙ sym same) in
-        subst (λ (m : Member UeView). IsFreshMember script s rank m) (sym here) (subst (λ (r : ℕ). IsFreshMember script s r member) (sym same) last)
-    by rank d (inr earlier) =
-        let there : slice_index_or (crew ++ member ∷ []) rank d ≡ slice_index_or crew rank d = get_or_append_left crew (member ∷ []) d rank (omega (arith, are.count, earlier)) in
-        subst (λ (m : Member UeView). IsFreshMember script s rank m) (sym there) (are.each rank d earlier)
 
 -- with one for each rank it is a crew of every new chip of this setup
 pub crew_fresh : (script : Script) (s : SetupView) (crew : List (Member UeView)) → AreFresh script s s.nue crew

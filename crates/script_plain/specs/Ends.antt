@@ -1,8 +1,9 @@
 -- What a run leaves behind.
-use Rattle.std.specs.Prelude.{ℕ, List, length, map, Option, None, slice_index_or}
-use Rattle.std.specs.List.{range_with_len}
+use Rattle.std.specs.Prelude.{ℕ, Bool, true, false, List, length, map, Option, None, slice_index_or}
+use Rattle.std.specs.List.{list_all, range_with_len}
 use Rattle.std.specs.Option.{option_map}
 use Rattle.script_plain.specs.declared.ends.UeEnd.{UeEnd}
+use Rattle.script_plain.specs.declared.ends.UeEnd.TheVariants as ue_end
 use Rattle.script_plain.specs.declared.posts.Posted.{Posted}
 use Rattle.script_plain.specs.Printed.{Printed}
 use Rattle.script_plain.specs.Local.{Local, end_of, local_at, nobody}
@@ -23,6 +24,16 @@ nothing_ended = ended None nobody
 -- what the ranks leave behind that hold this, with these messages in their slots
 abbrev pub ends_of : List Local → List (Option Posted) → List Ended
 ends_of cells slots = map (λ rank. ended (slice_index_or slots rank None) (local_at cells rank)) (range_with_len 0 (length cells))
+
+-- a rank has finished
+abbrev pub is_finished : UeEnd → Bool
+is_finished ue_end.Finished = true
+is_finished (ue_end.Waits line call) = false
+is_finished (ue_end.Mismatch line from sent asked) = false
+
+-- whether each rank has finished
+abbrev pub all_finished : List Ended → Bool
+all_finished ends = list_all (λ ended. is_finished ended.end) ends
 
 -- what a rank left behind
 abbrev pub ended_at : List Ended → ℕ → Ended

@@ -19,7 +19,7 @@ loop-end-preserved g c =
 pub loop-end-smaller : goal.loop-end-smaller
 loop-end-smaller g c =
     moved_falls (λ l. g.W.Worker.seen l.worker) (λ l. IsLogging (g.W.Worker.tied l.worker) l.tap) c.sweep-came.result (length c.loop-end.crew) c.loop-end.chip c.sweep-came.new.chip
-    c.loop-end.crew c.sweep-came.new.crew (sym c.end_of.ensures.gives ∙ c.in_default.is) c.sweep-came.ensures.swept.swept
+    c.loop-end.crew c.sweep-came.new.crew (sym c.end.ensures.gives ∙ c.in_default.is) c.sweep-came.ensures.swept.swept
 
 pub returns-in-Some-clause-stands : goal.returns-in-Some-clause-stands
 returns-in-Some-clause-stands g c =
@@ -34,10 +34,10 @@ returns-in-Some-clause-answer g c = λ script all.
     c.sweep-came.new.chip c.sweep-came.new.crew c.agrees.ensures.words.0 c.agrees.ensures.words.1 stands.is_crew (stands.goes.scripts script all)
     (subst (λ (n : ℕ). 0 < n) (sym stands.goes.count) c.requires.some) (some_worker c.args.crew.now c.requires.some) c.loop-end.chip c.loop-end.crew c.sweep-came.result c.in-Some.end
     (length c.loop-end.crew)
-    (sym c.sweep-came.ensures.swept.stands.goes.count ∙ stands.is_crew.each) (sym c.end_of.ensures.gives ∙ c.in-Some.is) c.sweep-came.ensures.swept.swept).1
+    (sym c.sweep-came.ensures.swept.stands.goes.count ∙ stands.is_crew.each) (sym c.end.ensures.gives ∙ c.in-Some.is) c.sweep-came.ensures.swept.swept).1
 
 pub returns-in-Some-clause-rests : goal.returns-in-Some-clause-rests
 returns-in-Some-clause-rests g c =
     subst (λ (n : ℕ). AllRest (λ l. g.W.Worker.seen l.worker) c.sweep-came.new.chip c.sweep-came.new.crew n) (sym c.sweep-came.ensures.swept.stands.goes.count)
     (all_rest_by (λ l. g.W.Worker.seen l.worker) c.sweep-came.result c.in-Some.end (length c.loop-end.crew) c.loop-end.chip c.loop-end.crew c.sweep-came.new.chip c.sweep-came.new.crew
-    (sym c.end_of.ensures.gives ∙ c.in-Some.is) c.sweep-came.ensures.swept.swept)
+    (sym c.end.ensures.gives ∙ c.in-Some.is) c.sweep-came.ensures.swept.swept)

@@ -13,7 +13,7 @@ loop-at-init g c = sweep_first (λ l. g.W.Worker.seen l.worker) (λ l. IsLogging
 pub loop-at-preserved : goal.loop-at-preserved
 loop-at-preserved g c =
     sweep_on (λ l. g.W.Worker.seen l.worker) (λ l. IsLogging (g.W.Worker.tied l.worker) l.tap) c.args.chip.now c.loop-at.chip c.turn_at-came.new.chip c.args.crew.now c.loop-at.crew c.turn_at-came.new.crew c.loop-at.at
-    c.loop-at.so_far c.turn_at-came.result c.both_rest-so_far.result c.both_rest-so_far.ensures.gives c.loop-at.invariant c.turn_at-came.ensures.turned
+    c.loop-at.so_far c.turn_at-came.result c.and-so_far.result c.and-so_far.ensures.gives c.loop-at.invariant c.turn_at-came.ensures.turned
 
 pub returns : goal.returns
 returns g c =

@@ -9,7 +9,7 @@ pub returns : goal.returns
 returns g c = record {
   turned = subst
       (λ (came : Rest). TurnedAtHome (λ l. g.W.Worker.seen l.worker) (λ l. IsLogging (g.W.Worker.tied l.worker) l.tap) c.args.chip.now c.args.rank c.args.logger.now c.own_turn-answer.new.chip c.own_turn-answer.new.logger came)
-      (sym c.rest_of.ensures.gives)
+      (sym c.of.ensures.gives)
       (turned_at_home (λ l. g.W.Worker.seen l.worker) (λ l. IsLogging (g.W.Worker.tied l.worker) l.tap) c.args.chip.now c.own_turn-answer.new.chip c.args.rank c.args.logger.now c.own_turn-answer.new.logger c.own_turn-answer.result c.is_stopped.result
       c.requires.free c.own_turn-answer.ensures.turned c.agrees.ensures.beyond c.is_stopped.ensures.tells);
 }

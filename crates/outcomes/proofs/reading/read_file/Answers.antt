@@ -1,5 +1,6 @@
 use Rattle.std.proofs.Common.{◌<◌, ◌≤◌, ap, arith, length}
-use Rattle.outcomes.proofs.ReadingLemmas.{reads_long, reads_short}
+use Rattle.rcce_io.specs.Files.{FilesView}
+use Rattle.outcomes.proofs.ReadingLemmas.{holds_short, reads_long, reads_short}
 use Rattle.outcomes.proofs.reading.read_file.Goals as goal
 
 pub returns-then-limit-as_slice-clause-reads : goal.returns-then-limit-as_slice-clause-reads
@@ -11,3 +12,11 @@ pub returns-in-Ok-clause-reads : goal.returns-in-Ok-clause-reads
 returns-in-Ok-clause-reads g c =
     let short : length c.in-Ok.bytes ≤ c.args.limit = omega (arith, ap length c.as_slice.ensures) in
     reads_short _ _ (g.F.Files.seen c.args.files.now) _ c.in-Ok.bytes c.in-Ok.ensures short
+
+pub returns-in-Ok-clause-holds : goal.returns-in-Ok-clause-holds
+returns-in-Ok-clause-holds g c =
+    let short : length c.in-Ok.bytes ≤ c.args.limit = omega (arith, ap length c.as_slice.ensures) in
+    holds_short (g.F.Files.seen c.args.files.now).told _ c.args.limit c.in-Ok.bytes short c.in-Ok.ensures.2
+
+pub returns-in-Ok-clause-told : goal.returns-in-Ok-clause-told
+returns-in-Ok-clause-told g c = ap (λ (v : FilesView). v.told) c.in-Ok.ensures.0

@@ -1,4 +1,3 @@
-use Rattle.std.proofs.Common.{codes}
 use Rattle.rcceaudit.proofs.launcher.judge_log.Goals as goal
 
 pub returns : goal.returns

@@ -1,4 +1,4 @@
-use Rattle.std.proofs.Common.{◌≡◌, ◌<◌, ℕ, ap, arith, refl, subst, ◌∙◌}
+use Rattle.std.proofs.Common.{ℕ, ap, arith, refl, subst, ◌∙◌}
 use Rattle.rcce_audit.specs.Held.{with_bytes}
 use Rattle.log_run.specs.LogRuns.{plain_calls}
 use Rattle.rcceaudit.proofs.LogLemmas.{HoldBelow, bytes_back, held_lists, hold_first, hold_more}

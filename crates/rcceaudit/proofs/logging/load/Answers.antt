@@ -1,7 +1,6 @@
-use Rattle.std.proofs.Common.{List, ℕ, codes, subst, sym}
+use Rattle.std.proofs.Common.{codes}
 use Rattle.rcceaudit.specs.Job.{job_command}
 use Rattle.rcceaudit.specs.Program.{script_plan}
-use Rattle.rcceaudit.proofs.FileLemmas.{holds_read}
 use Rattle.rcceaudit.proofs.RunPlanLemmas.{loads_by}
 use Rattle.rcceaudit.proofs.logging.load.Goals as goal
 
@@ -10,8 +9,7 @@ returns-in-Ok g c =
     let command = job_command c.args.job in
     let before = g.F.Files.seen c.args.files.now in
     let between = g.F.Files.seen c.read_file.new.files in
-    let found = holds_read command.script 4194304 before between _ c.in-Ok.ensures.within c.in-Ok.ensures.reads in
-    loads_by command _ before between _ c.in-Ok.ensures.reads c.in-Ok.ensures.within found.0 (rw c.as_slice.ensures at c.load_bytes.ensures)
+    loads_by command _ before between _ c.in-Ok.ensures.reads c.in-Ok.ensures.within c.in-Ok.ensures.holds (rw c.as_slice.ensures at c.load_bytes.ensures)
 
 pub returns-in-Err : goal.returns-in-Err
 returns-in-Err g c = c.in-Err.ensures.reads (codes "rcceaudit") (script_plan (job_command c.args.job))

@@ -1,4 +1,3 @@
-use Rattle.std.proofs.Common.{codes}
 use Rattle.rcceaudit.specs.Job.{job_command}
 use Rattle.rcceaudit.proofs.RunPlanLemmas.{comes_fault, comes_stopped}
 use Rattle.rcceaudit.proofs.logging.load_bytes.Goals as goal

@@ -1,4 +1,4 @@
-use Rattle.std.proofs.Common.{◌≡◌, ap, sym, ◌∙◌, arith}
+use Rattle.std.proofs.Common.{arith}
 use Rattle.rcceaudit.proofs.logging.setup_by.Goals as goal
 
 pub setup-requires : goal.setup-requires

@@ -3,7 +3,7 @@ use Rattle.rcce_io.specs.Files.{NamedFile}
 use Rattle.outcomes.specs.Coming.{Holds}
 use Rattle.rccerun.specs.Loading.{AsksListed, LoadsPlan}
 use Rattle.rccerun.specs.Program.{file_plan, hosts_plan, rccerun}
-use Rattle.rccerun.proofs.LoadLemmas.{holds_read, loads_read}
+use Rattle.rccerun.proofs.LoadLemmas.{loads_read}
 use Rattle.rccerun.proofs.loading.load_hosts.Goals as goal
 
 pub returns-in-Ok : goal.returns-in-Ok
@@ -15,11 +15,10 @@ returns-in-Ok g c =
     let before = g.F.Files.seen c.args.files.now in
     let between = g.F.Files.seen c.read_file.new.files in
     let after = g.F.Files.seen c.load_listed.new.files in
-    let found = holds_read list 65536 before between _ c.in-Ok.ensures.within c.in-Ok.ensures.reads in
-    let holds = subst (λ (told : Option (List NamedFile)). Holds told list c.in-Ok.bytes) (sym found.1) found.0 in
+    let holds = subst (λ (told : Option (List NamedFile)). Holds told list c.in-Ok.bytes) (sym c.in-Ok.ensures.told) c.in-Ok.ensures.holds in
     let leads = rw c.as_slice.ensures at (c.load_listed.ensures (subst (λ (b : List ℕ). Holds between.told list b) (sym c.as_slice.ensures) holds)) in
     loads_read list 65536 next (AsksListed list script before.told job) before between after _ _ c.in-Ok.ensures.reads
-    (subst (λ (told : Option (List NamedFile)). LoadsPlan (next c.in-Ok.bytes) (AsksListed list script told job) between after c.load_listed.result) found.1 leads)
+    (subst (λ (told : Option (List NamedFile)). LoadsPlan (next c.in-Ok.bytes) (AsksListed list script told job) between after c.load_listed.result) c.in-Ok.ensures.told leads)
 
 pub returns-in-Err : goal.returns-in-Err
 returns-in-Err g c = c.in-Err.ensures.reads rccerun.name (hosts_plan c.args.list.now c.args.job.nue (file_plan c.args.script.now c.args.job.nue))

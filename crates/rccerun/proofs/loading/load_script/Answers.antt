@@ -2,7 +2,7 @@ use Rattle.std.proofs.Common.{List, ℕ, subst, sym}
 use Rattle.outcomes.specs.Coming.{Holds}
 use Rattle.rccerun.specs.Loading.{AsksOn}
 use Rattle.rccerun.specs.Program.{rccerun, script_plan}
-use Rattle.rccerun.proofs.LoadLemmas.{holds_read, loads_read}
+use Rattle.rccerun.proofs.LoadLemmas.{loads_read}
 use Rattle.rccerun.proofs.loading.load_script.Goals as goal
 
 pub returns-in-Ok : goal.returns-in-Ok
@@ -10,9 +10,8 @@ returns-in-Ok g c =
     let file = c.args.script.now in
     let before = g.F.Files.seen c.args.files.now in
     let between = g.F.Files.seen c.read_file.new.files in
-    let found = holds_read file 4194304 before between _ c.in-Ok.ensures.within c.in-Ok.ensures.reads in
     loads_read file 4194304 (script_plan file c.args.job.nue) (AsksOn file before.told c.args.job c.args.hosts) before between between _ _ c.in-Ok.ensures.reads
-    (rw c.as_slice.ensures at (c.load_bytes.ensures between before.told (subst (λ (b : List ℕ). Holds before.told file b) (sym c.as_slice.ensures) found.0)))
+    (rw c.as_slice.ensures at (c.load_bytes.ensures between before.told (subst (λ (b : List ℕ). Holds before.told file b) (sym c.as_slice.ensures) c.in-Ok.ensures.holds)))
 
 pub returns-in-Err : goal.returns-in-Err
 returns-in-Err g c = c.in-Err.ensures.reads rccerun.name (script_plan c.args.script.now c.args.job.nue)

@@ -1,7 +1,7 @@
 use Rattle.std.proofs.Common.{subst, sym}
 use Rattle.rcce_run.specs.Crews.{EndsAs}
 use Rattle.rcce_run.specs.declared.ends.RunEnd.{RunEnd}
-use Rattle.rcceaudit.proofs.LogLemmas.{finished_all, stuck_one}
+use Rattle.rcce_run.proofs.FinishedLaws.{finished_all, stuck_one}
 use Rattle.rcceaudit.proofs.logged.LoggedReport.is_finished.Goals as goal
 
 pub returns-in-Finished : goal.returns-in-Finished

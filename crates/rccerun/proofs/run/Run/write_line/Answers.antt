@@ -6,7 +6,7 @@ use Rattle.script_gen.specs.Outcome.{printed_sum, script_line}
 use Rattle.rcce_run.proofs.RunEnds.{some_worker}
 use Rattle.rccerun.specs.Reports.{Shown}
 use Rattle.rccerun.specs.Runs.{IsMadeOf}
-use Rattle.rccerun.proofs.RunLemmas.{plain_count}
+use Rattle.rcce_run.proofs.FinishedLaws.{plain_count}
 use Rattle.rccerun.proofs.SentLemmas.{made_line}
 use Rattle.rccerun.proofs.run.Run.write_line.Goals as goal
 

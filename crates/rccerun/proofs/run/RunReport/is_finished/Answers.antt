@@ -2,8 +2,10 @@ use Rattle.std.proofs.Common.{subst, sym, ◌∙◌, ap}
 use Rattle.script_plain.specs.Meaning.{plain_ends}
 use Rattle.rcce_run.specs.Crews.{EndsAs}
 use Rattle.rcce_run.specs.declared.ends.RunEnd.{RunEnd}
-use Rattle.rccerun.specs.Reports.{Shown, all_finished}
-use Rattle.rccerun.proofs.RunLemmas.{finished_all, ran_finished, stuck_one}
+use Rattle.script_plain.specs.Ends.{all_finished}
+use Rattle.rcce_run.proofs.FinishedLaws.{finished_all, stuck_one}
+use Rattle.rccerun.specs.Reports.{Shown}
+use Rattle.rccerun.proofs.RunLemmas.{ran_finished}
 use Rattle.rccerun.proofs.run.RunReport.is_finished.Goals as goal
 
 pub returns-in-Finished : goal.returns-in-Finished

@@ -1,7 +1,8 @@
 use Rattle.std.proofs.Common.{ap, sym, subst, List, ℕ, ◌∙◌}
 use Rattle.rcce_io.specs.Sending.{Sends}
 use Rattle.rccerun.specs.Reports.{Shown}
-use Rattle.rccerun.proofs.RunLemmas.{plain_count, ran_err}
+use Rattle.rcce_run.proofs.FinishedLaws.{plain_count}
+use Rattle.rccerun.proofs.RunLemmas.{ran_err}
 use Rattle.rccerun.proofs.run.RunReport.write_err.Goals as goal
 
 pub write_unfinished-requires : goal.write_unfinished-requires

@@ -2,7 +2,7 @@ use Rattle.std.proofs.Common.{ap, sym, subst, Option, List, ℕ, ◌∙◌}
 use Rattle.rcce_io.specs.Sending.{Sends}
 use Rattle.script_plain.specs.Meaning.{plain_ends}
 use Rattle.rccerun.specs.Reports.{Shown, by_rank, printed_text, ran_by}
-use Rattle.rccerun.proofs.RunLemmas.{plain_count}
+use Rattle.rcce_run.proofs.FinishedLaws.{plain_count}
 use Rattle.rccerun.proofs.run.RunReport.write_out.Goals as goal
 
 pub write_line-requires : goal.write_line-requires
