@@ -1,3 +1,4 @@
+pub mod ByteLaws
 pub mod CallMoves
 pub mod EventMoves
 pub mod FollowLaws

@@ -8,6 +8,7 @@ ghost use Rattle.scc_base.specs.declared.events.Event.{Event};
 ghost use Rattle.scc_base.specs.declared.layouts.Layout.TheVariants.{LineFlags};
 ghost use Rattle.scc_proto.specs.Records.{record_of};
 ghost use Rattle.call_tap.specs.declared.taps.Tap.{Tap};
+ghost use Rattle.call_tap.specs.Bytes.{HasBytes};
 ghost use Rattle.call_tap.specs.Kept.{AreKept, HasRoom};
 ghost use Rattle.call_tap.specs.Planned.{has_room_for};
 ghost use Rattle.call_tap.specs.Taps.{HasRead};
@@ -23,4 +24,9 @@ pub fn kept_law()
 pub fn room_law()
     ensures law { (planned rest : List Call) (calls : List DataCall) → has_room_for planned ≡ true → planned ≡ map call_of calls ++ rest
         → All HasItsBytes calls → HasRoom calls }
+{}
+
+/// The bytes of each finished call are bytes: they were told from words.
+pub fn bytes_law()
+    ensures law { (s : SetupView) (rank : ℕ) (events : List Event) → All HasBytes (record_of s rank events).calls }
 {}

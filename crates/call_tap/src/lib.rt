@@ -12,7 +12,7 @@ mod uses;
 mod watches;
 
 pub use kept::Kept;
-pub use laws::{kept_law, room_law};
+pub use laws::{bytes_law, kept_law, room_law};
 pub use ports::Tapped;
 pub use taps::Tap;
 pub use watches::{Midst, Watch};

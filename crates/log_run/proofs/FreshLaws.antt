@@ -17,11 +17,11 @@ use Rattle.rcce_run.specs.UeRuns.{IsSameChip, WaitsOpen}
 use Rattle.rcce_run.proofs.CrewGrowth.{each_more}
 use Rattle.rcce_run.proofs.UeFits.{ue_stands}
 use Rattle.call_tap.specs.declared.taps.Tap.{Tap}
-use Rattle.call_tap.specs.Kept.{AreKept}
+use Rattle.call_tap.specs.Kept.{AreKept, HasRoom}
 use Rattle.call_tap.specs.Planned.{has_room_for}
 use Rattle.log_run.specs.declared.loggers.Logger.{Logger}
 use Rattle.log_run.specs.Loggers.{IsTapped}
-use Rattle.log_run.specs.LogRuns.{AreFresh, AreLegalCalls, HaveKept, IsFresh, IsFreshCrew, IsOver, KeepsCalls, logger_seen, logger_tied, plain_calls}
+use Rattle.log_run.specs.LogRuns.{AreFresh, AreLegalCalls, HaveKept, IsFresh, IsFreshCrew, IsOver, IsOwnCall, KeepsCalls, logger_seen, logger_tied, plain_calls}
 use Rattle.log_run.specs.Sizes.{has_room_for_all}
 use Rattle.log_run.proofs.RoomLaws.{each_room}
 
@@ -94,13 +94,24 @@ pub over : (script : Script) (s : SetupView) (chip now : ChipView) (crew later :
     → IsSameChip chip now → length later ≡ length crew → EndsAs end script → ((k : ℕ) → (records_in now k).calls ≡ plain_calls script k) → AreLegalCalls now
     → ((k : ℕ) (call : DataCall) → k < script.nue → open_call (about_in now) (records_in now k) ≡ Some call → WaitsOpen script k call)
     → ((about_in chip).layout ≡ LineFlags → (k : ℕ) (d : Logger UeView) → k < script.nue → has_room_for (calls_of script k) ≡ true → KeepsCalls (slice_index_or later k d).tap (records_in now k).calls)
-    → ((k : ℕ) → k < script.nue → All HasItsBytes (records_in now k).calls) → IsOver script s now later end
-over script s chip now crew later end ranks lines room new each stands count answer calls legal opened kept long = record {
+    → ((k : ℕ) → k < script.nue → All HasItsBytes (records_in now k).calls) → ((k : ℕ) → k < script.nue → All (IsOwnCall script k) (records_in now k).calls)
+    → ((k : ℕ) → k < script.nue → has_room_for (calls_of script k) ≡ true → HasRoom (records_in now k).calls) → IsOver script s now later end
+over script s chip now crew later end ranks lines room new each stands count answer calls legal opened kept long own few = record {
   kept = record {
     count = count ∙ each ∙ ranks;
     each = λ k d low. subst (λ (done : List DataCall). KeepsCalls (slice_index_or later k d).tap done) (calls k) (kept (ap (λ (x : SetupView). x.layout) new.about ∙ lines) k d low (each_room script room k low));
     long = λ k low. subst (λ (done : List DataCall). All HasItsBytes done) (calls k) (long k low);
   };
   answer = answer;
-  history = record { setup = stands.about ∙ new.about; whole = stands.whole; finished = calls; legal = legal; opened = opened };
+  history = record {
+    setup = stands.about ∙ new.about;
+    whole = stands.whole;
+    finished = calls;
+    own = λ k low. record {
+      own = subst (λ (done : List DataCall). All (IsOwnCall script k) done) (calls k) (own k low);
+      room = subst (λ (done : List DataCall). HasRoom done) (calls k) (few k low (each_room script room k low));
+    };
+    legal = legal;
+    opened = opened;
+  };
 }

@@ -1,5 +1,5 @@
 -- What a run of UEs whose calls are kept leaves.
-use Rattle.std.proofs.Common.{◌≡◌, ⊎_elim, ℕ, ◌<◌, ◌≤◌, Bool, true, false, List, [], ◌∷◌, ◌++◌, append-nil, length, map, slice_get, slice_index_or, Option, Some, None, option_and_then, refl, sym, ◌∙◌, ap, subst, arith}
+use Rattle.std.proofs.Common.{◌≡◌, ⊎_elim, ℕ, ◌<◌, ◌≤◌, true, List, [], ◌++◌, append-nil, length, map, slice_get, slice_index_or, Option, Some, None, option_and_then, refl, sym, ◌∙◌, ap, subst}
 use Rattle.std.specs.Prelude.{All}
 use Rattle.std.proofs.lemmas.Bool.{cases_lt}
 use Rattle.scc_base.specs.Calls.{DataCall, HasItsBytes}
@@ -12,17 +12,17 @@ use Rattle.scc_proto.specs.Agreement.{Agrees}
 use Rattle.scc_proto.specs.Legality.{IsLegal}
 use Rattle.scc_proto.specs.Passed.{open_call, passed_calls, passed_open, slot_of}
 use Rattle.scc_proto.specs.Records.{record_of}
-use Rattle.scc_proto.specs.Stages.{Record, Stage, blank}
+use Rattle.scc_proto.specs.Stages.{Record, blank}
 use Rattle.scc_proto.specs.Words.{Memory}
 use Rattle.scc_proto.proofs.PortLaws.{record_of-nil}
 use Rattle.scc_mesh.specs.Scenes.{ChipView, about_in, events_in, records_in}
 use Rattle.script_reader.specs.Script.{Script}
 use Rattle.script_plain.specs.CallLists.{calls_from, calls_of}
 use Rattle.script_plain.specs.Collectives.{started}
-use Rattle.script_plain.specs.Ends.{Ended, ended_at}
+use Rattle.script_plain.specs.Ends.{Ended}
 use Rattle.script_plain.specs.Lengths.{lengths_of}
 use Rattle.script_plain.specs.Local.{Local, local_next, local_start}
-use Rattle.script_plain.specs.Meaning.{State, next_of, plain_end, plain_ends, recorded}
+use Rattle.script_plain.specs.Meaning.{State, next_of, plain_end, recorded}
 use Rattle.script_plain.specs.Next.{Next, call_of}
 use Rattle.script_plain.specs.Next.Next.{Ends, Goes, Posts, Sends, Recvs, Bars}
 use Rattle.script_plain.specs.Paths.{Came, Did}
@@ -92,15 +92,20 @@ module _ (script : Script) (chip : ChipView) (crew : List (Logger UeView)) (memo
         are_first script k (known k) (ready k low) s (records k) (state_of (locals k) (records k)) fits.last
         (subst (λ (x : Script). Stood next_of s k (started x k) (records k) (state_of (locals k) (records k)) fits.last) (all_run k d (within k below)) fits.stood)
 
+    -- there is room for them, where there is for the program's
+    pub room_at : ((planned rest : List Call) (done : List DataCall) → has_room_for planned ≡ true → planned ≡ map calls.call_of done ++ rest → All HasItsBytes done → HasRoom done)
+        → (k : ℕ) → k < script.nue → has_room_for (calls_of script k) ≡ true → HasRoom (records k).calls
+    room_at room k low planned =
+        let first = first_at k low in
+        room (calls_of script k) first.rest (records k).calls planned first.planned first.long
+
     -- and its tap keeps them
     pub kept_at : ((tap : Tap) (s : SetupView) (rank : ℕ) (events : List Event) → HasRead tap s rank events → s.layout ≡ LineFlags → HasRoom (record_of s rank events).calls → AreKept tap.kept (record_of s rank events).calls)
         → ((planned rest : List Call) (done : List DataCall) → has_room_for planned ≡ true → planned ≡ map calls.call_of done ++ rest → All HasItsBytes done → HasRoom done)
         → s.layout ≡ LineFlags → (k : ℕ) → k < script.nue → has_room_for (calls_of script k) ≡ true → KeepsCalls (slice_index_or crew k d).tap (records k).calls
     kept_at kept room lines k low planned =
-        let first = first_at k low in
         let below : k < s.nue = subst (λ (n : ℕ). k < n) (sym ranks) low in
-        tap_keeps kept (slice_index_or crew k d).tap s k (events_in chip k) (is_crew.ties k d (within k below)).tapped lines
-        (room (calls_of script k) first.rest (records k).calls planned first.planned first.long)
+        tap_keeps kept (slice_index_or crew k d).tap s k (events_in chip k) (is_crew.ties k d (within k below)).tapped lines (room_at room k low planned)
 
   pub ranks_are : s.nue ≡ script.nue
   ranks_are =

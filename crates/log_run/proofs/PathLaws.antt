@@ -1,10 +1,9 @@
 -- The calls that a rank has done on its way are the first of those that its program names, and have their bytes.
-use Rattle.std.proofs.Common.{◌≡◌, ℕ, ◌<◌, List, [], ◌∷◌, ◌++◌, map, Option, Some, None, refl, sym, ap, ◌∙◌, subst}
+use Rattle.std.proofs.Common.{◌≡◌, ℕ, List, ◌++◌, map, Option, Some, None, refl, sym, ap, ◌∙◌, subst}
 use Rattle.std.specs.Prelude.{All}
 use Rattle.std.proofs.lemmas.List.Elements.{All-nil, All-cons}
 use Rattle.scc_base.specs.Calls.{DataCall, HasItsBytes, call_of}
 use Rattle.scc_base.specs.Calls as calls
-use Rattle.scc_base.specs.Heads.{MessageHead}
 use Rattle.scc_base.specs.Setups.{SetupView}
 use Rattle.scc_base.specs.declared.calls.Call.{Call}
 use Rattle.scc_proto.specs.Stages.{Record}
@@ -23,6 +22,7 @@ use Rattle.script_plain.specs.Paths.Did.{Here, Own, Left, Sent, Got, Met}
 use Rattle.script_plain.specs.Ready.{IsReady}
 use Rattle.rcce_run.specs.Sweep.{Stood}
 use Rattle.rcce_run.specs.Sweep.Stood.{Running, Stopped}
+use Rattle.log_run.specs.LogRuns.{IsOwnCall}
 
 -- ---- what stands next at a rank, without the calls done so far
 
@@ -84,13 +84,32 @@ module _ (script : Script) (rank : ℕ) (start : State) (ready : (u : State) (la
       All-cons HasItsBytes (calls.Bar comm) cs tt
       (calls_long v end w l cs (Joined a w l comm came step) rest)
 
+  -- and each of them is one that the rank can make
+  pub calls_own : (v : State) (end : Option Posted) (u : State) (last : Option Posted) (done : List DataCall) → Came next_of start u last → Did next_of v end u last done → All (IsOwnCall script rank) done
+  calls_own v end u last done came Here = All-nil (IsOwnCall script rank)
+  calls_own v end u last done came (Own a w l cs step rest) = calls_own v end w l cs (Went a w l came step) rest
+  calls_own v end u last done came (Left a w l message cs step rest) =
+      All-cons (IsOwnCall script rank) (calls.Post message.to message.head message.bytes) cs (ready_at a l (Posts message w) came step)
+      (calls_own v end w (Some message) cs (Leaves a w l message came step) rest)
+  calls_own v end u last done came (Sent a w l to head bytes cs step rest) =
+      All-cons (IsOwnCall script rank) (calls.Send to head bytes) cs (ready_at a l (Sends to head bytes w) came step)
+      (calls_own v end w l cs (Passed a w l to head bytes came step) rest)
+  calls_own v end u last done came (Got a l from head bytes take refuse cs even step rest) =
+      let ready : IsReady script rank (Recvs from head take refuse) = ready_at a l (Recvs from head take refuse) came step in
+      All-cons (IsOwnCall script rank) (calls.Recv from head bytes) cs (ready.0, ready.1, even)
+      (calls_own v end (take bytes) l cs (Took a l from head bytes take refuse even came step) rest)
+  calls_own v end u last done came (Met a w l comm cs step rest) =
+      All-cons (IsOwnCall script rank) (calls.Bar comm) cs (ready_at a l (Bars comm w) came step)
+      (calls_own v end w l cs (Joined a w l comm came step) rest)
+
 -- ---- the finished calls of a rank that stands in a run
 
--- they are the first of those that its program names, and have their bytes
+-- they are the first of those that its program names, have their bytes, and are those that it can make
 pub record AreFirst (script : Script) (rank : ℕ) (done : List DataCall) : Type 0 where
   pub rest : List Call
   pub planned : calls_of script rank ≡ map call_of done ++ rest
   pub long : All HasItsBytes done
+  pub own : All (IsOwnCall script rank) done
 
 module _ (script : Script) (rank : ℕ)
     (known : (u : Local) (last : Option Posted) (done : List DataCall) → Did local_next u last (local_start script rank) None done → calls_of script rank ≡ map call_of done ++ calls_from (lengths_of u) u.left)
@@ -100,6 +119,7 @@ module _ (script : Script) (rank : ℕ)
     rest = calls_from (lengths_of v.local) v.local.left;
     planned = known v.local end done (did_local v end (started script rank) None done did);
     long = calls_long script rank (started script rank) ready v end (started script rank) None done Began did;
+    own = calls_own script rank (started script rank) ready v end (started script rank) None done Began did;
   }
 
   pub are_first : (s : SetupView) (rec : Record) (u : State) (last : Option Posted) → Stood next_of s rank (started script rank) rec u last → AreFirst script rank rec.calls

@@ -1,14 +1,18 @@
 -- A run of UEs whose calls are kept: where it begins, and what it leaves (this project's profile).
-use Rattle.std.specs.Prelude.{◌≡◌, ℕ, ◌<◌, All, List, [], length, Option, Some, None, slice_get, slice_index_or}
-use Rattle.scc_base.specs.Calls.{DataCall, HasItsBytes}
+use Rattle.std.specs.Prelude.{◌≡◌, ◌≢◌, ℕ, ◌<◌, All, List, [], length, Option, Some, None, slice_get, slice_index_or}
+use Rattle.groups.specs.Peers.{IsPeer}
+use Rattle.scc_base.specs.Calls.{DataCall, Send, Recv, Post, Bar, HasItsBytes}
+use Rattle.scc_base.specs.Communicators.{rule_of}
+use Rattle.scc_base.specs.Heads.{IsHead, IsPostHead}
+use Rattle.scc_base.specs.declared.communicators.CommRule.TheVariants.{Absent}
 use Rattle.scc_base.specs.Setups.{SetupView, setup_key}
 use Rattle.scc_base.specs.declared.events.Event.{Event}
 use Rattle.scc_proto.specs.Legality.{IsLegal}
 use Rattle.scc_proto.specs.Passed.{open_call, slot_of}
 use Rattle.scc_mesh.specs.Scenes.{ChipView, IsWhole, about_in, events_in, records_in}
 use Rattle.call_tap.specs.declared.taps.Tap.{Tap}
-use Rattle.call_tap.specs.Kept.{AreKept}
-use Rattle.script_reader.specs.Script.{Script}
+use Rattle.call_tap.specs.Kept.{AreKept, HasRoom}
+use Rattle.script_reader.specs.Script.{Script, rules_of}
 use Rattle.script_reader.specs.Settled as settled
 use Rattle.script_plain.specs.Meaning.{State, plain_end}
 use Rattle.rcce_ue.specs.Ues.{UeView}
@@ -60,6 +64,19 @@ done_at (Some state) = state.matched
 abbrev pub plain_calls : Script → ℕ → List DataCall
 plain_calls script rank = done_at (slice_get (plain_end script).cells rank)
 
+-- a call that a rank of a script can make: a message with another rank of the run, with a head that a message may have and as
+-- many bytes as it says; a post of one chunk at most; a barrier of a communicator that is there
+abbrev pub IsOwnCall : Script → ℕ → DataCall → Type 0
+IsOwnCall script rank (Send to head bytes) = IsPeer script.nue rank to × IsHead head × (length bytes ≡ head.len)
+IsOwnCall script rank (Recv from head bytes) = IsPeer script.nue rank from × IsHead head × (length bytes ≡ head.len)
+IsOwnCall script rank (Post to head bytes) = IsPeer script.nue rank to × IsPostHead head × (length bytes ≡ head.len)
+IsOwnCall script rank (Bar comm) = (comm < 16) × (rule_of (rules_of script.items) comm ≢ Absent)
+
+-- calls that a rank of a script can make, for which a tap has room
+pub record AreOwnCalls (script : Script) (rank : ℕ) (calls : List DataCall) : Type 0 where
+  pub own : All (IsOwnCall script rank) calls
+  pub room : HasRoom calls
+
 -- What a run of a script leaves on a chip of this setup: the finished calls of each rank are those that the plain meaning
 -- did for it, with their bytes and in order, and they are legal. A call is open in a record only where the plain meaning
 -- leaves the rank waiting in this call. All ranks are at home.
@@ -67,6 +84,7 @@ pub record HasRun (script : Script) (s : SetupView) (chip : ChipView) : Type 0 w
   pub setup : about_in chip ≡ s
   pub whole : IsWhole chip
   pub finished : (rank : ℕ) → (records_in chip rank).calls ≡ plain_calls script rank
+  pub own : (rank : ℕ) → rank < script.nue → AreOwnCalls script rank (plain_calls script rank)
   pub legal : AreLegalCalls chip
   pub opened : (rank : ℕ) (call : DataCall) → rank < script.nue → open_call (about_in chip) (records_in chip rank) ≡ Some call → WaitsOpen script rank call
 

@@ -1,6 +1,7 @@
 //! A run of UEs whose calls are kept.
 
 ghost use Rattle.std.specs.Prelude.{◌≡◌, ◌<◌, All, length, ℕ, slice_index_or, Some, true};
+ghost use Rattle.call_tap.specs.Kept.{HasRoom};
 ghost use Rattle.call_tap.specs.Planned.{has_room_for};
 ghost use Rattle.rcce_run.specs.Crews.{EndsAs};
 ghost use Rattle.rcce_run.specs.UeRuns.{IsSameChip, WaitsOpen};
@@ -12,7 +13,7 @@ ghost use Rattle.scc_proto.specs.Passed.{open_call};
 ghost use Rattle.script_plain.specs.CallLists.{calls_of};
 ghost use Rattle.script_reader.specs.Script.{Script};
 ghost use Rattle.log_run.specs.declared.loggers.Logger.{Logger};
-ghost use Rattle.log_run.specs.LogRuns.{AreLegalCalls, IsFreshCrew, KeepsCalls, plain_calls};
+ghost use Rattle.log_run.specs.LogRuns.{AreLegalCalls, IsFreshCrew, IsOwnCall, KeepsCalls, plain_calls};
 
 use crate::loggers::Logger;
 use crate::runs::run_loggers;
@@ -46,6 +47,10 @@ pub fn log_run<V: Evict + Drop>(chip: &mut Chip, crew: &mut [Logger<Ue<'_, V>>])
         → KeepsCalls (slice_index_or crew.new k d).tap (records_in chip.new k).calls }
     // Each of them has the bytes that its head says.
     ensures long { (script : Script) → IsFreshCrew script chip.old crew.old → (k : ℕ) → k < script.nue → All HasItsBytes (records_in chip.new k).calls }
+    // Each of them is one that the rank can make, and a tap has room for them where it has room for all calls of the program.
+    ensures own { (script : Script) → IsFreshCrew script chip.old crew.old → (k : ℕ) → k < script.nue → All (IsOwnCall script k) (records_in chip.new k).calls }
+    ensures room { (script : Script) → IsFreshCrew script chip.old crew.old → (k : ℕ) → k < script.nue → has_room_for (calls_of script k) ≡ true
+        → HasRoom (records_in chip.new k).calls }
 {
     let _ = chip.setup().nue();
     let end = run_loggers(chip, crew);

@@ -3,6 +3,7 @@ pub mod HexTextLemmas
 pub mod LineLemmas
 pub mod ListLemmas
 pub mod ReadingLemmas
+pub mod SizeLemmas
 pub mod StandingLemmas
 pub mod StepLemmas
 pub mod TextLemmas

@@ -4,6 +4,7 @@ pub mod Kinds
 pub mod Logs
 pub mod Pieces
 pub mod Reading
+pub mod Sizes
 pub mod Standings
 pub mod Texts
 pub mod Verdicts

@@ -2,7 +2,8 @@
 
 ghost use Rattle.std.specs.Prelude.{◌≡◌, ◌≤◌, ℕ, List, Ok, []};
 ghost use Rattle.rcce_audit.specs.Grammar.{log_of};
-ghost use Rattle.rcce_audit.specs.Logs.{LogView, calls_of};
+ghost use Rattle.rcce_audit.specs.Logs.{IsLog, LogView, calls_of};
+ghost use Rattle.rcce_audit.specs.Sizes.{AreFew};
 ghost use Rattle.rcce_audit.specs.Texts.{IsFileLog, log_text};
 ghost use Rattle.rcce_audit.specs.declared.verdicts.Verdict.{Verdict};
 ghost use Rattle.rcce_audit.specs.Verdicts.{IsVerdict};
@@ -14,6 +15,11 @@ pub fn text_law()
     ensures written { (log : LogView) → IsFileLog log → log_of (log_text log) ≡ Ok log }
     // What a text says is a log that a file may have.
     ensures valid { (bytes : List ℕ) (log : LogView) → log_of bytes ≡ Ok log → IsFileLog log }
+{}
+
+/// A log with at most 10,000 calls of a rank, which move at most 262,144 bytes, is one that a file may have.
+pub fn size_law()
+    ensures fits { (log : LogView) → IsLog log → ((r : ℕ) → AreFew (calls_of log r)) → IsFileLog log }
 {}
 
 /// A log has one verdict.

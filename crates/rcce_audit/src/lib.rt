@@ -19,7 +19,7 @@ mod writing;
 pub use faults::{LogFault, LogKind, LogStop};
 pub use held::{CallList, HeldLog};
 pub use judging::audit;
-pub use laws::{text_law, verdict_law};
+pub use laws::{size_law, text_law, verdict_law};
 pub use logs::{Log, LogCall};
 pub use reading::read_log;
 pub use verdicts::Verdict;

@@ -1,3 +1,4 @@
 pub mod PlanLemmas
 pub mod RunPlanLemmas
 pub mod LogLemmas
+pub mod BackLemmas

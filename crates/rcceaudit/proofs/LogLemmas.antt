@@ -21,7 +21,7 @@ use Rattle.log_run.specs.LogRuns.{done_at, plain_calls}
 
 -- ---- calls with their bytes
 
-one_long : (call : DataCall) → HasItsBytes call → bytes_in (call_of call) ≡ length (bytes_of call)
+pub one_long : (call : DataCall) → HasItsBytes call → bytes_in (call_of call) ≡ length (bytes_of call)
 one_long (Send to head bytes) long = sym long
 one_long (Recv from head bytes) long = sym long
 one_long (Post to head bytes) long = sym long
@@ -76,7 +76,7 @@ hold_more script n lists list low held is = record {
         let apart : k ≢ n = λ same. absurd (omega (arith, earlier, same)) in
         ap held_calls (get_or-set_other lists n k list d apart) ∙ held.done k d earlier
 
-past_none : (script : Script) (k : ℕ) → script.nue ≤ k → plain_calls script k ≡ []
+pub past_none : (script : Script) (k : ℕ) → script.nue ≤ k → plain_calls script k ≡ []
 past_none script k past =
     ap done_at (slice_get_past (plain_end script).cells k
     (let cells = length-plain_end script in let same = length-map (plain_end script).cells (λ (u : State). u.local) in omega (arith, past, cells, same)))

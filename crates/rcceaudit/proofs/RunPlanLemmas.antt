@@ -1,5 +1,5 @@
 -- What the plan of a run comes to, and what the run leaves on the chip.
-use Rattle.std.proofs.Common.{◌≡◌, ℕ, ◌≤◌, List, length, map, codes, refl, sym, subst, ap, ◌∙◌, inl, inr, Bool, true, false, if◌then◌else◌, Option, Some, None, Result, Ok, Err}
+use Rattle.std.proofs.Common.{◌≡◌, ℕ, ◌≤◌, List, length, map, codes, refl, sym, subst, ap, inl, inr, Bool, true, false, if◌then◌else◌, Option, Some, None, Result, Ok, Err}
 use Rattle.std.specs.List.{range_with_len}
 use Rattle.rcce_io.specs.Files.{FilesView, NamedFile}
 use Rattle.scc_base.specs.Setups.{SetupView}
@@ -8,6 +8,7 @@ use Rattle.script_reader.specs.Reading.{parse_script}
 use Rattle.script_reader.specs.Faults.{kind_name}
 use Rattle.script_reader.specs.declared.fault.ReadFault.{ReadFault}
 use Rattle.script_reader.specs.Script.{Script}
+use Rattle.script_reader.specs.Settled as settled
 use Rattle.outcomes.specs.Coming.{ByTest, Comes, Holds, IsMeant}
 use Rattle.outcomes.specs.Complaints.{ReadsFile, complaint_outcome, outcome_of}
 use Rattle.outcomes.specs.Delivery.{Delivers, Sinks}
@@ -22,10 +23,16 @@ use Rattle.log_run.specs.LogRuns.{HasRun}
 use Rattle.log_run.specs.Sizes.{has_room_for_all}
 use Rattle.rcceaudit.specs.declared.command.Job.{Job}
 use Rattle.rcceaudit.specs.declared.logged.Logged.{Logged}
-use Rattle.rcceaudit.specs.History.{HasLogged, RunTells, ScriptIn, WordsTell, setup_by}
+use Rattle.rcce_audit.specs.declared.verdicts.Verdict.TheVariants as verdict
+use Rattle.rcce_audit.specs.Grammar.{log_of}
+use Rattle.rcce_audit.specs.Logs.{LogView}
+use Rattle.rcce_audit.specs.Texts.{log_text}
+use Rattle.rcce_audit.specs.Verdicts.{IsVerdict}
+use Rattle.rcceaudit.specs.History.{HasLogged, RunTells, ScriptIn, WordsTell, chip_log, setup_by}
 use Rattle.rcceaudit.specs.Job.{IsJob, job_command}
 use Rattle.rcceaudit.specs.Loading.{Ends, HasRan, Launches, Leads, Loads, LoadsBytes, logged_ran}
-use Rattle.rcceaudit.specs.Program.{Command, command_plan, log_ran, parsed_plan, run_plan, run_words_plan, script_plan}
+use Rattle.rcceaudit.specs.Program.{Command, command_plan, log_ran, parsed_plan, run_plan, run_words_plan, script_log, script_plan}
+use Rattle.rcceaudit.proofs.BackLemmas.{judged_legal, read_back}
 
 -- ---- statuses
 
@@ -96,12 +103,16 @@ has_ran file script chip before after s (Err why) (comes, blank) delivers = reco
 }
 
 -- the log of a chip that a script ran on
-pub has_logged : (script : Script) (set : SetupView) (chip : ChipView) → set ≡ setup_by script → HasRun script set chip → HasLogged script chip
-has_logged script set chip same run =
+pub has_logged : (script : Script) (set : SetupView) (chip : ChipView) → settled.IsWhole script.nue script.items → set ≡ setup_by script → HasRun script set chip → HasLogged script chip
+has_logged script set chip whole same run =
     let own : HasRun script (setup_by script) chip = subst (λ (s : SetupView). HasRun script s chip) same run in
+    let log : chip_log chip ≡ script_log script =
+    λ i. record { nue = (own.setup i).nue; comms = (own.setup i).comms; lists = map (λ rank. own.finished rank i) (range_with_len 0 48) } in
     record {
       run = own;
-      log = λ i. record { nue = (own.setup i).nue; comms = (own.setup i).comms; lists = map (λ rank. own.finished rank i) (range_with_len 0 48) };
+      log = log;
+      read = subst (λ (l : LogView). log_of (log_text l) ≡ Ok l) (sym log) (read_back script chip whole own);
+      judged = subst (λ (l : LogView). IsVerdict l verdict.Yes) (sym log) (judged_legal script chip whole own);
     }
 
 -- ---- the script's file

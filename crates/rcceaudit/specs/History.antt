@@ -10,7 +10,11 @@ use Rattle.outcomes.specs.Coming.{ByTest, Holds}
 use Rattle.outcomes.specs.Outcomes.{Outcome, run_outcome}
 use Rattle.outcomes.specs.Statuses.{is_quiet}
 use Rattle.rcce_words.specs.Setups.{default_setup}
+use Rattle.rcce_audit.specs.declared.verdicts.Verdict.TheVariants as verdict
+use Rattle.rcce_audit.specs.Grammar.{log_of}
 use Rattle.rcce_audit.specs.Logs.{LogView}
+use Rattle.rcce_audit.specs.Texts.{log_text}
+use Rattle.rcce_audit.specs.Verdicts.{IsVerdict}
 use Rattle.log_run.specs.LogRuns.{HasRun}
 use Rattle.rcceaudit.specs.Program.{Command, log_ran, script_log}
 
@@ -26,10 +30,13 @@ setup_by script = default_setup script.nue (rules_of script.items)
 abbrev pub chip_log : ChipView → LogView
 chip_log chip = record { nue = (about_in chip).nue; comms = (about_in chip).comms; lists = map (λ rank. (records_in chip rank).calls) (range_with_len 0 48) }
 
--- A script was run on the chip, and its log, which the plain meaning tells, is the log of the chip's finished calls.
+-- A script was run on the chip, and its log, which the plain meaning tells, is the log of the chip's finished calls. The text
+-- of this log is read as this log, and its verdict is that it is legal.
 pub record HasLogged (script : Script) (chip : ChipView) : Type 0 where
   pub run : HasRun script (setup_by script) chip
   pub log : chip_log chip ≡ script_log script
+  pub read : log_of (log_text (chip_log chip)) ≡ Ok (chip_log chip)
+  pub judged : IsVerdict (chip_log chip) verdict.Yes
 
 -- Where the run's log is the outcome, the chip has this run: that of a script which stands in the file that was asked for.
 -- Else it is blank.

@@ -49,7 +49,8 @@ pub fn rcceaudit<F: Files, O: Sink, E: Sink>(
         → Promises (rcceaudit judge) (map string_bytes words.now) (F.seen files.old) (F.seen files.new)
         (sinks (O.seen out.old) (E.seen err.old)) (sinks (O.seen out.new) (E.seen err.new)) result }
     // Where a run was logged, what was written, or was to be written, is the log of the chip's finished calls. They are those
-    // that the plain meaning did for each rank, in order, and they are legal. Else the chip is blank.
+    // that the plain meaning did for each rank, in order, and they are legal; reading this text gives back exactly this log, and
+    // its verdict is Yes. Else the chip is blank.
     ensures history { (judge : LogView → Verdict) → IsJudge judge
         → EndsWith (ChipTells (F.seen files.old).told (file_named (map string_bytes words.now)) (command_of (map string_bytes words.now)) chip.new)
         (rcceaudit judge) (map string_bytes words.now) (F.seen files.old) (F.seen files.new)

@@ -1,6 +1,6 @@
 //! A run whose log is written.
 
-ghost use Rattle.std.specs.Prelude.{◌≡◌, ◌≤◌, ℕ, map, string_bytes, length, List, None, Option, Some, true};
+ghost use Rattle.std.specs.Prelude.{◌≡◌, ◌≤◌, ℕ, map, string_bytes, List, None, Some, true};
 ghost use Rattle.scc_mesh.specs.Scenes.{IsOpen};
 ghost use Rattle.outcomes.specs.Delivery.{sinks};
 ghost use Rattle.log_run.specs.LogRuns.{AreLegalCalls};
@@ -169,6 +169,7 @@ fn run<'s>(
     ensures launched { (file : List ℕ) → Launches file scripts.now chip.new result }
     ensures legal { IsOpen chip.new → AreLegalCalls chip.new }
 {
+    scripts.acceptance_law();
     match run_script(alloc, scripts, &setup_by(scripts), chip) {
         Ok(run) => Ok(Logged { run }),
         Err(_) => Err(Complaint::Memory),

@@ -4,7 +4,7 @@ use Rattle.rcce_run.specs.Crews.{AllRest, CrewStands}
 use Rattle.rcce_run.proofs.RunEnds.{some_worker}
 use Rattle.log_run.specs.LogRuns.{logger_seen, logger_tied}
 use Rattle.log_run.proofs.FreshLaws.{fresh_is_crew, fresh_runs, fresh_some}
-use Rattle.log_run.proofs.LogEnds.{first_at, kept_at, legal, plain_at, ranks_are, waits_open}
+use Rattle.log_run.proofs.LogEnds.{first_at, kept_at, legal, plain_at, ranks_are, room_at, waits_open}
 use Rattle.log_run.proofs.ue_runs.log_run.Goals as goal
 
 pub run_loggers-end-requires-clause-crew : goal.run_loggers-end-requires-clause-crew
@@ -71,3 +71,24 @@ returns-clause-long g c = λ script fresh k low.
     (first_at script c.run_loggers-end.new.chip c.run_loggers-end.new.crew c.agrees.ensures.words.0 c.agrees.ensures.words.1 stands.is_crew all some d
     (λ rank. c.calls_are_known_before.ensures.law script rank) (λ rank less. c.calls_can_be_made.ensures.law script fresh.read rank less)
     (ranks_are script c.run_loggers-end.new.chip c.run_loggers-end.new.crew c.agrees.ensures.words.0 c.agrees.ensures.words.1 stands.is_crew all some d) k low).long
+
+pub returns-clause-own : goal.returns-clause-own
+returns-clause-own g c = λ script fresh k low.
+    let stands : CrewStands logger_seen logger_tied c.args.chip.now c.args.crew.now c.run_loggers-end.new.chip c.run_loggers-end.new.crew = c.run_loggers-end.ensures.stands in
+    let some : 0 < length c.run_loggers-end.new.crew = subst (λ (n : ℕ). 0 < n) (sym stands.goes.count) (fresh_some script c.args.chip.now c.args.crew.now c.setup.result.now fresh c.setup.ensures.gives c.nue.ensures.valid.some_ranks) in
+    let all = stands.goes.scripts script (fresh_runs script c.args.chip.now c.args.crew.now fresh) in
+    let d = some_worker c.run_loggers-end.new.crew some in
+    (first_at script c.run_loggers-end.new.chip c.run_loggers-end.new.crew c.agrees.ensures.words.0 c.agrees.ensures.words.1 stands.is_crew all some d
+    (λ rank. c.calls_are_known_before.ensures.law script rank) (λ rank less. c.calls_can_be_made.ensures.law script fresh.read rank less)
+    (ranks_are script c.run_loggers-end.new.chip c.run_loggers-end.new.crew c.agrees.ensures.words.0 c.agrees.ensures.words.1 stands.is_crew all some d) k low).own
+
+pub returns-clause-room : goal.returns-clause-room
+returns-clause-room g c = λ script fresh k low planned.
+    let stands : CrewStands logger_seen logger_tied c.args.chip.now c.args.crew.now c.run_loggers-end.new.chip c.run_loggers-end.new.crew = c.run_loggers-end.ensures.stands in
+    let some : 0 < length c.run_loggers-end.new.crew = subst (λ (n : ℕ). 0 < n) (sym stands.goes.count) (fresh_some script c.args.chip.now c.args.crew.now c.setup.result.now fresh c.setup.ensures.gives c.nue.ensures.valid.some_ranks) in
+    let all = stands.goes.scripts script (fresh_runs script c.args.chip.now c.args.crew.now fresh) in
+    let d = some_worker c.run_loggers-end.new.crew some in
+    room_at script c.run_loggers-end.new.chip c.run_loggers-end.new.crew c.agrees.ensures.words.0 c.agrees.ensures.words.1 stands.is_crew all some d
+    (λ rank. c.calls_are_known_before.ensures.law script rank) (λ rank less. c.calls_can_be_made.ensures.law script fresh.read rank less)
+    (ranks_are script c.run_loggers-end.new.chip c.run_loggers-end.new.crew c.agrees.ensures.words.0 c.agrees.ensures.words.1 stands.is_crew all some d)
+    c.room_law.ensures.law k low planned

@@ -1,4 +1,4 @@
-use Rattle.std.proofs.Common.{ap, codes, refl, sym, subst, ◌∙◌}
+use Rattle.std.proofs.Common.{ap, codes, sym, ◌∙◌}
 use Rattle.std.proofs.lemmas.Bool.{false≢true}
 use Rattle.scc_mesh.specs.Scenes.{is_open}
 use Rattle.rcceaudit.proofs.RunPlanLemmas.{comes_memory, has_logged}
@@ -7,7 +7,7 @@ use Rattle.rcceaudit.proofs.logging.run.Goals as goal
 pub returns-in-Ok : goal.returns-in-Ok
 returns-in-Ok c =
     let script = c.args.scripts.now in
-    let has = has_logged script _ _ c.setup_by.ensures c.in-Ok.ensures.history in
+    let has = has_logged script _ _ c.acceptance_law.ensures.whole c.setup_by.ensures c.in-Ok.ensures.history in
     record { launched = λ file. (c.in-Ok.ensures.run, c.requires.room, has); legal = λ opened. has.run.legal }
 
 pub returns-in-Err : goal.returns-in-Err

@@ -1,0 +1,11 @@
+-- The bytes of calls.
+use Rattle.std.specs.Prelude.{ℕ, ◌<◌, List, slice_index}
+use Rattle.scc_base.specs.Calls.{DataCall}
+use Rattle.call_tap.specs.Watching.{bytes_of}
+
+-- each of them is below 256
+abbrev pub AreBytes : List ℕ → Type 0
+AreBytes bytes = (i : ℕ) → slice_index bytes i < 256
+
+abbrev pub HasBytes : DataCall → Type 0
+HasBytes call = AreBytes (bytes_of call)
