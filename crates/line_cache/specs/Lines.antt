@@ -33,7 +33,7 @@ abbrev pub AreDistinct : List Entry → Type 0
 AreDistinct [] = Unit {0}
 AreDistinct (e ∷ es) = (held es e.line ≡ None) × AreDistinct es
 
--- what is seen of a cache
+-- at most 512 lines, none twice
 pub record IsCache (es : List Entry) : Type 0 where
   pub distinct : AreDistinct es
   pub few : length es ≤ most_lines

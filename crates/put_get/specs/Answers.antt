@@ -33,7 +33,7 @@ abbrev pub AnswersLaw : Type 0
 AnswersLaw = (known es : List Event) (c d : Private) (s t : Sight) (p : WordAt) (v : ℕ) → Since known c → p.word < 4
     → ReadsWord s c p v t d → Did s es t → IsKnown (known ++ es) p v
 
--- a line that is read costs four loads, and four more for each line that was dropped meanwhile
+-- a line that is read costs at most four loads, and four more for each line that was dropped meanwhile
 abbrev pub LineCostLaw : Type 0
 LineCostLaw = (es : List Event) (c d : Private) (s t : Sight) (line : LineAt) (words : List ℕ) → ReadsLine s c line words t d → Did s es t
     → load_count es + 4 * c.evictions ≤ 4 * d.evictions + 4

@@ -35,11 +35,11 @@ setup_key s comm r = key_of s.comms comm r
 abbrev pub members_of : SetupView → ℕ → ℕ → List ℕ
 members_of s comm r = members_in s.nue (setup_key s comm) r
 
--- their number
+-- how many members the group of rank r in a communicator has
 abbrev pub size_of : SetupView → ℕ → ℕ → ℕ
 size_of s comm r = size_in s.nue (setup_key s comm) r
 
--- the place of a rank in its group, and the group's member 0
+-- the place of rank r in its group of a communicator, counted from 0
 abbrev pub place_of : SetupView → ℕ → ℕ → ℕ
 place_of s comm r = place_in (setup_key s comm) r
 

@@ -131,10 +131,20 @@ pub record CanFollow (nue : ℕ) (keys : ℕ → ℕ → ℕ) (step : CallStep) 
   pub proper : IsProper nue keys step
   pub slot : (k : ℕ) → slot_at step k ≡ true → slots k ≡ slot_before step
 
+-- each rank has made the calls of a step at the end of its list
+abbrev pub HaveMade : ℕ → (ℕ → ℕ → ℕ) → CallStep → (ℕ → List DataCall) → (ℕ → List DataCall) → Type 0
+HaveMade nue keys step old new = (k : ℕ) → new k ≡ old k ++ calls_of nue keys step k
+
+-- the slots are those after a step
+abbrev pub HaveMoved : CallStep → (ℕ → Option Outgoing) → (ℕ → Option Outgoing) → Type 0
+HaveMoved step old new = (k : ℕ) → new k ≡ slots_after step old k
+
 -- lists of calls have grown by nothing, or by the calls of one step at their ends
-pub data Grows (nue : ℕ) (keys : ℕ → ℕ → ℕ) (old : ℕ → List DataCall) (old_slots : ℕ → Option Outgoing) (new : ℕ → List DataCall) (new_slots : ℕ → Option Outgoing) : Type 0 where
+pub data Grows (nue : ℕ) (keys : ℕ → ℕ → ℕ) (old : ℕ → List DataCall) (old_slots : ℕ → Option Outgoing) (new : ℕ → List DataCall)
+    (new_slots : ℕ → Option Outgoing) : Type 0 where
   ByNothing : ((k : ℕ) → new k ≡ old k) → ((k : ℕ) → new_slots k ≡ old_slots k) → Grows nue keys old old_slots new new_slots
-  ByStep : (step : CallStep) → CanFollow nue keys step old_slots → ((k : ℕ) → new k ≡ old k ++ calls_of nue keys step k) → ((k : ℕ) → new_slots k ≡ slots_after step old_slots k) → Grows nue keys old old_slots new new_slots
+  ByStep : (step : CallStep) → CanFollow nue keys step old_slots → HaveMade nue keys step old new → HaveMoved step old_slots new_slots
+      → Grows nue keys old old_slots new new_slots
 
 -- the message in a slot, where it is for rank r
 abbrev pub slot_message : ℕ → Option Outgoing → List Message

@@ -2,7 +2,8 @@
 
 use scc_base::{CoreId, Place, Rank, Setup};
 
-/// The accesses of one rank to the shared words of the chip. A call makes one event, or none.
+/// The accesses of one rank to the shared words of the chip. Each load, store, take and free makes exactly
+/// one event.
 ///
 /// A contract sees a port as its `sight`: whose port it is, and the list of its events. `stepped` says of
 /// an event of a seat that it was a step of the chip's memory, made after these events of the seat's rank. That
