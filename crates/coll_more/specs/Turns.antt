@@ -9,6 +9,7 @@ use Rattle.scc_base.specs.declared.layouts.Layout.{Layout}
 use Rattle.scc_proto.specs.Messages.{Notes}
 use Rattle.scc_proto.specs.Ports.{Did, Seat, record_in}
 use Rattle.scc_proto.specs.Records.{chunk_of}
+use Rattle.scc_proto.specs.Resting.{is_resting}
 use Rattle.scc_proto.specs.Stages.{Record}
 use Rattle.send_recv.specs.Chunks.{message_bound}
 use Rattle.send_recv.specs.Ops.{SlotAt}
@@ -16,7 +17,7 @@ use Rattle.send_recv.specs.Receiving.{SaysHead, recv_left, recv_spot, recv_waits
 use Rattle.send_recv.specs.Sending.{send_left, send_spot}
 use Rattle.send_recv.specs.Sights.{layout_at}
 use Rattle.send_recv.specs.Tries.{aim_at}
-use Rattle.send_recv.specs.Turns.{IsAtRest, KeepsRest, LastHeld, OnlyTries, StoresFromBuffer, is_resting}
+use Rattle.send_recv.specs.Turns.{IsAtRest, KeepsRest, LastHeld, OnlyTries, StoresFromBuffer}
 use Rattle.send_recv.specs.declared.answers.RecvTurn.{RecvTurn}
 use Rattle.send_recv.specs.declared.answers.RecvTurn.TheVariants as turn
 use Rattle.sync_flags.specs.Tries.{Aim, Tried, changing_after}

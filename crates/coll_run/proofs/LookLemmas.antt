@@ -8,7 +8,7 @@ use Rattle.scc_proto.specs.Agreement.{Agrees}
 use Rattle.scc_proto.specs.Like.{Like}
 use Rattle.scc_proto.specs.Ports.{Sight, and_then, record_in}
 use Rattle.scc_proto.specs.Records.{record_of}
-use Rattle.scc_proto.specs.Resting as proto
+use Rattle.scc_proto.specs.Resting.{is_resting}
 use Rattle.scc_proto.specs.Stages.{Record}
 use Rattle.scc_proto.specs.Views.{view_of}
 use Rattle.scc_proto.specs.Words.{IsStep, Memory}
@@ -25,7 +25,7 @@ use Rattle.rcce_run.specs.Turns.{NoneElseHolds}
 use Rattle.rcce_run.proofs.Looks.{waits_same}
 use Rattle.rcce_run.proofs.UeLooks as looks
 use Rattle.rcce_run.proofs.UeLooks.{Tells, told}
-use Rattle.rcce_run.proofs.UeTurns.{Sought, all_rest, like_before, rest_alike, sought_by, take_allowed}
+use Rattle.rcce_run.proofs.UeTurns.{Sought, like_before, rest_alike, sought_by, take_allowed}
 use Rattle.coll_more.specs.Ops.{MoreAt, bytes_of, table_of, window, taking_part}
 use Rattle.coll_more.specs.Standing.{MoreStands, StandsAt}
 use Rattle.coll_more.specs.Turns.{MetOther, MoreTurned, aim_by, is_over, left_by, more_left}
@@ -47,8 +47,8 @@ module _ (stepped : List Event → Event → Type 0) (s t : Sight) (old new : Me
     alike : Like (record_in s) (record_in t)
     alike = let still = turned.means.0 in rest_alike (record_in s) (record_in t) still.rest
 
-    rests : list_all proto.is_resting turned.events ≡ true
-    rests = all_rest turned.events (turned.rests spot refl)
+    rests : list_all is_resting turned.events ≡ true
+    rests = turned.rests spot refl
 
     module _ (memory : Memory) (records : ℕ → Record) (agrees : Agrees s.seat.setup memory records) (mine : records s.seat.rank ≡ record_in (and_then s sought.look.before))
         (others : NoneElseHolds s.seat.setup records s.seat.rank) (step : IsStep memory sought.look.event) where

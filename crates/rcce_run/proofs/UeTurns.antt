@@ -5,7 +5,6 @@ use Rattle.scc_base.specs.Calls.{DataCall}
 use Rattle.scc_base.specs.Heads.{MessageHead}
 use Rattle.scc_base.specs.Setups.{SetupView}
 use Rattle.scc_base.specs.declared.events.Access.{Access}
-use Rattle.scc_base.specs.declared.events.Access.TheVariants.{Load, Store, Take, Free}
 use Rattle.scc_base.specs.declared.events.Event.{Event}
 use Rattle.scc_base.specs.declared.events.Spot.{Spot}
 use Rattle.scc_base.specs.declared.events.Turn.{Turn}
@@ -14,13 +13,13 @@ use Rattle.scc_proto.specs.Agreement.{Agrees}
 use Rattle.scc_proto.specs.Like.{Like, unanswered}
 use Rattle.scc_proto.specs.Ports.{Did, Seat, Sight, WereMade, and_then, record_in, record_on}
 use Rattle.scc_proto.specs.Records.{IsPermitted, permits_by, record_from, record_of}
-use Rattle.scc_proto.specs.Resting as proto
+use Rattle.scc_proto.specs.Resting.{is_resting}
 use Rattle.scc_proto.specs.Stages.{Idle, OnItsWay, Record}
 use Rattle.scc_proto.specs.Views.{view_of}
 use Rattle.scc_proto.specs.Words.{IsStep, Memory}
 use Rattle.scc_proto.proofs.PortLaws.{made_left, record_in-and_then}
 use Rattle.scc_proto.proofs.RestLaw.{resting_part}
-use Rattle.scc_proto.proofs.Tests.{both_first, both_second}
+use Rattle.scc_proto.proofs.Tests.{both_second}
 use Rattle.put_get.specs.Accesses.{WereSteps}
 use Rattle.put_get.specs.Cores.{MadeSteps}
 use Rattle.sync_flags.specs.Tries.{Aim, Fruitful, NoTry, Tried, Vain, changing_after, is_take}
@@ -51,21 +50,6 @@ use Rattle.rcce_run.proofs.UeFits.{ue_stands}
 use Rattle.rcce_run.proofs.UeLooks.{Tells, bar_waits, recv_waits, send_waits, slot_waits, take_is, told}
 
 -- ---- events that rest, and records that are alike
-
-rest_same : (a : Access) (v : ℕ) → sr.is_resting_by a v ≡ true → proto.is_resting_by a v ≡ true
-rest_same Load v is = refl
-rest_same Store v is = absurd (cc (is))
-rest_same Take v is = is
-rest_same Free v is = absurd (cc (is))
-
-both_true : (a b : Bool) → a ≡ true → b ≡ true → (a && b) ≡ true
-both_true a b one two = ap (λ (x : Bool). x && b) one ∙ two
-
-pub all_rest : (es : List Event) → list_all sr.is_resting es ≡ true → list_all proto.is_resting es ≡ true
-all_rest [] all = refl
-all_rest (e ∷ es) all =
-    both_true (proto.is_resting e) (list_all proto.is_resting es) (rest_same e.access e.value (both_first (sr.is_resting e) (list_all sr.is_resting es) all))
-    (all_rest es (both_second (sr.is_resting e) (list_all sr.is_resting es) all))
 
 post_alike : (o new : Option OnItsWay) → sr.IsSamePost o new → option_map unanswered o ≡ option_map unanswered new
 post_alike None new same = ap (option_map unanswered) (sym same)
@@ -137,11 +121,11 @@ if_some false o aim is = absurd (cc (is))
 -- ---- a turn that waits
 
 -- the record before a part of events that rest is alike
-pub like_before : (s t : Sight) (events before behind : List Event) → Did s events t → list_all proto.is_resting events ≡ true → events ≡ before ++ behind → Like (record_in s) (record_in t)
+pub like_before : (s t : Sight) (events before behind : List Event) → Did s events t → list_all is_resting events ≡ true → events ≡ before ++ behind → Like (record_in s) (record_in t)
     → Like (record_in s) (record_in (and_then s before))
 unfolding record_in
 like_before s t events before behind did rests is alike =
-    let (front, rest) = both_pass before behind (subst (λ (es : List Event). list_all proto.is_resting es ≡ true) is rests) in
+    let (front, rest) = both_pass before behind (subst (λ (es : List Event). list_all is_resting es ≡ true) is rests) in
     let rec : Record = record_of s.seat.setup s.seat.rank s.events in
     let whole : Like rec (record_from s.seat.setup s.seat.rank rec (before ++ behind)) =
     subst (λ (x : Record). Like rec x)
@@ -177,8 +161,8 @@ module _ (stepped : List Event → Event → Type 0) (x : UeView) (s t : Sight) 
   alike : Like (record_in s) (record_in t)
   alike = rest_alike (record_in s) (record_in t) turned.means.2
 
-  rests : list_all proto.is_resting turned.events ≡ true
-  rests = all_rest turned.events (turned.rests spot refl)
+  rests : list_all is_resting turned.events ≡ true
+  rests = turned.rests spot refl
 
   module _ (memory : Memory) (records : ℕ → Record) (agrees : Agrees s.seat.setup memory records) (mine : records s.seat.rank ≡ record_in (and_then s sought.look.before))
       (others : NoneElseHolds s.seat.setup records s.seat.rank) (step : IsStep memory sought.look.event) where

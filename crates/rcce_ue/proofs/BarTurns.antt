@@ -12,6 +12,7 @@ use Rattle.scc_base.specs.declared.events.Turn.{Turn}
 use Rattle.scc_base.specs.declared.events.Turn.TheVariants as turn
 use Rattle.scc_proto.specs.Drafts.{is_draft}
 use Rattle.scc_proto.specs.Ports.{Did, Seat, Sight, record_in}
+use Rattle.scc_proto.specs.Resting.{is_resting}
 use Rattle.scc_proto.specs.Stages.{OnItsWay, Record}
 use Rattle.scc_proto.proofs.PortLaws.{events_did, seat_kept}
 use Rattle.put_get.specs.Accesses.{loads_of}
@@ -22,7 +23,7 @@ use Rattle.sync_flags.specs.Looks.{LooksAt}
 use Rattle.sync_flags.specs.Tries.{NoTry, Vain, Fruitful, Tried}
 use Rattle.send_recv.specs.Ops.{slot_left}
 use Rattle.send_recv.specs.Sending.{SlotStands}
-use Rattle.send_recv.specs.Turns.{IsAtRest, IsSamePost, Last, LastHeld, NoLoad, StoresFromBuffer, is_no_draft, is_resting}
+use Rattle.send_recv.specs.Turns.{IsAtRest, IsSamePost, Last, LastHeld, NoLoad, StoresFromBuffer, is_no_draft}
 use Rattle.send_recv.proofs.Starts.{slot_stays}
 use Rattle.barrier.specs.Flags.{value_at}
 use Rattle.barrier.specs.Stages.{BarAt, BarStands, IsAtStage, aim_at, bar_call, is_finished, left_by, meeting}

@@ -5,12 +5,13 @@ use Rattle.scc_base.specs.declared.events.Event.{Event}
 use Rattle.scc_base.specs.declared.events.Spot.{Spot}
 use Rattle.scc_base.specs.declared.events.Turn.{Turn}
 use Rattle.scc_base.specs.declared.events.Turn.TheVariants as turn
+use Rattle.scc_proto.specs.Resting.{is_resting}
 use Rattle.scc_proto.specs.Ports.{Did, Seat, Sight, record_in}
 use Rattle.send_recv.specs.Ops.{SlotAt}
 use Rattle.send_recv.specs.Receiving.{recv_spot}
 use Rattle.send_recv.specs.Sending.{send_spot, slot_spot}
 use Rattle.send_recv.specs.Tries.{aim_at}
-use Rattle.send_recv.specs.Turns.{IsAtRest, LastHeld, StoresFromBuffer, is_resting, waits_at}
+use Rattle.send_recv.specs.Turns.{IsAtRest, LastHeld, StoresFromBuffer, waits_at}
 use Rattle.sync_flags.specs.Flags.{flag_value}
 use Rattle.sync_flags.specs.Tries.{Aim, Tried}
 use Rattle.barrier.specs.Flags.{value_at}

@@ -8,6 +8,7 @@ use Rattle.scc_base.specs.declared.events.Spot.{Spot}
 use Rattle.scc_base.specs.declared.events.Spot.TheVariants.{Flag, Register}
 use Rattle.scc_base.specs.declared.layouts.Layout.{Layout}
 use Rattle.scc_base.specs.declared.layouts.Layout.TheVariants.{LineFlags, BitFlags}
+use Rattle.scc_proto.specs.Resting.{is_resting}
 use Rattle.scc_proto.specs.Ports.{Sight, Did}
 use Rattle.scc_proto.proofs.Tests.{eqb_same, eqb_other}
 use Rattle.line_cache.specs.Lines.{held, noted}
@@ -21,7 +22,7 @@ use Rattle.send_recv.specs.Flags.{ChangesBy, WritesFlag, TriesBit, Missed, Chang
 use Rattle.send_recv.specs.Receiving.{flag_lines}
 use Rattle.sync_flags.specs.Tries.{Aim, AtFlag, AtWord, AtRegister, tries_at, vain_from, all_vain, changing_after}
 use Rattle.send_recv.specs.Tries.{aim_of}
-use Rattle.send_recv.specs.Turns.{LastHeld, NoLoad, Last, is_resting, IsOneTry, stored_since}
+use Rattle.send_recv.specs.Turns.{LastHeld, NoLoad, Last, IsOneTry, stored_since}
 use Rattle.put_get.proofs.FillLemmas.{fills_out, fills_evictions}
 
 -- a line that is alone in the cache, with one word written

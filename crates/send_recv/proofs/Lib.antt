@@ -19,6 +19,7 @@ pub mod RecvTurns
 pub mod SlotApart
 pub mod SlotMoves
 pub mod DraftNone
+pub mod SendWork
 pub mod SlotTurns
 pub mod DraftNotes
 pub mod WaitingOut

@@ -9,6 +9,7 @@ use Rattle.scc_base.specs.declared.events.Access.TheVariants.{Load, Store, Take,
 use Rattle.scc_base.specs.declared.events.Event.{Event}
 use Rattle.scc_base.specs.declared.events.Spot.{Spot}
 use Rattle.scc_base.specs.declared.layouts.Layout.{Layout}
+use Rattle.scc_proto.specs.Resting.{is_resting_by, is_resting}
 use Rattle.scc_proto.specs.Stages.{OnItsWay, Record}
 use Rattle.scc_proto.specs.Records.{chunk_of}
 use Rattle.scc_proto.specs.Ports.{Seat, Sight, record_in}
@@ -30,7 +31,7 @@ use Rattle.send_recv.specs.Receiving.{IsAtStage, RecvStands, RecvTurned, IsRecvS
 use Rattle.send_recv.specs.Calling.{sent_aim, HasNotStalled, Received, RecvStalled, RecvDiffers}
 use Rattle.send_recv.specs.Steps.{own_core, core_of, flag_spot}
 use Rattle.send_recv.specs.Tries.{aim_of, aim_at}
-use Rattle.send_recv.specs.Turns.{IsSamePost, KeepsRest, IsAtRest, is_resting_by, is_resting, LoadsLines}
+use Rattle.send_recv.specs.Turns.{IsSamePost, KeepsRest, IsAtRest, LoadsLines}
 use Rattle.send_recv.specs.Ranks.{receiving, with_bytes}
 use Rattle.send_recv.proofs.LookTurn.{at_look}
 use Rattle.send_recv.proofs.LinesTurn.{take_agree}

@@ -19,10 +19,11 @@ use Rattle.send_recv.specs.Sending.{SlotStands, SlotTurned, SlotMeans, IsAtSendS
 use Rattle.send_recv.specs.Steps.{own_core, core_of}
 use Rattle.sync_flags.specs.Tries.{Tried, NoTry}
 use Rattle.send_recv.specs.Tries.{aim_at}
-use Rattle.send_recv.specs.Turns.{NoLoad, waits_at}
+use Rattle.send_recv.specs.Turns.{LoadsLines, NoLoad, lines_for_try, waits_at}
 use Rattle.send_recv.specs.Ranks.{sending, with_slot}
 use Rattle.send_recv.proofs.LookTurn.{holds_kept}
 use Rattle.send_recv.proofs.SendFacts.{SendTurns, at_stage, left_at, spot_at}
+use Rattle.send_recv.proofs.SendWork.{none_work}
 use Rattle.send_recv.proofs.SendWaits.{no_stores}
 
 -- ---- a turn of the slot
@@ -77,6 +78,7 @@ slot_turn s t c d op slot now bytes answer r header full stands turned =
         rest = turned.rest;
         drafts = no_stores s.seat.setup c turned.events turned.no_drafts;
         held = turned.held;
+        work = subst (λ (spot : Option Spot). LoadsLines turned.events c d (lines_for_try spot)) (sym (spot_at s.seat op slot Header header)) turned.work;
       };
     }
 
@@ -108,4 +110,5 @@ finished_turn s c op slot bytes finished =
       rest = record { flips = refl; hold = refl; heap = refl };
       drafts = no_stores s.seat.setup c [] refl;
       held = NoLoad refl;
+      work = none_work 0 c.evictions c.evictions _ refl refl;
     }

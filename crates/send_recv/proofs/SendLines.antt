@@ -14,6 +14,7 @@ use Rattle.scc_proto.proofs.Roles.{lt_is, lt_not}
 use Rattle.write_combine.specs.Combining.{handed_out}
 use Rattle.put_get.specs.Accesses.{stores_of}
 use Rattle.put_get.specs.Cores.{Private, WritesLine, Flushes}
+use Rattle.put_get.specs.Transfers.{load_count}
 use Rattle.send_recv.specs.declared.stages.SendStage.{SendStage}
 use Rattle.send_recv.specs.declared.stages.SendStage.TheVariants.{Lines, Flush, Raise}
 use Rattle.send_recv.specs.Bytes.{words_at}
@@ -27,6 +28,7 @@ use Rattle.send_recv.specs.Turns.{NoLoad}
 use Rattle.send_recv.proofs.WaitingOut.{waiting_loads, waiting_freed}
 use Rattle.send_recv.proofs.SendFacts.{SendTurns, slot_kept, stands_at, at_stage, drafted_as, at_end, left_end, left_flush, left_at, now_within, spot_at}
 use Rattle.send_recv.proofs.SendWrites.{stored_waiting, may_store, line_is_other, only_drafts}
+use Rattle.send_recv.proofs.SendWork.{none_work}
 
 -- ---- a line of the chunk
 
@@ -117,6 +119,7 @@ line_by b s t c d op slot bytes i next valid r stage w =
         ends = λ e. absurd (cc);
         drafts = only_drafts s.seat.setup c (waiting s.seat op bytes i) at.2;
         held = NoLoad (waiting_loads s.seat op bytes i);
+        work = none_work (load_count (stores_of (waiting s.seat op bytes i))) c.evictions d.evictions _ (waiting_loads s.seat op bytes i) (ap (λ (x : Private). x.evictions) w.is);
       };
     }
 
@@ -172,5 +175,6 @@ flush_turn s t c d op slot bytes valid r flush w =
         ends = λ e. absurd (cc);
         drafts = only_drafts s.seat.setup c (waiting s.seat op bytes lines) at.2;
         held = NoLoad (waiting_loads s.seat op bytes lines);
+        work = none_work (load_count (stores_of (waiting s.seat op bytes lines))) c.evictions d.evictions _ (waiting_loads s.seat op bytes lines) (ap (λ (x : Private). x.evictions) w.is);
       };
     }

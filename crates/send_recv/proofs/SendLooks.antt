@@ -16,6 +16,7 @@ use Rattle.scc_proto.proofs.PortLaws.{seat_kept}
 use Rattle.scc_proto.proofs.Roles.{if_yes, if_no}
 use Rattle.put_get.specs.Accesses.{loads_of}
 use Rattle.put_get.specs.Cores.{Private}
+use Rattle.put_get.specs.Transfers.{load_count}
 use Rattle.send_recv.specs.declared.stages.SendStage.{SendStage}
 use Rattle.send_recv.specs.declared.stages.SendStage.TheVariants.{Look, Lower}
 use Rattle.send_recv.specs.Bytes.{word_at}
@@ -31,10 +32,11 @@ use Rattle.send_recv.specs.Turns.{IsAtRest}
 use Rattle.send_recv.proofs.LookLemmas.{looks_at_ready}
 use Rattle.send_recv.proofs.LookTurn.{holds_kept, looked_post, looked_rest, looked_calls}
 use Rattle.send_recv.proofs.TryLemmas.{look_tried, ready_spot, ready_word, look_held}
-use Rattle.put_get.proofs.FillLemmas.{fills_out}
+use Rattle.put_get.proofs.FillLemmas.{fills_out, fills_evictions}
 use Rattle.send_recv.proofs.DraftNone.{look_drafts_none}
 use Rattle.send_recv.proofs.SlotTurns.{tried_by, look_only}
 use Rattle.send_recv.proofs.SendFacts.{SendTurns, slot_kept, stands_at, at_stage, left_at, spot_at}
+use Rattle.send_recv.proofs.SendWork.{look_work}
 use Rattle.send_recv.proofs.SendWaits.{no_stores}
 
 -- the part after the look
@@ -121,6 +123,7 @@ look_turn found s t c d op slot bytes valid r look looks =
     let rest = looked_rest size (record_in s) (record_in t) l.looked in
     let calls = looked_calls size (record_in s) (record_in t) l.looked in
     let post = looked_post size (record_in s) (record_in t) l.looked in
+    let spot : send_spot s.seat op slot ≡ Some (flag_spot own flag) = spot_at s.seat op slot Look look ∙ spot_look layout own (core_of s.seat op.to) op.to (slot_spot s.seat slot) in
     record {
       stands = subst (λ (x : Seat). IsSending x (record_in t) d (after_seen found op) slot bytes) (sym (seat_kept s _ t looks.looks.did))
           (look_stands found s.seat (record_in s) (record_in t) c d op slot bytes r rest.hold (slot_kept s.seat (record_in s) (record_in t) slot same r.slot_stands)
@@ -129,8 +132,7 @@ look_turn found s t c d op slot bytes valid r look looks =
         events = loads_of (line_of_word (flag_word own flag)) looks.words;
         did = looks.looks.did;
         tried = tried_by found (flag_spot own flag) (aim_at layout (send_spot s.seat op slot)) _
-            (look_tried layout own flag looks.words found (send_spot s.seat op slot) (ready_word layout op.to) looks.is
-            (spot_at s.seat op slot Look look ∙ spot_look layout own (core_of s.seat op.to) op.to (slot_spot s.seat slot)) (ready_spot layout own op.to));
+            (look_tried layout own flag looks.words found (send_spot s.seat op slot) (ready_word layout op.to) looks.is spot (ready_spot layout own op.to));
         freed = refl;
         ends = λ e. never_done found (flag_spot own flag) e;
         rests = λ spot e. refl;
@@ -141,5 +143,6 @@ look_turn found s t c d op slot bytes valid r look looks =
         rest = rest;
         drafts = no_stores s.seat.setup c (loads_of (line_of_word (flag_word own flag)) looks.words) (look_drafts_none s.seat.setup (line_of_word (flag_word own flag)) looks.words);
         held = look_held c d _ looks.words looks.looks.fills;
+        work = look_work (load_count (loads_of (line_of_word (flag_word own flag)) looks.words)) c.evictions d.evictions (send_spot s.seat op slot) (flag_spot own flag) spot refl (fills_evictions looks.looks.fills);
       };
     }

@@ -21,6 +21,7 @@ use Rattle.scc_proto.proofs.PortLaws.{seat_kept}
 use Rattle.scc_proto.proofs.Roles.{if_yes, if_no, le_is, le_not}
 use Rattle.put_get.specs.Accesses.{whole_line}
 use Rattle.put_get.specs.Cores.{Private}
+use Rattle.put_get.specs.Transfers.{load_count}
 use Rattle.send_recv.specs.declared.stages.SendStage.TheVariants.{Lines, Lower, Finished}
 use Rattle.send_recv.specs.Chunks.{chunk_count, chunk_start, chunk_len, chunk_lines_of, lines_from, is_last_chunk}
 use Rattle.send_recv.specs.Flags.{Changes, MayChange}
@@ -41,6 +42,7 @@ use Rattle.send_recv.proofs.DraftNone.{ready_is_flag, change_drafts_none}
 use Rattle.send_recv.proofs.DraftNotes.{no_lines}
 use Rattle.send_recv.proofs.DraftWhole.{AreBytes, as_receive, drafted_read}
 use Rattle.send_recv.proofs.SendFacts.{SendTurns, slot_kept, stands_at, at_stage, left_at, spot_at}
+use Rattle.send_recv.proofs.SendWork.{change_work}
 use Rattle.send_recv.proofs.SendWaits.{no_stores, register_waits}
 
 -- ---- the flag may be lowered
@@ -220,6 +222,8 @@ lower_goes b s t c d op slot bytes last valid small r lower changes =
         rest = record { flips = ap (λ (x : Record). x.flips) is; hold = ap (λ (x : Record). x.held) is; heap = ap (λ (x : Record). x.heap) is };
         drafts = no_stores s.seat.setup c facts.events (change_drafts_none s t c d own (ready_flag s.seat op.to) false true at.2 (ready_is_flag s.seat valid s.seat.rank op.to r.peers) changes facts.events facts.did);
         held = facts.held;
+        work = change_work layout true (load_count facts.events) c.evictions d.evictions (send_spot s.seat op slot) (Register own)
+            (λ e. spot_at s.seat op slot Lower lower ∙ spot_bits layout own (core_of s.seat op.to) op.to (slot_spot s.seat slot) e) facts.work;
       };
     }
 

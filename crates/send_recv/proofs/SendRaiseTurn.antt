@@ -1,5 +1,5 @@
 -- The turn of a send that raises `sent`, with what was in the buffer before it.
-use Rattle.std.proofs.Common.{◌≡◌, inl, inr, ℕ, zero, suc, ◌+◌, ◌-◌, ◌*◌, Bool, true, false, ◌==◌, if◌then◌else◌, List, [], ◌∷◌, ◌++◌, Option, Some, None, refl, sym, ◌∙◌, ap, subst, arith}
+use Rattle.std.proofs.Common.{◌≡◌, inl, inr, ℕ, zero, suc, ◌+◌, ◌-◌, ◌*◌, ◌≤◌, Bool, true, false, ◌==◌, if◌then◌else◌, List, [], ◌∷◌, ◌++◌, Option, Some, None, refl, sym, ◌∙◌, ap, subst, arith}
 use Rattle.scc_base.specs.Calls.{Send, Post}
 use Rattle.scc_base.specs.Places.{WordAt, FlagPlace, flag_word}
 use Rattle.scc_base.specs.Setups.{IsSetup}
@@ -24,6 +24,7 @@ use Rattle.send_recv.specs.declared.stages.SendStage.TheVariants.{Raise, Look, F
 use Rattle.send_recv.specs.Chunks.{chunk_count, lines_from}
 use Rattle.send_recv.specs.Flags.{Changes, ChangesBy}
 use Rattle.send_recv.specs.Ops.{SendAt, SlotAt, is_sent}
+use Rattle.send_recv.specs.Receiving.{flag_lines}
 use Rattle.send_recv.specs.Sending.{SlotStands, IsBeforeRaise, IsAtSendStage, IsSending, SendStands, SendMeans, own_line, header_words, lines_in_hand, waiting, of_chunk, from_raise, send_spot, send_spot_by, slot_spot}
 use Rattle.send_recv.specs.Ranks.{sending}
 use Rattle.send_recv.specs.Steps.{own_core, core_of, sent_flag, after_sent, sent_answer, slot_sent}
@@ -40,6 +41,7 @@ use Rattle.send_recv.proofs.SendFacts.{SendTurns, slot_kept, stands_at, at_stage
 use Rattle.send_recv.proofs.SendMoves.{SentRaised, sent_is_raised}
 use Rattle.send_recv.proofs.SendRaises.{offered, posted_now}
 use Rattle.send_recv.proofs.WaitingOut.{waiting_freed}
+use Rattle.send_recv.proofs.SendWork.{none_work, change_work}
 use Rattle.send_recv.proofs.SendWaits.{no_stores, register_waits}
 
 -- ---- the events
@@ -49,6 +51,7 @@ record RaiseFacts (layout : Layout) (s : Sight) (c : Private) (core : ℕ) (t : 
   events : List Event
   did : Did s events t
   held : LastHeld events c.evictions d
+  work : load_count events + 4 * c.evictions ≤ 4 * d.evictions + 4 * (if true then flag_lines layout else 0)
   drafts : StoresFromBuffer s.seat.setup c events
   out : d.out ≡ None
   tries : layout ≡ BitFlags → tries_at (AtRegister core) events ≡ 1
@@ -82,6 +85,7 @@ facts_by LineFlags s t c d op bytes core flag plain before (done, writes) =
       events = stores ++ store ∷ [];
       did = subst (λ (o : Option Out). Did s (stores_of o ++ store ∷ []) t) out writes.did;
       held = NoLoad (raise_loads s.seat op bytes lines (flag_word core flag) 1);
+      work = none_work (load_count (stores ++ store ∷ [])) c.evictions d.evictions 0 (raise_loads s.seat op bytes lines (flag_word core flag) 1) (ap (λ (x : Private). x.evictions) writes.is);
       drafts = record { front = stores; rest = store ∷ []; is = refl; none_or_all = inr (ap (λ (o : Option Out). stores_of o) (sym out)); no_draft = store_drafts_none s.seat.setup core flag 1 plain };
       out = ap (λ (x : Private). x.out) writes.is;
       tries = λ e. absurd (cc);
@@ -95,6 +99,7 @@ facts_by BitFlags s t c d op bytes core flag plain before changes =
       events = facts.events;
       did = facts.did;
       held = facts.held;
+      work = facts.work;
       drafts = no_stores s.seat.setup c facts.events (drafts_none_by BitFlags s t c d core flag true true before.0 plain changes facts.events facts.did);
       out = facts.out;
       tries = facts.tries;
@@ -211,6 +216,8 @@ raise_goes b s t c d op slot bytes posts valid small r raise changes =
         rest = raised_rest s t op bytes up;
         drafts = facts.drafts;
         held = facts.held;
+        work = change_work layout true (load_count facts.events) c.evictions d.evictions (send_spot s.seat op slot) (Register core)
+            (λ e. spot_at s.seat op slot Raise raise ∙ spot_bits layout (own_core s.seat) core op.to (slot_spot s.seat slot) e) facts.work;
       };
     }
 

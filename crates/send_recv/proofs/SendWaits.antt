@@ -11,6 +11,7 @@ use Rattle.scc_proto.specs.Stages.{Record}
 use Rattle.scc_proto.specs.Ports.{Seat, Sight, record_in}
 use Rattle.scc_proto.proofs.PortLaws.{seat_kept}
 use Rattle.put_get.specs.Cores.{Private}
+use Rattle.put_get.specs.Transfers.{load_count}
 use Rattle.send_recv.specs.Flags.{Changes}
 use Rattle.send_recv.specs.Ops.{SendAt, SlotAt}
 use Rattle.send_recv.specs.Sending.{IsSending, SendStands, send_spot}
@@ -19,6 +20,7 @@ use Rattle.send_recv.proofs.HeadTurn.{post_kept}
 use Rattle.send_recv.proofs.ChangeFacts.{change_facts}
 use Rattle.send_recv.proofs.RecvTurns.{missed_by, waits_tried}
 use Rattle.send_recv.proofs.DraftNone.{IsFlagWord, change_drafts_none}
+use Rattle.send_recv.proofs.SendWork.{change_work}
 use Rattle.send_recv.proofs.SendFacts.{SendTurns}
 
 -- events that store no word of a message
@@ -61,5 +63,6 @@ register_waits s t c d op slot bytes core flag set valid r empty plain spot chan
         rest = rest;
         drafts = no_stores s.seat.setup c facts.events (change_drafts_none s t c d core flag set false empty plain changes facts.events facts.did);
         held = facts.held;
+        work = change_work layout false (load_count facts.events) c.evictions d.evictions (send_spot s.seat op slot) (Register core) spot facts.work;
       };
     }

@@ -30,6 +30,7 @@ use Rattle.send_recv.specs.Tries.{aim_at}
 use Rattle.send_recv.specs.Turns.{StoresFromBuffer, NoLoad}
 use Rattle.send_recv.proofs.WaitingOut.{waiting_out}
 use Rattle.send_recv.proofs.SendFacts.{SendTurns, slot_kept, stands_at, at_stage, no_post, before_as, at_end, left_end, left_at, spot_at}
+use Rattle.send_recv.proofs.SendWork.{none_work}
 
 -- ---- the line that waited was stored
 
@@ -162,6 +163,7 @@ header_by b s t c d op slot bytes lines r header empty w =
         ends = λ e. absurd (cc);
         drafts = only_drafts s.seat.setup c None at.2;
         held = NoLoad refl;
+        work = none_work 0 c.evictions d.evictions _ refl (ap (λ (x : Private). x.evictions) w.is);
       };
     }
 

@@ -12,6 +12,7 @@ use Rattle.scc_base.specs.declared.events.Turn.{Turn}
 use Rattle.scc_base.specs.declared.events.Turn.TheVariants.{Moved, Waiting, Done}
 use Rattle.scc_base.specs.declared.layouts.Layout.{Layout}
 use Rattle.scc_base.specs.declared.layouts.Layout.TheVariants.{LineFlags, BitFlags}
+use Rattle.scc_proto.specs.Resting.{is_resting}
 use Rattle.scc_proto.specs.Stages.{Stage, Idle, Drafting, Sending, Between, Taking, Barrier, OnItsWay, Record}
 use Rattle.scc_proto.specs.Moves.{look_ready, lower_ready, calls_sent, post_answered}
 use Rattle.scc_proto.specs.Permission.{may_go_on, is_answered_by}
@@ -25,13 +26,14 @@ use Rattle.scc_proto.proofs.PortLaws.{did_nothing, seat_kept}
 use Rattle.scc_proto.proofs.Roles.{if_yes}
 use Rattle.put_get.specs.Accesses.{loads_of}
 use Rattle.put_get.specs.Cores.{Private}
+use Rattle.put_get.specs.Transfers.{load_count}
 use Rattle.send_recv.specs.Flags.{Looks, Changes, MayChange}
 use Rattle.send_recv.specs.Ops.{SlotAt, slot_left, slot_left_by}
 use Rattle.send_recv.specs.Sending.{SlotStands, SlotTurned, SlotMeans, slot_spot, slot_spot_by, was_answered}
 use Rattle.send_recv.specs.Steps.{own_core, ready_flag, flag_spot, slot_seen, slot_lowered, moved_or_waits}
 use Rattle.sync_flags.specs.Tries.{Aim, Tried, NoTry}
 use Rattle.send_recv.specs.Tries.{aim_at}
-use Rattle.send_recv.specs.Turns.{HoldsNone, is_resting, OnlyTries, NoLoad, waits_at}
+use Rattle.send_recv.specs.Turns.{HoldsNone, OnlyTries, NoLoad, waits_at}
 use Rattle.send_recv.specs.Ranks.{with_slot}
 use Rattle.send_recv.proofs.SlotApart.{is_apart, apart_in}
 use Rattle.send_recv.proofs.SlotMoves.{may_lower_ready, ready_is_lowered}
@@ -40,9 +42,10 @@ use Rattle.send_recv.proofs.LookLemmas.{looks_at_ready}
 use Rattle.send_recv.proofs.LookTurn.{looked_post, looked_rest, looked_calls}
 use Rattle.send_recv.proofs.HeadTurn.{post_kept, post_itself}
 use Rattle.send_recv.proofs.TryLemmas.{look_tried, ready_spot, ready_word, look_held}
-use Rattle.put_get.proofs.FillLemmas.{fills_out}
+use Rattle.put_get.proofs.FillLemmas.{fills_out, fills_evictions}
 use Rattle.send_recv.proofs.ChangeFacts.{change_facts}
 use Rattle.send_recv.proofs.FlagTurns.{went_on}
+use Rattle.send_recv.proofs.SendWork.{none_work, look_work, change_work}
 use Rattle.send_recv.proofs.RecvTurns.{missed_by, waits_tried}
 
 -- a turn of a slot, and where it stands afterwards
@@ -131,6 +134,7 @@ nothing_turn s c slot none empty =
       rest = record { flips = refl; hold = refl; heap = refl };
       no_drafts = refl;
       held = NoLoad refl;
+      work = none_work 0 c.evictions c.evictions _ refl refl;
       buffer = empty;
     }
 
@@ -189,6 +193,7 @@ slot_look_turn found s t c d slot to valid h empty hands full unseen looks =
     let l = looks_at_ready s t c d to found valid peers hands looks in
     let post : (record_in t).post ≡ option_map (post_answered l.looked.ready) (record_in s).post = ap (λ (r : Record). r.post) l.looked.is in
     let now = slot_seen found slot in
+    let spot : slot_spot s.seat slot ≡ Some (flag_spot own flag) = ap (λ (o : Option ℕ). slot_spot_by layout own o slot.seen) full ∙ ap (λ b. slot_spot_by layout own (Some to) b) unseen ∙ spot_unseen layout own to in
     record {
       stands = subst (λ (x : Seat). SlotStands x (record_in t) now) (sym (seat_kept s _ t looks.looks.did)) (record {
         to = looked_to found slot ∙ h.to ∙ sym (same_to l.looked.ready (record_in s).post) ∙ ap (λ (o : Option OnItsWay). option_map (λ (p : OnItsWay). p.to) o) (sym post);
@@ -199,8 +204,7 @@ slot_look_turn found s t c d slot to valid h empty hands full unseen looks =
         events = loads_of (line_of_word (flag_word own flag)) looks.words;
         did = looks.looks.did;
         tried = tried_by found (flag_spot own flag) (aim_at layout (slot_spot s.seat slot)) _
-            (look_tried layout own flag looks.words found (slot_spot s.seat slot) (ready_word layout to) looks.is
-            (ap (λ (o : Option ℕ). slot_spot_by layout own o slot.seen) full ∙ ap (λ b. slot_spot_by layout own (Some to) b) unseen ∙ spot_unseen layout own to) (ready_spot layout own to));
+            (look_tried layout own flag looks.words found (slot_spot s.seat slot) (ready_word layout to) looks.is spot (ready_spot layout own to));
         freed = refl;
         rests = λ spot e. refl;
         only = look_only found layout (flag_word own flag) flag.bit looks.words;
@@ -212,6 +216,7 @@ slot_look_turn found s t c d slot to valid h empty hands full unseen looks =
         rest = looked_rest (chunk_of s.seat.setup) (record_in s) (record_in t) l.looked;
         no_drafts = look_drafts_none s.seat.setup (line_of_word (flag_word own flag)) looks.words;
         held = look_held c d _ looks.words looks.looks.fills;
+        work = look_work (load_count (loads_of (line_of_word (flag_word own flag)) looks.words)) c.evictions d.evictions (slot_spot s.seat slot) (flag_spot own flag) spot refl (fills_evictions looks.looks.fills);
         buffer = fills_out looks.looks.fills ∙ empty;
       };
     }
@@ -274,6 +279,7 @@ lower_goes s t c d slot to valid h empty hands full seen changes =
         rest = record { flips = ap (λ (x : Record). x.flips) is; hold = ap (λ (x : Record). x.held) is; heap = ap (λ (x : Record). x.heap) is };
         no_drafts = change_drafts_none s t c d own (ready_flag s.seat to) false true empty (ready_is_flag s.seat valid s.seat.rank to peers) changes facts.events facts.did;
         held = facts.held;
+        work = change_work layout true (load_count facts.events) c.evictions d.evictions (slot_spot s.seat slot) (Register own) (λ e. spot_seen s.seat slot to full seen ∙ spot_bits layout own to e) facts.work;
         buffer = facts.out;
       };
     }
@@ -304,6 +310,7 @@ lower_waits s t c d slot to valid h empty hands full seen changes =
         rest = record { flips = ap (λ (x : Record). x.flips) m.same; hold = ap (λ (x : Record). x.held) m.same; heap = ap (λ (x : Record). x.heap) m.same };
         no_drafts = change_drafts_none s t c d own (ready_flag s.seat to) false false empty (ready_is_flag s.seat valid s.seat.rank to peers) changes facts.events facts.did;
         held = facts.held;
+        work = change_work layout false (load_count facts.events) c.evictions d.evictions (slot_spot s.seat slot) (Register own) (λ e. spot_seen s.seat slot to full seen ∙ spot_bits layout own to e) facts.work;
         buffer = facts.out;
       };
     }

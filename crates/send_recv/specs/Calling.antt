@@ -6,6 +6,7 @@ use Rattle.scc_base.specs.Heads.{MessageHead}
 use Rattle.scc_base.specs.declared.events.Event.{Event}
 use Rattle.scc_base.specs.declared.events.Spot.{Spot}
 use Rattle.scc_proto.specs.Messages.{Notes}
+use Rattle.scc_proto.specs.Resting.{is_resting}
 use Rattle.scc_proto.specs.Stages.{Idle}
 use Rattle.scc_proto.specs.Ports.{Seat, Sight, Did, record_in}
 use Rattle.put_get.specs.Cores.{Private}
@@ -20,7 +21,7 @@ use Rattle.send_recv.specs.Ops.{RecvAt, SlotAt, is_sent}
 use Rattle.send_recv.specs.Ranks.{BufferHolder, Receiver, Sender, SlotHolder, receiving, sending}
 use Rattle.send_recv.specs.Sights.{chunk_at, layout_at}
 use Rattle.send_recv.specs.Tries.{aim_of}
-use Rattle.send_recv.specs.Turns.{HoldsNone, IsSamePost, KeepsRest, IsAtRest, is_resting, IsOneTry}
+use Rattle.send_recv.specs.Turns.{HoldsNone, IsSamePost, KeepsRest, IsAtRest, IsOneTry}
 use Rattle.send_recv.specs.Steps.{own_core, sent_flag, flag_spot}
 use Rattle.send_recv.specs.Receiving.{RecvStands, SaysHead, IsRecvSpot, recv_spot, recv_call, lines_left, filled_to}
 use Rattle.send_recv.specs.Sending.{SlotStands, SendStands, send_spot, send_call}

@@ -13,6 +13,7 @@ use Rattle.scc_base.specs.declared.events.Event.{Event}
 use Rattle.scc_base.specs.declared.events.Spot.{Spot}
 use Rattle.scc_base.specs.declared.events.Spot.TheVariants.{Flag, Register}
 use Rattle.scc_proto.specs.Messages.{Notes, noted, has_all, byte_at, head_of, Progress}
+use Rattle.scc_proto.specs.Resting.{is_resting}
 use Rattle.scc_proto.specs.Stages.{Stage, Idle, Between, Taking, Record}
 use Rattle.scc_proto.specs.Permission.{says_head}
 use Rattle.scc_proto.specs.Words.{are_peers}
@@ -30,7 +31,7 @@ use Rattle.send_recv.specs.Ranks.{Receiver}
 use Rattle.sync_flags.specs.Tries.{Tried, tries_at, changing_after}
 use Rattle.send_recv.specs.Sights.{chunk_at, layout_at}
 use Rattle.send_recv.specs.Tries.{aim_of, aim_at}
-use Rattle.send_recv.specs.Turns.{HoldsNone, IsSamePost, KeepsRest, IsAtRest, is_resting, OnlyTries, is_no_draft, LastHeld, LoadsLines}
+use Rattle.send_recv.specs.Turns.{HoldsNone, IsSamePost, KeepsRest, IsAtRest, OnlyTries, is_no_draft, LastHeld, LoadsLines}
 
 -- a message of which these chunks are through
 abbrev pub progress_at : ℕ → MessageHead → ℕ → List ℕ → Progress
@@ -134,6 +135,10 @@ abbrev pub extra_line : RecvStage → RecvTurn → ℕ
 extra_line stage (turn.Mismatch sent) = 1
 extra_line stage answer = if is_look stage then 1 else 0
 
+-- how many lines a turn loads at most: those that are no longer left after it, and the extra one
+abbrev pub lines_of_turn : Layout → ℕ → (old now : RecvAt) → RecvTurn → ℕ
+lines_of_turn layout size old now answer = (lines_left layout size old - lines_left layout size now) + extra_line old.stage answer
+
 -- the spot at which a stage makes its one try, where it makes one
 abbrev pub spot_by : Layout → ℕ → ℕ → ℕ → RecvStage → Option Spot
 spot_by layout own other from Look = Some (Flag (flag_word own (sent_at layout from)) (sent_at layout from).bit)
@@ -162,9 +167,10 @@ abbrev pub RecvMeans : Receiver → Receiver → RecvTurn → Type 0
 RecvMeans old now turn.Moved = (recv_left (chunk_at old.sight) old.op ≡ recv_left (chunk_at old.sight) now.op + 1)
     × ((record_in now.sight).calls ≡ (record_in old.sight).calls) × (is_received old.op.stage ≡ false) × (is_received now.op.stage ≡ false)
 RecvMeans old now (turn.Waiting spot) = (now.op ≡ old.op) × (now.bytes ≡ old.bytes) × IsAtRest (record_in old.sight) (record_in now.sight)
-RecvMeans old now turn.Done = (now.op.stage ≡ Finished) × (now.bytes ≡ old.bytes) × ((record_in now.sight).calls ≡ (record_in old.sight).calls ++ recv_call old.op old.bytes)
-RecvMeans old now (turn.Mismatch sent) = (now.op ≡ old.op) × (now.bytes ≡ old.bytes) × (old.op.stage ≡ Header) × IsAtRest (record_in old.sight) (record_in now.sight)
-    × (sent ≢ old.op.head) × (header : Notes) × ((record_in now.sight).notes old.op.from ≡ Some header) × SaysHead header sent
+RecvMeans old now turn.Done = (now.op.stage ≡ Finished) × (now.bytes ≡ old.bytes)
+    × ((record_in now.sight).calls ≡ (record_in old.sight).calls ++ recv_call old.op old.bytes)
+RecvMeans old now (turn.Mismatch sent) = (now.op ≡ old.op) × (now.bytes ≡ old.bytes) × (old.op.stage ≡ Header)
+    × IsAtRest (record_in old.sight) (record_in now.sight) × (sent ≢ old.op.head) × (header : Notes) × ((record_in now.sight).notes old.op.from ≡ Some header) × SaysHead header sent
 
 -- the bytes of the message up to which the buffer is filled
 abbrev pub filled_by : (start len : ℕ) → RecvStage → ℕ → ℕ
@@ -185,7 +191,8 @@ pub record RecvTurned (old now : Receiver) (answer : RecvTurn) : Type 0 where
   -- it has freed the register that it took
   pub freed : changing_after false events ≡ false
   -- it makes no try at another spot of the receive
-  pub elsewhere : (at : Spot) → IsRecvSpot old.sight.seat old.op at → recv_spot old.sight.seat old.op ≢ Some at → tries_at (aim_of (layout_at old.sight) at) events ≡ 0
+  pub elsewhere : (at : Spot) → IsRecvSpot old.sight.seat old.op at → recv_spot old.sight.seat old.op ≢ Some at
+      → tries_at (aim_of (layout_at old.sight) at) events ≡ 0
   -- where it waits, each of its events was a load or a vain take
   pub rests : (spot : Spot) → answer ≡ turn.Waiting spot → list_all is_resting events ≡ true
   -- where it waits, it made that one try and nothing else
@@ -203,4 +210,4 @@ pub record RecvTurned (old now : Receiver) (answer : RecvTurn) : Type 0 where
   pub fuller : filled_to (chunk_at old.sight) old.op ≤ filled_to (chunk_at old.sight) now.op
   pub fewer : lines_left (layout_at old.sight) (chunk_at old.sight) now.op ≤ lines_left (layout_at old.sight) (chunk_at old.sight) old.op
   pub held : LastHeld events old.core.evictions now.core
-  pub work : LoadsLines events old.core now.core ((lines_left (layout_at old.sight) (chunk_at old.sight) old.op - lines_left (layout_at old.sight) (chunk_at old.sight) now.op) + extra_line old.op.stage answer)
+  pub work : LoadsLines events old.core now.core (lines_of_turn (layout_at old.sight) (chunk_at old.sight) old.op now.op answer)

@@ -15,6 +15,7 @@ use Rattle.scc_base.specs.declared.events.Spot.TheVariants.{Flag, Register}
 use Rattle.scc_base.specs.declared.events.Turn.{Turn}
 use Rattle.scc_base.specs.declared.events.Turn.TheVariants as turn
 use Rattle.scc_proto.specs.Messages.{Notes, noted, header_word}
+use Rattle.scc_proto.specs.Resting.{is_resting}
 use Rattle.scc_proto.specs.Stages.{Part, Filling, Raised, Answered, Stage, Idle, Drafting, Sending, OnItsWay, Record}
 use Rattle.scc_proto.specs.Words.{are_peers}
 use Rattle.scc_proto.specs.Records.{chunk_of}
@@ -32,7 +33,7 @@ use Rattle.send_recv.specs.Receiving.{progress_at}
 use Rattle.sync_flags.specs.Tries.{Aim, Tried, vain_from, changing_after}
 use Rattle.send_recv.specs.Sights.{chunk_at, layout_at}
 use Rattle.send_recv.specs.Tries.{aim_at}
-use Rattle.send_recv.specs.Turns.{HoldsNone, IsSamePost, KeepsRest, IsAtRest, is_resting, OnlyTries, is_no_draft, LastHeld, StoresFromBuffer, waits_at}
+use Rattle.send_recv.specs.Turns.{HoldsNone, IsSamePost, KeepsRest, IsAtRest, OnlyTries, is_no_draft, LastHeld, LoadsLines, StoresFromBuffer, lines_for_try, waits_at}
 
 -- ---- the slot
 
@@ -86,6 +87,7 @@ pub record SlotTurned (old now : SlotHolder) (answer : Turn) : Type 0 where
   -- it stores no header or chunk word
   pub no_drafts : list_all (is_no_draft old.sight.seat.setup) events ≡ true
   pub held : LastHeld events old.core.evictions now.core
+  pub work : LoadsLines events old.core now.core (lines_for_try (slot_spot old.sight.seat old.slot))
   pub buffer : now.core.out ≡ None
 
 -- ---- sends and posts
@@ -139,7 +141,8 @@ DraftedBefore size stage op bytes (suc i) = HasDrafted size stage op bytes i
 
 -- the last line waits in the buffer with line flags, and is sent out with bit flags
 abbrev pub IsBeforeRaise : Layout → Seat → Stage → Private → SendAt → List ℕ → Type 0
-IsBeforeRaise LineFlags seat stage c op bytes = (c.out ≡ waiting seat op bytes (lines_in_hand (chunk_of seat.setup) op)) × DraftedBefore (chunk_of seat.setup) stage op bytes (lines_in_hand (chunk_of seat.setup) op)
+IsBeforeRaise LineFlags seat stage c op bytes = (c.out ≡ waiting seat op bytes (lines_in_hand (chunk_of seat.setup) op))
+    × DraftedBefore (chunk_of seat.setup) stage op bytes (lines_in_hand (chunk_of seat.setup) op)
 IsBeforeRaise BitFlags seat stage c op bytes = (c.out ≡ None) × HasDrafted (chunk_of seat.setup) stage op bytes (lines_in_hand (chunk_of seat.setup) op)
 
 -- what the record, the buffer and the caller's bytes are at each stage
@@ -214,7 +217,8 @@ slot_after op slot = if is_sent op.stage then slot else (if op.posted then recor
 -- what each answer means for the op, the slot and the record
 abbrev pub SendMeans : Sender → Sender → Turn → Type 0
 SendMeans old now turn.Moved = (send_left (layout_at old.sight) (chunk_at old.sight) old.op old.slot ≡ send_left (layout_at old.sight) (chunk_at old.sight) now.op now.slot + 1)
-    × ((record_in now.sight).calls ≡ (record_in old.sight).calls) × (is_sent old.op.stage ≡ false) × (is_sent now.op.stage ≡ false) × IsSameOrEmpty old.slot now.slot
+    × ((record_in now.sight).calls ≡ (record_in old.sight).calls) × (is_sent old.op.stage ≡ false) × (is_sent now.op.stage ≡ false)
+    × IsSameOrEmpty old.slot now.slot
 SendMeans old now (turn.Waiting spot) = (now.op ≡ old.op) × (now.slot ≡ old.slot) × IsAtRest (record_in old.sight) (record_in now.sight)
 SendMeans old now turn.Done = (now.op.stage ≡ Finished) × (now.slot ≡ slot_after old.op old.slot)
     × ((record_in now.sight).calls ≡ (record_in old.sight).calls ++ send_call old.op old.bytes)
@@ -240,3 +244,4 @@ pub record SendTurned (old now : Sender) (answer : Turn) : Type 0 where
   -- each header or chunk word that it stored stood in the buffer before
   pub drafts : StoresFromBuffer old.sight.seat.setup old.core events
   pub held : LastHeld events old.core.evictions now.core
+  pub work : LoadsLines events old.core now.core (lines_for_try (send_spot old.sight.seat old.op old.slot))

@@ -1,12 +1,12 @@
 -- What the turns of a receive, of a send and of a slot have in common.
-use Rattle.std.specs.Prelude.{◌≡◌, ℕ, ◌+◌, ◌*◌, ◌≤◌, ◌⊎◌, Bool, true, false, ◌==◌, not, if◌then◌else◌, List, [], ◌∷◌, ◌++◌, Option, Some, None, slice_set}
+use Rattle.std.specs.Prelude.{◌≡◌, ℕ, ◌+◌, ◌*◌, ◌≤◌, ◌⊎◌, Bool, true, false, not, if◌then◌else◌, List, [], ◌∷◌, ◌++◌, Option, Some, None, slice_set}
 use Rattle.std.specs.List.{list_all}
 use Rattle.scc_base.specs.Places.{LineAt, WordAt, line_of_word, same_line}
 use Rattle.scc_base.specs.Events.{take_of}
 use Rattle.scc_base.specs.declared.layouts.Layout.{Layout}
 use Rattle.scc_base.specs.declared.layouts.Layout.TheVariants.{LineFlags, BitFlags}
 use Rattle.scc_base.specs.declared.events.Access.{Access}
-use Rattle.scc_base.specs.declared.events.Access.TheVariants.{Load, Store, Take}
+use Rattle.scc_base.specs.declared.events.Access.TheVariants.{Store}
 use Rattle.scc_base.specs.declared.events.Event.{Event}
 use Rattle.scc_base.specs.declared.events.Spot.{Spot}
 use Rattle.scc_base.specs.declared.events.Turn.{Turn}
@@ -46,15 +46,6 @@ pub record IsAtRest (rec new : Record) : Type 0 where
   pub post : IsSamePost rec.post new.post
   pub rest : KeepsRest rec new
   pub calls : new.calls ≡ rec.calls
-
--- a load, or a take that found the register taken
-abbrev pub is_resting_by : Access → ℕ → Bool
-is_resting_by Load value = true
-is_resting_by Take value = value == 0
-is_resting_by access value = false
-
-abbrev pub is_resting : Event → Bool
-is_resting e = is_resting_by e.access e.value
 
 -- nothing but one try, and that in vain for a register: the four loads of the flag's line, or one take
 abbrev pub IsOneTry : Aim → List Event → Type 0
@@ -102,6 +93,11 @@ pub record StoresFromBuffer (s : SetupView) (c : Private) (es : List Event) : Ty
 abbrev pub waits_at : Turn → Option Spot
 waits_at (Waiting spot) = Some spot
 waits_at turn = None
+
+-- how many lines a turn of a send or of a slot loads at most: one where it makes a try, and none where it makes none
+abbrev pub lines_for_try : Option Spot → ℕ
+lines_for_try None = 0
+lines_for_try (Some spot) = 1
 
 -- at most so many lines were loaded, and one more for each eviction
 abbrev pub LoadsLines : List Event → Private → Private → ℕ → Type 0
