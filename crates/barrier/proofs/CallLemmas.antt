@@ -24,7 +24,7 @@ use Rattle.barrier.specs.declared.stages.BarStage.{BarStage}
 use Rattle.barrier.specs.declared.stages.BarStage.TheVariants.{Flip, Gather, Release, Await, Finished}
 use Rattle.barrier.specs.Flags.{value_at, member_at, gather_word, release_word}
 use Rattle.barrier.specs.Stages.{BarAt, BarStands, IsAtStage, own_place, is_finished, is_gather, bar_left, bar_call, aim_at, meeting, with_parity}
-use Rattle.barrier.specs.Turns.{KeepsRest, Does, BarTurned, flips_by}
+use Rattle.barrier.specs.Turns.{KeepsAllButBarriers, Does, BarTurned, flips_by}
 use Rattle.barrier.specs.Calls.{MayEndAt, Finishes, Stalls}
 use Rattle.barrier.proofs.RestLemmas.{none_changed, kept_both, flips_moved, flips_looking}
 
@@ -80,7 +80,7 @@ pub record Underway (s : Sight) (op : BarAt) (vain : ℕ) (t : Sight) (d : Priva
   pub call_left : bar_call now ≡ bar_call op
   -- the flips that were made, with the one that may still come, are those of the whole barrier
   pub flips : flips_by now.comm now.stage (record_in t).flips ≡ flips_by op.comm op.stage (record_in s).flips
-  pub rest : KeepsRest (record_in s) (record_in t)
+  pub rest : KeepsAllButBarriers (record_in s) (record_in t)
   pub quiet : is_finished now.stage ≡ true → row.events ≡ []
 
 pub underway_none : {s : Sight} {c : Private} {op : BarAt} {values : List Bool} → BarStands s c op values → Underway s op 0 s c op values

@@ -14,14 +14,14 @@ use Rattle.barrier.specs.declared.stages.BarStage.{BarStage}
 use Rattle.barrier.specs.declared.stages.BarStage.TheVariants.{Flip, Gather, Release, Await, Finished}
 use Rattle.barrier.specs.Flags.{value_at}
 use Rattle.barrier.specs.Stages.{BarAt, BarStands, IsAtStage, IsBetweenBarriers, group_size, own_place, left_by, bar_left, bar_call, aim_at, new_barrier, meeting, with_parity}
-use Rattle.barrier.specs.Turns.{KeepsRest, flips_by}
+use Rattle.barrier.specs.Turns.{KeepsAllButBarriers, flips_by}
 use Rattle.barrier.specs.Calls.{Finishes, Stalls}
 use Rattle.barrier.proofs.StageLemmas.{same_by}
 
-pub none_changed : (rec : Record) → KeepsRest rec rec
+pub none_changed : (rec : Record) → KeepsAllButBarriers rec rec
 none_changed rec = record { post = refl; notes = refl; registers = refl; heap = refl }
 
-pub kept_both : {a b c : Record} → KeepsRest a b → KeepsRest b c → KeepsRest a c
+pub kept_both : {a b c : Record} → KeepsAllButBarriers a b → KeepsAllButBarriers b c → KeepsAllButBarriers a c
 kept_both x y = record {
   post = y.post ∙ x.post;
   notes = y.notes ∙ x.notes;

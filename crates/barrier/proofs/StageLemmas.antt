@@ -14,7 +14,7 @@ use Rattle.barrier.specs.declared.stages.BarStage.{BarStage}
 use Rattle.barrier.specs.declared.stages.BarStage.TheVariants.{Gather, Release, Finished}
 use Rattle.barrier.specs.Flags.{IsParityOf, value_at}
 use Rattle.barrier.specs.Stages.{BarAt, BarStands, IsAtStage, group_size, own_place, is_finished, is_gather, aim_at, left_by, bar_left, bar_call, after_seen, meeting}
-use Rattle.barrier.specs.Turns.{KeepsRest, Does, BarTurned, flips_by}
+use Rattle.barrier.specs.Turns.{KeepsAllButBarriers, Does, BarTurned, flips_by}
 use Rattle.sync_flags.specs.Flags.{flag_value}
 use Rattle.sync_flags.specs.Tries.{NoTry}
 
@@ -68,7 +68,7 @@ last_is size released true fits e = let n : released + 2 ≡ size = same_by_eqb 
 last_is size released false fits e = let n : released + 2 ≢ size = eq_not _ _ e in eqb_other (suc released) (size - 1) (λ q. n (omega (arith, q, fits)))
 
 -- nothing but the stage, the calls and the flips changed
-pub rest_kept : {rec new : Record} (stage : Stage) (flips : ℕ → ℕ) (calls : List DataCall) → new ≡ record rec { stage = stage; flips = flips; calls = calls } → KeepsRest rec new
+pub rest_kept : {rec new : Record} (stage : Stage) (flips : ℕ → ℕ) (calls : List DataCall) → new ≡ record rec { stage = stage; flips = flips; calls = calls } → KeepsAllButBarriers rec new
 rest_kept stage flips calls e = record {
   post = ap (λ (r : Record). r.post) e;
   notes = ap (λ (r : Record). r.notes) e;

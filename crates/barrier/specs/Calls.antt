@@ -11,7 +11,7 @@ use Rattle.barrier.specs.declared.barriers.BarStop.{BarStop}
 use Rattle.barrier.specs.declared.barriers.BarStop.TheVariants.{Stalled}
 use Rattle.barrier.specs.Flags.{IsParityOf, value_at, release_word}
 use Rattle.barrier.specs.Stages.{BarAt, BarStands, Member, ParityHolder, bar_call, own_place, aim_at}
-use Rattle.barrier.specs.Turns.{KeepsRest, flips_by}
+use Rattle.barrier.specs.Turns.{KeepsAllButBarriers, flips_by}
 
 -- the flags at which the last turn of a rank's barrier may have looked: a member's own release flag; a root ends
 -- with a write, whatever it looked at before
@@ -28,7 +28,7 @@ pub record Finishes (old : Member) (now : ParityHolder) : Type 0 where
   pub parity : IsParityOf (record_in now.sight) now.parity
   -- the own gather flag of this communicator was flipped once, unless the barrier was entered before
   pub flips : (record_in now.sight).flips ≡ flips_by old.op.comm old.op.stage (record_in old.sight).flips
-  pub rest : KeepsRest (record_in old.sight) (record_in now.sight)
+  pub rest : KeepsAllButBarriers (record_in old.sight) (record_in now.sight)
   pub no_vain : (place : WordAt) → MayEndAt old.sight.seat old.op.comm place → vain_tries (AtWord place (flag_value (value_at now.parity old.op.comm))) events ≡ 0
 
 -- the call gave up: the barrier that is handed back stands where the record stands, and the last looks, as many as
@@ -45,7 +45,7 @@ pub record Stalls (old : Member) (polls : ℕ) (rank : ParityHolder) (stop : Bar
   pub calls : (record_in rank.sight).calls ≡ (record_in old.sight).calls
   pub call_left : bar_call now ≡ bar_call old.op
   pub flips : (record_in rank.sight).flips ≡ flips_by old.op.comm old.op.stage (record_in old.sight).flips
-  pub rest : KeepsRest (record_in old.sight) (record_in rank.sight)
+  pub rest : KeepsAllButBarriers (record_in old.sight) (record_in rank.sight)
   pub vain : TriedInVain aim polls events
 
 -- what a call comes to

@@ -38,7 +38,7 @@ flips_by comm Flip flips = put flips comm (suc (flips comm))
 flips_by comm stage flips = flips
 
 -- what no turn of a barrier changes of a record
-pub record KeepsRest (rec new : Record) : Type 0 where
+pub record KeepsAllButBarriers (rec new : Record) : Type 0 where
   pub post : new.post ≡ rec.post
   pub notes : new.notes ≡ rec.notes
   pub registers : new.held ≡ rec.held
@@ -61,6 +61,6 @@ pub record BarTurned (old now : Member) (answer : Turn) : Type 0 where
   pub same : now.op.comm ≡ old.op.comm
   pub means : BarMeans old now answer
   pub flips : (record_in now.sight).flips ≡ flips_by old.op.comm old.op.stage (record_in old.sight).flips
-  pub rest : KeepsRest (record_in old.sight) (record_in now.sight)
+  pub rest : KeepsAllButBarriers (record_in old.sight) (record_in now.sight)
   -- no header or chunk word is stored
   pub no_draft : list_any (is_draft old.sight.seat.setup) events ≡ false

@@ -14,7 +14,7 @@ ghost use Rattle.barrier.specs.declared.barriers.BarStop.{BarStop};
 ghost use Rattle.barrier.specs.declared.stages.BarStage.TheVariants.{Flip};
 ghost use Rattle.barrier.specs.Flags.{IsParityOf, value_at};
 ghost use Rattle.barrier.specs.Stages.{BarAt, BarStands, IsBetweenBarriers, new_barrier, bar_call, left_by, meeting, with_parity};
-ghost use Rattle.barrier.specs.Turns.{KeepsRest, BarTurned, flips_by};
+ghost use Rattle.barrier.specs.Turns.{KeepsAllButBarriers, BarTurned, flips_by};
 ghost use Rattle.barrier.specs.Calls.{Finishes, Stalls};
 
 /// A new barrier in a group of some members has at most two turns a member and one more left that do not wait.
@@ -43,7 +43,7 @@ pub fn goes_on_law()
     ensures flips { (s m t : Sight) (c b d : Private) (op : BarAt) (polls : ℕ) (before values later : List Bool) (stop : BarStop) (first : Stalls (meeting s c op before) polls (with_parity m b values) stop)
         → Finishes (meeting m b first.now values) (with_parity t d later) → (record_in t).flips ≡ flips_by op.comm op.stage (record_in s).flips }
     ensures rest { (s m t : Sight) (c b d : Private) (op : BarAt) (polls : ℕ) (before values later : List Bool) (stop : BarStop) (first : Stalls (meeting s c op before) polls (with_parity m b values) stop)
-        → Finishes (meeting m b first.now values) (with_parity t d later) → KeepsRest (record_in s) (record_in t) }
+        → Finishes (meeting m b first.now values) (with_parity t d later) → KeepsAllButBarriers (record_in s) (record_in t) }
 {}
 
 /// What stands at a port stands at every port of the same rank: the same setup, rank and events.

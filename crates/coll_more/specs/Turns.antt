@@ -17,7 +17,7 @@ use Rattle.send_recv.specs.Receiving.{SaysHead, recv_left, recv_spot, recv_waits
 use Rattle.send_recv.specs.Sending.{send_left, send_spot}
 use Rattle.send_recv.specs.Sights.{layout_at}
 use Rattle.send_recv.specs.Tries.{aim_at}
-use Rattle.send_recv.specs.Turns.{IsAtRest, KeepsRest, LastHeld, OnlyTries, StoresFromBuffer}
+use Rattle.send_recv.specs.Turns.{IsAtRest, KeepsAllButMessages, LastHeld, OnlyTries, StoresFromBuffer}
 use Rattle.send_recv.specs.declared.answers.RecvTurn.{RecvTurn}
 use Rattle.send_recv.specs.declared.answers.RecvTurn.TheVariants as turn
 use Rattle.sync_flags.specs.Tries.{Aim, Tried, changing_after}
@@ -101,7 +101,7 @@ pub record MoreTurned (old now : Participant) (answer : RecvTurn) : Type 0 where
   pub only : OnlyTries (aim_at (layout_at old.sight) (recv_waits answer)) events
   pub same : (now.op.more ≡ old.op.more) × (now.op.len ≡ old.op.len)
   pub means : MoreMeans old now answer
-  pub rest : KeepsRest (record_in old.sight) (record_in now.sight)
+  pub rest : KeepsAllButMessages (record_in old.sight) (record_in now.sight)
   -- each header or chunk word that it stored stood in the buffer before
   pub drafts : StoresFromBuffer old.sight.seat.setup old.core events
   -- the line that was loaded last stands in the cache, unless lines were evicted

@@ -27,7 +27,7 @@ use Rattle.send_recv.specs.Receiving.{IsAtStage, IsReceiving, RecvStands, IsRead
 use Rattle.send_recv.specs.Steps.{own_core, core_of, sent_flag}
 use Rattle.sync_flags.specs.Tries.{AtRegister, tries_at, all_vain, Tried, NoTry, Fruitful}
 use Rattle.send_recv.specs.Tries.{aim_of, aim_at}
-use Rattle.send_recv.specs.Turns.{KeepsRest}
+use Rattle.send_recv.specs.Turns.{KeepsAllButMessages}
 use Rattle.send_recv.proofs.LookTurn.{Turns, stands_after}
 use Rattle.send_recv.proofs.HeadTurn.{post_kept}
 use Rattle.send_recv.proofs.FlagMoves.{may_lower, sent_is_lowered}
@@ -181,7 +181,7 @@ lower_goes b s t c d op bytes lines valid r lower changes =
     let l = is_lowering s.seat (record_in s) c op bytes r lower in
     let is = sent_is_lowered s t c d op.from valid r.peers r.hands r.empty (lower_permitted size (record_in s) op bytes l) changes in
     let facts = change_facts layout s t c d (own_core s.seat) (sent_flag s.seat op.from) false true r.empty changes in
-    let rest : KeepsRest (record_in s) (record_in t) = record {
+    let rest : KeepsAllButMessages (record_in s) (record_in t) = record {
       flips = ap (λ (x : Record). x.flips) is;
       hold = ap (λ (x : Record). x.held) is;
       heap = ap (λ (x : Record). x.heap) is;

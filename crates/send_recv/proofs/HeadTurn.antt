@@ -30,7 +30,7 @@ use Rattle.send_recv.specs.Receiving.{IsAtStage, IsReceiving, RecvStands, SaysHe
 use Rattle.send_recv.specs.Steps.{cleared, own_core, core_of, line_at, head_said, same_head, HeadRead, Same, Differs}
 use Rattle.sync_flags.specs.Tries.{NoTry, tries_at}
 use Rattle.send_recv.specs.Tries.{aim_of, aim_at}
-use Rattle.send_recv.specs.Turns.{IsSamePost, KeepsRest}
+use Rattle.send_recv.specs.Turns.{IsSamePost, KeepsAllButMessages}
 use Rattle.send_recv.proofs.NotedReads.{HasWords, line_notes}
 use Rattle.send_recv.proofs.Sources.{with_header, header_source, IsNotedHeader, header_condition}
 use Rattle.send_recv.proofs.LineReads.{NoTries, reads_whole, read_elsewhere}
@@ -171,7 +171,7 @@ head_turn s t c d op now bytes words answer valid r header sound reads (Same e n
     let ev = reads_whole s t (cleared c) d (line_at s.seat op.from 0) words reads in
     let stage : (record_in t).stage ≡ Idle = ap (λ (x : Record). x.stage) h.record_is ∙ at.1 in
     let next : RecvAt = record op { stage = Lower } in
-    let rest : KeepsRest (record_in s) (record_in t) = record {
+    let rest : KeepsAllButMessages (record_in s) (record_in t) = record {
       flips = ap (λ (x : Record). x.flips) h.record_is;
       hold = ap (λ (x : Record). x.held) h.record_is;
       heap = ap (λ (x : Record). x.heap) h.record_is;
@@ -213,7 +213,7 @@ head_turn s t c d op now bytes words answer valid r header sound reads (Differs 
     let same : (record_in t).stage ≡ (record_in s).stage = ap (λ (x : Record). x.stage) h.record_is in
     let calls : (record_in t).calls ≡ (record_in s).calls = ap (λ (x : Record). x.calls) h.record_is in
     let post = post_kept (record_in s).post (record_in t).post (ap (λ (x : Record). x.post) h.record_is) in
-    let rest : KeepsRest (record_in s) (record_in t) = record {
+    let rest : KeepsAllButMessages (record_in s) (record_in t) = record {
       flips = ap (λ (x : Record). x.flips) h.record_is;
       hold = ap (λ (x : Record). x.held) h.record_is;
       heap = ap (λ (x : Record). x.heap) h.record_is;

@@ -26,7 +26,7 @@ use Rattle.send_recv.specs.Receiving.{IsAtStage, IsReceiving, RecvStands, AreNot
 use Rattle.send_recv.specs.Steps.{cleared, own_core, core_of, before_line, line_at, after_line}
 use Rattle.sync_flags.specs.Tries.{NoTry}
 use Rattle.send_recv.specs.Tries.{aim_at}
-use Rattle.send_recv.specs.Turns.{KeepsRest, LastHeld}
+use Rattle.send_recv.specs.Turns.{KeepsAllButMessages, LastHeld}
 use Rattle.send_recv.proofs.LineReads.{reads_whole, read_elsewhere}
 use Rattle.send_recv.proofs.LookTurn.{Turns, holds_kept}
 use Rattle.send_recv.proofs.HeadTurn.{peer_below, post_kept}
@@ -157,7 +157,7 @@ lines_by b s t c d op i bytes after words next valid r stage reads same put befo
     let ev = reads_whole s t (before_line i c) d (line_at s.seat op.from (first_chunk layout + i)) words reads in
     let now : RecvAt = record op { stage = next_stage b i } in
     let kept : (before_line i c).evictions ≡ c.evictions = cleared_same (i == 0) c in
-    let rest : KeepsRest (record_in s) (record_in t) = record {
+    let rest : KeepsAllButMessages (record_in s) (record_in t) = record {
       flips = ap (λ (x : Record). x.flips) is;
       hold = ap (λ (x : Record). x.held) is;
       heap = ap (λ (x : Record). x.heap) is;

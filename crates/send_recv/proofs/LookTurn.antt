@@ -26,7 +26,7 @@ use Rattle.send_recv.specs.Flags.{Looks}
 use Rattle.send_recv.specs.Ops.{RecvAt, is_received}
 use Rattle.send_recv.specs.Receiving.{IsAtStage, IsReceiving, RecvStands, RecvTurned, between, progress_at, spot_by, recv_spot, recv_left, recv_left_by, lines_now, lines_left, lines_left_by, flag_lines, is_look, filled_to, filled_by}
 use Rattle.send_recv.specs.Steps.{own_core, core_of, sent_flag, flag_spot, after_look, recv_or_waits}
-use Rattle.send_recv.specs.Turns.{HoldsNone, IsSamePost, KeepsRest}
+use Rattle.send_recv.specs.Turns.{HoldsNone, IsSamePost, KeepsAllButMessages}
 use Rattle.send_recv.specs.Ranks.{receiving}
 use Rattle.send_recv.proofs.LookLemmas.{IsLooked, looks_at_sent}
 use Rattle.send_recv.proofs.TryLemmas.{look_tried, sent_spot, look_elsewhere, le_self, sent_word, look_held}
@@ -50,7 +50,7 @@ same_post q (Some post) = (if q post.to then true else post.is_answered, refl, a
 pub looked_post : (size : ℕ) (rec new : Record) → IsLooked size rec new → IsSamePost rec.post new.post
 looked_post size rec new l = subst (λ (p : Option OnItsWay). IsSamePost rec.post p) (sym (ap (λ (r : Record). r.post) l.is)) (same_post l.ready rec.post)
 
-pub looked_rest : (size : ℕ) (rec new : Record) → IsLooked size rec new → KeepsRest rec new
+pub looked_rest : (size : ℕ) (rec new : Record) → IsLooked size rec new → KeepsAllButMessages rec new
 looked_rest size rec new l = record {
   flips = ap (λ (r : Record). r.flips) l.is;
   hold = ap (λ (r : Record). r.held) l.is;

@@ -31,7 +31,7 @@ use Rattle.send_recv.specs.Receiving.{IsAtStage, RecvStands, RecvTurned, IsRecvS
 use Rattle.send_recv.specs.Calling.{sent_aim, HasNotStalled, Received, RecvStalled, RecvDiffers}
 use Rattle.send_recv.specs.Steps.{own_core, core_of, flag_spot}
 use Rattle.send_recv.specs.Tries.{aim_of, aim_at}
-use Rattle.send_recv.specs.Turns.{IsSamePost, KeepsRest, IsAtRest, LoadsLines}
+use Rattle.send_recv.specs.Turns.{IsSamePost, KeepsAllButMessages, IsAtRest, LoadsLines}
 use Rattle.send_recv.specs.Ranks.{receiving, with_bytes}
 use Rattle.send_recv.proofs.LookTurn.{at_look}
 use Rattle.send_recv.proofs.LinesTurn.{take_agree}
@@ -46,10 +46,10 @@ post_both (Some post) b c x y =
     let z : IsSamePost (Some (record post { is_answered = x.0 })) c = subst (λ (o : Option OnItsWay). IsSamePost o c) x.1 y in
     (z.0, z.1, λ h. z.2 (x.2 h))
 
-pub rest_both : (a b c : Record) → KeepsRest a b → KeepsRest b c → KeepsRest a c
+pub rest_both : (a b c : Record) → KeepsAllButMessages a b → KeepsAllButMessages b c → KeepsAllButMessages a c
 rest_both a b c x y = record { flips = y.flips ∙ x.flips; hold = y.hold ∙ x.hold; heap = y.heap ∙ x.heap }
 
-pub rest_itself : (a : Record) → KeepsRest a a
+pub rest_itself : (a : Record) → KeepsAllButMessages a a
 rest_itself a = record { flips = refl; hold = refl; heap = refl }
 
 -- ---- tries
@@ -119,7 +119,7 @@ pub record Underway (s : Sight) (c : Private) (op : RecvAt) (bytes : List ℕ) (
   pub call_left : (x : List ℕ) → recv_call now x ≡ recv_call op x
   pub fuller : filled_to (chunk_of s.seat.setup) op ≤ filled_to (chunk_of s.seat.setup) now
   pub behind : (k : ℕ) → filled_to (chunk_of s.seat.setup) now ≤ k → slice_index after k ≡ slice_index bytes k
-  pub rest : KeepsRest (record_in s) (record_in t)
+  pub rest : KeepsAllButMessages (record_in s) (record_in t)
   pub post : IsSamePost (record_in s).post (record_in t).post
   pub work : load_count row.events + 4 * c.evictions + 4 * lines_left s.seat.setup.layout (chunk_of s.seat.setup) now
       ≤ 4 * d.evictions + 4 * (lines_left s.seat.setup.layout (chunk_of s.seat.setup) op + tries_at (sent_aim s.seat op) row.events)

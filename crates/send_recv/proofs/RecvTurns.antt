@@ -29,7 +29,7 @@ use Rattle.send_recv.specs.Receiving.{IsReceiving, RecvStands, lines_now, spot_b
 use Rattle.send_recv.specs.Steps.{own_core, core_of, sent_flag, ready_flag, after_lower, after_raise, recv_or_waits, raise_answer}
 use Rattle.sync_flags.specs.Tries.{AtRegister, tries_at, all_vain, Tried, Vain}
 use Rattle.send_recv.specs.Tries.{aim_at}
-use Rattle.send_recv.specs.Turns.{HoldsNoneBy, KeepsRest}
+use Rattle.send_recv.specs.Turns.{HoldsNoneBy, KeepsAllButMessages}
 use Rattle.send_recv.proofs.LookTurn.{Turns, stands_after, holds_kept}
 use Rattle.send_recv.proofs.HeadTurn.{post_kept}
 use Rattle.send_recv.proofs.TryLemmas.{le_self}
@@ -67,7 +67,7 @@ register_waits s t c d op bytes core flag set valid r plain spot changes =
     let layout = s.seat.setup.layout in
     let m = missed_by layout s t c d core flag set valid r.hands changes in
     let facts = change_facts layout s t c d core flag set false r.empty changes in
-    let rest : KeepsRest (record_in s) (record_in t) = record {
+    let rest : KeepsAllButMessages (record_in s) (record_in t) = record {
       flips = ap (λ (x : Record). x.flips) m.same;
       hold = ap (λ (x : Record). x.held) m.same;
       heap = ap (λ (x : Record). x.heap) m.same;
@@ -172,7 +172,7 @@ raise_last s t c d op bytes last valid r raise changes =
     let facts = change_facts layout s t c d (core_of s.seat op.from) (ready_flag s.seat s.seat.rank) true true r.empty changes in
     let ends = raised_calls layout (record_in s) (record_in t) op bytes l r.long r.in_hand last is in
     let below = r.in_hand in
-    let rest : KeepsRest (record_in s) (record_in t) = record {
+    let rest : KeepsAllButMessages (record_in s) (record_in t) = record {
       flips = ap (λ (x : Record). x.flips) is;
       hold = ap (λ (x : Record). x.held) is;
       heap = ap (λ (x : Record). x.heap) is;
@@ -218,7 +218,7 @@ raise_next s t c d op bytes more valid r raise changes =
     let facts = change_facts layout s t c d (core_of s.seat op.from) (ready_flag s.seat s.seat.rank) true true r.empty changes in
     let goes = raised_stage layout (record_in s) (record_in t) op bytes l r.long r.in_hand more is in
     let low = le_not op.head.len (size * (op.chunk + 1)) more in
-    let rest : KeepsRest (record_in s) (record_in t) = record {
+    let rest : KeepsAllButMessages (record_in s) (record_in t) = record {
       flips = ap (λ (x : Record). x.flips) is;
       hold = ap (λ (x : Record). x.held) is;
       heap = ap (λ (x : Record). x.heap) is;

@@ -22,7 +22,7 @@ use Rattle.send_recv.specs.Sending.{IsAtSendStage, SendStands, SendTurned, send_
 use Rattle.send_recv.specs.Calling.{Sent, SendStalled}
 use Rattle.send_recv.specs.Steps.{own_core, core_of, flag_spot}
 use Rattle.send_recv.specs.Tries.{aim_of, aim_at}
-use Rattle.send_recv.specs.Turns.{KeepsRest, IsAtRest}
+use Rattle.send_recv.specs.Turns.{KeepsAllButMessages, IsAtRest}
 use Rattle.send_recv.specs.Ranks.{sending, with_slot}
 use Rattle.send_recv.proofs.TryLemmas.{ready_spot}
 use Rattle.send_recv.proofs.RecvLoop.{rest_both, rest_itself, resting_quiet, aimed, row_on}
@@ -34,7 +34,7 @@ pub record SendWay (s : Sight) (op : SendAt) (bytes : List ℕ) (vain : ℕ) (t 
   pub same : (now.to ≡ op.to) × (now.head ≡ op.head) × (now.posted ≡ op.posted)
   pub finished : is_sent now.stage ≡ is_sent op.stage
   pub calls : (record_in t).calls ≡ (record_in s).calls
-  pub rest : KeepsRest (record_in s) (record_in t)
+  pub rest : KeepsAllButMessages (record_in s) (record_in t)
 
 pub way_none : {s : Sight} {c : Private} {op : SendAt} {slot : SlotAt} {bytes : List ℕ} → SendStands s c op slot bytes → SendWay s op bytes 0 s c op slot
 way_none {s} st = record {

@@ -32,7 +32,7 @@ use Rattle.sync_flags.specs.Tries.{Aim, AtFlag, AtWord, AtRegister, tries_at, al
 use Rattle.sync_flags.proofs.VainLemmas.{vain-append}
 use Rattle.sync_flags.proofs.RowLemmas.{changing-append}
 use Rattle.send_recv.specs.Tries.{aim_at}
-use Rattle.send_recv.specs.Turns.{KeepsRest, OnlyTries, LastHeld, NoLoad, StoresFromBuffer, waits_at}
+use Rattle.send_recv.specs.Turns.{KeepsAllButMessages, OnlyTries, LastHeld, NoLoad, StoresFromBuffer, waits_at}
 use Rattle.send_recv.proofs.ChangeFacts.{change_facts}
 use Rattle.send_recv.proofs.FlagTurns.{went_on}
 use Rattle.send_recv.proofs.DraftNone.{IsFlagWord, sent_is_flag, store_drafts_none, drafts_none_by}
@@ -167,7 +167,7 @@ after_raise false s t c d op slot bytes plain small r raise up out =
       );
     }
 
-raised_rest : (s t : Sight) (op : SendAt) (bytes : List ℕ) → SentRaised s t op bytes → KeepsRest (record_in s) (record_in t)
+raised_rest : (s t : Sight) (op : SendAt) (bytes : List ℕ) → SentRaised s t op bytes → KeepsAllButMessages (record_in s) (record_in t)
 raised_rest s t op bytes up = record { flips = ap (λ (x : Record). x.flips) up.is; hold = ap (λ (x : Record). x.held) up.is; heap = ap (λ (x : Record). x.heap) up.is }
 
 -- ---- the turn

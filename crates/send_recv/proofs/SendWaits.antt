@@ -15,7 +15,7 @@ use Rattle.put_get.specs.Transfers.{load_count}
 use Rattle.send_recv.specs.Flags.{Changes}
 use Rattle.send_recv.specs.Ops.{SendAt, SlotAt}
 use Rattle.send_recv.specs.Sending.{IsSending, SendStands, send_spot}
-use Rattle.send_recv.specs.Turns.{KeepsRest, StoresFromBuffer, is_no_draft}
+use Rattle.send_recv.specs.Turns.{KeepsAllButMessages, StoresFromBuffer, is_no_draft}
 use Rattle.send_recv.proofs.HeadTurn.{post_kept}
 use Rattle.send_recv.proofs.ChangeFacts.{change_facts}
 use Rattle.send_recv.proofs.RecvTurns.{missed_by, waits_tried}
@@ -33,7 +33,7 @@ register_waits s t c d op slot bytes core flag set valid r empty plain spot chan
     let layout = s.seat.setup.layout in
     let m = missed_by layout s t c d core flag set valid r.hands changes in
     let facts = change_facts layout s t c d core flag set false empty changes in
-    let rest : KeepsRest (record_in s) (record_in t) = record {
+    let rest : KeepsAllButMessages (record_in s) (record_in t) = record {
       flips = ap (λ (x : Record). x.flips) m.same;
       hold = ap (λ (x : Record). x.held) m.same;
       heap = ap (λ (x : Record). x.heap) m.same;

@@ -25,7 +25,7 @@ use Rattle.send_recv.specs.Ops.{RecvAt, SendAt, SlotAt, new_receive, new_send, e
 use Rattle.send_recv.specs.Receiving.{RecvStands, RecvTurned, IsReceiving, IsAtStage, recv_left}
 use Rattle.send_recv.specs.Sending.{SlotStands, SlotTurned, SendStands, SendTurned, IsSending, IsAtSendStage, was_answered, send_left, of_chunk}
 use Rattle.send_recv.specs.Calling.{IsBetweenMessages, Received, RecvDiffers, FoundUnset, Sent}
-use Rattle.send_recv.specs.Turns.{HoldsNone, IsSamePost, KeepsRest}
+use Rattle.send_recv.specs.Turns.{HoldsNone, IsSamePost, KeepsAllButMessages}
 use Rattle.send_recv.specs.Ranks.{receiving, sending, with_slot, with_bytes}
 use Rattle.send_recv.proofs.LookTurn.{holds_kept}
 
@@ -73,7 +73,7 @@ pub slot_after : {s t : Sight} {slot : SlotAt} (events : List Event) → Did s e
 slot_after {s} {t} {slot} events did post st =
     subst (λ (x : Seat). SlotStands x (record_in t) slot) (sym (seat_kept s events t did)) (slot_stays s.seat (record_in s) (record_in t) slot post st)
 
-hands_after : {s t : Sight} (events : List Event) → Did s events t → KeepsRest (record_in s) (record_in t) → HoldsNone s.seat.setup.layout (record_in s) → HoldsNone t.seat.setup.layout (record_in t)
+hands_after : {s t : Sight} (events : List Event) → Did s events t → KeepsAllButMessages (record_in s) (record_in t) → HoldsNone s.seat.setup.layout (record_in s) → HoldsNone t.seat.setup.layout (record_in t)
 hands_after {s} {t} events did rest hands =
     subst (λ (x : Seat). HoldsNone x.setup.layout (record_in t)) (sym (seat_kept s events t did)) (holds_kept s.seat.setup.layout (record_in s) (record_in t) rest.hold hands)
 

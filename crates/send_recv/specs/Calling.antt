@@ -21,7 +21,7 @@ use Rattle.send_recv.specs.Ops.{RecvAt, SlotAt, is_sent}
 use Rattle.send_recv.specs.Ranks.{BufferHolder, Receiver, Sender, SlotHolder, receiving, sending}
 use Rattle.send_recv.specs.Sights.{chunk_at, layout_at}
 use Rattle.send_recv.specs.Tries.{aim_of}
-use Rattle.send_recv.specs.Turns.{HoldsNone, IsSamePost, KeepsRest, IsAtRest, IsOneTry}
+use Rattle.send_recv.specs.Turns.{HoldsNone, IsSamePost, KeepsAllButMessages, IsAtRest, IsOneTry}
 use Rattle.send_recv.specs.Steps.{own_core, sent_flag, flag_spot}
 use Rattle.send_recv.specs.Receiving.{RecvStands, SaysHead, IsRecvSpot, recv_spot, recv_call, lines_left, filled_to}
 use Rattle.send_recv.specs.Sending.{SlotStands, SendStands, send_spot, send_call}
@@ -41,7 +41,7 @@ pub record Received (old : Receiver) (polls : ℕ) (now : BufferHolder) : Type 0
   pub calls : (record_in now.sight).calls ≡ (record_in old.sight).calls ++ recv_call old.op now.bytes
   pub stage : (record_in now.sight).stage ≡ Idle
   pub empty : now.core.out ≡ None
-  pub rest : KeepsRest (record_in old.sight) (record_in now.sight)
+  pub rest : KeepsAllButMessages (record_in old.sight) (record_in now.sight)
   pub post : IsSamePost (record_in old.sight).post (record_in now.sight).post
   pub no_stall : HasNotStalled old.sight.seat old.op polls events
   -- at most four loads for each look at the flag, for each line that was left to load, and for each eviction
@@ -60,7 +60,7 @@ pub record RecvStalled (old : Receiver) (polls : ℕ) (now : Receiver) (spot : S
   pub call_left : (x : List ℕ) → recv_call now.op x ≡ recv_call old.op x
   pub fuller : filled_to (chunk_at old.sight) old.op ≤ filled_to (chunk_at old.sight) now.op
   pub behind : (k : ℕ) → filled_to (chunk_at old.sight) now.op ≤ k → slice_index now.bytes k ≡ slice_index old.bytes k
-  pub rest : KeepsRest (record_in old.sight) (record_in now.sight)
+  pub rest : KeepsAllButMessages (record_in old.sight) (record_in now.sight)
   pub post : IsSamePost (record_in old.sight).post (record_in now.sight).post
 
 -- the message that was sent has another head: it stays untaken, and its header words are noted
@@ -77,7 +77,7 @@ pub record RecvDiffers (old : Receiver) (polls : ℕ) (now : BufferHolder) (sent
   pub untaken : (record_in now.sight).stage ≡ Idle
   pub calls : (record_in now.sight).calls ≡ (record_in old.sight).calls
   pub empty : now.core.out ≡ None
-  pub rest : KeepsRest (record_in old.sight) (record_in now.sight)
+  pub rest : KeepsAllButMessages (record_in old.sight) (record_in now.sight)
   pub post : IsSamePost (record_in old.sight).post (record_in now.sight).post
   pub no_stall : HasNotStalled old.sight.seat old.op polls events
 
@@ -130,7 +130,7 @@ pub record Sent (old : Sender) (now : SlotHolder) : Type 0 where
   pub posted : old.op.posted ≡ true → is_sent old.op.stage ≡ false → now.slot ≡ record { to = Some old.op.to; seen = false }
   -- a plain send leaves no message on its way, its own or another
   pub plain : old.op.posted ≡ false → is_sent old.op.stage ≡ false → now.slot.to ≡ None
-  pub rest : KeepsRest (record_in old.sight) (record_in now.sight)
+  pub rest : KeepsAllButMessages (record_in old.sight) (record_in now.sight)
   -- no row of vain tries is left, at any spot
   pub no_row : is_sent old.op.stage ≡ false → (aim : Aim) → vain_tries aim events ≡ 0
 
@@ -144,7 +144,7 @@ pub record SendStalled (old : Sender) (polls : ℕ) (now : Sender) (spot : Spot)
   pub same : (now.op.to ≡ old.op.to) × (now.op.head ≡ old.op.head) × (now.op.posted ≡ old.op.posted)
   pub finished : is_sent now.op.stage ≡ is_sent old.op.stage
   pub calls : (record_in now.sight).calls ≡ (record_in old.sight).calls
-  pub rest : KeepsRest (record_in old.sight) (record_in now.sight)
+  pub rest : KeepsAllButMessages (record_in old.sight) (record_in now.sight)
 
 -- what a send comes to
 abbrev pub SendEnds : Sender → ℕ → SlotHolder → Result Unit SendStop → Type 0

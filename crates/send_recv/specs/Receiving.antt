@@ -31,7 +31,7 @@ use Rattle.send_recv.specs.Ranks.{Receiver}
 use Rattle.sync_flags.specs.Tries.{Tried, tries_at, changing_after}
 use Rattle.send_recv.specs.Sights.{chunk_at, layout_at}
 use Rattle.send_recv.specs.Tries.{aim_of, aim_at}
-use Rattle.send_recv.specs.Turns.{HoldsNone, IsSamePost, KeepsRest, IsAtRest, OnlyTries, is_no_draft, LastHeld, LoadsLines}
+use Rattle.send_recv.specs.Turns.{HoldsNone, IsSamePost, KeepsAllButMessages, IsAtRest, OnlyTries, is_no_draft, LastHeld, LoadsLines}
 
 -- a message of which these chunks are through
 abbrev pub progress_at : ℕ → MessageHead → ℕ → List ℕ → Progress
@@ -201,7 +201,7 @@ pub record RecvTurned (old now : Receiver) (answer : RecvTurn) : Type 0 where
   pub no_drafts : list_all (is_no_draft old.sight.seat.setup) events ≡ true
   pub same : (now.op.from ≡ old.op.from) × (now.op.head ≡ old.op.head)
   pub means : RecvMeans old now answer
-  pub rest : KeepsRest (record_in old.sight) (record_in now.sight)
+  pub rest : KeepsAllButMessages (record_in old.sight) (record_in now.sight)
   pub post : IsSamePost (record_in old.sight).post (record_in now.sight).post
   -- the buffer changes only where bytes of the line read stand
   pub before : (k : ℕ) → k < filled_to (chunk_at old.sight) old.op → slice_index now.bytes k ≡ slice_index old.bytes k

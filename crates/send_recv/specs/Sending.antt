@@ -33,7 +33,7 @@ use Rattle.send_recv.specs.Receiving.{progress_at}
 use Rattle.sync_flags.specs.Tries.{Aim, Tried, vain_from, changing_after}
 use Rattle.send_recv.specs.Sights.{chunk_at, layout_at}
 use Rattle.send_recv.specs.Tries.{aim_at}
-use Rattle.send_recv.specs.Turns.{HoldsNone, IsSamePost, KeepsRest, IsAtRest, OnlyTries, is_no_draft, LastHeld, LoadsLines, StoresFromBuffer, lines_for_try, waits_at}
+use Rattle.send_recv.specs.Turns.{HoldsNone, IsSamePost, KeepsAllButMessages, IsAtRest, OnlyTries, is_no_draft, LastHeld, LoadsLines, StoresFromBuffer, lines_for_try, waits_at}
 
 -- ---- the slot
 
@@ -83,7 +83,7 @@ pub record SlotTurned (old now : SlotHolder) (answer : Turn) : Type 0 where
   pub calls : (record_in now.sight).calls ≡ (record_in old.sight).calls
   -- where the slot is still full, the same message is on its way
   pub post : now.slot.to ≡ old.slot.to → IsSamePost (record_in old.sight).post (record_in now.sight).post
-  pub rest : KeepsRest (record_in old.sight) (record_in now.sight)
+  pub rest : KeepsAllButMessages (record_in old.sight) (record_in now.sight)
   -- it stores no header or chunk word
   pub no_drafts : list_all (is_no_draft old.sight.seat.setup) events ≡ true
   pub held : LastHeld events old.core.evictions now.core
@@ -240,7 +240,7 @@ pub record SendTurned (old now : Sender) (answer : Turn) : Type 0 where
   pub only : OnlyTries (aim_at (layout_at old.sight) (waits_at answer)) events
   pub same : (now.op.to ≡ old.op.to) × (now.op.head ≡ old.op.head) × (now.op.posted ≡ old.op.posted)
   pub means : SendMeans old now answer
-  pub rest : KeepsRest (record_in old.sight) (record_in now.sight)
+  pub rest : KeepsAllButMessages (record_in old.sight) (record_in now.sight)
   -- each header or chunk word that it stored stood in the buffer before
   pub drafts : StoresFromBuffer old.sight.seat.setup old.core events
   pub held : LastHeld events old.core.evictions now.core

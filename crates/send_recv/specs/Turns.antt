@@ -35,7 +35,7 @@ IsSamePost None new = new ≡ None
 IsSamePost (Some post) new = (answered : Bool) × (new ≡ Some (record post { is_answered = answered })) × (post.is_answered ≡ true → answered ≡ true)
 
 -- what no turn of a message changes of a record
-pub record KeepsRest (rec new : Record) : Type 0 where
+pub record KeepsAllButMessages (rec new : Record) : Type 0 where
   pub flips : new.flips ≡ rec.flips
   pub hold : new.held ≡ rec.held
   pub heap : new.heap ≡ rec.heap
@@ -44,7 +44,7 @@ pub record KeepsRest (rec new : Record) : Type 0 where
 pub record IsAtRest (rec new : Record) : Type 0 where
   pub stage : new.stage ≡ rec.stage
   pub post : IsSamePost rec.post new.post
-  pub rest : KeepsRest rec new
+  pub rest : KeepsAllButMessages rec new
   pub calls : new.calls ≡ rec.calls
 
 -- nothing but one try, and that in vain for a register: the four loads of the flag's line, or one take

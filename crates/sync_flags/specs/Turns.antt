@@ -1,13 +1,13 @@
 -- What the operations of a rank, messages and barriers, have in common.
 use Rattle.std.specs.Prelude.{◌≡◌, ℕ, None}
 use base.Stored.{Gv}
-use Rattle.scc_proto.specs.Stages.{Idle}
-use Rattle.scc_proto.specs.Ports.{Sight, record_in}
+use Rattle.scc_proto.specs.IdlePorts.{IsIdle}
+use Rattle.scc_proto.specs.Ports.{Sight}
 use Rattle.put_get.specs.Cores.{Private}
 
 -- the rank is between two calls: none is open in its record, and no line waits in its write-combining buffer
 pub record IsBetweenCalls (s : Sight) (c : Private) : Type 0 where
-  pub stage : (record_in s).stage ≡ Idle
+  pub stage : IsIdle s
   pub empty : c.out ≡ None
 
 -- the same rank of the same setup, with the same events, at another port
