@@ -1,5 +1,5 @@
 -- The log of a chip's finished calls is read back from its text, and is legal.
-use Rattle.std.proofs.Common.{◌≡◌, ◌⊎◌, ⊎_elim, ℕ, ◌<◌, ◌≤◌, List, [], ◌∷◌, length, map, Ok, refl, sym, ◌∙◌, subst, arith, length-append}
+use Rattle.std.proofs.Common.{◌≡◌, ◌⊎◌, ⊎_elim, ℕ, suc, ◌<◌, ◌≤◌, List, [], ◌∷◌, length, map, Ok, refl, sym, ap, ◌∙◌, subst, arith, length-append}
 use Rattle.std.specs.Prelude.{All, flat_map}
 use Rattle.std.specs.List.{range_with_len}
 use Rattle.std.proofs.lemmas.Bool.{cases_lt}
@@ -70,7 +70,7 @@ moved_all script rank [] own = refl
 moved_all script rank (call ∷ calls) own =
     let one = moved_one script rank call (All-head (IsOwnCall script rank) call calls own) in
     let rest = moved_all script rank calls (All-tail (IsOwnCall script rank) call calls own) in
-    omega (arith, one, rest, length-append (bytes_of call) (flat_map bytes_of calls))
+    omega (arith, one, rest) ∙ sym (length-append (bytes_of call) (flat_map bytes_of calls))
 
 few_own : (script : Script) (rank : ℕ) (calls : List DataCall) → AreOwnCalls script rank calls → AreFew calls
 few_own script rank calls is =
@@ -123,7 +123,7 @@ module _ (script : Script) (chip : ChipView) (read : settled.IsWhole script.nue 
   is_log = record {
     some_ranks = read.some;
     ranks_within = read.most;
-    sixteen = omega (arith, length-map-range_with_len (first_split script.items) 1 15);
+    sixteen = ap suc (length-map-range_with_len (first_split script.items) 1 15);
     rules = read.rules;
     ranks = length-map-range_with_len (plain_calls script) 0 48;
     no_others = none_at;
