@@ -1,5 +1,5 @@
 -- No check looks at the place that a repeat has of its end.
-use Rattle.std.proofs.Common.{◌≡◌, ℕ, zero, suc, ◌+◌, ◌*◌, Bool, ◌||◌, ◌&&◌, cond, List, [], ◌∷◌, ◌++◌, map, Option, Some, None, length, reverse, slice_get, slice_set, refl, sym, ap, ◌∙◌, subst}
+use Rattle.std.proofs.Common.{◌≡◌, ℕ, zero, suc, ◌+◌, ◌*◌, ◌≤◌, Bool, ◌||◌, ◌&&◌, cond, List, [], ◌∷◌, ◌++◌, map, Option, Some, None, length, reverse, slice_get, slice_set, refl, sym, ap, ◌∙◌, subst}
 use Rattle.std.proofs.Math.Path.{fun_ext}
 use Rattle.std.proofs.lemmas.List.{length-map, map-append, reverse-append}
 use Rattle.std.specs.List.{range_with_len}
@@ -15,7 +15,7 @@ use Rattle.script_reader.specs.declared.script.Item.{Item}
 use Rattle.script_reader.specs.declared.script.Stmt.{Stmt}
 use Rattle.script_reader.specs.declared.script.Stmt.TheVariants as stmt
 use Rattle.script_reader.specs.Checks.{comm_needed, cost_of, has_no_root, has_split, is_misshapen, is_not_split, is_overworked, is_split_of, is_to_self, is_too_deep, is_unset, length_at, open_of, opened, operations, posts_too_much, printed, prints, prints_too_much, refuses, run_of, set_by, sets_to, turns_in}
-use Rattle.script_reader.specs.Closed.{AreMatched, Closes}
+use Rattle.script_reader.specs.Closed.{AreMatched, AreWithin, Closes, HasPass, HavePasses, latest_section}
 use Rattle.script_reader.specs.Ends.{with_ends}
 use Rattle.scc_base.specs.Communicators.{AreRules, rule_of}
 use Rattle.script_reader.specs.Script.{IsSized, first_split, has_rank, or_rule, rules_of, split_rule}
@@ -262,3 +262,38 @@ pub matched-with_ends : (n : ℕ) (items : List Item) → AreMatched (reverse it
 matched-with_ends n items matched =
     matched-whole (reverse (with_ends n items))
     (subst (λ (past : List Item). AreMatched past) (bared-reverse-ends n items) (matched-bare (reverse items) matched))
+
+-- nor do their sections, nor how often they are done
+latest-bared : (past : List Item) → latest_section (all_bared past) ≡ latest_section past
+latest-bared [] = refl
+latest-bared (item ∷ past) = refl
+
+within-bare : (past : List Item) → AreWithin past → AreWithin (all_bared past)
+within-bare [] all = tt
+within-bare (item ∷ past) all = (within-bare past all.0, λ some. latest-bared past ∙ all.1 (subst (λ (repeats : List Open). 1 ≤ length repeats) (open-bared past) some))
+
+within-whole : (past : List Item) → AreWithin (all_bared past) → AreWithin past
+within-whole [] all = tt
+within-whole (item ∷ past) all = (within-whole past all.0, λ some. sym (latest-bared past) ∙ all.1 (subst (λ (repeats : List Open). 1 ≤ length repeats) (sym (open-bared past)) some))
+
+pub within-with_ends : (n : ℕ) (items : List Item) → AreWithin (reverse items) → AreWithin (reverse (with_ends n items))
+within-with_ends n items all = within-whole (reverse (with_ends n items)) (subst (λ (past : List Item). AreWithin past) (bared-reverse-ends n items) (within-bare (reverse items) all))
+
+once-bare : (s : Stmt) → HasPass s → HasPass (bare s)
+once-bare (stmt.Repeat times end) once = once
+once-bare s once = once
+
+once-whole : (s : Stmt) → HasPass (bare s) → HasPass s
+once-whole (stmt.Repeat times end) once = once
+once-whole s once = once
+
+all-once-bare : (past : List Item) → HavePasses past → HavePasses (all_bared past)
+all-once-bare [] all = tt
+all-once-bare (item ∷ past) all = (all-once-bare past all.0, once-bare item.stmt all.1)
+
+all-once-whole : (past : List Item) → HavePasses (all_bared past) → HavePasses past
+all-once-whole [] all = tt
+all-once-whole (item ∷ past) all = (all-once-whole past all.0, once-whole item.stmt all.1)
+
+pub once-with_ends : (n : ℕ) (items : List Item) → HavePasses (reverse items) → HavePasses (reverse (with_ends n items))
+once-with_ends n items all = all-once-whole (reverse (with_ends n items)) (subst (λ (past : List Item). HavePasses past) (bared-reverse-ends n items) (all-once-bare (reverse items) all))

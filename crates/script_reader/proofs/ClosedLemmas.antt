@@ -10,9 +10,9 @@ use Rattle.script_reader.specs.declared.script.Item.{Item}
 use Rattle.script_reader.specs.declared.script.Stmt.{Stmt}
 use Rattle.script_reader.specs.declared.script.Stmt.TheVariants as stmt
 use Rattle.script_reader.specs.Checks.{innermost, open_of, opened, turns_in}
-use Rattle.script_reader.specs.Closed.{AreMatched, Closes, IsClosed, stmt_at}
+use Rattle.script_reader.specs.Closed.{AreMatched, AreWithin, Closes, HavePasses, IsClosed, stmt_at}
 use Rattle.script_reader.specs.Ends.{ended, told, told_at, with_end, with_ends}
-use Rattle.script_reader.proofs.BareLemmas.{all_bared, bare, bared, bared-with_ends, matched-with_ends, open-with_ends}
+use Rattle.script_reader.proofs.BareLemmas.{all_bared, bare, bared, bared-with_ends, matched-with_ends, once-with_ends, open-with_ends, within-with_ends}
 use Rattle.script_reader.proofs.EndLemmas.{length-with_ends}
 
 -- a statement that is no repeat and no end
@@ -279,8 +279,11 @@ within items place None s found is = absurd cc
 within items place (Some item) s found is = slice_get_within items place item found
 
 -- statements without an open repeat, of which each end names the innermost one before it
-pub closed-of : (nue : ℕ) (items : List Item) (names : List (List ℕ)) → open_of (reverse items) ≡ [] → AreMatched (reverse items) → IsClosed (record { nue = nue; items = with_ends (length items) items; names = names })
-closed-of nue items names none matched = record {
+pub closed-of : (nue : ℕ) (items : List Item) (names : List (List ℕ)) → open_of (reverse items) ≡ [] → AreMatched (reverse items) → AreWithin (reverse items) → HavePasses (reverse items)
+    → IsClosed (record { nue = nue; items = with_ends (length items) items; names = names })
+closed-of nue items names none matched inside once = record {
+  within = within-with_ends (length items) items inside;
+  once = once-with_ends (length items) items once;
   none_open = open-with_ends (length items) items ∙ none;
   matched = matched-with_ends (length items) items matched;
   ended = λ place times end at.

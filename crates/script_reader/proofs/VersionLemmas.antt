@@ -1,9 +1,9 @@
--- What version 1 says: each split of it takes apart the world.
-use Rattle.std.proofs.Common.{◌≡◌, ℕ, zero, suc, Bool, true, false, cond, List, [], ◌∷◌, Some, Result, Ok, Err, length, refl, sym, ap, ◌∙◌, arith, subst, inl, inr}
-use Rattle.std.proofs.lemmas.Bool.{cases_lt}
+-- What the lines of a version say: a repeat is done at least once, and each split of version 1 takes apart the world.
+use Rattle.std.proofs.Common.{◌≡◌, ◌≤◌, ℕ, zero, suc, Bool, true, false, cond, List, [], ◌∷◌, Some, Result, Ok, Err, length, refl, sym, ap, ◌∙◌, arith, subst, inl, inr}
+use Rattle.std.proofs.lemmas.Bool.{and_parts, cases_lt, leb-true}
 use Rattle.std.proofs.lemmas.List.{get_or_past}
 use Rattle.std.proofs.lemmas.List.FromFn.{length-map-range_with_len}
-use Rattle.std.specs.Prelude.{◌+◌, ◌==◌, ◌&&◌, IfOk, codes, drop, nat_lt, take}
+use Rattle.std.specs.Prelude.{◌+◌, ◌==◌, ◌&&◌, IfOk, codes, drop, nat_le, nat_lt, take}
 use Rattle.std.specs.Str.{bytes_eq}
 use Rattle.groups.specs.declared.operations.Ty.{Ty}
 use Rattle.groups.specs.declared.operations.Ty.TheVariants as ty
@@ -38,7 +38,7 @@ use Rattle.script_reader.specs.Checks.{innermost, open_of, parent_of}
 use Rattle.script_reader.specs.Faults.{◌>>=◌, Gives}
 use Rattle.script_reader.specs.Progress.{Progress, after, after_group, after_local, after_message, after_section, checked, named, open_section, past, peer_in, place, rank_said, register_of, rule_said, small, start}
 use Rattle.script_reader.specs.Reading.{at_end, at_line, begun, read_all_lines, read_as, read_line, read_lines, read_words, script_of}
-use Rattle.script_reader.specs.Said.{allreduce_said, alone, apply_said, barrier_said, bcast_said, bytes_said, colour_said, dash_of, fill_said, hex_said, name_said, number_said, operation_said, peer_said, range_said, type_said, values_said, group_said, numbers_said, post_said, print_said, ranks_said, rank_of_said, rcce_said, recv_said, reduce_said, register_said, repeat_said, said_of, section_said, send_said, span_said, split_said, ue_said, values_named}
+use Rattle.script_reader.specs.Said.{of_said, version_number, allreduce_said, alone, apply_said, barrier_said, bcast_said, bytes_said, colour_said, dash_of, fill_said, hex_said, name_said, number_said, operation_said, peer_said, range_said, type_said, values_said, group_said, numbers_said, post_said, print_said, ranks_said, rank_of_said, rcce_said, recv_said, reduce_said, register_said, repeat_said, said_of, section_said, send_said, span_said, split_said, ue_said, values_named}
 use Rattle.script_reader.specs.Script.{Script, first_split, rules_of, split_rule}
 use Rattle.script_reader.specs.Settled.{SplitsWorldAlone}
 use Rattle.script_reader.specs.Words.{is_text, line_count, lines_of, words_of}
@@ -58,174 +58,182 @@ either : {B E : Type 0} (P : B → Type 0) (b : Bool) (x y : Result B E) → IfO
 either P true x y one other = one
 either P false x y one other = other
 
--- a line that splits nothing but the world
-abbrev IsPlain : Said → Type 0
-IsPlain (said.Collective (group.Split comm parent how parts)) = parent ≡ 0
-IsPlain _ = Unit {0}
+-- what a line of a version says: in version 1 it splits nothing but the world, and a repeat is done at least once
+abbrev pub IsPlain : Version → Said → Type 0
+IsPlain v (said.Collective (group.Split comm parent how parts)) = v ≡ version.One → parent ≡ 0
+IsPlain v (said.Repeat times) = 1 ≤ times
+IsPlain v _ = Unit {0}
 
-alone-plain : (s : Said) → IsPlain s → (words : List (List ℕ)) → IfOk (alone s words) IsPlain
-alone-plain s is [] = is
-alone-plain s is (a ∷ rest) = tt
+module _ (v : Version) where
+  alone-plain : (s : Said) → (IsPlain v) s → (words : List (List ℕ)) → IfOk (alone s words) (IsPlain v)
+  alone-plain s is [] = is
+  alone-plain s is (a ∷ rest) = tt
 
-span-plain : (first last : List ℕ) → IfOk (span_said first last) IsPlain
-span-plain first last = then IsPlain (number_said first) _ (λ x1. then IsPlain (number_said last) _ (λ x2. tt))
+  span-plain : (first last : List ℕ) → IfOk (span_said first last) (IsPlain v)
+  span-plain first last = then (IsPlain v) (number_said first) _ (λ x1. then (IsPlain v) (number_said last) _ (λ x2. tt))
 
-ranks-plain : (word : List ℕ) → IfOk (ranks_said word) IsPlain
-ranks-plain word = either IsPlain (dash_of word == length word) _ _ (span-plain word word) (span-plain (take (dash_of word) word) (drop (dash_of word + 1) word))
+  ranks-plain : (word : List ℕ) → IfOk (ranks_said word) (IsPlain v)
+  ranks-plain word = either (IsPlain v) (dash_of word == length word) _ _ (span-plain word word) (span-plain (take (dash_of word) word) (drop (dash_of word + 1) word))
 
-ue-plain : (words : List (List ℕ)) → IfOk (ue_said words) IsPlain
-ue-plain [] = tt
-ue-plain (a ∷ []) = ranks-plain a
-ue-plain (a ∷ b ∷ rest) = tt
+  ue-plain : (words : List (List ℕ)) → IfOk (ue_said words) (IsPlain v)
+  ue-plain [] = tt
+  ue-plain (a ∷ []) = ranks-plain a
+  ue-plain (a ∷ b ∷ rest) = tt
 
-bytes-plain : (words : List (List ℕ)) → IfOk (bytes_said words) IsPlain
-bytes-plain [] = tt
-bytes-plain (a ∷ []) = tt
-bytes-plain (a ∷ b ∷ []) = then IsPlain (hex_said b) _ (λ x1. then IsPlain (name_said a) _ (λ x2. tt))
-bytes-plain (a ∷ b ∷ c ∷ rest) = tt
+  bytes-plain : (words : List (List ℕ)) → IfOk (bytes_said words) (IsPlain v)
+  bytes-plain [] = tt
+  bytes-plain (a ∷ []) = tt
+  bytes-plain (a ∷ b ∷ []) = then (IsPlain v) (hex_said b) _ (λ x1. then (IsPlain v) (name_said a) _ (λ x2. tt))
+  bytes-plain (a ∷ b ∷ c ∷ rest) = tt
 
-named-plain : (ty : Ty) (name : List ℕ) (values : List (List ℕ)) → IfOk (values_named ty name values) IsPlain
-named-plain ty name values = then IsPlain (values_said ty [] values) _ (λ x1. then IsPlain (name_said name) _ (λ x2. tt))
+  named-plain : (ty : Ty) (name : List ℕ) (values : List (List ℕ)) → IfOk (values_named ty name values) (IsPlain v)
+  named-plain ty name values = then (IsPlain v) (values_said ty [] values) _ (λ x1. then (IsPlain v) (name_said name) _ (λ x2. tt))
 
-numbers-plain : (ty : Ty) (words : List (List ℕ)) → IfOk (numbers_said ty words) IsPlain
-numbers-plain ty [] = tt
-numbers-plain ty (name ∷ values) = either IsPlain (length values == 0) _ _ tt (named-plain ty name values)
+  numbers-plain : (ty : Ty) (words : List (List ℕ)) → IfOk (numbers_said ty words) (IsPlain v)
+  numbers-plain ty [] = tt
+  numbers-plain ty (name ∷ values) = either (IsPlain v) (length values == 0) _ _ tt (named-plain ty name values)
 
-fill-plain : (words : List (List ℕ)) → IfOk (fill_said words) IsPlain
-fill-plain [] = tt
-fill-plain (a ∷ []) = tt
-fill-plain (a ∷ b ∷ []) = tt
-fill-plain (a ∷ b ∷ c ∷ []) = then IsPlain (number_said b) _ (λ x1. then IsPlain (range_said 0 65535 c) _ (λ x2. then IsPlain (name_said a) _ (λ x3. tt)))
-fill-plain (a ∷ b ∷ c ∷ d ∷ rest) = tt
+  fill-plain : (words : List (List ℕ)) → IfOk (fill_said words) (IsPlain v)
+  fill-plain [] = tt
+  fill-plain (a ∷ []) = tt
+  fill-plain (a ∷ b ∷ []) = tt
+  fill-plain (a ∷ b ∷ c ∷ []) = then (IsPlain v) (number_said b) _ (λ x1. then (IsPlain v) (range_said 0 65535 c) _ (λ x2. then (IsPlain v) (name_said a) _ (λ x3. tt)))
+  fill-plain (a ∷ b ∷ c ∷ d ∷ rest) = tt
 
-rank-plain : (words : List (List ℕ)) → IfOk (rank_of_said words) IsPlain
-rank-plain [] = tt
-rank-plain (a ∷ []) = tt
-rank-plain (a ∷ b ∷ []) = then IsPlain (type_said b) _ (λ x1. then IsPlain (name_said a) _ (λ x2. tt))
-rank-plain (a ∷ b ∷ c ∷ rest) = tt
+  rank-plain : (words : List (List ℕ)) → IfOk (rank_of_said words) (IsPlain v)
+  rank-plain [] = tt
+  rank-plain (a ∷ []) = tt
+  rank-plain (a ∷ b ∷ []) = then (IsPlain v) (type_said b) _ (λ x1. then (IsPlain v) (name_said a) _ (λ x2. tt))
+  rank-plain (a ∷ b ∷ c ∷ rest) = tt
 
-apply-plain : (words : List (List ℕ)) → IfOk (apply_said words) IsPlain
-apply-plain [] = tt
-apply-plain (a ∷ []) = tt
-apply-plain (a ∷ b ∷ []) = tt
-apply-plain (a ∷ b ∷ c ∷ []) = tt
-apply-plain (a ∷ b ∷ c ∷ d ∷ []) = then IsPlain (operation_said a) _ (λ x1. then IsPlain (type_said b) _ (λ x2. then IsPlain (name_said c) _ (λ x3. then IsPlain (name_said d) _ (λ x4. tt))))
-apply-plain (a ∷ b ∷ c ∷ d ∷ e ∷ rest) = tt
+  apply-plain : (words : List (List ℕ)) → IfOk (apply_said words) (IsPlain v)
+  apply-plain [] = tt
+  apply-plain (a ∷ []) = tt
+  apply-plain (a ∷ b ∷ []) = tt
+  apply-plain (a ∷ b ∷ c ∷ []) = tt
+  apply-plain (a ∷ b ∷ c ∷ d ∷ []) = then (IsPlain v) (operation_said a) _ (λ x1. then (IsPlain v) (type_said b) _ (λ x2. then (IsPlain v) (name_said c) _ (λ x3. then (IsPlain v) (name_said d) _ (λ x4. tt))))
+  apply-plain (a ∷ b ∷ c ∷ d ∷ e ∷ rest) = tt
 
-print-plain : (words : List (List ℕ)) → IfOk (print_said words) IsPlain
-print-plain [] = tt
-print-plain (a ∷ []) = then IsPlain (name_said a) _ (λ x1. tt)
-print-plain (a ∷ b ∷ []) = then IsPlain (type_said a) _ (λ x1. then IsPlain (name_said b) _ (λ x2. tt))
-print-plain (a ∷ b ∷ c ∷ rest) = tt
+  print-plain : (words : List (List ℕ)) → IfOk (print_said words) (IsPlain v)
+  print-plain [] = tt
+  print-plain (a ∷ []) = then (IsPlain v) (name_said a) _ (λ x1. tt)
+  print-plain (a ∷ b ∷ []) = then (IsPlain v) (type_said a) _ (λ x1. then (IsPlain v) (name_said b) _ (λ x2. tt))
+  print-plain (a ∷ b ∷ c ∷ rest) = tt
 
-send-plain : (words : List (List ℕ)) → IfOk (send_said words) IsPlain
-send-plain [] = tt
-send-plain (a ∷ []) = tt
-send-plain (a ∷ b ∷ []) = then IsPlain (peer_said a) _ (λ x1. then IsPlain (name_said b) _ (λ x2. tt))
-send-plain (a ∷ b ∷ c ∷ rest) = tt
+  send-plain : (words : List (List ℕ)) → IfOk (send_said words) (IsPlain v)
+  send-plain [] = tt
+  send-plain (a ∷ []) = tt
+  send-plain (a ∷ b ∷ []) = then (IsPlain v) (peer_said a) _ (λ x1. then (IsPlain v) (name_said b) _ (λ x2. tt))
+  send-plain (a ∷ b ∷ c ∷ rest) = tt
 
-post-plain : (words : List (List ℕ)) → IfOk (post_said words) IsPlain
-post-plain [] = tt
-post-plain (a ∷ []) = tt
-post-plain (a ∷ b ∷ []) = then IsPlain (peer_said a) _ (λ x1. then IsPlain (name_said b) _ (λ x2. tt))
-post-plain (a ∷ b ∷ c ∷ rest) = tt
+  post-plain : (words : List (List ℕ)) → IfOk (post_said words) (IsPlain v)
+  post-plain [] = tt
+  post-plain (a ∷ []) = tt
+  post-plain (a ∷ b ∷ []) = then (IsPlain v) (peer_said a) _ (λ x1. then (IsPlain v) (name_said b) _ (λ x2. tt))
+  post-plain (a ∷ b ∷ c ∷ rest) = tt
 
-recv-plain : (words : List (List ℕ)) → IfOk (recv_said words) IsPlain
-recv-plain [] = tt
-recv-plain (a ∷ []) = tt
-recv-plain (a ∷ b ∷ []) = tt
-recv-plain (a ∷ b ∷ c ∷ []) = then IsPlain (peer_said a) _ (λ x1. then IsPlain (number_said c) _ (λ x2. then IsPlain (name_said b) _ (λ x3. tt)))
-recv-plain (a ∷ b ∷ c ∷ d ∷ rest) = tt
+  recv-plain : (words : List (List ℕ)) → IfOk (recv_said words) (IsPlain v)
+  recv-plain [] = tt
+  recv-plain (a ∷ []) = tt
+  recv-plain (a ∷ b ∷ []) = tt
+  recv-plain (a ∷ b ∷ c ∷ []) = then (IsPlain v) (peer_said a) _ (λ x1. then (IsPlain v) (number_said c) _ (λ x2. then (IsPlain v) (name_said b) _ (λ x3. tt)))
+  recv-plain (a ∷ b ∷ c ∷ d ∷ rest) = tt
 
-barrier-plain : (words : List (List ℕ)) → IfOk (barrier_said words) IsPlain
-barrier-plain [] = tt
-barrier-plain (a ∷ []) = then IsPlain (number_said a) _ (λ x1. tt)
-barrier-plain (a ∷ b ∷ rest) = tt
+  barrier-plain : (words : List (List ℕ)) → IfOk (barrier_said words) (IsPlain v)
+  barrier-plain [] = tt
+  barrier-plain (a ∷ []) = then (IsPlain v) (number_said a) _ (λ x1. tt)
+  barrier-plain (a ∷ b ∷ rest) = tt
 
--- version 1 has splits of the world alone
-split-plain : (words : List (List ℕ)) → IfOk (split_said version.One words) IsPlain
-split-plain [] = tt
-split-plain (a ∷ []) = tt
-split-plain (a ∷ b ∷ []) = tt
-split-plain (a ∷ b ∷ c ∷ []) = then IsPlain (colour_said b) _ (λ x1. then IsPlain (number_said a) _ (λ x2. then IsPlain (range_said 1 48 c) _ (λ x3. refl)))
-split-plain (a ∷ b ∷ c ∷ d ∷ []) = tt
-split-plain (a ∷ b ∷ c ∷ d ∷ e ∷ []) = tt
-split-plain (a ∷ b ∷ c ∷ d ∷ e ∷ f ∷ rest) = tt
+  -- version 1 has splits of the world alone
+  split-by : (w : Version) → w ≡ v → (words : List (List ℕ)) → IfOk (split_said w words) (IsPlain v)
+  split-by version.One is (a ∷ b ∷ c ∷ []) = then (IsPlain v) (colour_said b) _ (λ x1. then (IsPlain v) (number_said a) _ (λ x2. then (IsPlain v) (range_said 1 48 c) _ (λ x3. λ one. refl)))
+  split-by version.One is _ = tt
+  split-by version.Two is (a ∷ b ∷ c ∷ []) = then (IsPlain v) (colour_said b) _ (λ x1. then (IsPlain v) (number_said a) _ (λ x2. then (IsPlain v) (range_said 1 48 c) _ (λ x3. λ one. refl)))
+  split-by version.Two is (a ∷ b ∷ c ∷ d ∷ e ∷ []) =
+      then (IsPlain v) (of_said b) _ (λ x1. then (IsPlain v) (colour_said d) _ (λ x2. then (IsPlain v) (number_said a) _ (λ x3. then (IsPlain v) (number_said c) _ (λ x4. then (IsPlain v) (range_said 1 48 e) _ (λ x5. λ one. absurd (let both : version.Two ≡ version.One = is ∙ one in cc))))))
+  split-by version.Two is _ = tt
 
-bcast-plain : (words : List (List ℕ)) → IfOk (bcast_said words) IsPlain
-bcast-plain [] = tt
-bcast-plain (a ∷ []) = tt
-bcast-plain (a ∷ b ∷ []) = tt
-bcast-plain (a ∷ b ∷ c ∷ []) = tt
-bcast-plain (a ∷ b ∷ c ∷ d ∷ []) = then IsPlain (number_said a) _ (λ x1. then IsPlain (number_said b) _ (λ x2. then IsPlain (number_said d) _ (λ x3. then IsPlain (name_said c) _ (λ x4. tt))))
-bcast-plain (a ∷ b ∷ c ∷ d ∷ e ∷ rest) = tt
+  split-plain : (words : List (List ℕ)) → IfOk (split_said v words) (IsPlain v)
+  split-plain words = split-by v refl words
 
-reduce-plain : (words : List (List ℕ)) → IfOk (reduce_said words) IsPlain
-reduce-plain [] = tt
-reduce-plain (a ∷ []) = tt
-reduce-plain (a ∷ b ∷ []) = tt
-reduce-plain (a ∷ b ∷ c ∷ []) = tt
-reduce-plain (a ∷ b ∷ c ∷ d ∷ []) = tt
-reduce-plain (a ∷ b ∷ c ∷ d ∷ e ∷ []) = tt
-reduce-plain (a ∷ b ∷ c ∷ d ∷ e ∷ f ∷ []) = then IsPlain (operation_said c) _ (λ x1. then IsPlain (type_said d) _ (λ x2. then IsPlain (number_said a) _ (λ x3. then IsPlain (number_said b) _ (λ x4. then IsPlain (name_said e) _ (λ x5. then IsPlain (name_said f) _ (λ x6. tt))))))
-reduce-plain (a ∷ b ∷ c ∷ d ∷ e ∷ f ∷ g ∷ rest) = tt
+  bcast-plain : (words : List (List ℕ)) → IfOk (bcast_said words) (IsPlain v)
+  bcast-plain [] = tt
+  bcast-plain (a ∷ []) = tt
+  bcast-plain (a ∷ b ∷ []) = tt
+  bcast-plain (a ∷ b ∷ c ∷ []) = tt
+  bcast-plain (a ∷ b ∷ c ∷ d ∷ []) = then (IsPlain v) (number_said a) _ (λ x1. then (IsPlain v) (number_said b) _ (λ x2. then (IsPlain v) (number_said d) _ (λ x3. then (IsPlain v) (name_said c) _ (λ x4. tt))))
+  bcast-plain (a ∷ b ∷ c ∷ d ∷ e ∷ rest) = tt
 
-allreduce-plain : (words : List (List ℕ)) → IfOk (allreduce_said words) IsPlain
-allreduce-plain [] = tt
-allreduce-plain (a ∷ []) = tt
-allreduce-plain (a ∷ b ∷ []) = tt
-allreduce-plain (a ∷ b ∷ c ∷ []) = tt
-allreduce-plain (a ∷ b ∷ c ∷ d ∷ []) = tt
-allreduce-plain (a ∷ b ∷ c ∷ d ∷ e ∷ []) = then IsPlain (operation_said b) _ (λ x1. then IsPlain (type_said c) _ (λ x2. then IsPlain (number_said a) _ (λ x3. then IsPlain (name_said d) _ (λ x4. then IsPlain (name_said e) _ (λ x5. tt)))))
-allreduce-plain (a ∷ b ∷ c ∷ d ∷ e ∷ f ∷ rest) = tt
+  reduce-plain : (words : List (List ℕ)) → IfOk (reduce_said words) (IsPlain v)
+  reduce-plain [] = tt
+  reduce-plain (a ∷ []) = tt
+  reduce-plain (a ∷ b ∷ []) = tt
+  reduce-plain (a ∷ b ∷ c ∷ []) = tt
+  reduce-plain (a ∷ b ∷ c ∷ d ∷ []) = tt
+  reduce-plain (a ∷ b ∷ c ∷ d ∷ e ∷ []) = tt
+  reduce-plain (a ∷ b ∷ c ∷ d ∷ e ∷ f ∷ []) = then (IsPlain v) (operation_said c) _ (λ x1. then (IsPlain v) (type_said d) _ (λ x2. then (IsPlain v) (number_said a) _ (λ x3. then (IsPlain v) (number_said b) _ (λ x4. then (IsPlain v) (name_said e) _ (λ x5. then (IsPlain v) (name_said f) _ (λ x6. tt))))))
+  reduce-plain (a ∷ b ∷ c ∷ d ∷ e ∷ f ∷ g ∷ rest) = tt
 
-repeat-plain : (words : List (List ℕ)) → IfOk (repeat_said words) IsPlain
-repeat-plain [] = tt
-repeat-plain (a ∷ []) = then IsPlain (range_said 1 100000 a) _ (λ x1. tt)
-repeat-plain (a ∷ b ∷ rest) = tt
+  allreduce-plain : (words : List (List ℕ)) → IfOk (allreduce_said words) (IsPlain v)
+  allreduce-plain [] = tt
+  allreduce-plain (a ∷ []) = tt
+  allreduce-plain (a ∷ b ∷ []) = tt
+  allreduce-plain (a ∷ b ∷ c ∷ []) = tt
+  allreduce-plain (a ∷ b ∷ c ∷ d ∷ []) = tt
+  allreduce-plain (a ∷ b ∷ c ∷ d ∷ e ∷ []) = then (IsPlain v) (operation_said b) _ (λ x1. then (IsPlain v) (type_said c) _ (λ x2. then (IsPlain v) (number_said a) _ (λ x3. then (IsPlain v) (name_said d) _ (λ x4. then (IsPlain v) (name_said e) _ (λ x5. tt)))))
+  allreduce-plain (a ∷ b ∷ c ∷ d ∷ e ∷ f ∷ rest) = tt
 
-rcce-plain : (words : List (List ℕ)) → IfOk (rcce_said version.One words) IsPlain
-rcce-plain [] = tt
-rcce-plain (a ∷ []) = then IsPlain (range_said 1 1 a) _ (λ x1. tt)
-rcce-plain (a ∷ b ∷ rest) = tt
+  ranged : (low high number : ℕ) (b : Bool) → (nat_le low number && nat_le number high) ≡ b → IfOk (cond b (Ok number) (Err kind.BadNumber)) (λ n. low ≤ n)
+  ranged low high number true is = leb-true low number (and_parts (nat_le low number) (nat_le number high) is).0
+  ranged low high number false is = tt
 
-section-plain : (first : List ℕ) (words : List (List ℕ)) → IfOk (section_said first words) IsPlain
-section-plain first words =
-    either IsPlain (bytes_eq first (codes "all")) _ _ (alone-plain (said.Section section.All) tt words)
-    (either IsPlain (bytes_eq first (codes "even")) _ _ (alone-plain (said.Section section.Even) tt words)
-    (either IsPlain (bytes_eq first (codes "odd")) _ _ (alone-plain (said.Section section.Odd) tt words)
-    (either IsPlain (bytes_eq first (codes "ue")) _ _ (ue-plain words)
-    (either IsPlain (bytes_eq first (codes "repeat")) _ _ (repeat-plain words)
-    (either IsPlain (bytes_eq first (codes "end")) _ _ (alone-plain said.End tt words)
-    (tt))))))
+  repeat-plain : (words : List (List ℕ)) → IfOk (repeat_said words) (IsPlain v)
+  repeat-plain [] = tt
+  repeat-plain (a ∷ []) = behind (λ n. 1 ≤ n) (IsPlain v) (range_said 1 100000 a) _ (then (λ n. 1 ≤ n) (number_said a) _ (λ n. ranged 1 100000 n (nat_le 1 n && nat_le n 100000) refl)) (λ n is. is)
+  repeat-plain (a ∷ b ∷ rest) = tt
 
-group-plain : (first : List ℕ) (words : List (List ℕ)) → IfOk (group_said version.One first words) IsPlain
-group-plain first words =
-    either IsPlain (bytes_eq first (codes "barrier")) _ _ (barrier-plain words)
-    (either IsPlain (bytes_eq first (codes "split")) _ _ (split-plain words)
-    (either IsPlain (bytes_eq first (codes "bcast")) _ _ (bcast-plain words)
-    (either IsPlain (bytes_eq first (codes "reduce")) _ _ (reduce-plain words)
-    (either IsPlain (bytes_eq first (codes "allreduce")) _ _ (allreduce-plain words)
-    (section-plain first words)))))
+  rcce-plain : (words : List (List ℕ)) → IfOk (rcce_said v words) (IsPlain v)
+  rcce-plain [] = tt
+  rcce-plain (a ∷ []) = then (IsPlain v) (range_said (version_number v) (version_number v) a) _ (λ x1. tt)
+  rcce-plain (a ∷ b ∷ rest) = tt
 
-register-plain : (first : List ℕ) (words : List (List ℕ)) → IfOk (register_said version.One first words) IsPlain
-register-plain first words =
-    either IsPlain (bytes_eq first (codes "bytes")) _ _ (bytes-plain words)
-    (either IsPlain (bytes_eq first (codes "ints")) _ _ (numbers-plain ty.Int words)
-    (either IsPlain (bytes_eq first (codes "longs")) _ _ (numbers-plain ty.Long words)
-    (either IsPlain (bytes_eq first (codes "fill")) _ _ (fill-plain words)
-    (either IsPlain (bytes_eq first (codes "rank")) _ _ (rank-plain words)
-    (either IsPlain (bytes_eq first (codes "apply")) _ _ (apply-plain words)
-    (either IsPlain (bytes_eq first (codes "print")) _ _ (print-plain words)
-    (group-plain first words)))))))
+  section-plain : (first : List ℕ) (words : List (List ℕ)) → IfOk (section_said first words) (IsPlain v)
+  section-plain first words =
+      either (IsPlain v) (bytes_eq first (codes "all")) _ _ (alone-plain (said.Section section.All) tt words)
+      (either (IsPlain v) (bytes_eq first (codes "even")) _ _ (alone-plain (said.Section section.Even) tt words)
+      (either (IsPlain v) (bytes_eq first (codes "odd")) _ _ (alone-plain (said.Section section.Odd) tt words)
+      (either (IsPlain v) (bytes_eq first (codes "ue")) _ _ (ue-plain words)
+      (either (IsPlain v) (bytes_eq first (codes "repeat")) _ _ (repeat-plain words)
+      (either (IsPlain v) (bytes_eq first (codes "end")) _ _ (alone-plain said.End tt words)
+      (tt))))))
 
-said-plain : (opening : Bool) (first : List ℕ) (words : List (List ℕ)) → IfOk (said_of version.One opening first words) IsPlain
-said-plain opening first words =
-    either IsPlain (bytes_eq first (codes "send")) _ _ (send-plain words)
-    (either IsPlain (bytes_eq first (codes "post")) _ _ (post-plain words)
-    (either IsPlain (bytes_eq first (codes "recv")) _ _ (recv-plain words)
-    (either IsPlain (opening && bytes_eq first (codes "rcce")) _ _ (rcce-plain words)
-    (register-plain first words))))
+  group-plain : (first : List ℕ) (words : List (List ℕ)) → IfOk (group_said v first words) (IsPlain v)
+  group-plain first words =
+      either (IsPlain v) (bytes_eq first (codes "barrier")) _ _ (barrier-plain words)
+      (either (IsPlain v) (bytes_eq first (codes "split")) _ _ (split-plain words)
+      (either (IsPlain v) (bytes_eq first (codes "bcast")) _ _ (bcast-plain words)
+      (either (IsPlain v) (bytes_eq first (codes "reduce")) _ _ (reduce-plain words)
+      (either (IsPlain v) (bytes_eq first (codes "allreduce")) _ _ (allreduce-plain words)
+      (section-plain first words)))))
+
+  register-plain : (first : List ℕ) (words : List (List ℕ)) → IfOk (register_said v first words) (IsPlain v)
+  register-plain first words =
+      either (IsPlain v) (bytes_eq first (codes "bytes")) _ _ (bytes-plain words)
+      (either (IsPlain v) (bytes_eq first (codes "ints")) _ _ (numbers-plain ty.Int words)
+      (either (IsPlain v) (bytes_eq first (codes "longs")) _ _ (numbers-plain ty.Long words)
+      (either (IsPlain v) (bytes_eq first (codes "fill")) _ _ (fill-plain words)
+      (either (IsPlain v) (bytes_eq first (codes "rank")) _ _ (rank-plain words)
+      (either (IsPlain v) (bytes_eq first (codes "apply")) _ _ (apply-plain words)
+      (either (IsPlain v) (bytes_eq first (codes "print")) _ _ (print-plain words)
+      (group-plain first words)))))))
+
+  pub said-plain : (opening : Bool) (first : List ℕ) (words : List (List ℕ)) → IfOk (said_of v opening first words) (IsPlain v)
+  said-plain opening first words =
+      either (IsPlain v) (bytes_eq first (codes "send")) _ _ (send-plain words)
+      (either (IsPlain v) (bytes_eq first (codes "post")) _ _ (post-plain words)
+      (either (IsPlain v) (bytes_eq first (codes "recv")) _ _ (recv-plain words)
+      (either (IsPlain v) (opening && bytes_eq first (codes "rcce")) _ _ (rcce-plain words)
+      (register-plain first words))))
 
 -- the lines so far are of version 1, and their splits take apart the world
 abbrev IsFlat : Progress → Type 0
@@ -266,15 +274,15 @@ parent-split : (b : Bool) (r : CommRule) → parent_of r ≡ 0 → parent_of (co
 parent-split true r is = is
 parent-split false r is = refl
 
-group-flat : (line : ℕ) (p : Progress) (s : Collective) → IsPlain (said.Collective s) → IsFlat p → IfOk (after_group line p s) IsFlat
+group-flat : (line : ℕ) (p : Progress) (s : Collective) → IsPlain version.One (said.Collective s) → IsFlat p → IfOk (after_group line p s) IsFlat
 group-flat line p (group.Barrier comm) is flat = place-flat line p (stmt.Barrier (small comm)) flat (λ comm. refl)
 group-flat line p (group.Split comm parent how parts) is flat =
-    place-flat line p (stmt.Split (small comm) (rule_said how (small parent) parts)) flat (λ other. parent-split (small comm == other) (rule_said how (small parent) parts) (parent-said how (small parent) parts ∙ ap small is))
+    place-flat line p (stmt.Split (small comm) (rule_said how (small parent) parts)) flat (λ other. parent-split (small comm == other) (rule_said how (small parent) parts) (parent-said how (small parent) parts ∙ ap small (is refl)))
 group-flat line p (group.Bcast comm root name len) is flat = place-flat line (named p name) (stmt.Bcast (small comm) (small root) (register_of p.names name) len) flat (λ comm. refl)
 group-flat line p (group.Reduce comm root op ty dst src) is flat = place-flat line (named (named p dst) src) (stmt.Reduce (small comm) (small root) op ty (register_of p.names dst) (register_of (named p dst).names src)) flat (λ comm. refl)
 group-flat line p (group.Allreduce comm op ty dst src) is flat = place-flat line (named (named p dst) src) (stmt.Allreduce (small comm) op ty (register_of p.names dst) (register_of (named p dst).names src)) flat (λ comm. refl)
 
-after-flat : (line : ℕ) (p : Progress) (s : Said) → IsPlain s → IsFlat p → IfOk (after line p s) IsFlat
+after-flat : (line : ℕ) (p : Progress) (s : Said) → IsPlain version.One s → IsFlat p → IfOk (after line p s) IsFlat
 after-flat line p said.Version is flat = flat
 after-flat line p (said.Section s) is flat = section-flat p s flat
 after-flat line p (said.Local s) is flat = local-flat line p s flat
@@ -286,8 +294,8 @@ after-flat line p said.End is flat = place-flat line p (stmt.End (innermost (ope
 words-flat : (number : ℕ) (p : Progress) (words : List (List ℕ)) → IsFlat p → IfOk (read_words number p words) IsFlat
 words-flat number p [] flat = flat
 words-flat number p (first ∷ words) flat =
-    behind IsPlain IsFlat (said_of p.version p.opening first words) _
-    (subst (λ (v : Version). IfOk (said_of v p.opening first words) IsPlain) (sym flat.0) (said-plain p.opening first words))
+    behind (IsPlain version.One) IsFlat (said_of p.version p.opening first words) _
+    (subst (λ (v : Version). IfOk (said_of v p.opening first words) (IsPlain version.One)) (sym flat.0) (said-plain version.One p.opening first words))
     (λ s is. after-flat number (begun p) s is flat)
 
 line-flat : (number : ℕ) (p : Progress) (line : List ℕ) → IsFlat p → IfOk (read_line number p line) IsFlat

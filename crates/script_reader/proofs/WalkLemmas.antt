@@ -1,5 +1,5 @@
 -- A script that was read names at most 64 registers, and its repeats are closed.
-use Rattle.std.proofs.Common.{◌≡◌, ℕ, ◌+◌, ◌≤◌, ◌==◌, Bool, true, false, if◌then◌else◌, Option, Some, None, List, [], ◌∷◌, length, refl, sym, subst, arith, lit≤, Result, Ok, Err, nat_lt}
+use Rattle.std.proofs.Common.{◌≡◌, ℕ, ◌+◌, ◌≤◌, ◌==◌, Bool, true, false, if◌then◌else◌, Option, Some, None, List, [], ◌∷◌, ◌++◌, length, reverse, refl, sym, ap, ◌∙◌, subst, arith, lit≤, Result, Ok, Err, nat_lt}
 use Rattle.std.proofs.lemmas.Bool.{eqb-true, ltb-false}
 use Rattle.std.proofs.lemmas.List.{reverse-append}
 use Rattle.std.specs.Option.{option_map_or}
@@ -26,7 +26,7 @@ use Rattle.script_reader.specs.declared.script.Who.{Who}
 use Rattle.script_reader.specs.declared.script.Who.TheVariants as ranks
 use Rattle.script_reader.specs.declared.version.Version.{Version}
 use Rattle.script_reader.specs.Checks.{innermost, is_stray, is_too_deep, is_too_long, open_of, turns_in, turns_too_often}
-use Rattle.script_reader.specs.Closed.{AreMatched, Closes, IsClosed}
+use Rattle.script_reader.specs.Closed.{AreMatched, AreWithin, Closes, HasPass, HavePasses, IsClosed, latest_section}
 use Rattle.script_reader.specs.Faults.{◌>>=◌}
 use Rattle.script_reader.specs.Progress.{Progress, after, after_group, after_local, after_message, after_section, checked, checked_in, fault_before, is_refused, named, open_section, past, peer_in, place, rank_said, register_of, rule_said, small, start}
 use Rattle.script_reader.specs.Reading.{at_end, at_line, begun, parse_script, read_all_lines, read_line, read_lines, read_words, script_of, version_of}
@@ -34,11 +34,19 @@ use Rattle.script_reader.specs.Said.{said_of}
 use Rattle.script_reader.specs.Script.{Script}
 use Rattle.script_reader.specs.Words.{is_text, line_count, lines_of, words_of}
 use Rattle.script_reader.proofs.ClosedLemmas.{closed-of}
+use Rattle.script_reader.proofs.VersionLemmas.{IsPlain, said-plain}
 
--- the lines so far: they name at most 64 registers, and each end names the innermost repeat that is open before it
+-- the lines so far: they name at most 64 registers, each end names the innermost repeat that is open before it, each repeat
+-- is done at least once, and what stands in an open one is of the section that is open
+record IsLaid (p : Progress) : Type 0 where
+  matched : AreMatched (past p)
+  within : AreWithin (past p)
+  once : HavePasses (past p)
+  here : 1 ≤ length (open_of (past p)) → latest_section (past p) ≡ p.section
+
 record IsFormed (p : Progress) : Type 0 where
   few : length p.names ≤ 64
-  matched : AreMatched (past p)
+  laid : IsLaid p
 
 abbrev Keeps : {E : Type 0} → Result Progress E → Type 0
 Keeps r = IfOk r IsFormed
@@ -47,7 +55,7 @@ bind : {A E : Type 0} (r : Result A E) (next : A → Result Progress E) → ((x 
 bind (Ok x) next each = each x
 bind (Err e) next each = tt
 
-bind_given : {A E : Type 0} (F : Type 0) (r : Result A E) (next : A → Result Progress E) → IfOk r (λ x. F) → ((x : A) → F → Keeps (next x)) → Keeps (r >>= next)
+bind_given : {A E : Type 0} (F : A → Type 0) (r : Result A E) (next : A → Result Progress E) → IfOk r F → ((x : A) → F x → Keeps (next x)) → Keeps (r >>= next)
 bind_given F (Ok x) next given each = each x given
 bind_given F (Err e) next given each = tt
 
@@ -60,41 +68,73 @@ either true x y one other = one
 either false x y one other = other
 
 -- what the checks of a line leave of names and of open repeats
-record IsPassed (p : Progress) (stmt : Stmt) : Type 0 where
+record IsPassed (p : Progress) (stmt : Stmt) (who : Who) : Type 0 where
   few : length p.names ≤ 64
   inside : is_stray (open_of (past p)) stmt ≡ false
+  here : p.section ≡ Some who
 
-unless : (b : Bool) (fault : FaultKind) (r : Result Who FaultKind) (F : Type 0) → (b ≡ false → IfOk r (λ who. F)) → IfOk (if b then Err fault else r) (λ who. F)
+unless : (b : Bool) (fault : FaultKind) (r : Result Who FaultKind) (F : Who → Type 0) → (b ≡ false → IfOk r F) → IfOk (if b then Err fault else r) F
 unless true fault r F given = tt
 unless false fault r F given = given refl
 
-section_passes : (p : Progress) (stmt : Stmt) (section : Option Who) → IfOk (checked_in p stmt section) (λ who. IsPassed p stmt)
-section_passes p stmt None = tt
-section_passes p stmt (Some who) =
+section_passes : (p : Progress) (stmt : Stmt) (section : Option Who) → p.section ≡ section → IfOk (checked_in p stmt section) (IsPassed p stmt)
+section_passes p stmt None here = tt
+section_passes p stmt (Some who) here =
     unless (is_stray (open_of (past p)) stmt) kind.StrayEnd _ (IsPassed p stmt) (λ inside.
     unless (is_too_deep (open_of (past p)) stmt) kind.TooDeep _ (IsPassed p stmt) (λ flat.
     unless (turns_too_often (turns_in (open_of (past p))) stmt || is_refused check.TooManyOps p stmt) kind.TooManyOps _ (IsPassed p stmt) (λ worked.
     unless (is_too_long stmt || is_refused check.TooLong p stmt) kind.TooLong _ (IsPassed p stmt) (λ short.
     unless (nat_lt 64 (length p.names)) kind.TooManyNames (Ok who) (IsPassed p stmt) (λ few.
-    record { few = omega (arith, ltb-false 64 (length p.names) few); inside = inside })))))
+    record { few = omega (arith, ltb-false 64 (length p.names) few); inside = inside; here = here })))))
 
-fault_passes : (fault : Option FaultKind) (r : Result Who FaultKind) (F : Type 0) → IfOk r (λ who. F) → IfOk (option_map_or Err fault r) (λ who. F)
+fault_passes : (fault : Option FaultKind) (r : Result Who FaultKind) (F : Who → Type 0) → IfOk r F → IfOk (option_map_or Err fault r) F
 fault_passes None r F given = given
 fault_passes (Some fault) r F given = tt
 
-passes : (p : Progress) (stmt : Stmt) → IfOk (checked p stmt) (λ who. IsPassed p stmt)
-passes p stmt = fault_passes (fault_before p stmt) (checked_in p stmt p.section) (IsPassed p stmt) (section_passes p stmt p.section)
+passes : (p : Progress) (stmt : Stmt) → IfOk (checked p stmt) (IsPassed p stmt)
+passes p stmt = fault_passes (fault_before p stmt) (checked_in p stmt p.section) (IsPassed p stmt) (section_passes p stmt p.section refl)
 
-placed : (line : ℕ) (p : Progress) (stmt : Stmt) → AreMatched (past p) → (IsPassed p stmt → Closes (open_of (past p)) stmt) → Keeps (place line p stmt)
-placed line p stmt matched closes =
+placed_in : (line : ℕ) (p : Progress) (stmt : Stmt) → IsLaid p → HasPass stmt → (is_stray (open_of (past p)) stmt ≡ false → Closes (open_of (past p)) stmt) → Keeps (place line p stmt)
+placed_in line p stmt laid once closes =
     bind_given (IsPassed p stmt) (checked p stmt) _ (passes p stmt) (λ who passed.
     let item : Item = record { line = line; who = who; stmt = stmt } in
-    let before : AreMatched (item ∷ past p) = (matched, closes passed) in
-    record { few = passed.few; matched = subst (λ (list : List Item). AreMatched list) (sym (reverse-append p.items (item ∷ []))) before })
+    let list : item ∷ past p ≡ reverse (p.items ++ item ∷ []) = sym (reverse-append p.items (item ∷ [])) in
+    record {
+      few = passed.few;
+      laid = record {
+        matched = subst (λ (l : List Item). AreMatched l) list (laid.matched, closes passed.inside);
+        within = subst (λ (l : List Item). AreWithin l) list (laid.within, λ some. laid.here some ∙ passed.here);
+        once = subst (λ (l : List Item). HavePasses l) list (laid.once, once);
+        here = λ some. ap latest_section (sym list) ∙ sym passed.here;
+      };
+    })
+
+-- names change nothing in it
+renamed : (p q : Progress) → p.items ≡ q.items → p.section ≡ q.section → IsLaid p → IsLaid q
+renamed p q items section laid = record {
+  matched = subst (λ (l : List Item). AreMatched (reverse l)) items laid.matched;
+  within = subst (λ (l : List Item). AreWithin (reverse l)) items laid.within;
+  once = subst (λ (l : List Item). HavePasses (reverse l)) items laid.once;
+  here = λ some. ap (λ (l : List Item). latest_section (reverse l)) (sym items) ∙ laid.here (subst (λ (l : List Item). 1 ≤ length (open_of (reverse l))) (sym items) some) ∙ section;
+}
+
+placed : (line : ℕ) (p q : Progress) (stmt : Stmt) → p.items ≡ q.items → p.section ≡ q.section → IsLaid p → HasPass stmt → (is_stray (open_of (past q)) stmt ≡ false → Closes (open_of (past q)) stmt) → Keeps (place line q stmt)
+placed line p q stmt items section laid once closes = placed_in line q stmt (renamed p q items section laid) once closes
+
+none_left : (repeats : List Open) → (length repeats == 0) ≡ true → 1 ≤ length repeats → ⊥
+none_left repeats closed some = omega (arith, eqb-true (length repeats) 0 closed, some)
+
+opened : (b : Bool) (q : Progress) → (b ≡ true → IsFormed q) → Keeps (if b then Ok q else Err kind.UnclosedRepeat)
+opened true q given = given refl
+opened false q given = tt
 
 sectioned : (p : Progress) (who : Who) → IsFormed p → Keeps (open_section p who)
 sectioned p who formed =
-    either (length (open_of (past p)) == 0) (Ok (record p { section = Some who })) (Err kind.UnclosedRepeat) (record { few = formed.few; matched = formed.matched }) tt
+    opened (length (open_of (past p)) == 0) (record p { section = Some who })
+    (λ closed. record {
+      few = formed.few;
+      laid = record { matched = formed.laid.matched; within = formed.laid.within; once = formed.laid.once; here = λ some. absurd (none_left (open_of (past p)) closed some) };
+    })
 
 section_keeps : (p : Progress) (s : Section) → IsFormed p → Keeps (after_section p s)
 section_keeps p section.All formed = sectioned p ranks.All formed
@@ -105,46 +145,47 @@ section_keeps p (section.Span first last) formed =
     bind (rank_said p.nue last) _ (λ other.
     either (nat_lt other one) (Err kind.RankRange) (open_section p (ranks.Span one other)) tt (sectioned p (ranks.Span one other) formed)))
 
-local_keeps : (line : ℕ) (p : Progress) (l : Local) → AreMatched (past p) → Keeps (after_local line p l)
-local_keeps line p (local.Bytes name bytes) matched = placed line (named p name) (stmt.Bytes (register_of p.names name) bytes) matched (λ passed. tt)
-local_keeps line p (local.Fill name len start) matched = placed line (named p name) (stmt.Fill (register_of p.names name) len start) matched (λ passed. tt)
-local_keeps line p (local.RankOf name ty) matched = placed line (named p name) (stmt.RankOf (register_of p.names name) ty) matched (λ passed. tt)
-local_keeps line p (local.Apply op ty dst src) matched =
-    placed line (named (named p dst) src) (stmt.Apply op ty (register_of p.names dst) (register_of (named p dst).names src)) matched (λ passed. tt)
-local_keeps line p (local.Print name form) matched = placed line (named p name) (stmt.Print (register_of p.names name) form) matched (λ passed. tt)
+local_keeps : (line : ℕ) (p : Progress) (l : Local) → IsLaid p → Keeps (after_local line p l)
+local_keeps line p (local.Bytes name bytes) laid = placed line p (named p name) (stmt.Bytes (register_of p.names name) bytes) refl refl laid tt (λ passed. tt)
+local_keeps line p (local.Fill name len start) laid = placed line p (named p name) (stmt.Fill (register_of p.names name) len start) refl refl laid tt (λ passed. tt)
+local_keeps line p (local.RankOf name ty) laid = placed line p (named p name) (stmt.RankOf (register_of p.names name) ty) refl refl laid tt (λ passed. tt)
+local_keeps line p (local.Apply op ty dst src) laid =
+    placed line p (named (named p dst) src) (stmt.Apply op ty (register_of p.names dst) (register_of (named p dst).names src)) refl refl laid tt (λ passed. tt)
+local_keeps line p (local.Print name form) laid = placed line p (named p name) (stmt.Print (register_of p.names name) form) refl refl laid tt (λ passed. tt)
 
-message_keeps : (line : ℕ) (p : Progress) (m : Message) → AreMatched (past p) → Keeps (after_message line p m)
-message_keeps line p (message.Send peer name) matched = bind (peer_in p.nue peer) _ (λ at. placed line (named p name) (stmt.Send at (register_of p.names name)) matched (λ passed. tt))
-message_keeps line p (message.Post peer name) matched = bind (peer_in p.nue peer) _ (λ at. placed line (named p name) (stmt.Post at (register_of p.names name)) matched (λ passed. tt))
-message_keeps line p (message.Recv peer name len) matched = bind (peer_in p.nue peer) _ (λ at. placed line (named p name) (stmt.Recv at (register_of p.names name) len) matched (λ passed. tt))
+message_keeps : (line : ℕ) (p : Progress) (m : Message) → IsLaid p → Keeps (after_message line p m)
+message_keeps line p (message.Send peer name) laid = bind (peer_in p.nue peer) _ (λ at. placed line p (named p name) (stmt.Send at (register_of p.names name)) refl refl laid tt (λ passed. tt))
+message_keeps line p (message.Post peer name) laid = bind (peer_in p.nue peer) _ (λ at. placed line p (named p name) (stmt.Post at (register_of p.names name)) refl refl laid tt (λ passed. tt))
+message_keeps line p (message.Recv peer name len) laid = bind (peer_in p.nue peer) _ (λ at. placed line p (named p name) (stmt.Recv at (register_of p.names name) len) refl refl laid tt (λ passed. tt))
 
-group_keeps : (line : ℕ) (p : Progress) (g : Collective) → AreMatched (past p) → Keeps (after_group line p g)
-group_keeps line p (group.Barrier comm) matched = placed line p (stmt.Barrier (small comm)) matched (λ passed. tt)
-group_keeps line p (group.Split comm parent colour parts) matched = placed line p (stmt.Split (small comm) (rule_said colour (small parent) parts)) matched (λ passed. tt)
-group_keeps line p (group.Bcast comm root name len) matched = placed line (named p name) (stmt.Bcast (small comm) (small root) (register_of p.names name) len) matched (λ passed. tt)
-group_keeps line p (group.Reduce comm root op ty dst src) matched =
-    placed line (named (named p dst) src) (stmt.Reduce (small comm) (small root) op ty (register_of p.names dst) (register_of (named p dst).names src)) matched (λ passed. tt)
-group_keeps line p (group.Allreduce comm op ty dst src) matched =
-    placed line (named (named p dst) src) (stmt.Allreduce (small comm) op ty (register_of p.names dst) (register_of (named p dst).names src)) matched (λ passed. tt)
+group_keeps : (line : ℕ) (p : Progress) (g : Collective) → IsLaid p → Keeps (after_group line p g)
+group_keeps line p (group.Barrier comm) laid = placed line p p (stmt.Barrier (small comm)) refl refl laid tt (λ passed. tt)
+group_keeps line p (group.Split comm parent colour parts) laid = placed line p p (stmt.Split (small comm) (rule_said colour (small parent) parts)) refl refl laid tt (λ passed. tt)
+group_keeps line p (group.Bcast comm root name len) laid = placed line p (named p name) (stmt.Bcast (small comm) (small root) (register_of p.names name) len) refl refl laid tt (λ passed. tt)
+group_keeps line p (group.Reduce comm root op ty dst src) laid =
+    placed line p (named (named p dst) src) (stmt.Reduce (small comm) (small root) op ty (register_of p.names dst) (register_of (named p dst).names src)) refl refl laid tt (λ passed. tt)
+group_keeps line p (group.Allreduce comm op ty dst src) laid =
+    placed line p (named (named p dst) src) (stmt.Allreduce (small comm) op ty (register_of p.names dst) (register_of (named p dst).names src)) refl refl laid tt (λ passed. tt)
 
 some_open : (repeats : List Open) → (length repeats == 0) ≡ false → 1 ≤ length repeats
 some_open [] inside = absurd cc
 some_open (repeat ∷ repeats) inside = omega arith
 
-said_keeps : (line : ℕ) (p : Progress) (s : Said) → IsFormed p → Keeps (after line p s)
-said_keeps line p said.Version formed = formed
-said_keeps line p (said.Section section) formed = section_keeps p section formed
-said_keeps line p (said.Local local) formed = local_keeps line p local formed.matched
-said_keeps line p (said.Message message) formed = message_keeps line p message formed.matched
-said_keeps line p (said.Collective group) formed = group_keeps line p group formed.matched
-said_keeps line p (said.Repeat times) formed = placed line p (stmt.Repeat times 0) formed.matched (λ passed. tt)
-said_keeps line p said.End formed =
-    placed line p (stmt.End (innermost (open_of (past p)))) formed.matched (λ passed. (some_open (open_of (past p)) passed.inside, refl))
+said_keeps : (line : ℕ) (v : Version) (p : Progress) (s : Said) → IsPlain v s → IsFormed p → Keeps (after line p s)
+said_keeps line v p said.Version is formed = formed
+said_keeps line v p (said.Section section) is formed = section_keeps p section formed
+said_keeps line v p (said.Local local) is formed = local_keeps line p local formed.laid
+said_keeps line v p (said.Message message) is formed = message_keeps line p message formed.laid
+said_keeps line v p (said.Collective group) is formed = group_keeps line p group formed.laid
+said_keeps line v p (said.Repeat times) is formed = placed_in line p (stmt.Repeat times 0) formed.laid is (λ inside. tt)
+said_keeps line v p said.End is formed =
+    placed_in line p (stmt.End (innermost (open_of (past p)))) formed.laid tt (λ inside. (some_open (open_of (past p)) inside, refl))
 
 words_keep : (line : ℕ) (p : Progress) (words : List (List ℕ)) → IsFormed p → Keeps (read_words line p words)
 words_keep line p [] formed = formed
 words_keep line p (first ∷ words) formed =
-    bind (said_of p.version p.opening first words) _ (λ s. said_keeps line (begun p) s (record { few = formed.few; matched = formed.matched }))
+    bind_given (IsPlain p.version) (said_of p.version p.opening first words) _ (said-plain p.version p.opening first words)
+    (λ s is. said_keeps line p.version (begun p) s is (record { few = formed.few; laid = renamed p (begun p) refl refl formed.laid }))
 
 line_keeps : (number : ℕ) (p : Progress) (line : List ℕ) → IsFormed p → Keeps (read_line number p line)
 line_keeps number p line formed = either (is_text line) _ _ (words_keep number p (words_of line) formed) tt
@@ -174,7 +215,7 @@ none_open (repeat ∷ repeats) closed = absurd (omega (arith, eqb-true (length (
 at_end_formed : (count : ℕ) (p : Progress) → IsFormed p → Has (at_end count p)
 at_end_formed count p formed =
     ended (length (open_of (past p)) == 0) (script_of p) (record { line = count + 1; kind = kind.UnclosedRepeat })
-    (λ closed. (formed.few, closed-of p.nue p.items p.names (none_open (open_of (past p)) closed) formed.matched))
+    (λ closed. (formed.few, closed-of p.nue p.items p.names (none_open (open_of (past p)) closed) formed.laid.matched formed.laid.within formed.laid.once))
 
 at_end_has : (count : ℕ) (r : Result Progress ReadFault) → Keeps r → Has (r >>= at_end count)
 at_end_has count (Ok p) kept = at_end_formed count p kept
@@ -182,7 +223,7 @@ at_end_has count (Err fault) kept = tt
 
 all_have : (version : Version) (lines : List (List ℕ)) (nue : ℕ) → Has (read_all_lines version lines nue)
 all_have version lines nue =
-    at_end_has (line_count lines) (read_lines 0 (start version nue) lines) (lines_keep 0 (start version nue) lines (record { few = lit≤ tt; matched = tt }))
+    at_end_has (line_count lines) (read_lines 0 (start version nue) lines) (lines_keep 0 (start version nue) lines (record { few = lit≤ tt; laid = record { matched = tt; within = tt; once = tt; here = λ some. absurd (omega (arith, some)) } }))
 
 behind : (b : Bool) (fault : ReadFault) (r : Result Script ReadFault) → Has r → Has (if b then Err fault else r)
 behind true fault r has = tt

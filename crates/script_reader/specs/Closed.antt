@@ -1,10 +1,11 @@
 -- How the repeats of a script that was read are closed (this project's profile).
-use Rattle.std.specs.Prelude.{◌≡◌, ℕ, ◌<◌, ◌≤◌, List, [], ◌∷◌, length, reverse, slice_get, Option, Some}
+use Rattle.std.specs.Prelude.{◌≡◌, ℕ, ◌<◌, ◌≤◌, List, [], ◌∷◌, length, reverse, slice_get, Option, Some, None}
 use Rattle.std.specs.Option.{option_map}
 use Rattle.script_reader.specs.declared.repeats.Open.{Open}
 use Rattle.script_reader.specs.declared.script.Item.{Item}
 use Rattle.script_reader.specs.declared.script.Stmt.{Stmt}
 use Rattle.script_reader.specs.declared.script.Stmt.TheVariants as stmt
+use Rattle.script_reader.specs.declared.script.Who.{Who}
 use Rattle.script_reader.specs.Checks.{innermost, open_of}
 use Rattle.script_reader.specs.Script.{Script}
 
@@ -26,9 +27,30 @@ stmt_at items place = option_map (λ item. item.stmt) (slice_get items place)
 abbrev pub HaveEnds : List Item → Type 0
 HaveEnds items = (place times end : ℕ) → stmt_at items place ≡ Some (stmt.Repeat times end) → (place < end) × (stmt_at items end ≡ Some (stmt.End place))
 
+-- the section of the latest statement
+abbrev pub latest_section : List Item → Option Who
+latest_section [] = None
+latest_section (item ∷ past) = Some item.who
+
+-- where a repeat is open, each of these statements, the latest first, stands in the section of the one before it
+abbrev pub AreWithin : List Item → Type 0
+AreWithin [] = Unit {0}
+AreWithin (item ∷ past) = AreWithin past × (1 ≤ length (open_of past) → latest_section past ≡ Some item.who)
+
+-- a repeat is done at least once, and so is each one among these statements
+abbrev pub HasPass : Stmt → Type 0
+HasPass (stmt.Repeat times end) = 1 ≤ times
+HasPass _ = Unit {0}
+
+abbrev pub HavePasses : List Item → Type 0
+HavePasses [] = Unit {0}
+HavePasses (item ∷ past) = HavePasses past × HasPass item.stmt
+
 -- no repeat is open behind the last statement of a script, each end is that of the innermost repeat that is open before it,
--- and each repeat has the place of its end
+-- each repeat has the place of its end, stands with it in one section, and is done at least once
 pub record IsClosed (script : Script) : Type 0 where
   pub none_open : open_of (reverse script.items) ≡ []
   pub matched : AreMatched (reverse script.items)
   pub ended : HaveEnds script.items
+  pub within : AreWithin (reverse script.items)
+  pub once : HavePasses (reverse script.items)

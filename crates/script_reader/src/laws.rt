@@ -16,7 +16,7 @@ pub fn version_law()
 {}
 
 /// A script that was read names at most 64 registers. None of its repeats is open at its end, and each repeat has the place
-/// of its end.
+/// of its end, in its section.
 pub fn script_law()
     ensures few { (bytes : List ℕ) (nue : ℕ) → IfOk (parse_script bytes nue) (λ script. length script.names ≤ 64) }
     ensures closed { (bytes : List ℕ) (nue : ℕ) → IfOk (parse_script bytes nue) IsClosed }
