@@ -23,7 +23,7 @@ use Rattle.script_plain.specs.Program.{can_call, collective_of, setup_of}
 use Rattle.script_plain.proofs.StepLaws as steps
 
 -- a rule that is there
-known : (r : CommRule) → (r ≡ rule.Absent → ⊥) → not (is_absent r) ≡ true
+pub known : (r : CommRule) → (r ≡ rule.Absent → ⊥) → not (is_absent r) ≡ true
 known rule.Absent there = absurd (there refl)
 known rule.World there = refl
 known (rule.Mod parent k) there = refl

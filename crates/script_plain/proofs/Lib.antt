@@ -44,3 +44,5 @@ pub mod SaneLemmas
 pub mod ReadyLemmas
 pub mod KeptLaws
 pub mod HeldUpLaws
+pub mod OperationCounts
+pub mod DoneLaws

@@ -22,9 +22,13 @@ use Rattle.script_plain.proofs.RunLaws.{get-by_rank, stands_there, there}
 use Rattle.script_plain.proofs.StepLaws as steps
 use Rattle.script_plain.proofs.StepLaws.Takes.{Alone, Left, Met, Fetched, RefusedPost, RefusedSend, Passed}
 
+-- a rank has done the calls of a state, and as much of its program is left
+abbrev pub IsAsFar : State → State → Type 0
+IsAsFar u v = (u.matched ≡ v.matched) × (u.local.left ≡ v.local.left)
+
 -- a rank has gone its own way from where it started, up to a mismatch
 abbrev pub IsOwn : State → State → Type 0
-IsOwn start u = ((path : List (List ℕ)) × (u ≡ gone_through path start)) ⊎ ((next_of u ≡ Ends) × (path : List (List ℕ)) × (u.matched ≡ (gone_through path start).matched))
+IsOwn start u = ((path : List (List ℕ)) × (u ≡ gone_through path start)) ⊎ ((next_of u ≡ Ends) × (path : List (List ℕ)) × IsAsFar u (gone_through path start))
 
 -- one step more
 own_more : (start u : State) (bytes : List ℕ) (n : Next State) → next_of u ≡ n → (n ≡ Ends → ⊥) → IsOwn start u → IsOwn start (gone_by bytes u n)
@@ -73,6 +77,34 @@ stops calls (Sends to head bytes after) each = tt
 stops calls (Recvs from head take refuse) each = λ sent. ap (recorded calls) (each sent)
 stops calls (Bars comm after) each = tt
 
+-- and uses up no primitive
+abbrev Stays : List Prim → Next State → Type 0
+Stays left (Recvs from head take refuse) = (sent : MessageHead) → (refuse sent).local.left ≡ left
+Stays left _ = Unit {0}
+
+stays_act : (u : State) (line : ℕ) (a : Act) → Stays u.local.left (recorded u.matched (next_by_act u.local line a))
+stays_act u line (Act.Set reg content) = tt
+stays_act u line (Act.Apply op ty dst src) = tt
+stays_act u line (Act.Print reg form) = tt
+stays_act u line (Act.Send to head source) = tt
+stays_act u line (Act.Post to reg) = tt
+stays_act u line (Act.Recv from reg head) = λ sent. refl
+stays_act u line (Act.Gather from head sized) = λ sent. refl
+stays_act u line (Act.Bar comm) = tt
+stays_act u line (Act.Begin reg) = tt
+stays_act u line (Act.Fold op ty) = tt
+stays_act u line (Act.Accept reg) = tt
+stays_act u line (Act.Finish reg) = tt
+stays_act u line Act.Pass = tt
+
+stays_prim : (u : State) (o : Option Prim) → Stays u.local.left (recorded u.matched (next_by_prim u.local o))
+stays_prim u None = tt
+stays_prim u (Some prim) = stays_act u prim.line prim.act
+
+stays_next : (u : State) → Stays u.local.left (next_of u)
+unfolding local_next
+stays_next u = stays_prim u (prim_by_standing u.local.standing u.local.left)
+
 -- what stands at a rank
 pub stands : (c : Configuration State) (i : ℕ) (n : Next State) → next_at next_of c i ≡ n → (n ≡ Ends → ⊥) → (u : State) × (slice_get c.cells i ≡ Some u) × (next_of u ≡ n)
 stands c i n at is_some =
@@ -88,9 +120,12 @@ own_refused start u from head take refuse sent is own =
     same : (refuse sent).matched ≡ u.matched
     same = (subst (Logs u.matched) is (logs u.matched (local_next u.local))).1 sent
 
-    way : IsOwn start u → (path : List (List ℕ)) × ((refuse sent).matched ≡ (gone_through path start).matched)
-    way (inl (path, is_there)) = (path, same ∙ ap (λ (x : State). x.matched) is_there)
-    way (inr (ends, path, is_there)) = (path, same ∙ is_there)
+    left : (refuse sent).local.left ≡ u.local.left
+    left = subst (Stays u.local.left) is (stays_next u) sent
+
+    way : IsOwn start u → (path : List (List ℕ)) × IsAsFar (refuse sent) (gone_through path start)
+    way (inl (path, is_there)) = (path, (same ∙ ap (λ (x : State). x.matched) is_there, left ∙ ap (λ (x : State). x.local.left) is_there))
+    way (inr (ends, path, is_there)) = (path, (same ∙ is_there.0, left ∙ is_there.1))
 
 module _ (S : ℕ → State) where
   abbrev AllOwn : List State → Type 0
@@ -172,9 +207,13 @@ start_cell script k u at =
         ap (started script) (let is = range_at 0 script.nue k rank there in omega (arith, is)) ∙ same_Some (started script rank) u is
 
 -- wherever steps lead from the start
-pub own_ways : (script : Script) (n : ℕ) (c : Configuration State) → Runs (IsPlainStep (keys_of script)) (λ e. e ≡ c) n (start_of script) → AreOwnWays script c
-own_ways script n c run rank u at =
+pub own_as_far : (script : Script) (n : ℕ) (c : Configuration State) → Runs (IsPlainStep (keys_of script)) (λ e. e ≡ c) n (start_of script) → (rank : ℕ) (u : State) → slice_get c.cells rank ≡ Some u
+    → (path : List (List ℕ)) × IsAsFar u (gone_through path (started script rank))
+own_as_far script n c run rank u at =
     ⊎_elim
-    (λ (own : (path : List (List ℕ)) × (u ≡ gone_through path (started script rank))). (own.0, ap (λ (x : State). x.matched) own.1))
-    (λ (own : (next_of u ≡ Ends) × (path : List (List ℕ)) × (u.matched ≡ (gone_through path (started script rank)).matched)). (own.1, own.2))
+    (λ (own : (path : List (List ℕ)) × (u ≡ gone_through path (started script rank))). (own.0, (ap (λ (x : State). x.matched) own.1, ap (λ (x : State). x.local.left) own.1)))
+    (λ (own : (next_of u ≡ Ends) × (path : List (List ℕ)) × IsAsFar u (gone_through path (started script rank))). (own.1, own.2))
     (own_runs (started script) (keys_of script) n (start_of script) c run (λ k v there. inl ([], sym (start_cell script k v there))) rank u at)
+
+pub own_ways : (script : Script) (n : ℕ) (c : Configuration State) → Runs (IsPlainStep (keys_of script)) (λ e. e ≡ c) n (start_of script) → AreOwnWays script c
+own_ways script n c run rank u at = let own = own_as_far script n c run rank u at in (own.0, own.1.0)

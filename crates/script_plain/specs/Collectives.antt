@@ -1,7 +1,7 @@
 -- What collective calls give (RCCE specification 2.0: RCCE_bcast, RCCE_reduce, RCCE_allreduce; the order of a fold is
 -- this project's profile). A rank's calls of one kind, communicator and root are counted by their messages: each is one
 -- message between the root and each of the others.
-use Rattle.std.specs.Prelude.{◌≡◌, ◌≢◌, ℕ, ◌<◌, true, List, [], ◌∷◌, ◌++◌, length, map, Some, slice_get, slice_set}
+use Rattle.std.specs.Prelude.{◌≡◌, ◌≢◌, ℕ, ◌<◌, ◌≤◌, true, List, [], ◌∷◌, ◌++◌, length, map, Some, slice_get, slice_set}
 use Rattle.std.specs.List.{filter}
 use Rattle.scc_base.specs.Heads.{kind_number}
 use Rattle.scc_base.specs.Setups.{SetupView, IsMemberAt, place_of}
@@ -21,7 +21,7 @@ use Rattle.script_plain.specs.Meaning.{State, next_of}
 use Rattle.script_plain.specs.Messages.{AreReceivedAsSent, is_of, received_from, sent_to}
 use Rattle.script_plain.specs.Next.{Next}
 use Rattle.script_plain.specs.Next.Next.{Ends, Goes, Posts, Sends, Recvs, Bars}
-use Rattle.script_plain.specs.Program.{Prim, acts_of, setup_of}
+use Rattle.script_plain.specs.Program.{Prim, acts_of, program_of, setup_of}
 use Rattle.script_plain.specs.Step.{Configuration}
 
 -- what a rank comes to by itself in its next step: where it receives, it takes these bytes
@@ -89,6 +89,23 @@ pub record HasDone (script : Script) (rank : ℕ) (statement : Stmt) (now before
   pub came : after ≡ gone_through taken before
   pub later : List (List ℕ)
   pub since : now.matched ≡ (gone_through later after).matched
+
+-- the program of a rank has a statement of its own in front of these primitives, which others of its statements make
+pub record HasStatement (script : Script) (rank : ℕ) (statement : Stmt) (rest : List Prim) : Type 0 where
+  pub item : Item
+  pub listed : IsOfRank script.items rank item
+  pub says : item.stmt ≡ statement
+  pub front : List Prim
+  pub behind : Made (setup_of script) rank script.items rest
+  pub whole : program_of script rank ≡ front ++ (made_by (setup_of script) rank item ++ rest)
+
+-- a statement of which a rank has no primitive left is done: what comes behind it was left then
+abbrev pub AreDone : Script → Configuration State → Type 0
+AreDone script c =
+    (rank : ℕ) (statement : Stmt) (rest : List Prim) (u : State)
+    → slice_get c.cells rank ≡ Some u
+    → HasStatement script rank statement rest → length u.local.left ≤ length rest
+    → (before : State) × (after : State) × HasDone script rank statement u before after × (after.local.left ≡ rest)
 
 -- how many messages of a kind in a communicator a rank has sent to another, and received from another
 abbrev pub sends_of : Kind → ℕ → ℕ → State → ℕ

@@ -21,3 +21,4 @@ pub mod Kept
 pub mod Printed
 pub mod Ready
 pub mod CallLists
+pub mod Reached

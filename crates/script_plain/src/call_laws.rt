@@ -1,6 +1,8 @@
 //! The laws of the calls of a rank.
 
-ghost use Rattle.std.specs.Prelude.{◌≡◌, ◌<◌, ◌++◌, ℕ, List, Option, None, map};
+ghost use Rattle.std.specs.Prelude.{◌≡◌, ◌<◌, ◌≤◌, ◌++◌, ℕ, List, Option, None, length, map, reverse};
+ghost use Rattle.script_reader.specs.Checks.{operations};
+ghost use Rattle.script_reader.specs.Closed.{IsClosed};
 ghost use Rattle.script_reader.specs.Script.{Script};
 ghost use Rattle.script_reader.specs.Settled.{IsWhole};
 ghost use Rattle.script_plain.specs.declared.posts.Posted.{Posted};
@@ -11,6 +13,7 @@ ghost use Rattle.script_plain.specs.Lengths.{lengths_of};
 ghost use Rattle.script_plain.specs.Local.{Local, local_next, local_start};
 ghost use Rattle.script_plain.specs.Meaning.{State, next_of};
 ghost use Rattle.script_plain.specs.Paths.{Came, Did};
+ghost use Rattle.script_plain.specs.Program.{program_of};
 ghost use Rattle.script_plain.specs.Ready.{IsReady};
 
 /// Wherever a rank of a script that was read comes by itself, the call that stands next can be made.
@@ -25,4 +28,14 @@ pub fn calls_are_known_before()
     ensures law { (script : Script) → (rank : ℕ) → (u : Local) (last : Option Posted) (calls : List DataCall)
         → Did local_next u last (local_start script rank) None calls
         → calls_of script rank ≡ map call_of calls ++ calls_from (lengths_of u) u.left }
+{}
+
+/// The primitives of a rank are as many as its operations: a local statement, a message, a barrier and the end of a pass
+/// count one each, a collective call as many as it has steps, and each as often as its repeats say. So a rank has at most
+/// 100,000.
+pub fn primitives_are_operations()
+    ensures law { (script : Script) → IsWhole script.nue script.items → IsClosed script → (rank : ℕ) → rank < script.nue
+        → length (program_of script rank) ≡ operations script.nue (reverse script.items) rank }
+    ensures most { (script : Script) → IsWhole script.nue script.items → IsClosed script → (rank : ℕ) → rank < script.nue
+        → length (program_of script rank) ≤ 100000 }
 {}

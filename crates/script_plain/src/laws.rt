@@ -6,6 +6,7 @@ ghost use Rattle.script_reader.specs.Script.{Script};
 ghost use Rattle.script_plain.specs.Barriers.{AreMet};
 ghost use Rattle.script_plain.specs.Meaning.{IsPlainStep, State, keys_of, next_of, plain_end, plain_step, start_of, steps_left};
 ghost use Rattle.script_plain.specs.Paths.{Came, Did};
+ghost use Rattle.script_plain.specs.Reached.{IsReached};
 ghost use Rattle.script_plain.specs.Step.{Configuration};
 ghost use Rattle.script_plain.specs.declared.posts.Posted.{Posted};
 
@@ -39,7 +40,7 @@ pub fn lowest_owner_steps()
 /// Wherever steps lead from the start, no rank has finished more barriers of a communicator than each member of its
 /// group has entered.
 pub fn barriers_meet()
-    ensures law { (script : Script) (n : ℕ) (c : Configuration State) → Runs (IsPlainStep (keys_of script)) (λ e. e ≡ c) n (start_of script) → AreMet (keys_of script) c }
+    ensures law { (script : Script) (c : Configuration State) → IsReached script c → AreMet (keys_of script) c }
 {}
 
 /// A state that a rank has come to by itself, from a start at which nothing is done, has the calls of its way, in order and

@@ -22,9 +22,10 @@ mod ues;
 mod walk;
 
 pub use barriers::{is_with, setup_of};
-pub use call_laws::{calls_are_known_before, calls_can_be_made};
+pub use call_laws::{calls_are_known_before, calls_can_be_made, primitives_are_operations};
 pub use collective_laws::{
     broadcasts_arrive, messages_arrive_as_sent, ranks_go_their_own_ways, reductions_fold,
+    used_up_statements_are_done,
 };
 pub use ends::{End, UeEnd};
 pub use held_laws::ends_are_explained;

@@ -7,10 +7,10 @@ use Rattle.script_plain.proofs.ReductionLaws.{untouched}
 use Rattle.script_plain.proofs.collective_laws.broadcasts_arrive.Goals as goal
 
 pub returns-clause-law : goal.returns-clause-law
-returns-clause-law c = λ script whole n end run. broadcast script end (delivered script n end run) (are_fit script whole n end run)
+returns-clause-law c = λ script whole end reached. broadcast script end (delivered script reached.0 end reached.1) (are_fit script whole reached.0 end reached.1)
 
 pub returns-clause-root_came : goal.returns-clause-root_came
-returns-clause-root_came c = λ script whole n end run. root_came script end (delivered script n end run) (are_fit script whole n end run) (own_ways script n end run) (cells_kept script n end run)
+returns-clause-root_came c = λ script whole end reached. root_came script end (delivered script reached.0 end reached.1) (are_fit script whole reached.0 end reached.1) (own_ways script reached.0 end reached.1) (cells_kept script reached.0 end reached.1)
 
 pub returns-clause-untouched : goal.returns-clause-untouched
 returns-clause-untouched c = untouched

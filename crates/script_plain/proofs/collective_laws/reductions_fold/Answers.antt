@@ -6,22 +6,22 @@ use Rattle.script_plain.proofs.ReductionLaws.{all_reduced, all_told, reduced, un
 use Rattle.script_plain.proofs.collective_laws.reductions_fold.Goals as goal
 
 pub returns-clause-root : goal.returns-clause-root
-returns-clause-root c = λ script whole n end run. reduced script end (delivered script n end run) (are_fit script whole n end run)
+returns-clause-root c = λ script whole end reached. reduced script end (delivered script reached.0 end reached.1) (are_fit script whole reached.0 end reached.1)
 
 pub returns-clause-first : goal.returns-clause-first
-returns-clause-first c = λ script whole n end run. all_reduced script end (delivered script n end run) (are_fit script whole n end run)
+returns-clause-first c = λ script whole end reached. all_reduced script end (delivered script reached.0 end reached.1) (are_fit script whole reached.0 end reached.1)
 
 pub returns-clause-others : goal.returns-clause-others
-returns-clause-others c = λ script whole n end run. all_told script end (delivered script n end run) (are_fit script whole n end run)
+returns-clause-others c = λ script whole end reached. all_told script end (delivered script reached.0 end reached.1) (are_fit script whole reached.0 end reached.1)
 
 pub returns-clause-others_gave : goal.returns-clause-others_gave
-returns-clause-others_gave c = λ script whole n end run. others_gave script end (delivered script n end run) (are_fit script whole n end run) (own_ways script n end run) (cells_kept script n end run)
+returns-clause-others_gave c = λ script whole end reached. others_gave script end (delivered script reached.0 end reached.1) (are_fit script whole reached.0 end reached.1) (own_ways script reached.0 end reached.1) (cells_kept script reached.0 end reached.1)
 
 pub returns-clause-others_gave_to_all : goal.returns-clause-others_gave_to_all
-returns-clause-others_gave_to_all c = λ script whole n end run. others_gave_to_all script end (delivered script n end run) (are_fit script whole n end run) (own_ways script n end run) (cells_kept script n end run)
+returns-clause-others_gave_to_all c = λ script whole end reached. others_gave_to_all script end (delivered script reached.0 end reached.1) (are_fit script whole reached.0 end reached.1) (own_ways script reached.0 end reached.1) (cells_kept script reached.0 end reached.1)
 
 pub returns-clause-all_came : goal.returns-clause-all_came
-returns-clause-all_came c = λ script whole n end run. all_came script end (delivered script n end run) (are_fit script whole n end run) (own_ways script n end run) (cells_kept script n end run)
+returns-clause-all_came c = λ script whole end reached. all_came script end (delivered script reached.0 end reached.1) (are_fit script whole reached.0 end reached.1) (own_ways script reached.0 end reached.1) (cells_kept script reached.0 end reached.1)
 
 pub returns-clause-untouched : goal.returns-clause-untouched
 returns-clause-untouched c = untouched

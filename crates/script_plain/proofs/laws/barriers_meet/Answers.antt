@@ -2,4 +2,4 @@ use Rattle.script_plain.proofs.BarrierLaws.{met}
 use Rattle.script_plain.proofs.laws.barriers_meet.Goals as goal
 
 pub returns : goal.returns
-returns c = record { law = met }
+returns c = record { law = λ script end reached. met script reached.0 end reached.1 }

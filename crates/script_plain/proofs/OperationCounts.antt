@@ -1,0 +1,444 @@
+-- The primitives of a rank are as many as its operations: a statement makes as many as it costs, and a repeat's body comes
+-- as often as its statements are counted.
+use Rattle.std.proofs.Common.{◌≡◌, ℕ, zero, suc, ◌+◌, ◌-◌, ◌*◌, ◌<◌, ◌≤◌, ◌==◌, Bool, true, false, cond, ◌&&◌, List, [], ◌∷◌, ◌++◌, length, map, reverse, take, Some, None, refl, sym, ap, subst, ◌∙◌, arith, slice_get, append_assoc, inl, inr}
+use Rattle.std.proofs.Math.Nat.{mul_assoc, suc-mul, zero-mul}
+use Rattle.std.proofs.Math.Seq.{take-append_seam}
+use Rattle.std.proofs.lemmas.Bool.{and_parts, cases_lt}
+use Rattle.std.proofs.lemmas.List.{append-nil, length-append, length-map, length-take-le, reverse-append}
+use Rattle.std.specs.Option.{option_map_or}
+use Rattle.std.specs.Prelude.{nat_lt, remove, slice_index}
+use Rattle.scc_base.specs.Communicators.{key_of, rule_of}
+use Rattle.scc_base.specs.Groups.{members_in, place_in, size_in}
+use Rattle.scc_base.specs.Setups.{SetupView}
+use Rattle.scc_base.specs.declared.communicators.CommRule.TheVariants as rule
+use Rattle.groups.specs.Collectives.{comm_of, other_steps, root_place, root_steps, steps_of}
+use Rattle.groups.specs.declared.collectives.Coll.{Coll}
+use Rattle.groups.specs.declared.collectives.Coll.TheVariants as coll
+use Rattle.groups.specs.declared.collectives.Step.{Step}
+use Rattle.groups.specs.declared.operations.Op.TheVariants as op_of
+use Rattle.groups.specs.declared.operations.Ty.TheVariants as ty_of
+use Rattle.script_reader.specs.Checks.{comm_needed, cost_of, has_root, is_known, open_of, opened, operations, run_of, steps_in, turns_in}
+use Rattle.script_reader.specs.Closed.{AreMatched, AreWithin, Closes, HasPass, HavePasses, IsClosed, latest_section}
+use Rattle.script_reader.specs.Script.{Script, has_rank, rules_of}
+use Rattle.script_reader.specs.Settled.{AreInLine, IsInLine, IsWhole}
+use Rattle.script_reader.specs.declared.script.Item.{Item}
+use Rattle.script_reader.specs.declared.script.Stmt.{Stmt}
+use Rattle.script_reader.specs.declared.script.Stmt.TheVariants as stmt
+use Rattle.script_reader.specs.declared.script.Who.{Who}
+use Rattle.script_reader.proofs.AcceptanceLemmas.{worked-law}
+use Rattle.script_reader.proofs.SettledLemmas.{Extends, key-same, present-low, same-more}
+use Rattle.script_plain.specs.declared.prims.Nesting.{Nesting}
+use Rattle.script_plain.specs.declared.prims.Nesting.TheVariants as nesting
+use Rattle.script_plain.specs.declared.prims.Operands.{Operands}
+use Rattle.script_plain.specs.Program.{Prim, Unrolled, acts_of, begins, call_steps, can_call, collective_of, copies, in_front, nesting_of, part_of, parts_of, program_of, repeated, setup_of, unrolled}
+use Rattle.script_plain.proofs.CallableLaws.{callable, known}
+use Rattle.script_plain.proofs.ReductionPaths.{fold_operands}
+use Rattle.script_plain.proofs.StepLaws as steps
+
+-- sums and copies
+spread : (a b c : ℕ) → a * (b + c) ≡ a * b + a * c
+spread zero b c = omega (arith, zero-mul (b + c), zero-mul b, zero-mul c)
+spread (suc a) b c = omega (arith, suc-mul a (b + c), suc-mul a b, suc-mul a c, spread a b c)
+
+length_copies : (n : ℕ) (prims : List Prim) → length (copies n prims) ≡ n * length prims
+length_copies zero prims = sym (zero-mul (length prims))
+length_copies (suc n) prims = omega (arith, length-append prims (copies n prims), length_copies n prims, suc-mul n (length prims))
+
+-- the statement at a seam, and the last of a list
+seam : {A : Type 0} (front : List A) (x : A) (rest : List A) → slice_get (front ++ x ∷ rest) (length front) ≡ Some x
+seam [] x rest = refl
+seam (y ∷ front) x rest = seam front x rest
+
+one_less : {A : Type 0} (front : List A) (last : A) → length (front ++ last ∷ []) - 1 ≡ length front
+one_less front last = omega (arith, length-append front (last ∷ []))
+
+popped : {A : Type 0} (front : List A) (last : A) → take (length (front ++ last ∷ []) - 1) (front ++ last ∷ []) ≡ front
+popped front last = ap (λ (n : ℕ). take n (front ++ last ∷ [])) (one_less front last) ∙ take-append_seam front (last ∷ [])
+
+-- what a repeat opens
+one_opened : (past : List Item) (times end place : ℕ) → length (opened (stmt.Repeat times end) place (open_of past)) ≡ length (open_of past) + 1
+one_opened past times end place = length-append (open_of past) _
+
+turns_opened : (past : List Item) (times end place : ℕ) → turns_in (opened (stmt.Repeat times end) place (open_of past)) ≡ turns_in (open_of past) * times
+turns_opened past times end place =
+    ap (λ (n : ℕ). option_map_or (λ r. r.turns) (slice_get (opened (stmt.Repeat times end) place (open_of past)) n) 1) (one_less (open_of past) _)
+    ∙ ap (λ o. option_map_or (λ r. r.turns) o 1) (seam (open_of past) _ [])
+
+-- how often a statement in each open repeat runs, the innermost one first: each was opened behind statements of its own
+abbrev IsStack : List Item → List ℕ → Type 0
+IsStack past [] = open_of past ≡ []
+IsStack past (t ∷ stack) =
+    (before : List Item) × (times : ℕ) × (end : ℕ) × (place : ℕ) × (open_of past ≡ opened (stmt.Repeat times end) place (open_of before)) × (t ≡ turns_in (open_of before) * times) × IsStack before stack
+
+abbrev top : List ℕ → ℕ
+top [] = 1
+top (t ∷ stack) = t
+
+top_of : (past : List Item) (stack : List ℕ) → IsStack past stack → turns_in (open_of past) ≡ top stack
+top_of past [] none = ap turns_in none
+top_of past (t ∷ stack) (before, times, end, place, is, turns, rest) = ap turns_in is ∙ turns_opened before times end place ∙ sym turns
+
+same_stack : (past before : List Item) (stack : List ℕ) → open_of past ≡ open_of before → IsStack before stack → IsStack past stack
+same_stack past before [] same none = same ∙ none
+same_stack past before (t ∷ stack) same (b, times, end, place, is, turns, rest) = (b, times, end, place, same ∙ is, turns, rest)
+
+-- a statement that is no repeat and no end
+record IsOther (s : Stmt) : Type 0 where
+  opens : (place : ℕ) (past : List Item) → opened s place (open_of past) ≡ open_of past
+  stays : nesting_of s ≡ nesting.Stays
+
+-- what is true of repeats, of ends and of the others
+sorted : (P : Stmt → Type 0) → ((times end : ℕ) → P (stmt.Repeat times end)) → ((start : ℕ) → P (stmt.End start)) → ((s : Stmt) → IsOther s → P s) → (s : Stmt) → P s
+sorted P repeats ends others (stmt.Repeat times end) = repeats times end
+sorted P repeats ends others (stmt.End start) = ends start
+sorted P repeats ends others (stmt.Bytes reg bytes) = others (stmt.Bytes reg bytes) (record { opens = λ place past. refl; stays = refl })
+sorted P repeats ends others (stmt.Fill reg len start) = others (stmt.Fill reg len start) (record { opens = λ place past. refl; stays = refl })
+sorted P repeats ends others (stmt.RankOf reg ty) = others (stmt.RankOf reg ty) (record { opens = λ place past. refl; stays = refl })
+sorted P repeats ends others (stmt.Apply op ty dst src) = others (stmt.Apply op ty dst src) (record { opens = λ place past. refl; stays = refl })
+sorted P repeats ends others (stmt.Send peer reg) = others (stmt.Send peer reg) (record { opens = λ place past. refl; stays = refl })
+sorted P repeats ends others (stmt.Post peer reg) = others (stmt.Post peer reg) (record { opens = λ place past. refl; stays = refl })
+sorted P repeats ends others (stmt.Recv peer reg len) = others (stmt.Recv peer reg len) (record { opens = λ place past. refl; stays = refl })
+sorted P repeats ends others (stmt.Print reg form) = others (stmt.Print reg form) (record { opens = λ place past. refl; stays = refl })
+sorted P repeats ends others (stmt.Barrier comm) = others (stmt.Barrier comm) (record { opens = λ place past. refl; stays = refl })
+sorted P repeats ends others (stmt.Split comm by) = others (stmt.Split comm by) (record { opens = λ place past. refl; stays = refl })
+sorted P repeats ends others (stmt.Bcast comm root reg len) = others (stmt.Bcast comm root reg len) (record { opens = λ place past. refl; stays = refl })
+sorted P repeats ends others (stmt.Reduce comm root op ty dst src) = others (stmt.Reduce comm root op ty dst src) (record { opens = λ place past. refl; stays = refl })
+sorted P repeats ends others (stmt.Allreduce comm op ty dst src) = others (stmt.Allreduce comm op ty dst src) (record { opens = λ place past. refl; stays = refl })
+
+-- what stands behind the open repeats, each as often as it runs
+abbrev weigh : List ℕ → List (List Prim) → ℕ
+weigh [] behind = 0
+weigh (t ∷ stack) [] = 0
+weigh (t ∷ stack) (next ∷ behind) = top stack * length next + weigh stack behind
+
+-- what items make is as much as they cost
+abbrev Counts : ℕ → List ℕ → Unrolled → Type 0
+Counts m stack u = (m ≡ top stack * length u.here + weigh stack u.behind) × (length u.behind ≡ length stack)
+
+counts_stays : (turns cost m : ℕ) (stack : List ℕ) (prims : List Prim) (u : Unrolled) → turns ≡ top stack → length prims ≡ cost → Counts m stack u
+    → Counts (turns * cost + m) stack (in_front nesting.Stays prims u)
+counts_stays turns cost m stack prims u is many c =
+    let one : turns * cost ≡ top stack * length prims = ap (λ (t : ℕ). t * cost) is ∙ ap (λ (n : ℕ). top stack * n) (sym many) in
+    let both : top stack * length (prims ++ u.here) ≡ top stack * length prims + top stack * length u.here = ap (λ (n : ℕ). top stack * n) (length-append prims u.here) ∙ spread (top stack) (length prims) (length u.here) in
+    (omega (arith, one, both, c.0), c.1)
+
+counts_closes : (turns m t : ℕ) (stack : List ℕ) (prims : List Prim) (u : Unrolled) → turns ≡ t → length prims ≡ 1 → Counts m stack u
+    → Counts (turns * 1 + m) (t ∷ stack) (in_front nesting.Closes prims u)
+counts_closes turns m t stack prims u is many c =
+    let one : turns * 1 ≡ t * length prims = ap (λ (t : ℕ). t * 1) is ∙ ap (λ (n : ℕ). t * n) (sym many) in
+    (omega (arith, one, c.0), ap suc c.1)
+
+-- a body and the passes behind it are as many as the repeat says
+passes : (t times b : ℕ) → 1 ≤ times → t * b + t * ((times - 1) * b) ≡ t * times * b
+passes t zero b once = absurd (omega (arith, once))
+passes t (suc k) b once =
+    let less : suc k - 1 ≡ k = omega arith in
+    let far : t * ((suc k - 1) * b) ≡ t * (k * b) = ap (λ (n : ℕ). t * (n * b)) less in
+    let all : t * suc k * b ≡ t * (k * b + b) = mul_assoc t (suc k) b ∙ ap (λ (n : ℕ). t * n) (suc-mul k b) in
+    omega (arith, far, all, spread t (k * b) b)
+
+counts_repeated : (turns times m : ℕ) (stack : List ℕ) (here : List Prim) (behind : List (List Prim)) → turns ≡ top stack → 1 ≤ times
+    → Counts m (turns * times ∷ stack) (record { here = here; behind = behind }) → Counts (turns * 0 + m) stack (repeated times here behind)
+counts_repeated turns times m stack here [] is once c = absurd (omega (arith, c.1))
+counts_repeated turns times m stack here (next ∷ behind) is once c =
+    let t = top stack in
+    let b = length here in
+    let rest = length (copies (times - 1) here ++ next) in
+    let none : turns * 0 ≡ 0 = omega arith in
+    let all : turns * times * b ≡ t * times * b = ap (λ (x : ℕ). x * times * b) is in
+    let many : t * length (here ++ (copies (times - 1) here ++ next)) ≡ t * b + t * rest = ap (λ (n : ℕ). t * n) (length-append here (copies (times - 1) here ++ next)) ∙ spread t b rest in
+    let more : t * rest ≡ t * ((times - 1) * b) + t * length next =
+    ap (λ (n : ℕ). t * n) (length-append (copies (times - 1) here) next ∙ ap (λ (n : ℕ). n + length next) (length_copies (times - 1) here)) ∙ spread t ((times - 1) * b) (length next) in
+    (omega (arith, none, all, many, more, passes t times b once, c.0), omega (arith, c.1))
+
+-- the steps of a call by the key of its communicator
+abbrev steps_by : ℕ → (ℕ → ℕ) → ℕ → Coll → List Step
+steps_by nue key r c =
+    cond (place_in key r == root_place c) (root_steps c (remove (members_in nue key r) (root_place c))) (other_steps c (slice_index (members_in nue key r) (root_place c)))
+
+-- a broadcast has as many steps whatever its length
+cast_steps : (b : Bool) (comm root len : ℕ) (list : List ℕ) (from : ℕ)
+    → length (cond b (root_steps (coll.Bcast comm root len) list) (other_steps (coll.Bcast comm root len) from)) ≡ length (cond b (root_steps (coll.Bcast comm root 0) list) (other_steps (coll.Bcast comm root 0) from))
+cast_steps true comm root len list from = length-map list _ ∙ sym (length-map list _)
+cast_steps false comm root len list from = refl
+
+root_by_key : (nue : ℕ) (s run : SetupView) (rank : ℕ) (c : Coll) → s.nue ≡ run.nue → key_of s.comms (comm_of c) ≡ key_of run.comms (comm_of c) → has_root s rank c ≡ has_root run rank c
+root_by_key nue s run rank (coll.Bcast comm root len) same keys =
+    ap (λ (key : ℕ → ℕ). nat_lt root (size_in s.nue key rank)) keys ∙ ap (λ (n : ℕ). nat_lt root (size_in n (key_of run.comms comm) rank)) same
+root_by_key nue s run rank (coll.Reduce comm root len) same keys =
+    ap (λ (key : ℕ → ℕ). nat_lt root (size_in s.nue key rank)) keys ∙ ap (λ (n : ℕ). nat_lt root (size_in n (key_of run.comms comm) rank)) same
+root_by_key nue s run rank (coll.Allreduce comm len) same keys = refl
+
+-- a rule stays where statements follow
+rule_on : (rest front : List Item) (c : ℕ) → (rule_of (rules_of front) c ≡ rule.Absent → ⊥) → rule_of (rules_of (front ++ rest)) c ≡ rule_of (rules_of front) c
+rule_on [] front c there = ap (λ (items : List Item). rule_of (rules_of items) c) (append-nil front)
+rule_on (item ∷ rest) front c there =
+    let next = same-more front item c there in
+    ap (λ (items : List Item). rule_of (rules_of items) c) (sym (append_assoc front (item ∷ []) rest))
+    ∙ rule_on rest (front ++ item ∷ []) c (λ gone. there (sym next ∙ gone))
+    ∙ next
+
+-- what is true of statements is true of those before them
+line_back : (nue : ℕ) (front past : List Item) → AreInLine nue (front ++ past) → AreInLine nue past
+line_back nue [] past all = all
+line_back nue (item ∷ front) past all = line_back nue front past all.0
+
+matched_back : (front past : List Item) → AreMatched (front ++ past) → AreMatched past
+matched_back [] past all = all
+matched_back (item ∷ front) past all = matched_back front past all.0
+
+within_back : (front past : List Item) → AreWithin (front ++ past) → AreWithin past
+within_back [] past all = all
+within_back (item ∷ front) past all = within_back front past all.0
+
+once_back : (front past : List Item) → HavePasses (front ++ past) → HavePasses past
+once_back [] past all = all
+once_back (item ∷ front) past all = once_back front past all.0
+
+module _ (script : Script) (whole : IsWhole script.nue script.items) (rank : ℕ) (below : rank < script.nue) where
+  -- a call of a statement costs the steps that it makes
+  module _ (past : List Item) (e : Extends (rules_of (reverse past)) (rules_of script.items)) where
+    made : (o : Operands) (c : Coll) → can_call (setup_of script) rank c ≡ true → length (parts_of o (call_steps (setup_of script) rank c)) ≡ length (steps_of (setup_of script) rank c)
+    made o c may =
+        length-map (call_steps (setup_of script) rank c) (part_of o (begins (call_steps (setup_of script) rank c)))
+        ∙ ap (λ (b : Bool). length (cond b (steps_of (setup_of script) rank c) [])) may
+
+    asked : (c : Coll) → (rule_of (rules_of (reverse past)) (comm_of c) ≡ rule.Absent → ⊥) → has_root (setup_of script) rank c ≡ true
+        → length (steps_of (setup_of script) rank c) ≡ steps_in (run_of script.nue past) rank c
+    asked c there rooted =
+        let keys = key-same (rules_of (reverse past)) (rules_of script.items) e (comm_of c) there in
+        let is : (is_known (run_of script.nue past) (comm_of c) && has_root (run_of script.nue past) rank c) ≡ true =
+        steps.and_of (is_known (run_of script.nue past) (comm_of c)) (has_root (run_of script.nue past) rank c) (known (rule_of (rules_of (reverse past)) (comm_of c)) there)
+        (sym (root_by_key script.nue (setup_of script) (run_of script.nue past) rank c refl keys) ∙ rooted) in
+        ap (λ (key : ℕ → ℕ). length (steps_by script.nue key rank c)) keys
+        ∙ sym (ap (λ (b : Bool). cond b (length (steps_of (run_of script.nue past) rank c)) 0) is)
+
+    rooted_of : (c : Coll) → can_call (setup_of script) rank c ≡ true → has_root (setup_of script) rank c ≡ true
+    rooted_of c may = (and_parts _ (has_root (setup_of script) rank c) may).1
+
+    cost : (k : ℕ) (item : Item) → slice_get script.items k ≡ Some item → has_rank item.who rank ≡ true → (s : Stmt) → item.stmt ≡ s
+        → (rule_of (rules_of (reverse past)) (comm_needed s) ≡ rule.Absent → ⊥) → length (acts_of (setup_of script) rank s) ≡ cost_of (run_of script.nue past) s rank
+    cost k item found has (stmt.Bcast comm root reg len) is there =
+        let o : Operands = record { op = op_of.Sum; ty = ty_of.Int; dst = reg; src = reg; sized = None } in
+        let c : Coll = coll.Bcast comm root len in
+        let key = key_of (rules_of script.items) comm in
+        let may = callable script whole k item rank found below has (record { coll = c; operands = o }) (ap collective_of is) in
+        made o c may
+        ∙ cast_steps (place_in key rank == root) comm root len (remove (members_in script.nue key rank) root) (slice_index (members_in script.nue key rank) root)
+        ∙ asked (coll.Bcast comm root 0) there (rooted_of c may)
+    cost k item found has (stmt.Reduce comm root op ty dst src) is there =
+        let o = fold_operands op ty dst src in
+        let c : Coll = coll.Reduce comm root 0 in
+        let may = callable script whole k item rank found below has (record { coll = c; operands = o }) (ap collective_of is) in
+        made o c may ∙ asked c there (rooted_of c may)
+    cost k item found has (stmt.Allreduce comm op ty dst src) is there =
+        let o = fold_operands op ty dst src in
+        let c : Coll = coll.Allreduce comm 0 in
+        let may = callable script whole k item rank found below has (record { coll = c; operands = o }) (ap collective_of is) in
+        made o c may ∙ asked c there refl
+    cost k item found has (stmt.Bytes reg bytes) is there = refl
+    cost k item found has (stmt.Fill reg len start) is there = refl
+    cost k item found has (stmt.RankOf reg ty) is there = refl
+    cost k item found has (stmt.Apply op ty dst src) is there = refl
+    cost k item found has (stmt.Send peer reg) is there = refl
+    cost k item found has (stmt.Post peer reg) is there = refl
+    cost k item found has (stmt.Recv peer reg len) is there = refl
+    cost k item found has (stmt.Print reg form) is there = refl
+    cost k item found has (stmt.Barrier comm) is there = refl
+    cost k item found has (stmt.Split comm by) is there = refl
+    cost k item found has (stmt.Repeat times end) is there = refl
+    cost k item found has (stmt.End start) is there = refl
+
+  -- what the statements behind others cost a rank
+  abbrev cost_at : List Item → Item → ℕ
+  cost_at past item = cond (has_rank item.who rank) (turns_in (open_of past) * cost_of (run_of script.nue past) item.stmt rank) 0
+
+  abbrev more : List Item → List Item → ℕ
+  more past [] = 0
+  more past (item ∷ items) = cost_at past item + more (item ∷ past) items
+
+  turn : (item : Item) (items past : List Item) → reverse (item ∷ items) ++ past ≡ reverse items ++ item ∷ past
+  turn item items past = ap (λ (l : List Item). l ++ past) (reverse-append (item ∷ []) items) ∙ append_assoc (reverse items) (item ∷ []) past
+
+  all_more : (items past : List Item) → operations script.nue (reverse items ++ past) rank ≡ operations script.nue past rank + more past items
+  all_more [] past = omega arith
+  all_more (item ∷ items) past =
+      let on = all_more items (item ∷ past) in
+      ap (λ (l : List Item). operations script.nue l rank) (turn item items past) ∙ omega (arith, on)
+
+  -- the repeats that are open are all of the rank's sections, or all of others
+  data Stands (past : List Item) : List ℕ → Type 0 where
+    Inside : (stack : List ℕ) → IsStack past stack → ((who : Who) → 1 ≤ length (open_of past) → latest_section past ≡ Some who → has_rank who rank ≡ true) → Stands past stack
+    Outside : 1 ≤ length (open_of past) → ((who : Who) → latest_section past ≡ Some who → has_rank who rank ≡ false) → Stands past []
+
+  -- what is known of a statement behind others
+  record IsPlaced (past : List Item) (item : Item) : Type 0 where
+    within : 1 ≤ length (open_of past) → latest_section past ≡ Some item.who
+    closes : Closes (open_of past) item.stmt
+    once : HasPass item.stmt
+
+  clash : (b : Bool) → b ≡ true → b ≡ false → ⊥
+  clash b is other = cc
+
+  same_who : (who other : Who) → Some who ≡ Some other → who ≡ other
+  same_who who other is = cc
+
+  none_of : {A : Type 0} (list : List A) → length list ≤ 0 → list ≡ []
+  none_of [] none = refl
+  none_of (x ∷ list) none = absurd (omega (arith, none))
+
+  too_few : {A : Type 0} (list : List A) → list ≡ [] → 1 ≤ length list → ⊥
+  too_few list none some = omega (arith, ap length none, some)
+
+  -- the repeats that are open behind a statement
+  behind_is : (past : List Item) (item : Item) (s : Stmt) → item.stmt ≡ s → open_of (item ∷ past) ≡ opened s (length past) (open_of past)
+  behind_is past item s is = ap (λ (t : Stmt). opened t (length past) (open_of past)) is
+
+  -- behind a statement of other ranks
+  outside : (past : List Item) (item : Item) → has_rank item.who rank ≡ false → 1 ≤ length (open_of (item ∷ past)) → Stands (item ∷ past) []
+  outside past item has some = Outside some (λ who is. ap (λ (w : Who). has_rank w rank) (sym (same_who item.who who is)) ∙ has)
+
+  inside : (past : List Item) (item : Item) → open_of (item ∷ past) ≡ [] → Stands (item ∷ past) []
+  inside past item none = Inside [] none (λ who some is. absurd (too_few (open_of (item ∷ past)) none some))
+
+  -- none is open
+  beside_none : (past : List Item) (item : Item) → has_rank item.who rank ≡ false → IsPlaced past item → open_of past ≡ [] → Stands (item ∷ past) []
+  beside_none past item has placed none =
+      sorted (λ s. item.stmt ≡ s → Closes (open_of past) s → Stands (item ∷ past) [])
+      (λ times end is closes. outside past item has (omega (arith, ap length (behind_is past item (stmt.Repeat times end) is), one_opened past times end (length past))))
+      (λ start is closes. absurd (too_few (open_of past) none closes.0))
+      (λ s other is closes. inside past item (behind_is past item s is ∙ other.opens (length past) past ∙ none))
+      item.stmt refl placed.closes
+
+  -- one of others is open
+  beside_some : (past : List Item) (item : Item) → has_rank item.who rank ≡ false → IsPlaced past item → 1 ≤ length (open_of past) → Stands (item ∷ past) []
+  beside_some past item has placed some =
+      sorted (λ s. item.stmt ≡ s → Stands (item ∷ past) [])
+      (λ times end is. outside past item has (omega (arith, ap length (behind_is past item (stmt.Repeat times end) is), one_opened past times end (length past))))
+      (λ start is.
+      let left = behind_is past item (stmt.End start) is in
+      elim (cases_lt 1 (length (open_of past))) [
+        | inl many ↦ outside past item has (omega (arith, ap length left, length-take-le (length (open_of past) - 1) (open_of past) (omega arith), many))
+        | inr one ↦ inside past item (none_of (open_of (item ∷ past)) (omega (arith, ap length left, length-take-le (length (open_of past) - 1) (open_of past) (omega arith), one)))
+      ])
+      (λ s other is. outside past item has (omega (arith, ap length (behind_is past item s is ∙ other.opens (length past) past), some)))
+      item.stmt refl
+
+  -- a statement of other ranks: where the rank stood in repeats of its own, they were none
+  beside_by : (past : List Item) (item : Item) (stack : List ℕ) → has_rank item.who rank ≡ false → IsPlaced past item → IsStack past stack → length (open_of past) ≤ 0 → Stands (item ∷ past) stack
+  beside_by past item [] has placed none few = beside_none past item has placed none
+  beside_by past item (t ∷ stack) has placed (before, times, end, place, is, turns, rest) few = absurd (omega (arith, ap length is, one_opened before times end place, few))
+
+  beside : (past : List Item) (item : Item) (stack : List ℕ) → has_rank item.who rank ≡ false → IsPlaced past item → Stands past stack → Stands (item ∷ past) stack
+  beside past item stack has placed (Inside _ is own) =
+      elim (cases_lt 0 (length (open_of past))) [
+        | inl some ↦ absurd (clash (has_rank item.who rank) (own item.who some (placed.within some)) has)
+        | inr few ↦ beside_by past item stack has placed is few
+      ]
+  beside past item [] has placed (Outside some other) = beside_some past item has placed some
+
+  -- behind a statement of the rank
+  ahead : (past : List Item) (item : Item) (stack : List ℕ) → has_rank item.who rank ≡ true → IsStack (item ∷ past) stack → Stands (item ∷ past) stack
+  ahead past item stack has is = Inside stack is (λ who some now. ap (λ (w : Who). has_rank w rank) (sym (same_who item.who who now)) ∙ has)
+
+  module _ (past : List Item) (item : Item) (has : has_rank item.who rank ≡ true) (placed : IsPlaced past item) (prims : List Prim) (m : ℕ) (u : Unrolled)
+      (on : (stack : List ℕ) → Stands (item ∷ past) stack → Counts m stack u) where
+    abbrev turns : ℕ
+    turns = turns_in (open_of past)
+
+    own_repeat : (stack : List ℕ) → IsStack past stack → (times end : ℕ) → item.stmt ≡ stmt.Repeat times end → 1 ≤ times → Counts (turns * 0 + m) stack (in_front (nesting.Opens times) prims u)
+    own_repeat stack stacked times end is once =
+        counts_repeated turns times m stack u.here u.behind (top_of past stack stacked) once
+        (on (turns * times ∷ stack) (ahead past item (turns * times ∷ stack) has (past, times, end, length past, behind_is past item (stmt.Repeat times end) is, refl, stacked)))
+
+    own_end : (stack : List ℕ) → IsStack past stack → (start : ℕ) → item.stmt ≡ stmt.End start → 1 ≤ length (open_of past) → length prims ≡ 1 → Counts (turns * 1 + m) stack (in_front nesting.Closes prims u)
+    own_end [] none start is some many = absurd (too_few (open_of past) none some)
+    own_end (t ∷ stack) (before, times, end, place, repeats, turns_are, rest) start is some many =
+        let left : open_of (item ∷ past) ≡ open_of before = behind_is past item (stmt.End start) is ∙ ap (λ l. take (length l - 1) l) repeats ∙ popped (open_of before) _ in
+        counts_closes turns m t stack prims u (top_of past (t ∷ stack) (before, times, end, place, repeats, turns_are, rest)) many
+        (on stack (ahead past item stack has (same_stack (item ∷ past) before stack left rest)))
+
+    own_other : (stack : List ℕ) → IsStack past stack → (s : Stmt) → IsOther s → item.stmt ≡ s → (cost : ℕ) → length prims ≡ cost → Counts (turns * cost + m) stack (in_front (nesting_of s) prims u)
+    own_other stack stacked s other is cost many =
+        let left : open_of (item ∷ past) ≡ open_of past = behind_is past item s is ∙ other.opens (length past) past in
+        subst (λ (n : Nesting). Counts (turns * cost + m) stack (in_front n prims u)) (sym other.stays)
+        (counts_stays turns cost m stack prims u (top_of past stack stacked) many (on stack (ahead past item stack has (same_stack (item ∷ past) past stack left stacked))))
+
+    own_by : (stack : List ℕ) → IsStack past stack → length prims ≡ cost_of (run_of script.nue past) item.stmt rank
+        → Counts (turns * cost_of (run_of script.nue past) item.stmt rank + m) stack (in_front (nesting_of item.stmt) prims u)
+    own_by stack stacked many =
+        sorted
+        (λ s. item.stmt ≡ s → HasPass s → Closes (open_of past) s → length prims ≡ cost_of (run_of script.nue past) s rank → Counts (turns * cost_of (run_of script.nue past) s rank + m) stack (in_front (nesting_of s) prims u))
+        (λ times end is once closes many. own_repeat stack stacked times end is once)
+        (λ start is once closes many. own_end stack stacked start is closes.0 many)
+        (λ s other is once closes many. own_other stack stacked s other is (cost_of (run_of script.nue past) s rank) many)
+        item.stmt refl placed.once placed.closes many
+
+    own : (stack : List ℕ) → length prims ≡ cost_of (run_of script.nue past) item.stmt rank → Stands past stack
+        → Counts (turns * cost_of (run_of script.nue past) item.stmt rank + m) stack (in_front (nesting_of item.stmt) prims u)
+    own stack many (Inside _ stacked mine) = own_by stack stacked many
+    own [] many (Outside some other) = absurd (clash (has_rank item.who rank) has (other item.who (placed.within some)))
+
+  -- what is known of a list of statements, the latest first
+  record IsRead (list : List Item) : Type 0 where
+    line : AreInLine script.nue list
+    matched : AreMatched list
+    within : AreWithin list
+    once : HavePasses list
+    none : open_of list ≡ []
+
+  counted_by : (past : List Item) (item : Item) (u : Unrolled) (m : ℕ) (stack : List ℕ) → (has_rank item.who rank ≡ true → length (acts_of (setup_of script) rank item.stmt) ≡ cost_of (run_of script.nue past) item.stmt rank)
+      → IsPlaced past item → ((stack : List ℕ) → Stands (item ∷ past) stack → Counts m stack u) → Stands past stack → (b : Bool) → has_rank item.who rank ≡ b
+      → Counts (cond b (turns_in (open_of past) * cost_of (run_of script.nue past) item.stmt rank) 0 + m) stack
+      (in_front (cond b (nesting_of item.stmt) nesting.Stays) (cond b (map (λ act. record { line = item.line; act = act }) (acts_of (setup_of script) rank item.stmt)) []) u)
+  counted_by past item u m stack costs placed on stands true has =
+      own past item has placed (map (λ act. record { line = item.line; act = act }) (acts_of (setup_of script) rank item.stmt)) m u on stack
+      (length-map (acts_of (setup_of script) rank item.stmt) _ ∙ costs has) stands
+  counted_by past item u m stack costs placed on stands false has =
+      let c = on stack (beside past item stack has placed stands) in
+      (omega (arith, c.0), c.1)
+
+  ended : (past : List Item) (stack : List ℕ) → open_of past ≡ [] → Stands past stack → Counts 0 stack (record { here = []; behind = [] })
+  ended past [] none stands = (refl, refl)
+  ended past (t ∷ stack) none (Inside _ (before, times, end, place, is, turns, rest) own) = absurd (omega (arith, ap length none, ap length is, one_opened before times end place))
+
+  counted : (items past : List Item) → script.items ≡ reverse past ++ items → IsRead (reverse items ++ past) → (stack : List ℕ) → Stands past stack → Counts (more past items) stack (unrolled (setup_of script) rank items)
+  unfolding unrolled
+  counted [] past is read stack stands = ended past stack read.none stands
+  counted (item ∷ items) past is read stack stands =
+      let here : IsRead (reverse items ++ item ∷ past) = subst IsRead (turn item items past) read in
+      let next : script.items ≡ reverse (item ∷ past) ++ items = is ∙ sym (ap (λ (l : List Item). l ++ items) (reverse-append (item ∷ []) past) ∙ append_assoc (reverse past) (item ∷ []) items) in
+      let line : IsInLine script.nue past item = (line_back script.nue (reverse items) (item ∷ past) here.line).1 in
+      let e : Extends (rules_of (reverse past)) (rules_of script.items) = record {
+        same = λ c there. ap (λ (l : List Item). rule_of (rules_of l) c) is ∙ rule_on (item ∷ items) (reverse past) c there;
+        low = present-low (reverse past);
+        rules = line.rules;
+      } in
+      let found : slice_get script.items (length (reverse past)) ≡ Some item = ap (λ (l : List Item). slice_get l (length (reverse past))) is ∙ seam (reverse past) item items in
+      let placed : IsPlaced past item = record {
+        within = (within_back (reverse items) (item ∷ past) here.within).1;
+        closes = (matched_back (reverse items) (item ∷ past) here.matched).1;
+        once = (once_back (reverse items) (item ∷ past) here.once).1;
+      } in
+      counted_by past item (unrolled (setup_of script) rank items) (more (item ∷ past) items) stack
+      (λ has. cost past e (length (reverse past)) item found has item.stmt refl (line.present rank below has)) placed
+      (λ later stood. counted items (item ∷ past) next here later stood) stands (has_rank item.who rank) refl
+
+-- the primitives of a rank are as many as its operations
+pub as_many : (script : Script) → IsWhole script.nue script.items → IsClosed script → (rank : ℕ) → rank < script.nue → length (program_of script rank) ≡ operations script.nue (reverse script.items) rank
+as_many script whole closed rank below =
+    let flat = append-nil (reverse script.items) in
+    let read : IsRead script whole rank below (reverse script.items ++ []) = subst (IsRead script whole rank below) (sym flat) (record {
+      line = whole.in_line;
+      matched = closed.matched;
+      within = closed.within;
+      once = closed.once;
+      none = closed.none_open;
+    }) in
+    let c = counted script whole rank below script.items [] refl read [] (Inside [] refl (λ who some is. absurd (cc))) in
+    let all = all_more script whole rank below script.items [] in
+    let same = ap (λ (l : List Item). operations script.nue l rank) flat in
+    omega (arith, c.0, all, same)
+
+pub few_enough : (script : Script) → IsWhole script.nue script.items → IsClosed script → (rank : ℕ) → rank < script.nue → length (program_of script rank) ≤ 100000
+few_enough script whole closed rank below = omega (arith, as_many script whole closed rank below, worked-law script whole rank below)

@@ -1,0 +1,8 @@
+use Rattle.script_plain.proofs.OperationCounts.{as_many, few_enough}
+use Rattle.script_plain.proofs.call_laws.primitives_are_operations.Goals as goal
+
+pub returns-clause-law : goal.returns-clause-law
+returns-clause-law c = as_many
+
+pub returns-clause-most : goal.returns-clause-most
+returns-clause-most c = few_enough
