@@ -18,7 +18,7 @@ use Rattle.rcce_audit.specs.declared.faults.LogStop.{LogStop}
 use Rattle.rcce_audit.specs.declared.faults.LogStop.TheVariants as stop
 use Rattle.rcce_audit.specs.declared.lines.CommSplit.{CommSplit}
 use Rattle.rcce_audit.specs.Grammar.{Reading, RankedCall, with_comm, with_call, is_in_order, add_call, begins_comm, comm_said, call_said, line_said, kind_of, lines_said, end_said, nue_of, world_alone, no_calls, start_of, first_said, all_said, parts_said, log_of, is_present, Gives, ◌>=>◌}
-use Rattle.rcce_audit.specs.Logs.{LogView, calls_of, IsLogCall, IsLog}
+use Rattle.rcce_audit.specs.Logs.{LogView, calls_of, IsLogCall, IsLog, most_log_bytes}
 use Rattle.rcce_audit.specs.Texts.{head_words, line_of, rule_lines, call_words, call_lines, table_lines, log_lines, text_of, log_text, IsFileLog}
 use Rattle.rcce_audit.specs.Words.{◌>>=◌, parts_of, words_of}
 use Rattle.rcce_audit.proofs.ListLemmas.{get_or-replicate_same}
@@ -368,8 +368,8 @@ last_part {X} parts d some =
     ap (λ (t : List X). take n parts ++ get_or parts n d ∷ t) (sym none) ∙ ap (λ (t : List X). take n parts ++ t) (sym rest) ∙ take-append-drop n parts
 
 -- what the parts of a text say, the text says
-pub log_told : (bytes : List ℕ) (parts : List (List ℕ)) (said : Result LogView LogFault) → length bytes ≤ 67108864 → parts ≡ parts_of bytes → parts_said parts ≡ said → log_of bytes ≡ said
-log_told bytes parts said within same is = cond-false (nat_lt 67108864 (length bytes)) _ _ (le-ltb 67108864 (length bytes) within) ∙ ap parts_said (sym same) ∙ is
+pub log_told : (bytes : List ℕ) (parts : List (List ℕ)) (said : Result LogView LogFault) → length bytes ≤ most_log_bytes → parts ≡ parts_of bytes → parts_said parts ≡ said → log_of bytes ≡ said
+log_told bytes parts said within same is = cond-false (nat_lt most_log_bytes (length bytes)) _ _ (le-ltb most_log_bytes (length bytes) within) ∙ ap parts_said (sym same) ∙ is
 
 pub stop_told : {A X Y : Type 0} (view : X → A) (other : Y → A) (stop : LogStop) (said also : Result A LogFault) → Gives view (Err stop) said → also ≡ said → Gives other (Err stop) also
 stop_told view other (stop.Fault fault) said also is same = same ∙ is
@@ -384,7 +384,7 @@ some_part bytes parts same = omega (arith, ap length same, length-slice_split (�
 
 -- a text that says a log is the log's text
 pub text_back : (bytes : List ℕ) (log : LogView) → log_of bytes ≡ Ok log → (log_text log ≡ bytes) × IsFileLog log
-text_back bytes log said = within (nat_lt 67108864 (length bytes)) refl said
+text_back bytes log said = within (nat_lt most_log_bytes (length bytes)) refl said
   where
     parts : List (List ℕ)
     parts = slice_split (λ b. eqb b 10) bytes
@@ -397,8 +397,8 @@ text_back bytes log said = within (nat_lt 67108864 (length bytes)) refl said
         let whole : lines ++ [] ∷ [] ≡ parts = ap (λ (l : List ℕ). lines ++ l ∷ []) (sym is.ended) ∙ last_part parts [] some in
         (ap text_of is.lines ∙ text_joined lines ∙ ap (join_with_byte 10) whole ∙ join_with_byte-slice_split 10 bytes, is.written)
 
-    within : (t : Bool) → nat_lt 67108864 (length bytes) ≡ t → cond t (Err (record { line = 0; kind = kind.TooLong })) (parts_said parts) ≡ Ok log → (log_text log ≡ bytes) × IsFileLog log
+    within : (t : Bool) → nat_lt most_log_bytes (length bytes) ≡ t → cond t (Err (record { line = 0; kind = kind.TooLong })) (parts_said parts) ≡ Ok log → (log_text log ≡ bytes) × IsFileLog log
     within true long accepted = absurd cc
     within false long accepted =
         let (text, written) = back accepted in
-        (text, record { written = written; fits = omega (arith, ap length text, ltb-false 67108864 (length bytes) long) })
+        (text, record { written = written; fits = omega (arith, ap length text, ltb-false most_log_bytes (length bytes) long) })

@@ -23,7 +23,7 @@ use Rattle.rcce_audit.specs.declared.faults.LogKind.TheVariants as kind
 use Rattle.rcce_audit.specs.declared.lines.CommSplit.{CommSplit}
 use Rattle.rcce_audit.specs.declared.lines.EndRanks.{EndRanks}
 use Rattle.rcce_audit.specs.Grammar.{Reading, RankedCall, rank_said, end_ranks, ends_said, head_of, head_said, bytes_said, is_post, call_named, message_said, is_present, call_said, rule_named, comm_said, nue_of, with_comm, with_call, is_in_order, add_call, begins_comm, line_said, kind_of, lines_said, end_said, no_calls, start_of, first_said, all_said, parts_said, log_of, ◌>=>◌}
-use Rattle.rcce_audit.specs.Logs.{LogView, IsMessage, IsLogCall, IsLog}
+use Rattle.rcce_audit.specs.Logs.{LogView, IsMessage, IsLogCall, IsLog, most_log_bytes}
 use Rattle.rcce_io.specs.Digits.{hex_text}
 use Rattle.rcce_audit.specs.Texts.{head_words, split_words, message_words, call_words, line_of, rule_lines, call_lines, table_lines, log_lines, text_of, log_text, IsFileLog}
 use Rattle.rcce_audit.specs.Words.{◌>>=◌, only_if, parts_of, words_of, range_said}
@@ -442,7 +442,7 @@ at_zero n = omega arith
 
 pub text_told : (log : LogView) → IsFileLog log → log_of (log_text log) ≡ Ok log
 text_told log is =
-    cond-false (nat_lt 67108864 (length (log_text log))) _ _ (le-ltb 67108864 (length (log_text log)) is.fits)
+    cond-false (nat_lt most_log_bytes (length (log_text log))) _ _ (le-ltb most_log_bytes (length (log_text log)) is.fits)
     ∙ ap parts_said (parts_of-text_of (log_lines log) lines_are) ∙ parts_told (log_lines log) ∙ all_told log.comms refl
   where
     written : IsLog log

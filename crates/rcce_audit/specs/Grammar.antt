@@ -15,7 +15,7 @@ use Rattle.rcce_audit.specs.declared.faults.LogStop.{LogStop}
 use Rattle.rcce_audit.specs.declared.faults.LogStop.TheVariants as stop
 use Rattle.rcce_audit.specs.declared.lines.CommSplit.{CommSplit}
 use Rattle.rcce_audit.specs.declared.lines.EndRanks.{EndRanks}
-use Rattle.rcce_audit.specs.Logs.{LogView}
+use Rattle.rcce_audit.specs.Logs.{LogView, most_log_bytes}
 use Rattle.rcce_audit.specs.Words.{◌>>=◌, only_if, parts_of, words_of, range_said, kind_said, hex_said}
 
 -- how far a log is read: what its lines so far say, its last communicator, and the rank of its last call
@@ -199,10 +199,10 @@ all_said (first ∷ lines) last =
 abbrev pub parts_said : List (List ℕ) → Result LogView LogFault
 parts_said parts = all_said (take (length parts - 1) parts) (slice_index_or parts (length parts - 1) [])
 
--- what a text says: a log, or its first fault. A text has at most 67,108,864 bytes
+-- what a text says: a log, or its first fault. A text has at most 64 MiB
 abbrev pub log_of : List ℕ → Result LogView LogFault
 log_of bytes =
-    if nat_lt 67108864 (length bytes) then Err (record { line = 0; kind = kind.TooLong })
+    if nat_lt most_log_bytes (length bytes) then Err (record { line = 0; kind = kind.TooLong })
     else parts_said (parts_of bytes)
 
 -- a reading gives what the grammar says, seen through a view: its value or its fault. It may end for want of memory

@@ -7,6 +7,10 @@ use Rattle.scc_base.specs.Communicators.{AreRules, rule_of}
 use Rattle.scc_base.specs.declared.communicators.CommRule.{CommRule}
 use Rattle.scc_base.specs.declared.communicators.CommRule.TheVariants.{Absent}
 
+-- the most bytes of a log's text: 64 MiB
+abbrev pub most_log_bytes : ℕ
+most_log_bytes = 67108864
+
 -- the number of ranks, the rules of the sixteen communicators, and the calls of ranks 0 to 47, first call first
 pub record LogView : Type 0 where
   pub nue : ℕ

@@ -7,7 +7,7 @@ use Rattle.scc_base.specs.declared.communicators.CommRule.{CommRule}
 use Rattle.scc_base.specs.declared.communicators.CommRule.TheVariants.{Absent, World, Mod, Div}
 use Rattle.scc_base.specs.Heads.{MessageHead, kind_at, kind_text}
 use Rattle.scc_base.specs.Calls.{DataCall, Send, Recv, Post, Bar}
-use Rattle.rcce_audit.specs.Logs.{LogView, IsLog}
+use Rattle.rcce_audit.specs.Logs.{LogView, IsLog, most_log_bytes}
 
 -- the words of the first line, of the line of a communicator and of the line of a call
 abbrev pub head_words : ℕ → List (List ℕ)
@@ -57,7 +57,7 @@ text_of lines = flat_map (λ line. line ++ 10 ∷ []) lines
 abbrev pub log_text : LogView → List ℕ
 log_text log = text_of (log_lines log)
 
--- a log that a file may have: one whose text has at most 67,108,864 bytes
+-- a log that a file may have: one whose text is not too long
 pub record IsFileLog (log : LogView) : Type 0 where
   pub written : IsLog log
-  pub fits : length (log_text log) ≤ 67108864
+  pub fits : length (log_text log) ≤ most_log_bytes

@@ -21,5 +21,5 @@ pub use held::{CallList, HeldLog};
 pub use judging::audit;
 pub use laws::{size_law, text_law, verdict_law};
 pub use logs::{Log, LogCall};
-pub use reading::read_log;
+pub use reading::{MOST_LOG_BYTES, read_log};
 pub use verdicts::Verdict;

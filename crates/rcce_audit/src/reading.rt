@@ -11,8 +11,8 @@ use crate::reader::Reader;
 use crate::words::{parts, words};
 use std::alloc::Global;
 
-/// The most bytes that a log may have.
-const MOST_BYTES: usize = 67_108_864;
+/// The most bytes of a log's text: 64 MiB.
+pub const MOST_LOG_BYTES: usize = 67_108_864;
 
 /// What is wrong with a line that is not of its form or in its place.
 fn kind_of(line: &[u8]) -> LogKind
@@ -93,7 +93,7 @@ fn read_parts(alloc: Global, parts: &[&[u8]]) -> Result<Reader, LogStop>
 pub fn read_log(alloc: Global, bytes: &[u8]) -> Result<Log, LogStop>
     ensures { Gives (λ log. log) result (log_of bytes.now) }
 {
-    if bytes.len() > MOST_BYTES {
+    if bytes.len() > MOST_LOG_BYTES {
         return Err(LogStop::Fault(LogFault {
             line: 0,
             kind: LogKind::TooLong,

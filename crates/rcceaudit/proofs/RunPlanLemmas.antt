@@ -4,7 +4,7 @@ use Rattle.std.specs.List.{range_with_len}
 use Rattle.rcce_io.specs.Files.{FilesView, NamedFile}
 use Rattle.scc_base.specs.Setups.{SetupView}
 use Rattle.scc_mesh.specs.Scenes.{ChipView}
-use Rattle.script_reader.specs.Reading.{parse_script}
+use Rattle.script_reader.specs.Reading.{most_script_bytes, parse_script}
 use Rattle.script_reader.specs.Faults.{kind_name}
 use Rattle.script_reader.specs.declared.fault.ReadFault.{ReadFault}
 use Rattle.script_reader.specs.Script.{Script}
@@ -117,7 +117,7 @@ has_logged script set chip whole same run =
 
 -- ---- the script's file
 
-pub loads_ok : (command : Command) (bytes : List ℕ) (before between : FilesView) (script : Script) → ReadsFile command.script 4194304 before between (Ok bytes) → length bytes ≤ 4194304
+pub loads_ok : (command : Command) (bytes : List ℕ) (before between : FilesView) (script : Script) → ReadsFile command.script most_script_bytes before between (Ok bytes) → length bytes ≤ most_script_bytes
     → Holds before.told command.script bytes → parse_script bytes command.nue ≡ Ok script → Loads before.told command before between (Ok script)
 loads_ok command bytes before between script reads few holds said = record {
   goes = λ o came. reads (codes "rcceaudit") (script_plan command) between o
@@ -125,7 +125,7 @@ loads_ok command bytes before between script reads few holds said = record {
   asked = (bytes, few, holds, said);
 }
 
-pub loads_by : (command : Command) (bytes : List ℕ) (before between : FilesView) (answer : Result Script Complaint) → ReadsFile command.script 4194304 before between (Ok bytes) → length bytes ≤ 4194304
+pub loads_by : (command : Command) (bytes : List ℕ) (before between : FilesView) (answer : Result Script Complaint) → ReadsFile command.script most_script_bytes before between (Ok bytes) → length bytes ≤ most_script_bytes
     → Holds before.told command.script bytes → LoadsBytes command bytes answer → Loads before.told command before between answer
 loads_by command bytes before between (Ok script) reads few holds said = loads_ok command bytes before between script reads few holds said
 loads_by command bytes before between (Err why) reads few holds came = reads (codes "rcceaudit") (script_plan command) between _ (came between)

@@ -4,7 +4,7 @@ use Rattle.std.specs.List.{range_with_len}
 use Rattle.rcce_io.specs.Files.{NamedFile}
 use Rattle.scc_base.specs.Setups.{SetupView}
 use Rattle.scc_mesh.specs.Scenes.{ChipView, about_in, records_in}
-use Rattle.script_reader.specs.Reading.{parse_script}
+use Rattle.script_reader.specs.Reading.{most_script_bytes, parse_script}
 use Rattle.script_reader.specs.Script.{Script, rules_of}
 use Rattle.outcomes.specs.Coming.{ByTest, Holds}
 use Rattle.outcomes.specs.Outcomes.{Outcome, run_outcome}
@@ -20,7 +20,7 @@ use Rattle.rcceaudit.specs.Program.{Command, log_ran, script_log}
 
 -- this script stands in the file, where files are told
 abbrev pub ScriptIn : Option (List NamedFile) → Command → Script → Type 0
-ScriptIn told command script = (bytes : List ℕ) × (length bytes ≤ 4194304) × Holds told command.script bytes × (parse_script bytes command.nue ≡ Ok script)
+ScriptIn told command script = (bytes : List ℕ) × (length bytes ≤ most_script_bytes) × Holds told command.script bytes × (parse_script bytes command.nue ≡ Ok script)
 
 -- the setup of a run: line flags, and rank r on core r
 abbrev pub setup_by : Script → SetupView

@@ -13,12 +13,12 @@ use Rattle.rcce_audit.specs.declared.verdicts.Verdict.TheVariants as verdict
 use Rattle.rcceaudit.specs.declared.report.Judged.{Judged}
 use Rattle.rcce_audit.specs.Grammar.{log_of}
 use Rattle.rcce_audit.specs.Kinds.{fault_name}
-use Rattle.rcce_audit.specs.Logs.{LogView}
+use Rattle.rcce_audit.specs.Logs.{LogView, most_log_bytes}
 use Rattle.rcce_audit.specs.Texts.{IsFileLog, log_text}
 use Rattle.rcce_audit.specs.Verdicts.{IsVerdict}
 use Rattle.script_reader.specs.declared.fault.ReadFault.{ReadFault}
 use Rattle.script_reader.specs.Faults.{kind_name}
-use Rattle.script_reader.specs.Reading.{parse_script}
+use Rattle.script_reader.specs.Reading.{most_script_bytes, parse_script}
 use Rattle.script_reader.specs.Script.{Script, rules_of}
 use Rattle.script_plain.specs.Meaning.{plain_ends}
 use Rattle.script_plain.specs.Ends.{all_finished}
@@ -48,7 +48,7 @@ bytes_plan judge file bytes = log_plan judge file (log_of bytes)
 
 -- the log's file has at most 64 MiB
 abbrev pub file_plan : (LogView → Verdict) → List ℕ → Plan
-file_plan judge file = Reads file 67108864 (bytes_plan judge file)
+file_plan judge file = Reads file most_log_bytes (bytes_plan judge file)
 
 -- the words are one file's name
 abbrev pub file_named : List (List ℕ) → Option (List ℕ)
@@ -89,7 +89,7 @@ script_plan command bytes = parsed_plan command.script (parse_script bytes comma
 
 -- the script's file has at most 4 MiB
 abbrev pub command_plan : Command → Plan
-command_plan command = Reads command.script 4194304 (script_plan command)
+command_plan command = Reads command.script most_script_bytes (script_plan command)
 
 -- words that name no log: refused, or a run
 abbrev pub run_words_plan : Option Command → Result Plan (List ℕ)

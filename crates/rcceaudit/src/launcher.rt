@@ -18,13 +18,10 @@ use crate::command::file_named;
 use crate::logging::log_words;
 use crate::report::Judged;
 use outcomes::{Complaint, Status, deliver, read_file};
-use rcce_audit::{LogStop, audit, read_log};
+use rcce_audit::{LogStop, MOST_LOG_BYTES, audit, read_log};
 use rcce_io::{Files, Sink};
 use scc_mesh::Chip;
 use std::alloc::Global;
-
-/// The longest log, in bytes.
-const LOG_BYTES: usize = 67_108_864;
 
 /// Tells whether the calls of the log that the words name are legal: with status 0 that they are, with status 3 that
 /// they are not, and then the lowest rank that has calls left and its first one. Or it runs the script that the words name
@@ -88,7 +85,7 @@ fn judge_file<'a, F: Files>(
         → Comes (codes "rcceaudit") (file_plan judge file.now) (F.seen files.old) (F.seen files.new)
         (outcome_of (codes "rcceaudit") judged_ran result) }
 {
-    match read_file(alloc, files, file, LOG_BYTES) {
+    match read_file(alloc, files, file, MOST_LOG_BYTES) {
         Ok(bytes) => judge_bytes(alloc, file, bytes.as_slice()),
         Err(complaint) => Err(complaint),
     }

@@ -18,11 +18,8 @@ use rcce_io::{Files, Sink};
 use rcce_words::default_hosts;
 use scc_base::{Layout, Setup};
 use scc_mesh::Chip;
-use script_reader::{ReadStop, Scripts, read_script};
+use script_reader::{MOST_SCRIPT_BYTES, ReadStop, Scripts, read_script};
 use std::alloc::Global;
-
-/// The longest script file, in bytes.
-const SCRIPT_BYTES: usize = 4_194_304;
 
 /// Runs what the words ask for, and writes its log.
 pub fn log_words<F: Files, O: Sink, E: Sink>(
@@ -77,7 +74,7 @@ fn load<'a, F: Files>(alloc: Global, files: &mut F, job: Job<'a>) -> Result<Scri
     requires most { job.nue ≤ 48 }
     ensures { Loads (F.seen files.old).told (job_command job.entry) (F.seen files.old) (F.seen files.new) result }
 {
-    match read_file(alloc, files, job.script, SCRIPT_BYTES) {
+    match read_file(alloc, files, job.script, MOST_SCRIPT_BYTES) {
         Ok(bytes) => load_bytes(alloc, job, bytes.as_slice()),
         Err(complaint) => Err(complaint),
     }

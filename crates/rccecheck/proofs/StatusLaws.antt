@@ -4,7 +4,7 @@ use Rattle.std.specs.Prelude.{codes, nat_lt}
 use Rattle.rcce_io.specs.Faults.{IsSteady}
 use Rattle.rcce_io.specs.Files.{FilesView, NamedFile, contents_of}
 use Rattle.script_reader.specs.declared.fault.ReadFault.{ReadFault}
-use Rattle.script_reader.specs.Reading.{parse_script}
+use Rattle.script_reader.specs.Reading.{most_script_bytes, parse_script}
 use Rattle.script_reader.specs.Script.{Script}
 use Rattle.outcomes.specs.declared.status.Status.{Status}
 use Rattle.outcomes.specs.declared.status.Status.TheVariants as status
@@ -25,10 +25,10 @@ module _ (program : List ℕ) (files : List NamedFile) where
   of_length false file o s is = is
 
   of_contents : (command : Command) (contents : Option (List ℕ))
-      → (contents_outcome program command.script 4194304 (λ bytes. plan_outcome program (script_plan command bytes) files) contents).status ≡ contents_status command.nue contents
+      → (contents_outcome program command.script most_script_bytes (λ bytes. plan_outcome program (script_plan command bytes) files) contents).status ≡ contents_status command.nue contents
   of_contents command None = refl
   of_contents command (Some bytes) =
-      of_length (nat_lt 4194304 (length bytes)) command.script (plan_outcome program (script_plan command bytes) files) (parsed_status (parse_script bytes command.nue))
+      of_length (nat_lt most_script_bytes (length bytes)) command.script (plan_outcome program (script_plan command bytes) files) (parsed_status (parse_script bytes command.nue))
       (of_parsed command.script (parse_script bytes command.nue))
 
   of_command : (command : Option Command) → (words_outcome program (words_plan command) files).status ≡ command_status command files

@@ -4,7 +4,7 @@ use Rattle.std.specs.Prelude.{◌≡◌, ◌⊎◌, ℕ, nat_lt, if◌then◌els
 use Rattle.rcce_io.specs.Faults.{IsSteady}
 use Rattle.rcce_io.specs.Files.{FilesView, NamedFile, contents_of}
 use Rattle.script_reader.specs.declared.fault.ReadFault.{ReadFault}
-use Rattle.script_reader.specs.Reading.{parse_script}
+use Rattle.script_reader.specs.Reading.{most_script_bytes, parse_script}
 use Rattle.script_reader.specs.Script.{Script}
 use Rattle.script_plain.specs.Meaning.{plain_ends}
 use Rattle.outcomes.specs.declared.status.Status.{Status}
@@ -20,7 +20,7 @@ parsed_status (Ok script) = if all_finished (plain_ends script) then status.Fini
 -- the script's file: 5 where it is absent, 2 where it has more than 4 MiB
 abbrev pub contents_status : ℕ → Option (List ℕ) → Status
 contents_status nue None = status.Files
-contents_status nue (Some bytes) = if nat_lt 4194304 (length bytes) then status.Script else parsed_status (parse_script bytes nue)
+contents_status nue (Some bytes) = if nat_lt most_script_bytes (length bytes) then status.Script else parsed_status (parse_script bytes nue)
 
 -- a command, and 1 for words that are none
 abbrev pub command_status : Option Command → List NamedFile → Status

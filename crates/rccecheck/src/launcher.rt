@@ -15,11 +15,8 @@ use crate::command::{Job, job_of};
 use crate::report::{Report, report_of};
 use outcomes::{Complaint, Status, deliver, read_file};
 use rcce_io::{Files, Sink};
-use script_reader::{ReadStop, Scripts, read_script};
+use script_reader::{MOST_SCRIPT_BYTES, ReadStop, Scripts, read_script};
 use std::alloc::Global;
-
-/// The longest script file, in bytes.
-const SCRIPT_BYTES: usize = 4_194_304;
 
 /// Says which messages of a script come, and who waits for whom at its end. The words are those after the program's name.
 ///
@@ -71,7 +68,7 @@ fn run_file<'a, F: Files>(
     ensures { Comes (codes "rccecheck") (command_plan (job_command job.entry))
         (F.seen files.old) (F.seen files.new) (outcome_of (codes "rccecheck") report_ran result) }
 {
-    match read_file(alloc, files, job.script, SCRIPT_BYTES) {
+    match read_file(alloc, files, job.script, MOST_SCRIPT_BYTES) {
         Ok(bytes) => run_bytes(alloc, job, bytes.as_slice()),
         Err(complaint) => Err(complaint),
     }

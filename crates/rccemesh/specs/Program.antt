@@ -4,7 +4,7 @@ use Rattle.std.specs.List.{list_all}
 use Rattle.std.specs.Str.{bytes_eq}
 use Rattle.script_reader.specs.declared.fault.ReadFault.{ReadFault}
 use Rattle.script_reader.specs.Faults.{kind_name}
-use Rattle.script_reader.specs.Reading.{parse_script}
+use Rattle.script_reader.specs.Reading.{most_script_bytes, parse_script}
 use Rattle.script_reader.specs.Script.{Script}
 use Rattle.script_plain.specs.declared.ends.UeEnd.{UeEnd}
 use Rattle.script_plain.specs.declared.ends.UeEnd.TheVariants as ue_end
@@ -68,7 +68,7 @@ script_plan command bytes = parsed_plan command.script command.at (parse_script 
 
 -- the script's file has at most 4 MiB
 abbrev pub command_plan : Command → Plan
-command_plan command = Reads command.script 4194304 (script_plan command)
+command_plan command = Reads command.script most_script_bytes (script_plan command)
 
 -- the words: refused, or a command
 abbrev pub words_plan : Option Command → Result Plan (List ℕ)

@@ -15,11 +15,8 @@ use crate::report::{Report, report_of};
 use outcomes::{Complaint, Status, deliver, read_file};
 use rcce_io::{Files, Sink};
 use scc_base::CoreId;
-use script_reader::{ReadStop, Scripts, read_script};
+use script_reader::{MOST_SCRIPT_BYTES, ReadStop, Scripts, read_script};
 use std::alloc::Global;
-
-/// The longest script file, in bytes.
-const SCRIPT_BYTES: usize = 4_194_304;
 
 /// Says how many lines each link of the mesh carries for the messages of a script. The words are those after the program's
 /// name.
@@ -66,7 +63,7 @@ fn run_file<'a, F: Files>(
     ensures { Comes (codes "rccemesh") (command_plan (job_command job.now))
         (F.seen files.old) (F.seen files.new) (outcome_of (codes "rccemesh") report_ran result) }
 {
-    match read_file(alloc, files, job.script, SCRIPT_BYTES) {
+    match read_file(alloc, files, job.script, MOST_SCRIPT_BYTES) {
         Ok(bytes) => run_bytes(alloc, job, bytes.as_slice()),
         Err(complaint) => Err(complaint),
     }

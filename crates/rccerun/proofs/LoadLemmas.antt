@@ -7,7 +7,7 @@ use Rattle.outcomes.specs.Outcomes.{Outcome, file_refused, no_memory, words_refu
 use Rattle.outcomes.specs.Plans.{Plan}
 use Rattle.outcomes.specs.Plans.Plan.{Runs, Reads}
 use Rattle.outcomes.specs.declared.complaint.Complaint.{Complaint}
-use Rattle.script_reader.specs.Reading.{parse_script}
+use Rattle.script_reader.specs.Reading.{most_script_bytes, parse_script}
 use Rattle.script_reader.specs.declared.fault.ReadFault.{ReadFault}
 use Rattle.script_reader.specs.Script.{Script}
 use Rattle.script_gen.specs.Scripts.{gen_script_of}
@@ -41,7 +41,7 @@ loads_read file limit next asks before between after bytes (Err why) reads came 
 
 -- a script that was read, and its setup
 pub loads_script : (file : List ℕ) (told : Option (List NamedFile)) (job : Job) (hosts bytes : List ℕ) (files : FilesView) (script : Script) (loaded : Loaded)
-    → parse_script bytes job.nue ≡ Ok script → loaded.script ≡ script → loaded.setup ≡ setup_by job hosts script → loaded.seed ≡ None → length bytes ≤ 4194304 → Holds told file bytes
+    → parse_script bytes job.nue ≡ Ok script → loaded.script ≡ script → loaded.setup ≡ setup_by job hosts script → loaded.seed ≡ None → length bytes ≤ most_script_bytes → Holds told file bytes
     → LoadsPlan (script_plan file job.nue bytes) (AsksOn file told job hosts) files files (Ok loaded)
 loads_script file told job hosts bytes files script loaded gives same setup none few holds =
     let is : parse_script bytes job.nue ≡ Ok loaded.script = gives ∙ ap Ok (sym same) in

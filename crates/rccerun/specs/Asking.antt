@@ -5,7 +5,7 @@ use Rattle.scc_base.specs.Setups.{SetupView}
 use Rattle.scc_base.specs.declared.layouts.Layout.{Layout}
 use Rattle.scc_base.specs.declared.layouts.Layout.TheVariants.{LineFlags, BitFlags}
 use Rattle.scc_mesh.specs.Scenes.{ChipView}
-use Rattle.script_reader.specs.Reading.{parse_script}
+use Rattle.script_reader.specs.Reading.{most_script_bytes, parse_script}
 use Rattle.script_reader.specs.Script.{Script, rules_of}
 use Rattle.script_gen.specs.Scripts.{gen_script_of}
 use Rattle.outcomes.specs.Coming.{ByTest, Holds}
@@ -34,7 +34,7 @@ HostsIn file told nue hosts = (bytes : List ℕ) × (length bytes ≤ 65536) × 
 
 -- this script stands in the file, where files are told
 abbrev pub ScriptIn : List ℕ → Option (List NamedFile) → ℕ → Script → Type 0
-ScriptIn file told nue script = (bytes : List ℕ) × (length bytes ≤ 4194304) × Holds told file bytes × (parse_script bytes nue ≡ Ok script)
+ScriptIn file told nue script = (bytes : List ℕ) × (length bytes ≤ most_script_bytes) × Holds told file bytes × (parse_script bytes nue ≡ Ok script)
 
 -- the hosts that words ask for: rank r on core r, or those of the host file
 abbrev pub AreHosts : List (List ℕ) → Option (List NamedFile) → ℕ → Option ℕ → List ℕ → Type 0

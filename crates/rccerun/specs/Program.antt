@@ -2,7 +2,7 @@
 use Rattle.std.specs.Prelude.{ℕ, List, codes, Option, Some, None, Result, Ok, Err}
 use Rattle.script_reader.specs.declared.fault.ReadFault.{ReadFault}
 use Rattle.script_reader.specs.Faults.{kind_name}
-use Rattle.script_reader.specs.Reading.{parse_script}
+use Rattle.script_reader.specs.Reading.{most_script_bytes, parse_script}
 use Rattle.script_reader.specs.Script.{Script}
 use Rattle.script_gen.specs.Scripts.{gen_script_of}
 use Rattle.outcomes.specs.Plans.{Plan, Program}
@@ -28,7 +28,7 @@ script_plan file nue bytes = parsed_plan file (parse_script bytes nue)
 
 -- the script's file has at most 4 MiB
 abbrev pub file_plan : List ℕ → ℕ → Plan
-file_plan file nue = Reads file 4194304 (script_plan file nue)
+file_plan file nue = Reads file most_script_bytes (script_plan file nue)
 
 -- cores that were read lead on, and the first fault of the host file refuses it
 abbrev pub listed_plan : List ℕ → Plan → Result (List ℕ) HostFault → Plan

@@ -4,6 +4,7 @@
 ghost use Rattle.std.specs.Prelude.{◌≡◌, ◌≤◌, map, string_bytes, length, List, ℕ, Option};
 ghost use Rattle.rcce_io.specs.Files.{FilesView, NamedFile};
 ghost use Rattle.scc_base.specs.Setups.{AreApart};
+ghost use Rattle.script_reader.specs.Reading.{most_script_bytes};
 ghost use Rattle.outcomes.specs.Coming.{Holds};
 ghost use Rattle.outcomes.specs.Complaints.{complaint_outcome};
 ghost use Rattle.outcomes.specs.Outcomes.{file_refused};
@@ -23,14 +24,11 @@ use rcce_words::{
 };
 use scc_base::{CoreId, Layout};
 use script_gen::{gen_script, generated_scripts_are_read};
-use script_reader::{ReadFault, ReadStop, Scripts, read_script};
+use script_reader::{MOST_SCRIPT_BYTES, ReadFault, ReadStop, Scripts, read_script};
 use std::alloc::Global;
 
 /// The longest host file, in bytes.
 const HOST_BYTES: usize = 65_536;
-
-/// The longest script file, in bytes.
-const SCRIPT_BYTES: usize = 4_194_304;
 
 /// Loads the run that the words ask for.
 pub fn load<'a, F: Files>(
@@ -166,7 +164,7 @@ fn load_script<'a, F: Files>(
     requires apart { AreApart job.nue hosts }
     ensures { LoadsPlan (file_plan script.now job.nue) (AsksOn script.now (F.seen files.old).told job hosts) (F.seen files.old) (F.seen files.new) result }
 {
-    match read_file(alloc, files, script, SCRIPT_BYTES) {
+    match read_file(alloc, files, script, MOST_SCRIPT_BYTES) {
         Ok(bytes) => load_bytes(alloc, job, script, bytes.as_slice(), hosts),
         Err(complaint) => Err(complaint),
     }
@@ -183,7 +181,7 @@ fn load_bytes<'a>(
     requires some { 1 ≤ job.nue }
     requires most { job.nue ≤ 48 }
     requires apart { AreApart job.nue hosts }
-    requires within { length bytes.now ≤ 4194304 }
+    requires within { length bytes.now ≤ most_script_bytes }
     ensures { (files : FilesView) (told : Option (List NamedFile)) → Holds told file.now bytes.now
         → LoadsPlan (script_plan file.now job.nue bytes.now) (AsksOn file.now told job hosts) files files result }
 {

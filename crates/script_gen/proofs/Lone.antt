@@ -14,7 +14,7 @@ use Rattle.script_reader.specs.declared.version.Version.TheVariants as version
 use Rattle.script_reader.specs.Checks.{cost_of, open_of, operations, run_of, turns_in}
 use Rattle.script_reader.specs.Faults.{◌>>=◌}
 use Rattle.script_reader.specs.Progress.{Progress, start}
-use Rattle.script_reader.specs.Reading.{at_end, parse_script, read_all_lines, read_lines, version_of}
+use Rattle.script_reader.specs.Reading.{at_end, most_script_bytes, parse_script, read_all_lines, read_lines, version_of}
 use Rattle.script_reader.specs.Words.{line_count, lines_of}
 use Rattle.script_gen.specs.Scripts.{item_of, lone_script}
 use Rattle.script_gen.specs.Texts.{text_of_lines, turns_of}
@@ -379,12 +379,12 @@ module _ (s t : ℕ) (small : s ≤ 65535) (least : 1 ≤ t) (few : t ≤ 10) wh
       (placed 1 (take 11 (lone_said s t)) names_2 who.Odd (stmt.Print 1 (form.Decimal ty.Long)) pass_11 14 refl)
       refl))))))))))))))
 
-  fits : nat_lt 4194304 (length (text_of_lines (map line_of (lone_words s t)))) ≡ false
+  fits : nat_lt most_script_bytes (length (text_of_lines (map line_of (lone_words s t)))) ≡ false
   fits =
       let s_short : length (decimal s) ≤ 10 = length-decimal-le 10 s (omega arith) (omega (arith, small)) (omega (arith, small)) in
       let t_short : length (decimal t) ≤ 10 = length-decimal-le 10 t (omega arith) (omega (arith, few)) (omega (arith, few)) in
       let size = text_short (lone_words s t) in
-      not_above 4194304 _ (omega (arith, size, s_short, t_short))
+      not_above most_script_bytes _ (omega (arith, size, s_short, t_short))
 
   pub lone_read : parse_script (text_of_lines (map line_of (lone_words s t))) 1 ≡ at_end (line_count (rest s t 0)) (stage 1 (lone_said s t) names_2 who.Odd)
   lone_read =

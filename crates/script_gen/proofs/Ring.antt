@@ -14,7 +14,7 @@ use Rattle.script_reader.specs.declared.version.Version.TheVariants as version
 use Rattle.script_reader.specs.Checks.{cost_of, differs, is_ragged, length_at, open_of, operations, printed, run_of, turns_in}
 use Rattle.script_reader.specs.Faults.{◌>>=◌}
 use Rattle.script_reader.specs.Progress.{Progress, start}
-use Rattle.script_reader.specs.Reading.{at_end, parse_script, read_all_lines, read_lines, version_of}
+use Rattle.script_reader.specs.Reading.{at_end, most_script_bytes, parse_script, read_all_lines, read_lines, version_of}
 use Rattle.script_reader.specs.Words.{line_count, lines_of}
 use Rattle.script_gen.specs.Scripts.{item_of, recv_last, ring_script, send_next}
 use Rattle.script_gen.specs.Texts.{text_of_lines, turns_of}
@@ -598,12 +598,12 @@ module _ (nue s t : ℕ) (some : 2 ≤ nue) (most : nue ≤ 48) (small : s ≤ 6
       (placed nue (take 17 (ring_said s t)) names_3 who.Odd (stmt.Print 1 (form.Decimal ty.Long)) pass_17 20 refl)
       refl))))))))))))))))))))
 
-  fits : nat_lt 4194304 (length (text_of_lines (map line_of (ring_words s t)))) ≡ false
+  fits : nat_lt most_script_bytes (length (text_of_lines (map line_of (ring_words s t)))) ≡ false
   fits =
       let s_short : length (decimal s) ≤ 10 = length-decimal-le 10 s (omega arith) (omega (arith, small)) (omega (arith, small)) in
       let t_short : length (decimal t) ≤ 10 = length-decimal-le 10 t (omega arith) (omega (arith, few)) (omega (arith, few)) in
       let size = text_short (ring_words s t) in
-      not_above 4194304 _ (omega (arith, size, s_short, t_short))
+      not_above most_script_bytes _ (omega (arith, size, s_short, t_short))
 
   pub ring_read : parse_script (text_of_lines (map line_of (ring_words s t))) nue ≡ at_end (line_count (rest s t 0)) (stage nue (ring_said s t) names_3 who.Odd)
   ring_read =

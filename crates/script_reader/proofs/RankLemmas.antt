@@ -22,7 +22,7 @@ use Rattle.script_reader.specs.declared.version.Version.{Version}
 use Rattle.script_reader.specs.Checks.{innermost, open_of}
 use Rattle.script_reader.specs.Faults.{◌>>=◌}
 use Rattle.script_reader.specs.Progress.{Progress, after, after_group, after_local, after_message, after_section, checked, named, open_section, past, peer_in, place, rank_said, register_of, rule_said, small, start}
-use Rattle.script_reader.specs.Reading.{at_end, at_line, begun, parse_script, read_all_lines, read_line, read_lines, read_words, script_of, version_of}
+use Rattle.script_reader.specs.Reading.{at_end, at_line, begun, most_script_bytes, parse_script, read_all_lines, read_line, read_lines, read_words, script_of, version_of}
 use Rattle.script_reader.specs.Said.{said_of}
 use Rattle.script_reader.specs.Script.{Script}
 use Rattle.script_reader.specs.Words.{is_text, line_count, lines_of, words_of}
@@ -124,4 +124,4 @@ unless nue false fault r has = has
 
 -- the ranks of a script
 pub parse_has : (bytes : List ℕ) (nue : ℕ) → IfOk (parse_script bytes nue) (λ script. script.nue ≡ nue)
-parse_has bytes nue = unless nue (nat_lt 4194304 (length bytes)) (record { line = 0; kind = kind.TooLong }) (read_all_lines (version_of (lines_of bytes)) (lines_of bytes) nue) (all_have (version_of (lines_of bytes)) (lines_of bytes) nue)
+parse_has bytes nue = unless nue (nat_lt most_script_bytes (length bytes)) (record { line = 0; kind = kind.TooLong }) (read_all_lines (version_of (lines_of bytes)) (lines_of bytes) nue) (all_have (version_of (lines_of bytes)) (lines_of bytes) nue)

@@ -37,7 +37,7 @@ use Rattle.script_reader.specs.declared.version.Version.TheVariants as version
 use Rattle.script_reader.specs.Checks.{innermost, open_of, parent_of}
 use Rattle.script_reader.specs.Faults.{◌>>=◌, Gives}
 use Rattle.script_reader.specs.Progress.{Progress, after, after_group, after_local, after_message, after_section, checked, named, open_section, past, peer_in, place, rank_said, register_of, rule_said, small, start}
-use Rattle.script_reader.specs.Reading.{at_end, at_line, begun, read_all_lines, read_as, read_line, read_lines, read_words, script_of}
+use Rattle.script_reader.specs.Reading.{at_end, at_line, begun, most_script_bytes, read_all_lines, read_as, read_line, read_lines, read_words, script_of}
 use Rattle.script_reader.specs.Said.{of_said, version_number, allreduce_said, alone, apply_said, barrier_said, bcast_said, bytes_said, colour_said, dash_of, fill_said, hex_said, name_said, number_said, operation_said, peer_said, range_said, type_said, values_said, group_said, numbers_said, post_said, print_said, ranks_said, rank_of_said, rcce_said, recv_said, reduce_said, register_said, repeat_said, said_of, section_said, send_said, span_said, split_said, ue_said, values_named}
 use Rattle.script_reader.specs.Script.{Script, first_split, rules_of, split_rule}
 use Rattle.script_reader.specs.Settled.{SplitsWorldAlone}
@@ -328,7 +328,7 @@ all-flat lines nue = behind IsFlat SplitsWorldAlone (read_lines 0 (start version
 
 -- a script of version 1 splits the world alone
 pub first-flat : (bytes : List ℕ) (nue : ℕ) → IfOk (read_as version.One bytes nue) SplitsWorldAlone
-first-flat bytes nue = either SplitsWorldAlone (nat_lt 4194304 (length bytes)) _ _ tt (all-flat (lines_of bytes) nue)
+first-flat bytes nue = either SplitsWorldAlone (nat_lt most_script_bytes (length bytes)) _ _ tt (all-flat (lines_of bytes) nue)
 
 -- what a reading gives has what the script has that the grammar gives
 pub IfOk-given : (P : Script → Type 0) (r : Result Script ReadStop) (meant : Result Script ReadFault) → Gives (λ script. script) r meant → IfOk meant P → IfOk r P

@@ -66,10 +66,14 @@ at_end lines p = if length (open_of (past p)) == 0 then Ok (script_of p) else Er
 abbrev pub read_all_lines : Version → List (List ℕ) → ℕ → Result Script ReadFault
 read_all_lines version lines nue = read_lines 0 (start version nue) lines >>= at_end (line_count lines)
 
+-- the most bytes of a script's file: 4 MiB
+abbrev pub most_script_bytes : ℕ
+most_script_bytes = 4194304
+
 -- the script that a file says by the grammar of a version, or its first fault
 abbrev pub read_as : Version → List ℕ → ℕ → Result Script ReadFault
 read_as version bytes nue =
-    if nat_lt 4194304 (length bytes) then Err (record { line = 0; kind = kind.TooLong })
+    if nat_lt most_script_bytes (length bytes) then Err (record { line = 0; kind = kind.TooLong })
     else read_all_lines version (lines_of bytes) nue
 
 -- the script that a file says, or its first fault

@@ -24,7 +24,7 @@ pub use bytes::Bytes;
 pub use checks::RankCheck;
 pub use fault::{FaultKind, ReadFault, ReadStop};
 pub use laws::{decimal_law, script_law, version_law};
-pub use reading::read_script;
+pub use reading::{MOST_SCRIPT_BYTES, read_script};
 pub use script::{Form, Item, Peer, Scripts, Stmt, Who};
 pub use version::Version;
 pub use words::{is_text, number, uncommented};

@@ -18,8 +18,8 @@ use crate::version::Version;
 use crate::words::{is_text, line_count, lines, number, words};
 use std::alloc::{AllocError, Global};
 
-/// The most bytes that a file may have.
-const MOST_BYTES: usize = 4_194_304;
+/// The most bytes of a script's file: 4 MiB.
+pub const MOST_SCRIPT_BYTES: usize = 4_194_304;
 
 fn is_number(number: Option<u32>, wanted: u32) -> bool
     ensures { result ≡ is_number number wanted }
@@ -152,7 +152,7 @@ pub(crate) fn read_file(alloc: Global, bytes: &[u8], nue: u8) -> Result<Scripts,
     ensures gives { Gives (λ script. script) result (read_file bytes.now nue) }
     ensures low { IfOk result (HasCommsTo (last_comm (version_of (lines_of bytes.now)))) }
 {
-    if bytes.len() > MOST_BYTES {
+    if bytes.len() > MOST_SCRIPT_BYTES {
         return Err(ReadStop::Fault(ReadFault {
             line: 0,
             kind: FaultKind::TooLong,

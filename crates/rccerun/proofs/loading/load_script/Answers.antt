@@ -4,13 +4,14 @@ use Rattle.rccerun.specs.Loading.{AsksOn}
 use Rattle.rccerun.specs.Program.{rccerun, script_plan}
 use Rattle.rccerun.proofs.LoadLemmas.{loads_read}
 use Rattle.rccerun.proofs.loading.load_script.Goals as goal
+use Rattle.script_reader.specs.Reading.{most_script_bytes}
 
 pub returns-in-Ok : goal.returns-in-Ok
 returns-in-Ok g c =
     let file = c.args.script.now in
     let before = g.F.Files.seen c.args.files.now in
     let between = g.F.Files.seen c.read_file.new.files in
-    loads_read file 4194304 (script_plan file c.args.job.nue) (AsksOn file before.told c.args.job c.args.hosts) before between between _ _ c.in-Ok.ensures.reads
+    loads_read file most_script_bytes (script_plan file c.args.job.nue) (AsksOn file before.told c.args.job c.args.hosts) before between between _ _ c.in-Ok.ensures.reads
     (rw c.as_slice.ensures at (c.load_bytes.ensures between before.told (subst (λ (b : List ℕ). Holds before.told file b) (sym c.as_slice.ensures) c.in-Ok.ensures.holds)))
 
 pub returns-in-Err : goal.returns-in-Err

@@ -9,4 +9,4 @@ pub read_all_lines-requires-clause-few : goal.read_all_lines-requires-clause-few
 read_all_lines-requires-clause-few c =
     let lines = c.in_ok-lines.lines.items in
     let same = sym (length-map lines (λ line. line.now)) ∙ ap length c.in_ok-lines.ensures ∙ length-slice_split (λ b. b == 10) c.args.bytes.now in
-    omega (arith, same, c.as_slice.ensures.value, count_by-le-length (λ b. b == 10) c.args.bytes.now, c.if-bytes-gt-MOST_BYTES.false)
+    omega (arith, same, c.as_slice.ensures.value, count_by-le-length (λ b. b == 10) c.args.bytes.now, c.if-bytes-gt-MOST_SCRIPT_BYTES.false)
