@@ -1,15 +1,12 @@
 -- What `rccecheck` does on its words (this project's profile).
-use Rattle.std.specs.Prelude.{ℕ, Bool, true, false, ◌&&◌, not, if◌then◌else◌, List, [], ◌∷◌, codes, Option, Some, None, option_map, Result, Ok, Err}
-use Rattle.std.specs.List.{list_all}
+use Rattle.std.specs.Prelude.{ℕ, ◌&&◌, not, if◌then◌else◌, List, [], ◌∷◌, codes, Option, Some, None, option_map, Result, Ok, Err}
 use Rattle.std.specs.Str.{bytes_eq}
 use Rattle.script_reader.specs.declared.fault.ReadFault.{ReadFault}
 use Rattle.script_reader.specs.Faults.{kind_name}
 use Rattle.script_reader.specs.Reading.{most_script_bytes, parse_script}
 use Rattle.script_reader.specs.Script.{Script}
-use Rattle.script_plain.specs.declared.ends.UeEnd.{UeEnd}
-use Rattle.script_plain.specs.declared.ends.UeEnd.TheVariants as ue_end
 use Rattle.script_plain.specs.declared.matches.Match.{Match}
-use Rattle.script_plain.specs.Ends.{Ended}
+use Rattle.script_plain.specs.Ends.{Ended, all_finished}
 use Rattle.script_plain.specs.Matches.{plain_matches}
 use Rattle.script_plain.specs.Meaning.{keys_of, plain_ends}
 use Rattle.outcomes.specs.Numbers.{is_option, ue_count_of}
@@ -29,16 +26,6 @@ abbrev pub command_of : List (List ℕ) → Option Command
 command_of (option ∷ number ∷ script ∷ []) =
     if bytes_eq option (codes "-nue") && not (is_option script) then option_map (λ nue. record { nue = nue; script = script }) (ue_count_of number) else None
 command_of _ = None
-
--- a rank has finished
-abbrev pub is_finished : UeEnd → Bool
-is_finished ue_end.Finished = true
-is_finished (ue_end.Waits line call) = false
-is_finished (ue_end.Mismatch line from sent asked) = false
-
--- whether each rank has finished
-abbrev pub all_finished : List Ended → Bool
-all_finished ends = list_all (λ ended. is_finished ended.end) ends
 
 -- what a script comes to: whether each rank finishes, and the lines
 abbrev pub ran_of : (ℕ → ℕ → ℕ) → List Match → List Ended → Ran

@@ -6,11 +6,12 @@ use Rattle.rcce_io.specs.Files.{FilesView, NamedFile, contents_of}
 use Rattle.script_reader.specs.declared.fault.ReadFault.{ReadFault}
 use Rattle.script_reader.specs.Reading.{most_script_bytes, parse_script}
 use Rattle.script_reader.specs.Script.{Script}
+use Rattle.script_plain.specs.Ends.{all_finished}
 use Rattle.script_plain.specs.Meaning.{plain_ends}
 use Rattle.outcomes.specs.declared.status.Status.{Status}
 use Rattle.outcomes.specs.declared.status.Status.TheVariants as status
 use Rattle.outcomes.specs.Delivery.{AreSteady, Sinks}
-use Rattle.rccecheck.specs.Program.{Command, all_finished, command_of}
+use Rattle.rccecheck.specs.Program.{Command, command_of}
 
 -- a script that was read: 0 exactly where each rank of its plain meaning finishes, else 3; a refused one: 2
 abbrev pub parsed_status : Result Script ReadFault → Status

@@ -12,10 +12,11 @@ use Rattle.outcomes.specs.Coming.{Comes, IsMeant}
 use Rattle.outcomes.specs.Outcomes.{Outcome, file_refused, no_memory, run_outcome}
 use Rattle.rccemesh.specs.declared.command.Job.{Job}
 use Rattle.rccemesh.specs.Job.{IsJob, job_command}
-use Rattle.rccemesh.specs.Program.{Command, all_finished, command_of, parsed_plan, command_plan, ran_by, ran_of, words_plan}
+use Rattle.rccemesh.specs.Program.{Command, command_of, parsed_plan, command_plan, ran_by, ran_of, words_plan}
 use Rattle.rccemesh.specs.Reports.{IsReportOf, report_ran}
 use Rattle.rccemesh.specs.declared.report.Report.{Report}
 use Rattle.rccemesh.proofs.TextLaws.{mesh_same}
+use Rattle.script_plain.specs.Ends.{all_finished}
 
 -- a plan of a script that was read
 pub comes_parsed : (program file at : List ℕ) (meant : Result Script ReadFault) (parsed : Result Script ReadFault) (files : FilesView) (o : Outcome) →

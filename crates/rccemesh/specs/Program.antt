@@ -1,14 +1,11 @@
 -- What `rccemesh` does on its words (this project's profile).
-use Rattle.std.specs.Prelude.{ℕ, Bool, true, false, ◌&&◌, not, if◌then◌else◌, List, [], ◌∷◌, codes, Option, Some, None, option_map, option_and_then, Result, Ok, Err}
-use Rattle.std.specs.List.{list_all}
+use Rattle.std.specs.Prelude.{ℕ, Bool, ◌&&◌, not, if◌then◌else◌, List, [], ◌∷◌, codes, Option, Some, None, option_map, option_and_then, Result, Ok, Err}
 use Rattle.std.specs.Str.{bytes_eq}
 use Rattle.script_reader.specs.declared.fault.ReadFault.{ReadFault}
 use Rattle.script_reader.specs.Faults.{kind_name}
 use Rattle.script_reader.specs.Reading.{most_script_bytes, parse_script}
 use Rattle.script_reader.specs.Script.{Script}
-use Rattle.script_plain.specs.declared.ends.UeEnd.{UeEnd}
-use Rattle.script_plain.specs.declared.ends.UeEnd.TheVariants as ue_end
-use Rattle.script_plain.specs.Ends.{Ended}
+use Rattle.script_plain.specs.Ends.{all_finished}
 use Rattle.script_plain.specs.Matches.{plain_matches}
 use Rattle.script_plain.specs.Meaning.{plain_ends}
 use Rattle.mesh_load.specs.Mesh.{Link, carried}
@@ -38,16 +35,6 @@ command_of (option ∷ number ∷ at ∷ cores ∷ script ∷ []) =
     then option_and_then (λ nue. command_with script nue (listed_cores nue cores)) (ue_count_of number)
     else None
 command_of _ = None
-
--- a rank has finished
-abbrev pub is_finished : UeEnd → Bool
-is_finished ue_end.Finished = true
-is_finished (ue_end.Waits line call) = false
-is_finished (ue_end.Mismatch line from sent asked) = false
-
--- whether each rank has finished
-abbrev pub all_finished : List Ended → Bool
-all_finished ends = list_all (λ ended. is_finished ended.end) ends
 
 -- these lines, and a word on err where a rank has not finished
 abbrev pub ran_by : Bool → List ℕ → Ran

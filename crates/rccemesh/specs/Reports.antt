@@ -4,7 +4,8 @@ use Rattle.mesh_load.specs.Mesh.{Link, carried}
 use Rattle.mesh_load.specs.Tables.{load_on}
 use Rattle.outcomes.specs.Outcomes.{Ran}
 use Rattle.rccemesh.specs.declared.report.Report.{Report}
-use Rattle.rccemesh.specs.Program.{all_finished, ran_of}
+use Rattle.rccemesh.specs.Program.{ran_of}
+use Rattle.script_plain.specs.Ends.{all_finished}
 use Rattle.script_plain.specs.Matches.{plain_matches}
 use Rattle.script_plain.specs.Meaning.{plain_ends}
 use Rattle.script_reader.specs.Script.{Script}

@@ -1,5 +1,5 @@
 use Rattle.std.proofs.Common.{◌≡◌, true, take}
-use Rattle.rccemesh.specs.Program.{all_finished}
+use Rattle.script_plain.specs.Ends.{all_finished}
 use Rattle.rccemesh.proofs.report.is_finished.Given as goal
 
 abbrev pub invariant-loop-number : goal.invariant-loop-number
