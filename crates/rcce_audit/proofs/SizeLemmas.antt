@@ -14,7 +14,7 @@ use Rattle.scc_base.specs.declared.kinds.Kind.{Kind}
 use Rattle.scc_base.specs.declared.kinds.Kind.TheVariants.{Plain, Bcast, Reduce, AllUp, AllDown}
 use Rattle.rcce_io.specs.Digits.{hex_text}
 use Rattle.rcce_audit.specs.Held.{bytes_in}
-use Rattle.rcce_audit.specs.Logs.{LogView, IsLog, IsLogCall, calls_of}
+use Rattle.rcce_audit.specs.Logs.{LogView, IsLog, IsLogCall, calls_of, most_log_bytes}
 use Rattle.rcce_audit.specs.Sizes.{AreFew, bytes_moved}
 use Rattle.rcce_audit.specs.Texts.{IsFileLog, call_lines, call_words, head_words, line_of, log_text, message_words, rule_lines, split_words, table_lines, text_of}
 
@@ -33,7 +33,7 @@ text_size : (line : List ℕ) (lines : List (List ℕ)) → length (text_of (lin
 text_size line lines = length-append (line ++ 10 ∷ []) (text_of lines) ∙ ap (λ (n : ℕ). n + length (text_of lines)) (length-append line (10 ∷ []))
 
 text_append : (xs ys : List (List ℕ)) → length (text_of (xs ++ ys)) ≡ length (text_of xs) + length (text_of ys)
-text_append [] ys = refl
+text_append [] ys = omega arith
 text_append (x ∷ xs) ys =
     let rest = text_append xs ys in
     text_size x (xs ++ ys) ∙ omega (arith, rest) ∙ ap (λ (n : ℕ). n + length (text_of ys)) (sym (text_size x xs))
@@ -153,4 +153,4 @@ few_fit log is few =
     let other : List (List ℕ) = table_lines call_lines 0 log.lists in
     let long : length (log_text log) ≡ (length (line_of (head_words log.nue)) + 1) + (length (text_of one) + length (text_of other)) =
     text_size (line_of (head_words log.nue)) (one ++ other) ∙ ap (λ (n : ℕ). (length (line_of (head_words log.nue)) + 1) + n) (text_append one other) in
-    record { written = is; fits = subst (λ (n : ℕ). n ≤ 67108864) (sym long) (omega (arith, head, rules, lists, sixteen, ranks)) }
+    record { written = is; fits = subst (λ (n : ℕ). n ≤ most_log_bytes) (sym long) (omega (arith, head, rules, lists, sixteen, ranks)) }
