@@ -24,5 +24,6 @@ member_at s comm r place = slice_index (members_of s comm r) place
 abbrev pub gather_word : Seat → ℕ → ℕ → WordAt
 gather_word seat comm r = flag_word (host_of seat.setup.hosts r) (gather_at seat.setup.layout comm)
 
+-- the word of the release flag at a rank
 abbrev pub release_word : Seat → ℕ → ℕ → WordAt
 release_word seat comm r = flag_word (host_of seat.setup.hosts r) (release_at seat.setup.layout comm)

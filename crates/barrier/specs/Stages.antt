@@ -45,6 +45,7 @@ with_parity sight core parity = record { sight = sight; core = core; parity = pa
 abbrev pub new_barrier : ℕ → BarAt
 new_barrier comm = record { comm = comm; stage = Flip }
 
+-- the barrier is finished
 abbrev pub is_finished : BarStage → Bool
 is_finished Finished = true
 is_finished _ = false
@@ -58,6 +59,7 @@ is_gather _ = false
 abbrev pub group_size : Seat → ℕ → ℕ
 group_size seat comm = size_of seat.setup comm seat.rank
 
+-- the own place in the group
 abbrev pub own_place : Seat → ℕ → ℕ
 own_place seat comm = place_of seat.setup comm seat.rank
 
@@ -91,6 +93,7 @@ left_by size place (Release released) = size - 1 - released
 left_by size place Await = 1
 left_by size place Finished = 0
 
+-- how many turns that do not wait a barrier has left
 abbrev pub bar_left : Seat → BarAt → ℕ
 bar_left seat op = left_by (group_size seat op.comm) (own_place seat op.comm) op.stage
 

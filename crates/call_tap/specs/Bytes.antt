@@ -7,5 +7,6 @@ use Rattle.call_tap.specs.Watching.{bytes_of}
 abbrev pub AreBytes : List ℕ → Type 0
 AreBytes bytes = (i : ℕ) → slice_index bytes i < 256
 
+-- each of the bytes that a call moves is below 256
 abbrev pub HasBytes : DataCall → Type 0
 HasBytes call = AreBytes (bytes_of call)

@@ -16,12 +16,15 @@ pub record Step : Type 0 where
   pub access : Access
   pub place : WordAt
 
+-- the access and the place of an event
 abbrev pub step_of : Event → Step
 step_of e = record { access = e.access; place = e.place }
 
+-- the accesses and the places of events
 abbrev pub steps_of : List Event → List Step
 steps_of events = map step_of events
 
+-- the access that a kind makes
 abbrev pub access_of : Kind → Access
 access_of Loads = Load
 access_of Stores = Store

@@ -49,6 +49,7 @@ bytes_by Gives src dst = src
 bytes_by Shares src dst = dst
 bytes_by Takes src dst = dst
 
+-- the bytes that a message of a collective call moves: a part of src or of dst
 abbrev pub bytes_of : PieceCall → (src dst : List ℕ) → List ℕ
 bytes_of call src dst = window call.first call.len (bytes_by call.way src dst)
 

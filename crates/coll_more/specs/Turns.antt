@@ -62,6 +62,7 @@ abbrev pub is_over_by : List PieceCall → ℕ → Stage → Bool
 is_over_by table ended Between = is_none (slice_get table ended)
 is_over_by table ended stage = false
 
+-- nothing of a collective call is left
 abbrev pub is_over : Seat → MoreAt → Bool
 is_over seat op = is_over_by (table_of seat op) op.ended op.stage
 

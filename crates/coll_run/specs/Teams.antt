@@ -26,6 +26,7 @@ pub record MemberView : Type 0 where
 abbrev pub seat_of : SetupView → ℕ → Seat
 seat_of s rank = record { setup = s; rank = rank; mark = gnil; rest = gnil; hold = 0 }
 
+-- what a rank of a setup sees, with these events
 abbrev pub sight_of : SetupView → ℕ → List Event → Sight
 sight_of s rank events = record { seat = seat_of s rank; events = events }
 

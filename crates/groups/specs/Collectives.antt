@@ -18,6 +18,7 @@ comm_of (Bcast comm root len) = comm
 comm_of (Reduce comm root len) = comm
 comm_of (Allreduce comm len) = comm
 
+-- the length of a collective call in bytes
 abbrev pub len_of : Coll → ℕ
 len_of (Bcast comm root len) = len
 len_of (Reduce comm root len) = len

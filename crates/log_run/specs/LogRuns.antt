@@ -61,6 +61,7 @@ abbrev pub done_at : Option State → List DataCall
 done_at None = []
 done_at (Some state) = state.matched
 
+-- the calls that the plain meaning of a script has done for a rank, with their bytes and in order
 abbrev pub plain_calls : Script → ℕ → List DataCall
 plain_calls script rank = done_at (slice_get (plain_end script).cells rank)
 

@@ -16,6 +16,7 @@ abbrev pub calls_by : Option ℕ → ℕ
 calls_by None = 0
 calls_by (Some bytes) = 1
 
+-- how many bytes move: none, or so many
 abbrev pub bytes_by : Option ℕ → ℕ
 bytes_by None = 0
 bytes_by (Some bytes) = bytes

@@ -123,11 +123,13 @@ pub record WaitsThen (s : SetupView) (now : ℕ → Record) (me : ℕ) (u : Stat
   pub alike : (j : ℕ) → Like (records j) (now j)
   pub waits : Waits s (view_of s memory) me (records me) (next_of u)
 
+-- a rank has finished: nothing stands next, it was not stopped, and its slot is empty
 pub record HasFinished (rec : Record) (u : Local) : Type 0 where
   pub over : IsOver rec u
   pub running : is_stopped u ≡ false
   pub slot : rec.post ≡ None
 
+-- a rank was stopped, and nothing stands next
 pub record HasStopped (rec : Record) (u : Local) : Type 0 where
   pub over : IsOver rec u
   pub stopped : is_stopped u ≡ true
@@ -144,6 +146,7 @@ pub record HasStayed (finished : Bool) (chip : ChipView) (r : ℕ) (now : ChipVi
   pub alike : Like (records_in chip r) (records_in now r)
   pub rests : RestsAt finished (about_in now) (records_in now) r new.local
 
+-- what a turn of a rank at home came to: fewer turns are left, or it has stayed, finished or not
 abbrev pub CameTo : Rest → ChipView → ℕ → ChipView → WorkerView → WorkerView → Type 0
 CameTo rest.Moved chip r now old new = new.left < old.left
 CameTo rest.Finished chip r now old new = HasStayed true chip r now old new

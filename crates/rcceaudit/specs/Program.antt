@@ -43,6 +43,7 @@ abbrev pub log_plan : (LogView → Verdict) → List ℕ → Result LogView LogF
 log_plan judge file (Ok log) = Runs (verdict_ran (judge log))
 log_plan judge file (Err fault) = Refuses file fault.line (fault_name fault.kind)
 
+-- the bytes of a log's file
 abbrev pub bytes_plan : (LogView → Verdict) → List ℕ → List ℕ → Plan
 bytes_plan judge file bytes = log_plan judge file (log_of bytes)
 
@@ -60,6 +61,7 @@ pub record Command : Type 0 where
   pub nue : ℕ
   pub script : List ℕ
 
+-- the words `-log -nue N SCRIPT`, and no others
 abbrev pub command_of : List (List ℕ) → Option Command
 command_of (log ∷ option ∷ number ∷ script ∷ []) =
     if bytes_eq log (codes "-log") && (bytes_eq option (codes "-nue") && not (is_option script))
@@ -101,6 +103,7 @@ abbrev pub named_plan : (LogView → Verdict) → Option (List ℕ) → Option C
 named_plan judge (Some file) command = Ok (file_plan judge file)
 named_plan judge None command = run_words_plan command
 
+-- the words: a log is judged, a run is logged, or they are refused
 abbrev pub words_plan : (LogView → Verdict) → List (List ℕ) → Result Plan (List ℕ)
 words_plan judge words = named_plan judge (file_named words) (command_of words)
 

@@ -21,6 +21,7 @@ cause_name (cause.Finished rank) = codes "finished "
 cause_name (cause.Mismatch rank) = codes "mismatch "
 cause_name (cause.Cycle rank) = codes "cycle "
 
+-- the rank that a cause is about
 abbrev pub cause_rank : Cause → ℕ
 cause_rank (cause.Finished rank) = rank
 cause_rank (cause.Mismatch rank) = rank

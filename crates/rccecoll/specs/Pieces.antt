@@ -8,6 +8,7 @@ abbrev pub dst_of : Option MemberView → List ℕ
 dst_of None = []
 dst_of (Some m) = m.dst
 
+-- what the rank of a team has got
 abbrev pub dst_at : List MemberView → ℕ → List ℕ
 dst_at team rank = dst_of (slice_get team rank)
 

@@ -10,6 +10,7 @@ pub record Shows (key : ℕ → ℕ) (table : Grouping) : Type 0 where
   pub roots : (r : ℕ) → r < 48 → slice_index table.roots r ≡ root_in key r
   pub places : (r : ℕ) → r < 48 → slice_index table.places r ≡ place_in key r
 
+-- a table without a root and without a place
 abbrev pub no_table : Grouping
 no_table = record { roots = []; places = [] }
 

@@ -109,6 +109,7 @@ abbrev pub KnowsHome : ChipView → Type 0
 KnowsHome None = Unit {0}
 KnowsHome (Some scene) = Knows scene.about scene.home × (length scene.home ≡ scene.about.nue)
 
+-- how what a seat knows is coded as a number: a list of lists of events, by rank
 abbrev pub view_coded : Coded View
 view_coded = coded_list (coded_option (coded_list the_row.coded))
 

@@ -8,6 +8,7 @@ use Rattle.scc_base.specs.declared.events.Event.{Event}
 abbrev pub View : Type 0
 View = List (Option (List Event))
 
+-- the events of a rank as the seat knows them: none told where the seat does not stand for the rank
 abbrev pub known : View → ℕ → Option (List Event)
 known v r = slice_index_or v r None
 
@@ -37,6 +38,7 @@ without v r = slice_set v r None
 
 -- a seat that stands for one rank at most
 
+-- what a seat knows that stands for one rank at most
 unfoldable pub alone : ℕ → Option (List Event) → View
 alone r events = replicate r None ++ events ∷ []
 

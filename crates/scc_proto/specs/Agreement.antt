@@ -32,9 +32,11 @@ pub record GroupAgrees (s : SetupView) (view : View) (comm r : ℕ) (records : �
   pub root : place_of s comm r ≡ 0 → view.release comm r ≡ 0
   pub member : place_of s comm r ≢ 0 → InStep view comm (place_of s comm r) r (records (root_of s comm r)) (records r)
 
+-- the barriers' flags of each rank in each communicator of the run
 abbrev pub GroupsAgree : SetupView → View → (ℕ → Record) → Type 0
 GroupsAgree s view records = (comm r : ℕ) → is_present s comm ≡ true → r < s.nue → GroupAgrees s view comm r records
 
+-- each core's test-and-set register
 abbrev pub RegistersAgree : SetupView → Memory → (ℕ → Record) → Type 0
 RegistersAgree s memory records = (core : ℕ) → RegisterAgrees s memory core records
 
@@ -52,6 +54,7 @@ WordAgrees s place word records (SentFlags owner) = (b : ℕ) → are_peers s ow
 WordAgrees s place word records (ReadyFlags owner) = (b : ℕ) → are_peers s owner b ≡ false → bit_at word b ≡ 0
 WordAgrees s place word records role = Unit {0}
 
+-- each word of the chip, by its role
 abbrev pub WordsAgree : SetupView → Memory → (ℕ → Record) → Type 0
 WordsAgree s memory records = (place : WordAt) → IsPlace place → WordAgrees s place (word_at memory place) records (role_of s place)
 

@@ -18,5 +18,6 @@ abbrev pub is_draft_by : SetupView → Access → WordAt → Bool
 is_draft_by s Store place = is_message_word (role_of s place)
 is_draft_by s access place = false
 
+-- the event is a store of a header word or of a chunk word
 abbrev pub is_draft : SetupView → Event → Bool
 is_draft s e = is_draft_by s e.access e.place

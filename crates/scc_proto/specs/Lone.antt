@@ -20,6 +20,7 @@ memory_since me events = memory_from zeros (map (λ (e : Event). record { rank =
 abbrev pub lists_alone : ℕ → List Event → ℕ → List Event
 lists_alone me events = put (λ r. []) me events
 
+-- the records of all ranks, where one rank alone has made events
 abbrev pub records_alone : SetupView → ℕ → List Event → ℕ → Record
 records_alone s me events = λ r. record_of s r (lists_alone me events r)
 

@@ -51,6 +51,7 @@ pub record Pair : Type 0 where
   pub sent : List Message
   pub received : List Message
 
+-- what view and records show of the messages from rank s to rank r
 abbrev pub pair_of : ℕ → ℕ → View → Record → Record → Pair
 pair_of s r view sender receiver = record {
   sent_flag = view.sent s r;
@@ -77,6 +78,7 @@ pending size is_post message chunk = if is_post then message_of (with_chunk size
 abbrev pub settling : ℕ → Bool → Progress → Notes → List Message
 settling size is_post message chunk = if is_post then [] else message_of (with_chunk size message chunk) ∷ []
 
+-- the words that were noted, if any were, stand in the header line
 abbrev pub NotesStand : Option Notes → (ℕ → ℕ) → Type 0
 NotesStand None header = Unit {0}
 NotesStand (Some notes) header = StandsIn notes header
@@ -141,10 +143,12 @@ DraftStands (Drafting noted_header noted_chunk) header chunk = StandsIn noted_he
 DraftStands (Sending to part message noted_chunk) header chunk = HeaderStands message.head false header × StandsIn noted_chunk chunk
 DraftStands stage header chunk = Unit {0}
 
+-- the header of a posted message on its way and its chunk stand in the sender's buffer
 abbrev pub PostStands : Option OnItsWay → (ℕ → ℕ) → (ℕ → ℕ) → Type 0
 PostStands None header chunk = Unit {0}
 PostStands (Some post) header chunk = HeaderStands post.head true header × StandsIn post.chunk chunk
 
+-- a sender's buffer holds what the rank has drafted or raised, and its posted message
 pub record BufferStands (rec : Record) (header chunk : ℕ → ℕ) : Type 0 where
   pub draft : DraftStands rec.stage header chunk
   pub post : PostStands rec.post header chunk

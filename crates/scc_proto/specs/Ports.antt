@@ -49,6 +49,7 @@ pub record WasMade (seat : Seat) (rec : Record) (e : Event) : Type 0 where
   pub permitted : MayMake seat rec e
   pub honest : IsHonest seat.setup seat.rank rec e
 
+-- a port has made these events, one after the other: each was permitted, and each load answered the noted value
 abbrev pub WereMade : Seat → Record → List Event → Type 0
 WereMade seat rec [] = Unit {0}
 WereMade seat rec (e ∷ es) = WasMade seat rec e × WereMade seat (record_next seat rec e) es

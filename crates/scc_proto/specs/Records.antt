@@ -74,6 +74,7 @@ change_at lower raise s me owner new (Some old) = if owner == me then move_at lo
 abbrev pub sent_noted : Record → ℕ → Option ℕ
 sent_noted rec core = option_and_then (λ (flags : FlagWords). flags.sent) (rec.held core)
 
+-- the word of `ready` flags that a rank has noted under its hold of a core's register
 abbrev pub ready_noted : Record → ℕ → Option ℕ
 ready_noted rec core = option_and_then (λ (flags : FlagWords). flags.ready) (rec.held core)
 
@@ -164,6 +165,7 @@ permits_by s me rec Store place value = permits_act (chunk_of s) (store_act s me
 permits_by s me rec Take place value = is_none (rec.held place.core)
 permits_by s me rec Free place value = is_some (rec.held place.core)
 
+-- the record permits the event of rank `me` next, as a test
 abbrev pub is_permitted : SetupView → ℕ → Record → Event → Bool
 is_permitted s me rec e = permits_by s me rec e.access e.place e.value
 
@@ -195,6 +197,7 @@ noted_by (ReadHeader from k value) rec = option_and_then (λ (header : Notes). n
 noted_by (ReadChunk from k value) rec = noted_chunk from k rec.stage
 noted_by move rec = None
 
+-- the value that the record has noted of the word that is loaded, if it has noted one
 abbrev pub noted_load : SetupView → ℕ → Record → Access → WordAt → Option ℕ
 noted_load s me rec Load place = noted_by (load_by s me 0 (role_of s place)) rec
 noted_load s me rec access place = None

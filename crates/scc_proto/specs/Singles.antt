@@ -49,6 +49,7 @@ pub record IsBarrier (s : SetupView) (me comm seen released : ℕ) : Type 0 wher
   pub all_seen : (released ≡ 0) ⊎ (seen ≡ last_of s comm me)
   pub of_root : (place_of s comm me ≡ 0) ⊎ (seen ≡ 0)
 
+-- a stage that a rank of the run can be in
 abbrev pub IsStage : SetupView → ℕ → Stage → Type 0
 IsStage s me (Sending to part message chunk) = IsUnderWay s me to message × IsPart (chunk_of s) part message chunk
 IsStage s me (Between from message) = IsUnderWay s me from message × (1 ≤ message.chunks)
@@ -69,14 +70,17 @@ pub record IsOnItsWay (s : SetupView) (me : ℕ) (stage : Stage) (post : OnItsWa
   pub whole : is_whole (chunk_of s) (begun post.head) post.chunk ≡ true
   pub free : is_free stage ≡ true
 
+-- a posted message, if there is one, can be on its way beside this stage
 abbrev pub IsPosted : SetupView → ℕ → Stage → Option OnItsWay → Type 0
 IsPosted s me stage None = Unit {0}
 IsPosted s me stage (Some post) = IsOnItsWay s me stage post
 
+-- how many barriers of a communicator are open at a stage: one, or none
 abbrev pub open_barriers : ℕ → Stage → ℕ
 open_barriers comm (Barrier c seen released) = if c == comm then 1 else 0
 open_barriers comm stage = 0
 
+-- a record that a rank of the run can have, by itself
 pub record IsConsistent (s : SetupView) (me : ℕ) (rec : Record) : Type 0 where
   pub stage : IsStage s me rec.stage
   pub post : IsPosted s me rec.stage rec.post

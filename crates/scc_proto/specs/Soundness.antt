@@ -24,6 +24,7 @@ is_drafting (Sending to part message chunk) post = false
 is_drafting stage None = true
 is_drafting stage (Some post) = false
 
+-- a chunk from rank j is being taken
 abbrev pub is_taking : ℕ → Stage → Bool
 is_taking j (Taking from message chunk) = from == j
 is_taking j stage = false

@@ -18,6 +18,7 @@ sends_of (Send to head bytes) = 1
 sends_of (Post to head bytes) = 1
 sends_of _ = 0
 
+-- how many bytes a call has sent
 abbrev pub sent_bytes_of : DataCall → ℕ
 sent_bytes_of (Send to head bytes) = length bytes
 sent_bytes_of (Post to head bytes) = length bytes

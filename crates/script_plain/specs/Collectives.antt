@@ -111,6 +111,7 @@ AreDone script c =
 abbrev pub sends_of : Kind → ℕ → ℕ → State → ℕ
 sends_of kind comm to u = length (filter (is_of (kind_number kind) comm) (sent_to to u.matched))
 
+-- how many messages of a kind in a communicator a rank has received from another
 abbrev pub receipts_of : Kind → ℕ → ℕ → State → ℕ
 receipts_of kind comm from u = length (filter (is_of (kind_number kind) comm) (received_from from u.matched))
 

@@ -18,6 +18,7 @@ depth_from rank depth zero items = depth
 depth_from rank depth (suc place) [] = depth
 depth_from rank depth (suc place) (item ∷ items) = depth_from rank (depth_after (nesting_at rank item) depth) place items
 
+-- how many repeats of a rank are open before the item at a place
 abbrev pub depth_at : ℕ → List Item → ℕ → ℕ
 depth_at rank items place = depth_from rank 0 place items
 

@@ -35,6 +35,8 @@ IsHeldUp keys ends rank (call.Recv from head) = IsPeer (length ends) rank from
 IsHeldUp keys ends rank (call.Post to head) = IsPeer (length ends) rank to
 IsHeldUp keys ends rank (call.Bar comm) = (k : ℕ) × IsAwaited keys ends comm rank k
 
+-- what an end says of another rank: nothing where the rank has finished; else that the call that it waits in is held
+-- up, or that the message which it refused came from a rank of the run
 abbrev pub HasCause : (ℕ → ℕ → ℕ) → List Ended → ℕ → UeEnd → Type 0
 HasCause keys ends rank ue_end.Finished = Unit {0}
 HasCause keys ends rank (ue_end.Waits line call) = IsHeldUp keys ends rank call

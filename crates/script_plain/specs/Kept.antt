@@ -26,6 +26,7 @@ abbrev pub sized_by : (ℕ → Option ℕ) → MessageHead → Option ℕ → Op
 sized_by had head None = Some head.len
 sized_by had head (Some reg) = had reg
 
+-- how many bytes the received bytes have behind an act, or none
 abbrev pub gathering : (ℕ → Option ℕ) → Option ℕ → Act → Option ℕ
 gathering had got (Act.Gather from head sized) = sized_by had head sized
 gathering had got _ = got
@@ -39,6 +40,7 @@ Sets had acc got (Act.Accept reg) = had reg ≡ got
 Sets had acc got (Act.Finish reg) = had reg ≡ acc
 Sets had acc got _ = Unit {0}
 
+-- each primitive that is left keeps the lengths that the reader of the script reckoned
 abbrev pub Keeps : (ℕ → Option ℕ) → Option ℕ → Option ℕ → List Prim → Type 0
 Keeps had acc got [] = Unit {0}
 Keeps had acc got (prim ∷ left) = Sets had acc got prim.act × Keeps had (folding had acc prim.act) (gathering had got prim.act) left

@@ -44,6 +44,7 @@ local_start script rank =
       standing = standing.Running;
     }
 
+-- the bytes of a register
 abbrev pub register_at : Local → ℕ → List ℕ
 register_at u reg = slice_index_or u.registers reg []
 

@@ -8,6 +8,7 @@ use Rattle.script_plain.specs.declared.posts.Posted.{Posted}
 use Rattle.script_plain.specs.Meaning.{State}
 use Rattle.script_plain.specs.Step.{Configuration, slot_at}
 
+-- a message: its head and its bytes
 pub record Message : Type 0 where
   pub head : MessageHead
   pub bytes : List ℕ
@@ -26,6 +27,7 @@ received_by rank _ = []
 abbrev pub sent_to : ℕ → List DataCall → List Message
 sent_to rank calls = flat_map (sent_by rank) calls
 
+-- the messages that calls received from a rank, in order
 abbrev pub received_from : ℕ → List DataCall → List Message
 received_from rank calls = flat_map (received_by rank) calls
 

@@ -5,6 +5,7 @@ use Rattle.scc_base.specs.declared.calls.Call.{Call}
 use Rattle.scc_base.specs.declared.calls.Call.TheVariants as call
 use Rattle.script_plain.specs.declared.posts.Posted.{Posted}
 
+-- What stands next at a rank: all that the step of a run needs to know of it. `U` is whatever a rank's state is.
 pub data Next (U : Type 0) : Type 0 where
   -- nothing: the rank's program has ended, or the rank was stopped
   Ends : Next U

@@ -167,6 +167,7 @@ in_front (nesting.Opens times) prims u = repeated times u.here u.behind
 in_front nesting.Closes prims u = record { here = prims; behind = u.here ∷ u.behind }
 in_front nesting.Stays prims u = record { here = prims ++ u.here; behind = u.behind }
 
+-- what items make for a rank: the primitives up to the end of the open repeat, and those behind it
 unfoldable pub unrolled : SetupView → ℕ → List Item → Unrolled
 unrolled s rank [] = record { here = []; behind = [] }
 unrolled s rank (item ∷ items) = in_front (nesting_at rank item) (prims_of s rank item) (unrolled s rank items)

@@ -55,6 +55,7 @@ pub record Rooms : Type 0 where
   pub lengths : Lengths
   pub spare : ℕ
 
+-- how many bytes the copy of a register takes that is applied to one
 abbrev pub spare_length : Lengths → Act → ℕ
 spare_length l (Apply op ty dst src) = length_at l src
 spare_length l _ = 0

@@ -18,6 +18,7 @@ pub record Configuration (U : Type 0) : Type 0 where
 abbrev pub next_at : {U : Type 0} → (U → Next U) → Configuration U → ℕ → Next U
 next_at next c i = option_map_or next (slice_get c.cells i) Ends
 
+-- the message in the slot of rank i, if there is one
 abbrev pub slot_at : {U : Type 0} → Configuration U → ℕ → Option Posted
 slot_at c i = slice_index_or c.slots i None
 
@@ -90,6 +91,7 @@ step_by keys next c i (Sends to head bytes after) = match_step c i to head bytes
 step_by keys next c i (Recvs from head take refuse) = receive_step c i from head take refuse (slot_at c from) (next_at next c from)
 step_by keys next c i (Bars comm after) = barrier_step keys next c i comm
 
+-- the step that rank i owns, if it has one
 abbrev pub step_of : {U : Type 0} → (ℕ → ℕ → ℕ) → (U → Next U) → Configuration U → ℕ → Option (Configuration U)
 step_of keys next c i = step_by keys next c i (next_at next c i)
 

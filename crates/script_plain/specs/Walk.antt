@@ -79,6 +79,7 @@ AreOpen s rank items (next ∷ behind) [] = Unit {0}
 AreOpen s rank items (next ∷ behind) (o ∷ open_repeats) =
     ((unrolled s rank (drop o.start items)).behind ≡ next ∷ behind) × AreOpen s rank items behind open_repeats
 
+-- these repeats are open at a place: behind the end of each stands what the script has there
 abbrev pub AreOpenAt : SetupView → ℕ → List Item → ℕ → List Open → Type 0
 AreOpenAt s rank items place open_repeats = AreOpen s rank items (unrolled s rank (drop place items)).behind open_repeats
 
@@ -87,6 +88,7 @@ abbrev pub HasMore : SetupView → ℕ → Option Item → ℕ → Type 0
 HasMore s rank None step = Unit {0}
 HasMore s rank (Some item) step = step < length (prims_of s rank item)
 
+-- at a place stands an item with more than this many primitives, or none
 abbrev pub StandsAt : SetupView → ℕ → List Item → ℕ → ℕ → Type 0
 StandsAt s rank items place step = HasMore s rank (slice_get items place) step
 

@@ -59,6 +59,7 @@ is_at run comm rank place = is_known run comm && place_of run comm rank == place
 abbrev pub is_past_group : SetupView → ℕ → ℕ → ℕ → Bool
 is_past_group run comm rank root = is_known run comm && not (has_place run comm rank root)
 
+-- the root that a collective call names is no place of the rank's group, where this is known
 abbrev pub has_no_root : SetupView → Stmt → ℕ → Bool
 has_no_root run (stmt.Bcast comm root reg len) rank = is_past_group run comm rank root
 has_no_root run (stmt.Reduce comm root op ty dst src) rank = is_past_group run comm rank root

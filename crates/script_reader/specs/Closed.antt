@@ -42,6 +42,7 @@ abbrev pub HasPass : Stmt → Type 0
 HasPass (stmt.Repeat times end) = 1 ≤ times
 HasPass _ = Unit {0}
 
+-- each repeat among the statements is done at least once
 abbrev pub HavePasses : List Item → Type 0
 HavePasses [] = Unit {0}
 HavePasses (item ∷ past) = HavePasses past × HasPass item.stmt

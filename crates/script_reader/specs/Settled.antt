@@ -36,6 +36,7 @@ abbrev pub HasRule : Stmt → Type 0
 HasRule (stmt.Split comm by) = by ≡ rule.Absent → ⊥
 HasRule _ = Unit {0}
 
+-- each split among the statements has a rule that it may have
 abbrev pub HaveRules : List Item → Type 0
 HaveRules [] = Unit {0}
 HaveRules (item ∷ past) = HaveRules past × HasRule item.stmt
@@ -54,6 +55,7 @@ pub record IsInLine (nue : ℕ) (past : List Item) (item : Item) : Type 0 where
   pub sized : IsSized item.stmt
   pub flat : is_too_deep (open_of past) item.stmt ≡ false
 
+-- each statement is in line with those before it
 abbrev pub AreInLine : ℕ → List Item → Type 0
 AreInLine nue [] = Unit {0}
 AreInLine nue (item ∷ past) = AreInLine nue past × IsInLine nue past item

@@ -25,6 +25,7 @@ use Rattle.script_reader.specs.declared.version.Version.{Version}
 abbrev pub length_in : Tally → ℕ → Option ℕ
 length_in tally reg = slice_index_or tally.lengths reg None
 
+-- the tally has a split of a communicator
 abbrev pub split_in : Tally → ℕ → Bool
 split_in tally comm = slice_index_or tally.splits comm false
 

@@ -81,6 +81,7 @@ pub record RecvDiffers (old : Receiver) (polls : ℕ) (now : BufferHolder) (sent
   pub post : IsSamePost (record_in old.sight).post (record_in now.sight).post
   pub no_stall : HasNotStalled old.sight.seat old.op polls events
 
+-- a receive has given up at a spot after as many tries as it was allowed, or has met another head
 abbrev pub RecvStops : Receiver → ℕ → BufferHolder → RecvStop → Type 0
 RecvStops old polls now (Stalled op spot count) = (count ≡ polls) × RecvStalled old polls (receiving now.sight now.core op now.bytes) spot
 RecvStops old polls now (Mismatch sent asked) = RecvDiffers old polls now sent asked

@@ -42,6 +42,7 @@ progress_at size head chunk bytes = record { head = head; chunks = chunk; bytes 
 abbrev pub between : ℕ → RecvAt → List ℕ → Stage
 between size op bytes = if op.chunk == 0 then Idle else Between op.from (progress_at size op.head op.chunk bytes)
 
+-- how many lines the chunk in hand has
 abbrev pub lines_now : ℕ → RecvAt → ℕ
 lines_now size op = chunk_lines_of size op.head.len op.chunk
 
@@ -56,6 +57,7 @@ abbrev pub IsNotedLine : Layout → ℕ → Notes → LineAt → List ℕ → Ty
 IsNotedLine layout core chunk line words = line.core ≡ core → first_chunk layout ≤ line.line → line.line < first_heap
     → (k : ℕ) → k < 4 → noted chunk (4 * (line.line - first_chunk layout) + k) ≡ Some (slice_index words k)
 
+-- each of these cached lines that is one of the sender's chunk buffer has the words that the record has noted
 abbrev pub AreNoted : Layout → ℕ → Notes → List Entry → Type 0
 AreNoted layout core chunk [] = Unit {0}
 AreNoted layout core chunk (e ∷ es) = IsNotedLine layout core chunk e.line e.words × AreNoted layout core chunk es
@@ -121,6 +123,7 @@ lines_left_by flags more lines now first (Lines i) = (lines - i) + 2 * flags * m
 lines_left_by flags more lines now first Raise = (lines - now) + 2 * flags * more - flags
 lines_left_by flags more lines now first Finished = 0
 
+-- how many lines a receive has left to load, looks apart
 abbrev pub lines_left : Layout → ℕ → RecvAt → ℕ
 lines_left layout size op = lines_left_by (flag_lines layout) (chunk_count size op.head.len - op.chunk) (lines_from size op.head.len op.chunk) (lines_now size op)
     (op.chunk == 0) op.stage
@@ -146,6 +149,7 @@ spot_by BitFlags own other from Lower = Some (Register own)
 spot_by BitFlags own other from Raise = Some (Register other)
 spot_by layout own other from stage = None
 
+-- the spot at which the stage of a receive makes its one try, where it makes one
 abbrev pub recv_spot : Seat → RecvAt → Option Spot
 recv_spot seat op = spot_by seat.setup.layout (host_of seat.setup.hosts seat.rank) (host_of seat.setup.hosts op.from) op.from op.stage
 
@@ -179,6 +183,7 @@ filled_by start len Raise rest = start + rest
 filled_by start len Finished rest = len
 filled_by start len stage rest = start
 
+-- how many bytes of its message a receive has put into the buffer
 abbrev pub filled_to : ℕ → RecvAt → ℕ
 filled_to size op = filled_by (chunk_start size op.chunk) op.head.len op.stage (chunk_len size op.head.len op.chunk)
 

@@ -37,6 +37,7 @@ use Rattle.send_recv.specs.Turns.{HoldsNone, IsSamePost, KeepsAllButMessages, Is
 
 -- ---- the slot
 
+-- a posted message, if there is one, was answered: the sender has seen `ready`
 abbrev pub was_answered : Option OnItsWay → Bool
 was_answered None = false
 was_answered (Some post) = post.is_answered
@@ -53,6 +54,7 @@ slot_spot_by layout own (Some to) false = Some (Flag (flag_word own (ready_at la
 slot_spot_by BitFlags own (Some to) true = Some (Register own)
 slot_spot_by layout own to seen = None
 
+-- the spot at which a turn for the posted message in the slot makes its one try
 abbrev pub slot_spot : Seat → SlotAt → Option Spot
 slot_spot seat slot = slot_spot_by seat.setup.layout (host_of seat.setup.hosts seat.rank) slot.to slot.seen
 
@@ -99,6 +101,7 @@ own_line seat line = record { core = host_of seat.setup.hosts seat.rank; line = 
 abbrev pub header_words : MessageHead → Bool → List ℕ
 header_words head posted = header_word head posted 0 ∷ header_word head posted 1 ∷ header_word head posted 2 ∷ header_word head posted 3 ∷ []
 
+-- how many lines the chunk in hand has
 abbrev pub lines_in_hand : ℕ → SendAt → ℕ
 lines_in_hand size op = chunk_lines_of size op.head.len op.chunk
 
@@ -203,6 +206,7 @@ send_spot_by BitFlags own other to slot Raise = Some (Register other)
 send_spot_by BitFlags own other to slot Lower = Some (Register own)
 send_spot_by layout own other to slot stage = None
 
+-- the spot at which the stage of a send makes its one try; at the start it is the slot's
 abbrev pub send_spot : Seat → SendAt → SlotAt → Option Spot
 send_spot seat op slot = send_spot_by seat.setup.layout (host_of seat.setup.hosts seat.rank) (host_of seat.setup.hosts op.to) op.to (slot_spot seat slot) op.stage
 

@@ -12,5 +12,6 @@ abbrev pub aim_of : Layout → Spot → Aim
 aim_of layout (Flag place bit) = AtFlag place (bit_of layout bit) true
 aim_of layout (Register core) = AtRegister core
 
+-- what the try at a spot is for, where there is a spot
 abbrev pub aim_at : Layout → Option Spot → Option Aim
 aim_at layout spot = option_map (aim_of layout) spot

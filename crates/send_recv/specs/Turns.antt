@@ -63,6 +63,7 @@ abbrev pub stored_by : Access → LineAt → WordAt → ℕ → List ℕ → Lis
 stored_by Store line place value words = if same_line line (line_of_word place) then slice_set words place.word value else words
 stored_by access line place value words = words
 
+-- the words of a line after these events, of which the stores into it count
 abbrev pub stored_since : LineAt → List ℕ → List Event → List ℕ
 stored_since line words [] = words
 stored_since line words (e ∷ es) = stored_since line (stored_by e.access line e.place e.value words) es
@@ -78,6 +79,7 @@ pub data LastHeld (es : List Event) (before : ℕ) (d : Private) : Type 0 where
 abbrev pub is_no_draft : SetupView → Event → Bool
 is_no_draft s e = not (is_draft s e)
 
+-- nothing of what was held, or all of it
 abbrev pub IsNoneOrAll : List Event → List Event → Type 0
 IsNoneOrAll front held = (front ≡ []) ⊎ (front ≡ held)
 

@@ -77,6 +77,7 @@ abbrev pub vain_after : Aim → Bool → ℕ → Event → ℕ
 vain_after aim changing n e =
     if is_try changing aim e then (if is_vain aim e then suc n else 0) else (if is_write e.access then 0 else n)
 
+-- how many of the tries were vain in a row at the end of more events, after so many
 abbrev pub vain_from : Aim → Bool → ℕ → List Event → ℕ
 vain_from aim changing n [] = n
 vain_from aim changing n (e ∷ es) = vain_from aim (is_changing changing e.access e.value) (vain_after aim changing n e) es
