@@ -117,6 +117,7 @@ module _ (ue : UeView) (s : Sight) (tied : Tied (record ue { op = Nothing }) s) 
           program = (refl, refl, refl);
           tried = NoTry (aim_none (is_stopped ue.machine.local) (is_ended (local_next ue.machine.local)) _ open_still) refl;
           rests = λ spot same. absurd (cc);
+          only = tt;
           means = (
             let most = entered_left (record ue { machine = record ue.machine { local = v } }) (begun_at ue.machine v tied.begun) in
                 let rest = falls ue.machine.setup ue.machine.rank ue.machine.local (Goes v) is in
@@ -125,6 +126,7 @@ module _ (ue : UeView) (s : Sight) (tied : Tied (record ue { op = Nothing }) s) 
                 omega (arith, most, less),
             not_over (record ue { op = Nothing }) on open_still,
           );
+          heap = refl;
           drafts = none_stored s.seat.setup ue.core [] refl;
           held = NoLoad refl;
         };
@@ -147,7 +149,9 @@ module _ (ue : UeView) (s : Sight) (tied : Tied (record ue { op = Nothing }) s) 
       program = (refl, refl, refl);
       tried = NoTry (aim_stopped (is_stopped ue.machine.local) (is_ended (local_next ue.machine.local)) _ stopped) refl;
       rests = λ spot same. absurd (cc);
+      only = tt;
       means = (refl, refl, over_first (is_stopped ue.machine.local) _ stopped, ap (λ (n : Next Local). is_going n) (stopped_ends ue.machine.local stopped));
+      heap = refl;
       drafts = none_stored s.seat.setup ue.core [] refl;
       held = NoLoad refl;
     };
@@ -182,10 +186,12 @@ module _ (ue : UeView) (s : Sight) (tied : Tied (record ue { op = Nothing }) s) 
               program = (refl, refl, refl);
               tried = tried_slot turn.Moved r;
               rests = r.rests;
+              only = r.only;
               means = (
                 unless_falls (is_stopped ue.machine.local) _ _ on (omega (arith, fewer)),
                 over_full (is_stopped ue.machine.local) (is_ended (local_next ue.machine.local)) (is_none ue.slot.to) on (slot_full ue.slot.to ue.slot.seen (slot_left now) fewer),
               );
+              heap = r.rest.heap;
               drafts = none_stored s.seat.setup ue.core r.events r.no_drafts;
               held = r.held;
             };
@@ -202,6 +208,7 @@ module _ (ue : UeView) (s : Sight) (tied : Tied (record ue { op = Nothing }) s) 
               program = (refl, refl, refl);
               tried = tried_slot (turn.Waiting spot) r;
               rests = r.rests;
+              only = r.only;
               means = (
                 still,
                 ap left_of still,
@@ -210,6 +217,7 @@ module _ (ue : UeView) (s : Sight) (tied : Tied (record ue { op = Nothing }) s) 
                     (slot_tries s.seat.setup.layout (host_of s.seat.setup.hosts s.seat.rank) ue.slot.to ue.slot.seen r.events spot r.tried),
                 idle,
               );
+              heap = r.rest.heap;
               drafts = none_stored s.seat.setup ue.core r.events r.no_drafts;
               held = r.held;
             };
@@ -226,12 +234,14 @@ module _ (ue : UeView) (s : Sight) (tied : Tied (record ue { op = Nothing }) s) 
               program = (refl, refl, refl);
               tried = tried_slot turn.Done r;
               rests = r.rests;
+              only = r.only;
               means = (
                 (λ i. record ue { core = nothing.1 i; slot = r.means.1 i; op = Nothing }),
                 nothing.0,
                 over_both (is_stopped ue.machine.local) (is_ended (local_next ue.machine.local)) (is_none ue.slot.to) ended (ap (λ (o : Option ℕ). is_none o) r.means.0),
                 idle,
               );
+              heap = r.rest.heap;
               drafts = none_stored s.seat.setup ue.core r.events r.no_drafts;
               held = r.held;
             };

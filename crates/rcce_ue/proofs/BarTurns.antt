@@ -8,8 +8,10 @@ use Rattle.scc_base.specs.Places.{WordAt, line_of_word}
 use Rattle.scc_base.specs.Setups.{SetupView, place_of, size_of}
 use Rattle.scc_base.specs.declared.events.Event.{Event}
 use Rattle.scc_base.specs.declared.events.Spot.{Spot}
+use Rattle.scc_base.specs.declared.events.Spot.TheVariants.{Flag}
 use Rattle.scc_base.specs.declared.events.Turn.{Turn}
 use Rattle.scc_base.specs.declared.events.Turn.TheVariants as turn
+use Rattle.scc_base.specs.declared.layouts.Layout.{Layout}
 use Rattle.scc_proto.specs.Drafts.{is_draft}
 use Rattle.scc_proto.specs.Ports.{Did, Seat, Sight, record_in}
 use Rattle.scc_proto.specs.Resting.{is_resting}
@@ -20,10 +22,11 @@ use Rattle.put_get.specs.Cores.{Private}
 use Rattle.put_get.specs.Transfers.{load_count}
 use Rattle.sync_flags.specs.Flags.{flag_value}
 use Rattle.sync_flags.specs.Looks.{LooksAt}
-use Rattle.sync_flags.specs.Tries.{NoTry, Vain, Fruitful, Tried}
+use Rattle.sync_flags.specs.Tries.{AtWord, NoTry, Vain, Fruitful, Tried, spot_of}
 use Rattle.send_recv.specs.Ops.{slot_left}
 use Rattle.send_recv.specs.Sending.{SlotStands}
-use Rattle.send_recv.specs.Turns.{IsAtRest, IsSamePost, Last, LastHeld, NoLoad, StoresFromBuffer, is_no_draft}
+use Rattle.send_recv.specs.Tries as tries
+use Rattle.send_recv.specs.Turns.{IsAtRest, IsSamePost, Last, LastHeld, NoLoad, OnlyTries, StoresFromBuffer, is_no_draft}
 use Rattle.send_recv.proofs.Starts.{slot_stays}
 use Rattle.barrier.specs.Flags.{value_at}
 use Rattle.barrier.specs.Stages.{BarAt, BarStands, IsAtStage, aim_at, bar_call, is_finished, left_by, meeting}
@@ -120,6 +123,29 @@ rests_by seat comm (stage.Release released) value s t c d events spot did does t
 rests_by seat comm stage.Await value s t c d events spot did does tried = looked_rests s t c d events _ does.0 did does.1
 rests_by seat comm stage.Finished value s t c d events spot did does tried = absurd (no_try events spot tried)
 
+-- and has done nothing else
+spot_here : (place : WordAt) (value : ℕ) (events : List Event) (spot : Spot) → Tried (Some (AtWord place value)) events (Some spot) → Flag place 0 ≡ spot
+spot_here place value events spot (NoTry none waits) = absurd (cc)
+spot_here place value events spot (Vain at is one vain waits) =
+    let aim : AtWord place value ≡ at = cc in
+    let there : spot ≡ spot_of at = cc in
+    sym (there ∙ ap spot_of (sym aim))
+spot_here place value events spot (Fruitful at is one vain waits) = absurd (cc)
+
+looked_only : (layout : Layout) (s t : Sight) (c d : Private) (events : List Event) (place : WordAt) (value found : ℕ) (spot : Spot) → Did s events t → LooksAt s c place found t d
+    → Tried (Some (AtWord place value)) events (Some spot) → OnlyTries (tries.aim_at layout (Some spot)) events
+looked_only layout s t c d events place value found spot did looks tried =
+    subst (λ (at : Spot). OnlyTries (tries.aim_at layout (Some at)) events) (spot_here place value events spot tried)
+    (looks.words, same_events s t events (loads_of (line_of_word place) looks.words) did looks.looks.did)
+
+only_by : (seat : Seat) (comm : ℕ) (at : BarStage) (value : ℕ) (s t : Sight) (c d : Private) (events : List Event) (spot : Spot) → Did s events t → Does seat comm at value s c t d
+    → Tried (aim_at seat comm at value) events (Some spot) → OnlyTries (tries.aim_at seat.setup.layout (Some spot)) events
+only_by seat comm stage.Flip value s t c d events spot did does tried = absurd (no_try events spot tried)
+only_by seat comm (stage.Gather seen) value s t c d events spot did does tried = looked_only seat.setup.layout s t c d events _ value does.0 spot did does.1 tried
+only_by seat comm (stage.Release released) value s t c d events spot did does tried = absurd (no_try events spot tried)
+only_by seat comm stage.Await value s t c d events spot did does tried = looked_only seat.setup.layout s t c d events _ value does.0 spot did does.1 tried
+only_by seat comm stage.Finished value s t c d events spot did does tried = absurd (no_try events spot tried)
+
 -- no word of a message is stored
 drafted_more : (first some all : Bool) → (first || some) ≡ false → (some ≡ false → all ≡ true) → (not first && all) ≡ true
 drafted_more true some all none rest = absurd (cc)
@@ -195,7 +221,9 @@ module _ (ue : UeView) (s t : Sight) (op : BarAt) (tied : Tied (record ue { op =
         program = (refl, refl, refl);
         tried = r.tried;
         rests = λ spot same. absurd (cc);
+        only = tt;
         means = (unless_falls (is_stopped ue.machine.local) _ _ on less, not_over (record ue { op = Meeting op }) on (not_ended op (local_next ue.machine.local) of_next));
+        heap = r.rest.heap;
         drafts = drafts_here turn.Moved r;
         held = held_here turn.Moved r;
       };
@@ -219,7 +247,9 @@ module _ (ue : UeView) (s t : Sight) (op : BarAt) (tied : Tied (record ue { op =
             program = (refl, refl, refl);
             tried = r.tried;
             rests = λ at same. rests_by s.seat op.comm op.stage (flag_value (value_at values op.comm)) s t ue.core d r.events spot r.did r.does r.tried;
+            only = only_by s.seat op.comm op.stage (flag_value (value_at values op.comm)) s t ue.core d r.events spot r.did r.does r.tried;
             means = (still, ap left_of still, at_rest (record_in s) (record_in t) r.means.1, not_over (record ue { op = Meeting op }) on (not_ended op (local_next ue.machine.local) of_next), not_going op (local_next ue.machine.local) of_next);
+            heap = r.rest.heap;
             drafts = drafts_here (turn.Waiting spot) r;
             held = held_here (turn.Waiting spot) r;
           };
@@ -265,6 +295,7 @@ module _ (ue : UeView) (s t : Sight) (op : BarAt) (tied : Tied (record ue { op =
               program = (refl, refl, refl);
               tried = r.tried;
               rests = λ spot same. absurd (cc);
+              only = tt;
               means = (
                 let most = entered_left (record ue { machine = record ue.machine { local = v }; core = d; parity = values }) (begun_at ue.machine v tied.begun) in
                     let rest = falls ue.machine.setup ue.machine.rank ue.machine.local (Bars comm v) is in
@@ -274,6 +305,7 @@ module _ (ue : UeView) (s t : Sight) (op : BarAt) (tied : Tied (record ue { op =
                     omega (arith, most, less),
                 not_over (record ue { op = Meeting op }) on (not_ended op (local_next ue.machine.local) of_next),
               );
+              heap = r.rest.heap;
               drafts = drafts_here turn.Done r;
               held = held_here turn.Done r;
             };

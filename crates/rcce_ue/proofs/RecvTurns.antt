@@ -121,7 +121,9 @@ module _ (ue : UeView) (s t : Sight) (op : RecvAt) (tied : Tied (record ue { op 
         program = (refl, refl, refl);
         tried = r.tried;
         rests = λ spot same. absurd (cc);
+        only = tt;
         means = (unless_falls (is_stopped ue.machine.local) _ _ on less, not_over (record ue { op = Receiving op }) on (not_ended op (local_next ue.machine.local) of_next));
+        heap = r.rest.heap;
         drafts = none_stored s.seat.setup ue.core r.events r.no_drafts;
         held = r.held;
       };
@@ -144,7 +146,9 @@ module _ (ue : UeView) (s t : Sight) (op : RecvAt) (tied : Tied (record ue { op 
             program = (refl, refl, refl);
             tried = r.tried;
             rests = λ at same. r.rests spot refl;
+            only = r.only;
             means = (still, ap left_of still, r.means.2, not_over (record ue { op = Receiving op }) on (not_ended op (local_next ue.machine.local) of_next), not_going op (local_next ue.machine.local) of_next);
+            heap = r.rest.heap;
             drafts = none_stored s.seat.setup ue.core r.events r.no_drafts;
             held = r.held;
           };
@@ -202,6 +206,7 @@ module _ (ue : UeView) (s t : Sight) (op : RecvAt) (tied : Tied (record ue { op 
               program = (refl, refl, refl);
               tried = r.tried;
               rests = λ spot same. absurd (cc);
+              only = tt;
               means = (
                 let most = entered_left (record ue { machine = record ue.machine { local = take_in bytes }; core = d; inbox = inbox }) (begun_at ue.machine (take_in bytes) tied.begun) in
                     let rest = falls ue.machine.setup ue.machine.rank ue.machine.local (Recvs from head take_in refuse) is bytes long in
@@ -211,6 +216,7 @@ module _ (ue : UeView) (s t : Sight) (op : RecvAt) (tied : Tied (record ue { op 
                     omega (arith, most, less),
                 not_over (record ue { op = Receiving op }) on (not_ended op (local_next ue.machine.local) of_next),
               );
+              heap = r.rest.heap;
               drafts = none_stored s.seat.setup ue.core r.events r.no_drafts;
               held = r.held;
             };
@@ -254,10 +260,12 @@ module _ (ue : UeView) (s t : Sight) (op : RecvAt) (tied : Tied (record ue { op 
               program = (refl, refl, refl);
               tried = r.tried;
               rests = λ spot same. absurd (cc);
+              only = tt;
               means = (
                 gone _ _ (is_stopped (refuse sent)) (refused_stops ue.machine.local from head sent take_in refuse is) (unless_below (is_stopped ue.machine.local) 0 _ on (omega arith)),
                 not_over (record ue { op = Receiving op }) on (not_ended op (local_next ue.machine.local) of_next),
               );
+              heap = r.rest.heap;
               drafts = none_stored s.seat.setup ue.core r.events r.no_drafts;
               held = r.held;
             };

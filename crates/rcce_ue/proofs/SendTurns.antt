@@ -120,7 +120,9 @@ module _ (ue : UeView) (s t : Sight) (op : SendAt) (tied : Tied (record ue { op 
         program = (refl, refl, refl);
         tried = r.tried;
         rests = r.rests;
+        only = r.only;
         means = (unless_falls (is_stopped ue.machine.local) _ _ on less, not_over (record ue { op = Sending op }) on (not_ended op (local_next ue.machine.local) of_next));
+        heap = r.rest.heap;
         drafts = r.drafts;
         held = r.held;
       };
@@ -144,7 +146,9 @@ module _ (ue : UeView) (s t : Sight) (op : SendAt) (tied : Tied (record ue { op 
             program = (refl, refl, refl);
             tried = r.tried;
             rests = r.rests;
+            only = r.only;
             means = (still, ap left_of still, r.means.2, not_over (record ue { op = Sending op }) on (not_ended op (local_next ue.machine.local) of_next), not_going op (local_next ue.machine.local) of_next);
+            heap = r.rest.heap;
             drafts = r.drafts;
             held = r.held;
           };
@@ -205,6 +209,7 @@ module _ (ue : UeView) (s t : Sight) (op : SendAt) (tied : Tied (record ue { op 
               program = (refl, refl, refl);
               tried = r.tried;
               rests = λ spot same. absurd (cc);
+              only = tt;
               means = (
                 let most = entered_left (record ue { machine = record ue.machine { local = v }; core = d; slot = after; posted = Some (on_its_way message); sent = counted (ue.sent + 1); sent_bytes = counted (ue.sent_bytes + length message.bytes) }) (begun_at ue.machine v tied.begun) in
                     let less = done_left v (message_bound ue.machine.setup.layout message.head.len) (falls ue.machine.setup ue.machine.rank ue.machine.local (Posts message v) is)
@@ -212,6 +217,7 @@ module _ (ue : UeView) (s t : Sight) (op : SendAt) (tied : Tied (record ue { op 
                     omega (arith, most, less),
                 not_over (record ue { op = Sending op }) on (not_ended op (local_next ue.machine.local) of_next),
               );
+              heap = r.rest.heap;
               drafts = r.drafts;
               held = r.held;
             };
@@ -237,6 +243,7 @@ module _ (ue : UeView) (s t : Sight) (op : SendAt) (tied : Tied (record ue { op 
               program = (refl, refl, refl);
               tried = r.tried;
               rests = λ spot same. absurd (cc);
+              only = tt;
               means = (
                 let most = entered_left (record ue { machine = record ue.machine { local = v }; core = d; slot = after; sent = counted (ue.sent + 1); sent_bytes = counted (ue.sent_bytes + length bytes) }) (begun_at ue.machine v tied.begun) in
                     let less = done_left v (message_bound ue.machine.setup.layout head.len) (falls ue.machine.setup ue.machine.rank ue.machine.local (Sends to head bytes v) is)
@@ -244,6 +251,7 @@ module _ (ue : UeView) (s t : Sight) (op : SendAt) (tied : Tied (record ue { op 
                     omega (arith, most, less),
                 not_over (record ue { op = Sending op }) on (not_ended op (local_next ue.machine.local) of_next),
               );
+              heap = r.rest.heap;
               drafts = r.drafts;
               held = r.held;
             };

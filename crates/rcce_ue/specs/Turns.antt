@@ -11,7 +11,7 @@ use Rattle.send_recv.specs.Ops.{SlotAt}
 use Rattle.send_recv.specs.Receiving.{recv_spot}
 use Rattle.send_recv.specs.Sending.{send_spot, slot_spot}
 use Rattle.send_recv.specs.Tries.{aim_at}
-use Rattle.send_recv.specs.Turns.{IsAtRest, LastHeld, StoresFromBuffer, waits_at}
+use Rattle.send_recv.specs.Turns.{IsAtRest, LastHeld, OnlyTries, StoresFromBuffer, waits_at}
 use Rattle.sync_flags.specs.Flags.{flag_value}
 use Rattle.sync_flags.specs.Tries.{Aim, Tried}
 use Rattle.barrier.specs.Flags.{value_at}
@@ -70,7 +70,11 @@ pub record UeTurned (ue : UeView) (s : Sight) (now : UeView) (t : Sight) (answer
   pub tried : Tried (ue_aim s.seat ue now.parity) events (waits_at answer)
   -- where it waits, each of its events was a load or a vain take
   pub rests : (spot : Spot) → answer ≡ turn.Waiting spot → list_all is_resting events ≡ true
+  -- where it waits, it made that one try and nothing else
+  pub only : OnlyTries (aim_at s.seat.setup.layout (waits_at answer)) events
   pub means : UeMeans ue s now t answer
+  -- it stores nothing on the heap
+  pub heap : (record_in t).heap ≡ (record_in s).heap
   -- each header or chunk word that it stored stood in the buffer before
   pub drafts : StoresFromBuffer s.seat.setup ue.core events
   -- the line that was loaded last stands in the cache, unless lines were evicted
