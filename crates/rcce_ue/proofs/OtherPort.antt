@@ -1,5 +1,5 @@
 -- A UE fits every port of its rank: the same setup, rank and events.
-use Rattle.std.proofs.Common.{◌≡◌, ℕ, Bool, List, None, sym, ap, ◌∙◌, subst, take, sum_by}
+use Rattle.std.proofs.Common.{◌≡◌, ℕ, Bool, List, None, sym, subst, take, sum_by}
 use Rattle.std.specs.List.{count_by}
 use base.Stored.{Gv}
 use Rattle.scc_proto.specs.Ports.{Sight, record_in}

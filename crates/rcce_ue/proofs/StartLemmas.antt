@@ -1,5 +1,5 @@
 -- A UE before its first turn.
-use Rattle.std.proofs.Common.{◌≡◌, ℕ, ◌+◌, ◌≤◌, false, List, [], length, None, refl, sym, ap, ◌∙◌, subst, arith, inl, sum_by}
+use Rattle.std.proofs.Common.{◌≡◌, ℕ, ◌+◌, ◌≤◌, false, List, [], length, None, sym, ap, ◌∙◌, subst, arith, inl, sum_by}
 use Rattle.std.specs.List.{count_by}
 use Rattle.scc_base.specs.Calls.{DataCall}
 use Rattle.scc_proto.specs.Ports.{Sight, record_in}

@@ -1,6 +1,5 @@
 use Rattle.std.proofs.Common.{subst}
 use Rattle.rcce_ue.specs.Standing.{Tied}
-use Rattle.rcce_ue.specs.Ues.{UeView}
 use Rattle.rcce_ue.specs.declared.calls.Open.{Open}
 use Rattle.rcce_ue.proofs.AloneTurns.{free}
 use Rattle.rcce_ue.proofs.laws.free_law.Goals as goal
