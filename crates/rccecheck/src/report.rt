@@ -4,7 +4,8 @@ ghost use Rattle.std.specs.Prelude.{◌≡◌, length, map, IfOk};
 ghost use Rattle.rcce_io.specs.Sending.{Sends, joined};
 ghost use Rattle.script_plain.specs.Matches.{plain_matches};
 ghost use Rattle.script_plain.specs.Meaning.{keys_of, plain_ends};
-ghost use Rattle.rccecheck.specs.Program.{all_finished, ran_of};
+ghost use Rattle.script_plain.specs.Ends.{all_finished};
+ghost use Rattle.rccecheck.specs.Program.{ran_of};
 ghost use Rattle.rccecheck.specs.Reports.{report_ran};
 ghost use Rattle.rccecheck.specs.Texts.{match_line};
 

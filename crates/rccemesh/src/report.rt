@@ -5,7 +5,7 @@ ghost use Rattle.mesh_load.specs.Mesh.{Link, carried};
 ghost use Rattle.mesh_load.specs.Tables.{load_on};
 ghost use Rattle.script_plain.specs.Matches.{plain_matches};
 ghost use Rattle.script_plain.specs.Meaning.{plain_ends};
-ghost use Rattle.rccemesh.specs.Program.{all_finished};
+ghost use Rattle.script_plain.specs.Ends.{all_finished};
 ghost use Rattle.rccemesh.specs.Reports.{IsReportOf};
 
 use crate::lines::write_mesh;
