@@ -5,6 +5,7 @@ use Rattle.scc_base.specs.declared.events.Spot.{Spot}
 use Rattle.scc_proto.specs.Words.{are_peers}
 use Rattle.scc_proto.specs.Ports.{Sight, record_in}
 use Rattle.put_get.specs.Cores.{Private}
+use Rattle.sync_flags.specs.Tries.{Aim}
 use Rattle.send_recv.specs.Ops.{RecvAt, SendAt, SlotAt}
 use Rattle.send_recv.specs.Receiving.{RecvStands}
 use Rattle.send_recv.specs.Sending.{SlotStands, SendStands}
