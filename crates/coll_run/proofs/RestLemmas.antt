@@ -166,8 +166,8 @@ module _ (more : More) (len : ℕ) (s : SetupView) (memory : Memory) (lists : �
   none_open k low = by (members k).op.stage refl (h.stands k low).stands.at
     where
       by : (st : Stage) → (members k).op.stage ≡ st → At k st → passed_open s k (recs k).stage recs ≡ []
-      by Own is at = subst (λ (rec : Record). passed_open s k rec.stage recs ≡ []) (same_record k) (idle_open k (record_in (sight_of s k (lists k))) at.1.stage)
-      by Between is at = subst (λ (rec : Record). passed_open s k rec.stage recs ≡ []) (same_record k) (idle_open k (record_in (sight_of s k (lists k))) at.stage)
+      by Own is at = subst (λ (rec : Record). passed_open s k rec.stage recs ≡ []) (same_record k) (idle_open k (record_in (sight_of s k (lists k))) at.1.between.stage)
+      by Between is at = subst (λ (rec : Record). passed_open s k rec.stage recs ≡ []) (same_record k) (idle_open k (record_in (sight_of s k (lists k))) at.between.stage)
       by (Sending call op) is at =
           ⊎_elim
           (λ (slot : SlotWaits view k (recs k)). idle_open k (recs k) slot.stage)
