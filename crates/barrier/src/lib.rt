@@ -8,8 +8,6 @@ mod laws;
 mod ops;
 mod parities;
 mod stages;
-#[cfg(test)]
-mod tests;
 
 pub use barriers::{BarStop, barrier};
 pub use laws::{bar_bound_law, begins_law, ends_law, goes_on_law};

@@ -12,7 +12,7 @@ use scc_proto::Port;
 const LINE: u8 = 240;
 
 /// Which accesses are made.
-#[derive(Clone, Copy)]
+#[derive(Clone, Copy, Debug)]
 pub enum Kind {
     Loads,
     Stores,

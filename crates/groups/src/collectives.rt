@@ -16,7 +16,7 @@ pub enum Coll {
 
 /// A step of a collective call, over two work buffers of the unit of execution: the accumulator and the
 /// buffer of received bytes (this project's profile).
-#[derive(Debug, Drop, PartialEq, Eq)]
+#[derive(Drop, PartialEq, Eq)]
 pub enum Step {
     /// The source register's bytes go into the accumulator.
     Begin,

@@ -11,7 +11,7 @@ use std::marker::Model;
 const MOST_LINES: usize = 512;
 
 /// A line that is held, with its four words.
-#[derive(Debug, Drop)]
+#[derive(Drop)]
 pub struct Entry {
     pub line: Line,
     pub words: [u64; 4],
@@ -44,7 +44,7 @@ impl Default for Entry {
 /// The lines that a core holds for itself, in the order in which they were brought in.
 ///
 /// Nothing tells it that a held line changed at its core: what it holds may be old.
-#[derive(Debug, Drop)]
+#[derive(Drop)]
 pub struct Cache {
     entries: ArrayVec<Entry, 512>,
 }

@@ -36,7 +36,7 @@ pub trait Evict {
 }
 
 /// The evictor that drops nothing.
-#[derive(Clone, Copy, Debug)]
+#[derive(Clone, Copy)]
 pub struct Never;
 
 impl Evict for Never {
@@ -63,7 +63,7 @@ impl Evict for Never {
 
 /// The evictor that a seed starts: one word of the generator for each question, and on average one line in
 /// four leaves.
-#[derive(Debug, Drop)]
+#[derive(Drop)]
 pub struct Seeded {
     generator: Pcg32,
     count: u64,
@@ -121,7 +121,7 @@ impl Evict for Seeded {
 }
 
 /// Either of the evictors that a run is given.
-#[derive(Debug, Drop)]
+#[derive(Drop)]
 pub enum Choice {
     /// No line is dropped but by a full cache.
     Never,
@@ -157,7 +157,7 @@ impl Evict for Choice {
 }
 
 /// The evictor that drops the oldest line at every fill.
-#[derive(Debug, Drop)]
+#[derive(Drop)]
 pub struct Always {
     count: u64,
 }

@@ -12,7 +12,7 @@ use thiserror::Error;
 const LINE_BYTES: usize = 32;
 
 /// Some lines of the heap that follow each other.
-#[derive(Clone, Copy, Debug, Default, PartialEq, Eq)]
+#[derive(Clone, Copy, Default, PartialEq, Eq)]
 pub struct Run {
     pub first: u8,
     pub lines: u8,
@@ -36,7 +36,7 @@ pub enum MallocFault {
 ///
 /// All units of execution that make the same calls get the same buffers, so a buffer is at one place on all
 /// cores. It is seen as the runs that are free, in order, and the buffers that are out.
-#[derive(Debug, Drop)]
+#[derive(Drop)]
 pub struct Heap {
     free: Runs,
     out: Runs,

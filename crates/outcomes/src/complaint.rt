@@ -8,7 +8,7 @@ use crate::Status;
 use rcce_io::{Sink, WriteFault, write_texts};
 
 /// Why a program did not run.
-#[derive(Clone, Copy, Debug)]
+#[derive(Clone, Copy)]
 pub enum Complaint<'a> {
     /// The words are refused: the fault, the word that has it, what is said between, and its value.
     Words {

@@ -1,7 +1,7 @@
 use rcce_io::{Sink, TextSource, WriteFault, write_all};
 
 /// A piece of a line. No memory is taken for its text.
-#[derive(Clone, Copy, Debug)]
+#[derive(Clone, Copy)]
 pub enum Piece<'a> {
     Text(&'a str),
     /// A number in decimal digits.

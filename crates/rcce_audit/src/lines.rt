@@ -11,21 +11,21 @@ use script_reader::Bytes;
 use std::alloc::{AllocError, Global};
 
 /// A call with its rank.
-#[derive(Debug, Drop)]
+#[derive(Drop)]
 pub(crate) struct RankCall {
     pub(crate) rank: Rank,
     pub(crate) call: LogCall,
 }
 
 /// A communicator that is a split, with its rule.
-#[derive(Clone, Copy, Debug)]
+#[derive(Clone, Copy)]
 pub(crate) struct CommSplit {
     pub(crate) comm: u8,
     pub(crate) rule: CommRule,
 }
 
 /// The two ranks of a message: the caller's and its peer's.
-#[derive(Clone, Copy, Debug)]
+#[derive(Clone, Copy)]
 pub(crate) struct EndRanks {
     pub(crate) rank: Rank,
     pub(crate) peer: Rank,

@@ -8,7 +8,7 @@ use script_reader::Bytes;
 use std::marker::Model;
 
 /// A call with the bytes that it moved.
-#[derive(Debug, Drop)]
+#[derive(Drop)]
 pub enum LogCall {
     Send {
         to: Rank,

@@ -2,7 +2,7 @@ ghost use Rattle.std.specs.Prelude.{◌<◌, length, IsTrue};
 ghost use Rattle.rcce_io.specs.Files.{FilesView, Opens, Reads};
 
 /// What an `open` answers.
-#[derive(Clone, Copy, Debug, PartialEq, Eq)]
+#[derive(Clone, Copy, PartialEq, Eq)]
 pub enum Opened {
     Open,
     /// No file of that name is found.
@@ -11,7 +11,7 @@ pub enum Opened {
 }
 
 /// What a `read` answers.
-#[derive(Clone, Copy, Debug, PartialEq, Eq)]
+#[derive(Clone, Copy, PartialEq, Eq)]
 pub enum Got {
     /// How many bytes stand at the front of the buffer.
     Bytes(usize),

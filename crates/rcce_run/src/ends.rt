@@ -1,7 +1,7 @@
 //! How a run ends.
 
 /// How a run ended.
-#[derive(Clone, Copy, Debug, PartialEq, Eq)]
+#[derive(Clone, Copy, PartialEq, Eq)]
 pub enum RunEnd {
     /// Every rank has finished.
     Finished,

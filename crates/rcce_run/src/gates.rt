@@ -9,7 +9,7 @@ pub trait Gate {
 }
 
 /// The gate that lets every rank pass at once.
-#[derive(Debug, Drop)]
+#[derive(Drop)]
 pub struct Open;
 
 impl Gate for Open {

@@ -8,7 +8,7 @@ use crate::ends::RunEnd;
 use scc_base::Turn;
 
 /// What one turn or several came to.
-#[derive(Clone, Copy, Debug, PartialEq, Eq)]
+#[derive(Clone, Copy, PartialEq, Eq)]
 pub enum Rest {
     /// Some rank moved.
     Moved,

@@ -11,14 +11,14 @@ use crate::said::Said;
 use outcomes::Complaint;
 
 /// What is to run: a script's file, by the number of the word that names it, or a script that is made from a seed.
-#[derive(Clone, Copy, Debug, PartialEq, Eq)]
+#[derive(Clone, Copy, PartialEq, Eq)]
 pub enum Work {
     Script(usize),
     Gen(u32),
 }
 
 /// What the words ask for. Words are numbered from 0.
-#[derive(Clone, Copy, Debug, PartialEq, Eq)]
+#[derive(Clone, Copy, PartialEq, Eq)]
 pub struct Job {
     /// The number of units of execution, 1 to 48.
     pub nue: u8,

@@ -5,7 +5,7 @@ use scc_base::CoreId;
 use std::marker::Model;
 
 /// Cores in order, none of them twice. It is seen as the list of their numbers.
-#[derive(Debug, Drop)]
+#[derive(Drop)]
 pub(crate) struct Cores {
     numbers: ArrayVec<u8, 48>,
 }

@@ -8,7 +8,7 @@ use crate::flags::{Flag, flag_of};
 use outcomes::{is_option, number_in};
 
 /// What was given of each option, and the number of the word that names the script.
-#[derive(Clone, Copy, Debug)]
+#[derive(Clone, Copy)]
 pub(crate) struct Said {
     pub(crate) nue: Option<u32>,
     pub(crate) hosts: Option<usize>,

@@ -1,15 +1,7 @@
 //! `rcceaudit`: tells whether the calls of a log are legal, and writes the log of a run.
 #![tactic(auto)]
 
-mod command;
-mod launcher;
-mod logged;
-mod logging;
-mod report;
-#[cfg(test)]
-mod tests;
-
-use launcher::rcceaudit;
+use audit_program::rcceaudit;
 use rcce_io::{HostFiles, StdSink};
 use scc_mesh::Chip;
 use std::env;

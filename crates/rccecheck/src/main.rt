@@ -1,18 +1,7 @@
 //! `rccecheck`: says which messages of a script come, and who waits for whom where it does not finish.
 #![tactic(auto)]
 
-mod cause;
-mod command;
-mod launcher;
-mod lines;
-mod report;
-#[cfg(test)]
-mod tests;
-mod trouble;
-mod waiting;
-mod walking;
-
-use launcher::rccecheck;
+use check_program::rccecheck;
 use rcce_io::{HostFiles, StdSink};
 use std::env;
 use std::process::ExitCode;

@@ -1,16 +1,7 @@
 //! `rccecoll`: runs one gather, scatter, allgather or alltoall over the chip.
 #![tactic(auto)]
 
-mod command;
-mod launcher;
-mod lines;
-mod report;
-mod team;
-#[cfg(test)]
-mod tests;
-mod writing;
-
-use launcher::rccecoll;
+use coll_program::rccecoll;
 use rcce_io::StdSink;
 use scc_mesh::Chip;
 use std::env;

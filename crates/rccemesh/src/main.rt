@@ -1,15 +1,7 @@
 //! `rccemesh`: says how many lines each link of the mesh carries for the messages of a script.
 #![tactic(auto)]
 
-mod command;
-mod cores;
-mod launcher;
-mod lines;
-mod report;
-#[cfg(test)]
-mod tests;
-
-use launcher::rccemesh;
+use mesh_program::rccemesh;
 use rcce_io::{HostFiles, StdSink};
 use std::env;
 use std::process::ExitCode;

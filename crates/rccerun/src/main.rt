@@ -1,32 +1,9 @@
 //! `rccerun`: runs a script of messages between units of execution, and prints what they print.
 #![tactic(auto)]
 
-#[cfg(test)]
-mod asked;
-mod counts;
-mod crew;
-mod endings;
-#[cfg(test)]
-mod faults;
-mod launcher;
-mod lines;
-mod loaded;
-mod loading;
-#[cfg(test)]
-mod made;
-mod pieces;
-mod report;
-mod run;
-#[cfg(test)]
-mod runs;
-#[cfg(test)]
-mod tests;
-#[cfg(test)]
-mod together;
-
-use launcher::rccerun;
 use rcce_io::{HostFiles, StdSink};
 use rcce_run::Open;
+use run_program::rccerun;
 use scc_mesh::Chip;
 use std::env;
 use std::process::ExitCode;

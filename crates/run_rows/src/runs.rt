@@ -18,7 +18,7 @@ use std::test::Fail;
 use std::thread::Threads;
 
 /// A script for some ranks, and what it comes to.
-#[derive(Clone, Copy, Debug)]
+#[derive(Clone, Copy)]
 pub(crate) struct Row<'a> {
     pub(crate) shows: &'a str,
     pub(crate) nue: u8,

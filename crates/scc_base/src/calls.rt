@@ -4,7 +4,7 @@ use crate::heads::{Head, PostHead};
 use crate::names::Rank;
 
 /// A call of a unit of execution without its bytes (RCCE specification 2.0; a post is this project's own).
-#[derive(Debug, Drop, PartialEq, Eq)]
+#[derive(Drop, PartialEq, Eq)]
 pub enum Call {
     /// A synchronous send: it ends when the receiver has taken the last chunk.
     Send { to: Rank, head: Head },

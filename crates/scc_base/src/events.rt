@@ -4,7 +4,7 @@ use crate::names::CoreId;
 use crate::places::Place;
 
 /// How an event touches its word.
-#[derive(Clone, Copy, Debug, PartialEq, Eq)]
+#[derive(Clone, Copy, PartialEq, Eq)]
 pub enum Access {
     /// A load of a buffer word, with the value answered.
     Load,
@@ -21,7 +21,7 @@ pub enum Access {
 ///
 /// For a take and a free the place is line 0, word 0 of the register's core and means the register. A take
 /// has the value 1 where it took the register and 0 where it found it taken. A free has the value 0.
-#[derive(Debug, Drop, PartialEq, Eq)]
+#[derive(Drop, PartialEq, Eq)]
 pub struct Event {
     pub access: Access,
     pub place: Place,
@@ -100,7 +100,7 @@ impl Spot {
 }
 
 /// What one turn of an operation came to.
-#[derive(Debug, Drop, PartialEq, Eq)]
+#[derive(Drop, PartialEq, Eq)]
 pub enum Turn {
     /// It went on, and is not at its end.
     Moved,

@@ -5,7 +5,7 @@ use std::marker::Model;
 
 /// What the first line of a message says of it: its kind, its communicator and its length in bytes.
 /// A length is at most 65,536, and a plain message belongs to the world, communicator 0.
-#[derive(Clone, Copy, Debug, PartialEq, Eq)]
+#[derive(Clone, Copy, PartialEq, Eq)]
 pub struct Head {
     kind: Kind,
     comm: u8,
@@ -90,7 +90,7 @@ impl Head {
 
 /// The head of a message that is posted: a plain head with at most 3,584 bytes, so that the message is
 /// one chunk in either layout.
-#[derive(Clone, Copy, Debug, PartialEq, Eq)]
+#[derive(Clone, Copy, PartialEq, Eq)]
 pub struct PostHead {
     len: u32,
 }

@@ -16,7 +16,7 @@ use crate::places::FlagAt;
 ///
 /// In both, line 0 is the header, lines 225 to 255 are the heap, and the gather and release flags of
 /// communicators 8 to 15 stand in word 1 of the lines of communicators 0 to 7.
-#[derive(Clone, Copy, Debug, PartialEq, Eq)]
+#[derive(Clone, Copy, PartialEq, Eq)]
 pub enum Layout {
     LineFlags,
     BitFlags,

@@ -4,7 +4,7 @@ use crate::names::CoreId;
 use std::marker::Model;
 
 /// A line of a core's message passing buffer: 32 bytes, one of 256 (SCC External Architecture Specification).
-#[derive(Clone, Copy, Debug, PartialEq, Eq)]
+#[derive(Clone, Copy, PartialEq, Eq)]
 pub struct Line {
     core: u8,
     line: u8,
@@ -148,7 +148,7 @@ impl Place {
 }
 
 /// Where a flag lies at whichever core holds it.
-#[derive(Clone, Copy, Debug, PartialEq, Eq)]
+#[derive(Clone, Copy, PartialEq, Eq)]
 pub struct FlagAt {
     line: u8,
     word: u8,
@@ -210,7 +210,7 @@ impl FlagAt {
 }
 
 /// A run of at least one heap line, at the same numbers on every core (RCCE's symmetric allocation).
-#[derive(Clone, Copy, Debug, PartialEq, Eq)]
+#[derive(Clone, Copy, PartialEq, Eq)]
 pub struct Buf {
     first: u8,
     lines: u8,

@@ -13,7 +13,7 @@ use std::alloc::Global;
 use std::test::Fail;
 
 /// What a rank is to do with a message.
-#[derive(Clone, Copy, Debug, PartialEq, Eq)]
+#[derive(Clone, Copy, PartialEq, Eq)]
 pub(crate) enum Deed {
     Send,
     Post,

@@ -7,7 +7,7 @@ ghost use Rattle.script_gen.specs.Pieces.{piece_text};
 use std::alloc::AllocError;
 
 /// A piece of a text.
-#[derive(Clone, Copy, Debug)]
+#[derive(Clone, Copy)]
 pub enum Piece {
     Text(&'static str),
     Number(u32),

@@ -12,7 +12,7 @@ use std::alloc::{AllocError, Global};
 use std::marker::Model;
 
 /// How the run of a rank ended.
-#[derive(Debug, Drop, PartialEq, Eq)]
+#[derive(Drop, PartialEq, Eq)]
 pub enum UeEnd {
     /// Its program is done.
     Finished,
@@ -59,7 +59,7 @@ impl UeEnd {
 }
 
 /// What a rank's run leaves behind.
-#[derive(Debug, Drop)]
+#[derive(Drop)]
 pub struct Rest {
     how: UeEnd,
     items: Prints,
@@ -75,7 +75,7 @@ impl Model for Rest {
 }
 
 /// What the run of a script leaves behind: no rank can take a step.
-#[derive(Debug, Drop)]
+#[derive(Drop)]
 pub struct End {
     ranks: Vec<Rest>,
 }

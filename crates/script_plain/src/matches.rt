@@ -18,7 +18,7 @@ use std::marker::Model;
 
 /// A message that came to its receiver: from which rank to which, its head, and the lines of the statements that sent and
 /// received it.
-#[derive(Clone, Copy, Debug, PartialEq, Eq)]
+#[derive(Clone, Copy, PartialEq, Eq)]
 pub struct Match {
     pub from: Rank,
     pub to: Rank,
@@ -28,7 +28,7 @@ pub struct Match {
 }
 
 /// The messages of a run, in the order in which they came. There is room for 2^40.
-#[derive(Debug, Drop)]
+#[derive(Drop)]
 pub struct Matches {
     list: Vec<Match>,
 }

@@ -10,7 +10,7 @@ use std::marker::Model;
 
 /// A message that its sender left behind and that nobody took yet: for which rank, its head and bytes, and the line of
 /// the statement that posted it.
-#[derive(Debug, Drop)]
+#[derive(Drop)]
 pub struct Posted {
     pub to: Rank,
     pub head: PostHead,
@@ -19,7 +19,7 @@ pub struct Posted {
 }
 
 /// A message that was posted and not taken yet, without its bytes.
-#[derive(Clone, Copy, Debug)]
+#[derive(Clone, Copy)]
 pub struct OnItsWay {
     pub line: u32,
     pub to: Rank,
@@ -27,7 +27,7 @@ pub struct OnItsWay {
 }
 
 /// A message that was posted and not taken yet. It has as many bytes as its head says.
-#[derive(Debug, Drop)]
+#[derive(Drop)]
 pub struct Left {
     message: Posted,
 }

@@ -16,7 +16,7 @@ use scc_base::{CommRule, Head, Rank, Setup};
 use script_reader::{Bytes, Form, Stmt};
 
 /// The bytes that a register is set to.
-#[derive(Clone, Copy, Debug)]
+#[derive(Clone, Copy)]
 pub enum Content<'s> {
     Bytes(&'s Bytes),
     /// This many bytes, of which byte i is `(start + i) mod 251`.
@@ -26,14 +26,14 @@ pub enum Content<'s> {
 }
 
 /// What a send takes its bytes from.
-#[derive(Clone, Copy, Debug, PartialEq, Eq)]
+#[derive(Clone, Copy, PartialEq, Eq)]
 pub enum Source {
     Own { reg: u8 },
     Accumulator,
 }
 
 /// What a primitive does.
-#[derive(Debug, Drop)]
+#[derive(Drop)]
 pub enum Action<'s> {
     Set {
         reg: u8,
@@ -88,14 +88,14 @@ pub enum Action<'s> {
 }
 
 /// A primitive with the line of its statement, counted from 1.
-#[derive(Debug, Drop)]
+#[derive(Drop)]
 pub struct Primitive<'s> {
     pub line: u32,
     pub action: Action<'s>,
 }
 
 /// Whether a rank goes on: not where a message came that has another head than the receive of this line asked for.
-#[derive(Debug, Drop)]
+#[derive(Drop)]
 pub enum Standing {
     Running,
     Mismatched {
@@ -107,7 +107,7 @@ pub enum Standing {
 }
 
 /// The registers and the values of a collective call, and the register whose length its receives ask for.
-#[derive(Clone, Copy, Debug)]
+#[derive(Clone, Copy)]
 pub struct Operands {
     pub op: Op,
     pub ty: Ty,
@@ -117,14 +117,14 @@ pub struct Operands {
 }
 
 /// A collective call of a statement.
-#[derive(Clone, Copy, Debug)]
+#[derive(Clone, Copy)]
 pub struct Collective {
     pub coll: Coll,
     pub operands: Operands,
 }
 
 /// What a statement does to the repeats.
-#[derive(Clone, Copy, Debug, PartialEq, Eq)]
+#[derive(Clone, Copy, PartialEq, Eq)]
 pub enum Nesting {
     /// It opens one.
     Opens(u32),

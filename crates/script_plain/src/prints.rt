@@ -7,7 +7,7 @@ use std::alloc::{AllocError, Global};
 use std::marker::Model;
 
 /// A printed register: which one, in which form, and where its bytes stand among the printed bytes.
-#[derive(Clone, Copy, Debug)]
+#[derive(Clone, Copy)]
 pub struct Entry {
     pub reg: u8,
     pub form: Form,
@@ -17,7 +17,7 @@ pub struct Entry {
 
 /// The items that a rank printed: their bytes one behind the other, and a table of the items. There is room for all that
 /// the rank will print.
-#[derive(Debug, Drop)]
+#[derive(Drop)]
 pub struct Prints {
     bytes: Vec<u8>,
     table: Vec<Entry>,
@@ -40,7 +40,7 @@ impl Model for Prints {
 }
 
 /// A printed register, lent.
-#[derive(Debug, Drop)]
+#[derive(Drop)]
 pub struct PrintedItem<'p> {
     reg: u8,
     form: Form,

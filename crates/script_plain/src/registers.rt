@@ -19,7 +19,7 @@ pub fn plain_message(len: u32) -> Head
 }
 
 /// The bytes of a register: at most as many as a message may have.
-#[derive(Debug, Drop)]
+#[derive(Drop)]
 pub struct Register {
     bytes: Vec<u8>,
 }

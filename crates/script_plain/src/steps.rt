@@ -21,7 +21,7 @@ use script_reader::Scripts;
 use std::alloc::{AllocError, Global};
 
 /// The step that a rank owns.
-#[derive(Debug, Drop)]
+#[derive(Drop)]
 pub enum Step {
     /// None.
     Stays,

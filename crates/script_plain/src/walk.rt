@@ -15,7 +15,7 @@ use std::collections::VecDeque;
 use std::marker::Model;
 
 /// A repeat that is open: the place of the first item of its body, and how many passes come after this one.
-#[derive(Clone, Copy, Debug)]
+#[derive(Clone, Copy)]
 pub struct Open {
     pub start: usize,
     pub left: u32,
@@ -221,7 +221,7 @@ fn first_of(scripts: &Scripts, rank: Rank) -> usize
 }
 
 /// How far the items of a rank reach: the place behind the last one, and the most repeats that are open at a place.
-#[derive(Clone, Copy, Debug)]
+#[derive(Clone, Copy)]
 struct Reach {
     end: usize,
     depth: usize,

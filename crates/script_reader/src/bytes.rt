@@ -4,7 +4,7 @@ use std::alloc::{AllocError, Global};
 use std::marker::Model;
 
 /// Bytes that own their memory.
-#[derive(Debug, Drop)]
+#[derive(Drop)]
 pub struct Bytes {
     held: Vec<u8>,
 }

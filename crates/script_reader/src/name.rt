@@ -6,7 +6,7 @@ use arrayvec::ArrayString;
 use std::marker::Model;
 
 /// The name of a register, seen as its bytes. It takes no memory.
-#[derive(Debug, Drop)]
+#[derive(Drop)]
 pub(crate) struct Name {
     text: ArrayString<16>,
 }

@@ -19,7 +19,7 @@ use std::marker::Model;
 const MOST_NAMES: usize = 64;
 
 /// Two registers of a statement.
-#[derive(Clone, Copy, Debug)]
+#[derive(Clone, Copy)]
 pub(crate) struct Pair {
     pub(crate) dst: u8,
     pub(crate) src: u8,

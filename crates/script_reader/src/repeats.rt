@@ -13,7 +13,7 @@ pub(crate) const MOST_OPEN: usize = 8;
 const MOST_TURNS: u64 = 100_000;
 
 /// An open repeat: its place among the statements, and how often a statement in it runs.
-#[derive(Clone, Copy, Debug, Default)]
+#[derive(Clone, Copy, Default)]
 pub(crate) struct Open {
     pub(crate) start: u32,
     pub(crate) turns: u32,

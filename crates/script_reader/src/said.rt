@@ -19,7 +19,7 @@ use groups::{Op, Ty};
 use std::alloc::Global;
 
 /// What a line says, before it is held against the lines before it.
-#[derive(Debug, Drop)]
+#[derive(Drop)]
 pub(crate) enum Said {
     /// The version of the language.
     Version,
@@ -32,7 +32,7 @@ pub(crate) enum Said {
 }
 
 /// The ranks of a section line.
-#[derive(Debug, Drop)]
+#[derive(Drop)]
 pub(crate) enum Section {
     All,
     Even,
@@ -41,7 +41,7 @@ pub(crate) enum Section {
 }
 
 /// A statement that a rank does by itself.
-#[derive(Debug, Drop)]
+#[derive(Drop)]
 pub(crate) enum Local {
     Bytes {
         name: Name,
@@ -69,7 +69,7 @@ pub(crate) enum Local {
 }
 
 /// The other rank of a message: a rank, or a distance from the caller.
-#[derive(Clone, Copy, Debug)]
+#[derive(Clone, Copy)]
 pub(crate) enum PeerSaid {
     Abs(u32),
     Plus(u32),
@@ -77,7 +77,7 @@ pub(crate) enum PeerSaid {
 }
 
 /// A statement with a message.
-#[derive(Debug, Drop)]
+#[derive(Drop)]
 pub(crate) enum Message {
     Send {
         peer: PeerSaid,
@@ -95,14 +95,14 @@ pub(crate) enum Message {
 }
 
 /// What a split keeps together: places with one remainder, or with one quotient.
-#[derive(Clone, Copy, Debug)]
+#[derive(Clone, Copy)]
 pub(crate) enum Colour {
     Mod,
     Div,
 }
 
 /// A statement of the groups of a communicator.
-#[derive(Debug, Drop)]
+#[derive(Drop)]
 pub(crate) enum Collective {
     Barrier {
         comm: u32,

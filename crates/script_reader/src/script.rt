@@ -10,7 +10,7 @@ use scc_base::{CommRule, CoreId, Layout, Rank, Setup};
 use std::marker::Model;
 
 /// The ranks of a section.
-#[derive(Debug, Drop)]
+#[derive(Drop)]
 pub enum Who {
     All,
     Even,
@@ -46,7 +46,7 @@ impl Who {
 }
 
 /// The other rank of a message.
-#[derive(Debug, Drop)]
+#[derive(Drop)]
 pub enum Peer {
     Abs(Rank),
     /// So many ranks above the caller, counted round the run.
@@ -77,7 +77,7 @@ impl Peer {
 }
 
 /// How a register is printed.
-#[derive(Clone, Copy, Debug, PartialEq, Eq)]
+#[derive(Clone, Copy, PartialEq, Eq)]
 pub enum Form {
     Hex,
     /// As values of this type.
@@ -86,7 +86,7 @@ pub enum Form {
 
 /// A statement. Registers are numbered from 0 in the order of their first appearance in the file, and lengths count
 /// bytes.
-#[derive(Debug, Drop)]
+#[derive(Drop)]
 pub enum Stmt {
     /// Sets the register to these bytes.
     Bytes {
@@ -177,7 +177,7 @@ pub enum Stmt {
 }
 
 /// A statement with its line, counted from 1, and the ranks of its section.
-#[derive(Debug, Drop)]
+#[derive(Drop)]
 pub struct Item {
     pub line: u32,
     pub who: Who,
@@ -185,7 +185,7 @@ pub struct Item {
 }
 
 /// A script that was read.
-#[derive(Debug, Drop)]
+#[derive(Drop)]
 pub struct Scripts {
     ranks: u8,
     statements: Vec<Item>,

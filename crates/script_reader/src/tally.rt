@@ -17,14 +17,14 @@ pub(crate) const MOST_OPERATIONS: u64 = 100_000;
 pub(crate) const MOST_PRINTED: u64 = 1_048_576;
 
 /// The length that a statement gives a register.
-#[derive(Clone, Copy, Debug)]
+#[derive(Clone, Copy)]
 pub(crate) struct Setting {
     pub(crate) reg: u8,
     pub(crate) len: u64,
 }
 
 /// What the statements of one rank come to. Each sum stops at one more than is allowed.
-#[derive(Debug, Drop)]
+#[derive(Drop)]
 pub(crate) struct Tally {
     pub(crate) operations: u64,
     pub(crate) printed: u64,

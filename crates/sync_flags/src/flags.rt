@@ -12,7 +12,7 @@ use std::marker::Model;
 const FLAG_BYTES: usize = 32;
 
 /// A flag: a word of a line at each core, or one bit of such a word. A word is set where it is 1.
-#[derive(Clone, Copy, Debug, PartialEq, Eq)]
+#[derive(Clone, Copy, PartialEq, Eq)]
 pub struct Flag {
     line: u8,
     word: u8,

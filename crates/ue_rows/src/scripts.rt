@@ -63,7 +63,7 @@ impl<'s, V: Evict + Drop> Player for Runner<'s, V> {
 }
 
 /// How a rank's run ended.
-#[derive(Clone, Copy, Debug, PartialEq, Eq)]
+#[derive(Clone, Copy, PartialEq, Eq)]
 pub(crate) enum End {
     Finished,
     Waits { line: u32 },
@@ -71,7 +71,7 @@ pub(crate) enum End {
 }
 
 /// What is told of a rank: its end, the bytes that it printed, its turns that moved, and what it sent.
-#[derive(Debug, Drop)]
+#[derive(Drop)]
 pub(crate) struct Told {
     pub end: End,
     pub printed: Vec<u8>,

@@ -5,7 +5,7 @@ use std::marker::Model;
 
 /// A line on its way out: its words, and which of them were written. A word that was not written is 0 here
 /// and is not stored.
-#[derive(Debug, Drop)]
+#[derive(Drop)]
 pub struct Out {
     pub line: Line,
     pub words: [u64; 4],
@@ -33,7 +33,7 @@ impl Out {
 }
 
 /// The buffer: it holds nothing, or one line of which some word was written.
-#[derive(Debug, Drop)]
+#[derive(Drop)]
 pub struct Combiner {
     held: Option<Out>,
 }

@@ -1,0 +1,178 @@
+-- What the plan of a run comes to, and what the run leaves on the chip.
+use Rattle.std.proofs.Common.{◌≡◌, ℕ, ◌≤◌, List, length, map, codes, refl, sym, subst, ap, inl, inr, Bool, true, false, if◌then◌else◌, Option, Some, None, Result, Ok, Err}
+use Rattle.std.specs.List.{range_with_len}
+use Rattle.rcce_io.specs.Files.{FilesView, NamedFile}
+use Rattle.scc_base.specs.Setups.{SetupView}
+use Rattle.scc_mesh.specs.Scenes.{ChipView}
+use Rattle.script_reader.specs.Reading.{most_script_bytes, parse_script}
+use Rattle.script_reader.specs.Faults.{kind_name}
+use Rattle.script_reader.specs.declared.fault.ReadFault.{ReadFault}
+use Rattle.script_reader.specs.Script.{Script}
+use Rattle.script_reader.specs.Settled as settled
+use Rattle.outcomes.specs.Coming.{ByTest, Comes, Holds, IsMeant}
+use Rattle.outcomes.specs.Complaints.{ReadsFile, complaint_outcome, outcome_of}
+use Rattle.outcomes.specs.Delivery.{Delivers, Sinks}
+use Rattle.outcomes.specs.Outcomes.{Outcome, Ran, file_refused, no_memory, run_outcome}
+use Rattle.outcomes.specs.Plans.{Plan}
+use Rattle.outcomes.specs.Plans.Plan.{Runs, Refuses}
+use Rattle.outcomes.specs.Statuses.{is_quiet}
+use Rattle.outcomes.specs.declared.complaint.Complaint.{Complaint}
+use Rattle.outcomes.specs.declared.complaint.Complaint.TheVariants as complaint
+use Rattle.outcomes.specs.declared.status.Status.{Status}
+use Rattle.log_run.specs.LogRuns.{HasRun}
+use Rattle.log_run.specs.Sizes.{has_room_for_all}
+use Rattle.audit_program.specs.declared.command.Job.{Job}
+use Rattle.audit_program.specs.declared.logged.Logged.{Logged}
+use Rattle.rcce_audit.specs.declared.verdicts.Verdict.TheVariants as verdict
+use Rattle.rcce_audit.specs.Grammar.{log_of}
+use Rattle.rcce_audit.specs.Logs.{LogView}
+use Rattle.rcce_audit.specs.Texts.{log_text}
+use Rattle.rcce_audit.specs.Verdicts.{IsVerdict}
+use Rattle.audit_program.specs.History.{HasLogged, RunTells, ScriptIn, WordsTell, chip_log, setup_by}
+use Rattle.audit_program.specs.Job.{IsJob, job_command}
+use Rattle.audit_program.specs.Loading.{Ends, HasRan, Launches, Leads, Loads, LoadsBytes, logged_ran}
+use Rattle.audit_program.specs.Program.{Command, command_plan, log_ran, parsed_plan, run_plan, run_words_plan, script_log, script_plan}
+use Rattle.audit_program.proofs.BackLemmas.{judged_legal, read_back}
+
+-- ---- statuses
+
+loud_by : (finished : Bool) (out err : List ℕ) → is_quiet (run_outcome (record { finished = finished; out = out; err = err })).status ≡ false
+loud_by true out err = refl
+loud_by false out err = refl
+
+loud : (ran : Ran) → is_quiet (run_outcome ran).status ≡ false
+loud ran = loud_by ran.finished ran.out ran.err
+
+quiet : (name : List ℕ) (why : Complaint) → is_quiet (complaint_outcome name why).status ≡ true
+quiet name (complaint.Words fault word behind value) = refl
+quiet name complaint.Memory = refl
+quiet name (complaint.Absent file) = refl
+quiet name (complaint.ReadFault file) = refl
+quiet name (complaint.Refused file line kind) = refl
+
+-- ---- the plan of a script
+
+abbrev by_room : List ℕ → Script → Bool → Plan
+by_room file script room = if room then Runs (log_ran script) else Refuses file 0 (codes "TooLong")
+
+memory_by : (name file : List ℕ) (script : Script) (files : FilesView) (room : Bool) → Comes name (by_room file script room) files files (no_memory name)
+memory_by name file script files true = (refl, inr refl)
+memory_by name file script files false = (refl, inr refl)
+
+-- want of memory may stand for a run and for a refusal
+pub comes_memory : (name file : List ℕ) (script : Script) (files : FilesView) → Comes name (run_plan file script) files files (no_memory name)
+comes_memory name file script files = memory_by name file script files (has_room_for_all script)
+
+-- too many calls
+pub comes_refused : (name file : List ℕ) (script : Script) (files : FilesView) → false ≡ has_room_for_all script → Comes name (run_plan file script) files files (file_refused name file 0 (codes "TooLong"))
+comes_refused name file script files full = subst (λ (room : Bool). Comes name (by_room file script room) files files (file_refused name file 0 (codes "TooLong"))) full (refl, inl refl)
+
+-- a run
+pub comes_run : (name file : List ℕ) (script : Script) (files : FilesView) → has_room_for_all script ≡ true → Comes name (run_plan file script) files files (run_outcome (log_ran script))
+comes_run name file script files room = subst (λ (b : Bool). Comes name (by_room file script b) files files (run_outcome (log_ran script))) (sym room) (refl, inl refl)
+
+-- ---- the run
+
+shows_run : (script : Script) (chip : ChipView) → HasLogged script chip
+    → ByTest (is_quiet (run_outcome (log_ran script)).status) (chip ≡ None) ((run_outcome (log_ran script) ≡ run_outcome (log_ran script)) × HasLogged script chip)
+shows_run script chip has =
+    let o : Outcome = run_outcome (log_ran script) in
+    let P : Bool → Type 0 = λ b. ByTest b (chip ≡ None) ((o ≡ o) × HasLogged script chip) in
+    subst P (sym (loud (log_ran script))) (refl, has)
+
+shows_none : (script : Script) (chip : ChipView) (why : Complaint) → chip ≡ None
+    → ByTest (is_quiet (complaint_outcome (codes "rcceaudit") why).status) (chip ≡ None) ((complaint_outcome (codes "rcceaudit") why ≡ run_outcome (log_ran script)) × HasLogged script chip)
+shows_none script chip why blank =
+    let o : Outcome = complaint_outcome (codes "rcceaudit") why in
+    let P : Bool → Type 0 = λ b. ByTest b (chip ≡ None) ((o ≡ run_outcome (log_ran script)) × HasLogged script chip) in
+    subst P (sym (quiet (codes "rcceaudit") why)) blank
+
+pub has_ran : (file : List ℕ) (script : Script) (chip : ChipView) (before after : Sinks) (s : Status) (answer : Result Logged Complaint) → Launches file script chip answer
+    → Delivers (outcome_of (codes "rcceaudit") logged_ran answer) before after s → HasRan file script chip before after s
+has_ran file script chip before after s (Ok logged) (same, room, has) delivers = record {
+  outcome = run_outcome (log_ran script);
+  comes = λ files. comes_run (codes "rcceaudit") file script files room;
+  delivers = subst (λ (x : Script). Delivers (run_outcome (log_ran x)) before after s) same delivers;
+  shows = shows_run script chip has;
+}
+has_ran file script chip before after s (Err why) (comes, blank) delivers = record {
+  outcome = complaint_outcome (codes "rcceaudit") why;
+  comes = comes;
+  delivers = delivers;
+  shows = shows_none script chip why blank;
+}
+
+-- the log of a chip that a script ran on
+pub has_logged : (script : Script) (set : SetupView) (chip : ChipView) → settled.IsWhole script.nue script.items → set ≡ setup_by script → HasRun script set chip → HasLogged script chip
+has_logged script set chip whole same run =
+    let own : HasRun script (setup_by script) chip = subst (λ (s : SetupView). HasRun script s chip) same run in
+    let log : chip_log chip ≡ script_log script =
+    λ i. record { nue = (own.setup i).nue; comms = (own.setup i).comms; lists = map (λ rank. own.finished rank i) (range_with_len 0 48) } in
+    record {
+      run = own;
+      log = log;
+      read = subst (λ (l : LogView). log_of (log_text l) ≡ Ok l) (sym log) (read_back script chip whole own);
+      judged = subst (λ (l : LogView). IsVerdict l verdict.Yes) (sym log) (judged_legal script chip whole own);
+    }
+
+-- ---- the script's file
+
+pub loads_ok : (command : Command) (bytes : List ℕ) (before between : FilesView) (script : Script) → ReadsFile command.script most_script_bytes before between (Ok bytes) → length bytes ≤ most_script_bytes
+    → Holds before.told command.script bytes → parse_script bytes command.nue ≡ Ok script → Loads before.told command before between (Ok script)
+loads_ok command bytes before between script reads few holds said = record {
+  goes = λ o came. reads (codes "rcceaudit") (script_plan command) between o
+      (subst (λ (r : Result Script ReadFault). Comes (codes "rcceaudit") (parsed_plan command.script r) between between o) (sym said) came);
+  asked = (bytes, few, holds, said);
+}
+
+pub loads_by : (command : Command) (bytes : List ℕ) (before between : FilesView) (answer : Result Script Complaint) → ReadsFile command.script most_script_bytes before between (Ok bytes) → length bytes ≤ most_script_bytes
+    → Holds before.told command.script bytes → LoadsBytes command bytes answer → Loads before.told command before between answer
+loads_by command bytes before between (Ok script) reads few holds said = loads_ok command bytes before between script reads few holds said
+loads_by command bytes before between (Err why) reads few holds came = reads (codes "rcceaudit") (script_plan command) between _ (came between)
+
+pub comes_fault : (command : Command) (bytes : List ℕ) (fault : ReadFault) (kind : List ℕ) (files : FilesView) → parse_script bytes command.nue ≡ Err fault → kind ≡ kind_name fault.kind
+    → Comes (codes "rcceaudit") (script_plan command bytes) files files (file_refused (codes "rcceaudit") command.script fault.line kind)
+comes_fault command bytes fault kind files said named =
+    subst (λ (r : Result Script ReadFault). Comes (codes "rcceaudit") (parsed_plan command.script r) files files (file_refused (codes "rcceaudit") command.script fault.line kind)) (sym said)
+    (refl, inl (ap (λ (k : List ℕ). file_refused (codes "rcceaudit") command.script fault.line k) named))
+
+stopped_by : (file : List ℕ) (said : Result Script ReadFault) (files : FilesView) → Comes (codes "rcceaudit") (parsed_plan file said) files files (no_memory (codes "rcceaudit"))
+stopped_by file (Ok script) files = comes_memory (codes "rcceaudit") file script files
+stopped_by file (Err fault) files = (refl, inr refl)
+
+pub comes_stopped : (command : Command) (bytes : List ℕ) (files : FilesView) → Comes (codes "rcceaudit") (script_plan command bytes) files files (no_memory (codes "rcceaudit"))
+comes_stopped command bytes files = stopped_by command.script (parse_script bytes command.nue) files
+
+-- ---- the whole call
+
+tells_by : (test : Bool) (told : Option (List NamedFile)) (command : Command) (script : Script) (chip : ChipView) (o : Outcome) → ScriptIn told command script
+    → ByTest test (chip ≡ None) ((o ≡ run_outcome (log_ran script)) × HasLogged script chip)
+    → ByTest test (chip ≡ None) ((x : Script) × ScriptIn told command x × (o ≡ run_outcome (log_ran x)) × HasLogged x chip)
+tells_by true told command script chip o asked shows = shows
+tells_by false told command script chip o asked shows = (script, asked, shows.0, shows.1)
+
+pub ends_ran : (command : Command) (before after : FilesView) (script : Script) (chip : ChipView) (sinks sinks_after : Sinks) (s : Status) → Leads before.told command before after script
+    → HasRan command.script script chip sinks sinks_after s → Ends (RunTells before.told command chip) (run_words_plan (Some command)) before after sinks sinks_after s
+ends_ran command before after script chip sinks sinks_after s leads ran =
+    (ran.outcome, leads.goes ran.outcome (ran.comes after), ran.delivers, tells_by (is_quiet ran.outcome.status) before.told command script chip ran.outcome leads.asked ran.shows)
+
+pub ends_complained : (command : Command) (before after : FilesView) (chip : ChipView) (why : Complaint) (sinks sinks_after : Sinks) (s : Status) → Comes (codes "rcceaudit") (command_plan command) before after (complaint_outcome (codes "rcceaudit") why)
+    → Delivers (complaint_outcome (codes "rcceaudit") why) sinks sinks_after s → chip ≡ None → Ends (RunTells before.told command chip) (run_words_plan (Some command)) before after sinks sinks_after s
+ends_complained command before after chip why sinks sinks_after s came delivers blank =
+    let o : Outcome = complaint_outcome (codes "rcceaudit") why in
+    let P : Bool → Type 0 = λ b. ByTest b (chip ≡ None) ((x : Script) × ScriptIn before.told command x × (o ≡ run_outcome (log_ran x)) × HasLogged x chip) in
+    (o, came, delivers, subst P (sym (quiet (codes "rcceaudit") why)) blank)
+
+pub ends_words : (command : Option Command) (job : Job) (before after : FilesView) (chip : ChipView) (sinks sinks_after : Sinks) (s : Status) → IsJob command (Some job)
+    → Ends (RunTells before.told (job_command job) chip) (run_words_plan (Some (job_command job))) before after sinks sinks_after s
+    → Ends (WordsTell before.told command chip) (run_words_plan command) before after sinks sinks_after s
+ends_words None job before after chip sinks sinks_after s is ends = absurd is
+ends_words (Some command) job before after chip sinks sinks_after s is ends =
+    let same : job_command job ≡ command = rw (is.nue, is.script) refl in
+    subst (λ (x : Command). Ends (RunTells before.told x chip) (run_words_plan (Some x)) before after sinks sinks_after s) same ends
+
+pub ends_refused : (command : Option Command) (files : FilesView) (chip : ChipView) (o : Outcome) (sinks sinks_after : Sinks) (s : Status) → IsJob command None
+    → IsMeant (codes "rcceaudit") (Err (codes "words refused")) files files o → Delivers o sinks sinks_after s → chip ≡ None
+    → Ends (WordsTell files.told command chip) (run_words_plan command) files files sinks sinks_after s
+ends_refused None files chip o sinks sinks_after s is meant delivers blank = (o, meant, delivers, blank)
+ends_refused (Some command) files chip o sinks sinks_after s is meant delivers blank = absurd is

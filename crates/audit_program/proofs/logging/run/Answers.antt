@@ -1,0 +1,17 @@
+use Rattle.std.proofs.Common.{ap, codes, sym, ◌∙◌}
+use Rattle.std.proofs.lemmas.Bool.{false≢true}
+use Rattle.scc_mesh.specs.Scenes.{is_open}
+use Rattle.audit_program.proofs.RunPlanLemmas.{comes_memory, has_logged}
+use Rattle.audit_program.proofs.logging.run.Goals as goal
+
+pub returns-in-Ok : goal.returns-in-Ok
+returns-in-Ok c =
+    let script = c.args.scripts.now in
+    let has = has_logged script _ _ c.acceptance_law.ensures.whole c.setup_by.ensures c.in-Ok.ensures.history in
+    record { launched = λ file. (c.in-Ok.ensures.run, c.requires.room, has); legal = λ opened. has.run.legal }
+
+pub returns-in-Err : goal.returns-in-Err
+returns-in-Err c = record {
+  launched = λ file. (λ files. comes_memory (codes "rcceaudit") file c.args.scripts.now files, c.in-Err.ensures.refused);
+  legal = λ opened. absurd (false≢true (sym (ap is_open c.in-Err.ensures.refused) ∙ opened));
+}

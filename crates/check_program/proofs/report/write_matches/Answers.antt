@@ -1,0 +1,38 @@
+use Rattle.std.proofs.Common.{◌≡◌, ◌<◌, ◌≤◌, List, ℕ, length, get_or, subst, arith}
+use Rattle.std.proofs.lemmas.Option.{get_or_from_slice_get}
+use Rattle.rcce_io.specs.Sending.{Waits}
+use Rattle.rcce_io.proofs.SendingLemmas.{cut_gathered, joined-all, joined-more, joined-parts, sends_err, sends_waiting, waits_none, waits_within}
+use Rattle.check_program.specs.Texts.{match_line}
+use Rattle.check_program.proofs.report.write_matches.Goals as goal
+
+pub loop-i-init : goal.loop-i-init
+loop-i-init g c = rw c.new-buffer.ensures (waits_none (g.S.Sink.seen c.args.sink.now))
+
+pub returns-in_err-gather : goal.returns-in_err-gather
+returns-in_err-gather g c =
+    let items = c.args.matches.now in
+    let item = c.get-one.result.now in
+    let within : c.loop-i.i < length items = omega arith in
+    let here : get_or items c.loop-i.i item ≡ item = get_or_from_slice_get items c.loop-i.i item item c.get-one.ensures in
+    sends_err _ _ _ _ c.from_residual.ensures.0 (
+    cut_gathered (g.S.Sink.seen c.args.sink.now) (g.S.Sink.seen c.loop-i.sink) (g.S.Sink.seen c.gather.new.sink) _ _ c.loop-i.buffer _ _
+    (rw here at (joined-parts match_line items c.loop-i.i item within)) c.loop-i.invariant
+    c.in_err-gather.ensures)
+
+pub loop-i-preserved : goal.loop-i-preserved
+loop-i-preserved g c =
+    let items = c.args.matches.now in
+    let item = c.get-one.result.now in
+    let within : c.loop-i.i < length items = omega arith in
+    let here : get_or items c.loop-i.i item ≡ item = get_or_from_slice_get items c.loop-i.i item item c.get-one.ensures in
+    waits_within (g.S.Sink.seen c.args.sink.now) (g.S.Sink.seen c.loop-i.sink) (g.S.Sink.seen c.gather.new.sink) _ _ c.loop-i.buffer _ _
+    (rw here at (joined-more match_line items c.loop-i.i item within)) c.loop-i.invariant
+    c.in_ok-gather.ensures
+
+pub returns : goal.returns
+returns g c =
+    let items = c.args.matches.now in
+    let past : length items ≤ c.loop-i.i = omega arith in
+    let P : List ℕ → Type 0 = λ text. Waits text c.loop-i.buffer (g.S.Sink.seen c.args.sink.now) (g.S.Sink.seen c.loop-i.sink) in
+    sends_waiting (g.S.Sink.seen c.args.sink.now) (g.S.Sink.seen c.loop-i.sink) (g.S.Sink.seen c.flush.new.sink) _ c.loop-i.buffer c.flush.result
+    (subst P (joined-all match_line items c.loop-i.i past) c.loop-i.invariant) c.flush.ensures.sends

@@ -1,0 +1,85 @@
+//! What was found of a script, and its lines on out.
+
+ghost use Rattle.std.specs.Prelude.{◌≡◌, length, map, IfOk};
+ghost use Rattle.rcce_io.specs.Sending.{Sends, joined};
+ghost use Rattle.script_plain.specs.Matches.{plain_matches};
+ghost use Rattle.script_plain.specs.Meaning.{keys_of, plain_ends};
+ghost use Rattle.script_plain.specs.Ends.{all_finished};
+ghost use Rattle.check_program.specs.Program.{ran_of};
+ghost use Rattle.check_program.specs.Reports.{report_ran};
+ghost use Rattle.check_program.specs.Texts.{match_line};
+
+use crate::lines::MatchLine;
+use crate::trouble::{Found, all_found};
+use rcce_io::{Buffer, Sink, WriteFault, write_texts};
+use scc_base::Rank;
+use script_plain::{End, Matches, UeEnd, plain_matches, plain_run};
+use script_reader::Scripts;
+use std::alloc::{AllocError, Global};
+
+/// Whether each rank has finished, the messages that came, and what is the matter with each rank.
+#[derive(Drop)]
+pub struct Report {
+    pub finished: bool,
+    pub matches: Matches,
+    pub found: Vec<Found>,
+}
+
+impl outcomes::Report for Report {
+    ghost use Rattle.check_program.specs.Reports.{report_ran};
+
+    ghost ran = { report_ran };
+
+    fn is_finished(&self) -> bool {
+        self.finished
+    }
+
+    fn write_out<S: Sink>(&self, sink: &mut S) -> Result<(), WriteFault> {
+        write_matches(sink, &self.matches)?;
+        write_texts(sink, self.found.as_slice())
+    }
+
+    fn write_err<S: Sink>(&self, sink: &mut S) -> Result<(), WriteFault> {
+        Ok(())
+    }
+}
+
+/// Writes a line for each message.
+fn write_matches<S: Sink>(sink: &mut S, matches: &Matches) -> Result<(), WriteFault>
+    ensures { Sends (joined (map match_line matches.now)) (S.seen sink.old) (S.seen sink.new) result }
+{
+    let mut buffer = Buffer::new();
+    for i in 0..matches.len() {
+        let one = matches.get(i);
+        let line = MatchLine { one };
+        buffer.gather(sink, &line)?;
+    }
+    buffer.flush(sink)
+}
+
+/// What is found of a script: its messages, and its end.
+pub fn report_of(alloc: Global, script: &Scripts) -> Result<Report, AllocError>
+    ensures { IfOk result (λ report. report_ran report ≡ ran_of (keys_of script.now) (plain_matches script.now) (plain_ends script.now)) }
+{
+    let end = plain_run(alloc, script)?;
+    let matches = plain_matches(alloc, script)?;
+    let found = all_found(alloc, &end, script)?;
+    Ok(Report {
+        finished: is_finished(&end, script),
+        matches,
+        found,
+    })
+}
+
+/// Whether each rank has finished.
+fn is_finished(end: &End, script: &Scripts) -> bool
+    requires { length end.now ≡ script.now.nue }
+    ensures { result ≡ all_finished end.now }
+{
+    for number in 0..script.nue() {
+        if !matches!(end.ue(Rank::of(number)), UeEnd::Finished) {
+            return false;
+        }
+    }
+    true
+}

@@ -1,0 +1,85 @@
+-- The ranks of a job and the bytes that they hand in.
+use Rattle.std.proofs.Common.{◌≡◌, ℕ, zero, suc, ◌+◌, ◌<◌, ◌≤◌, List, [], ◌∷◌, ◌++◌, length, map, replicate, slice_index_or, refl, sym, ◌∙◌, ap, subst, arith, length-append}
+use Rattle.std.specs.List.{range_with_len}
+use Rattle.std.proofs.lemmas.List.{length-map, map-append}
+use Rattle.std.proofs.lemmas.List.FromFn.{length-range_with_len}
+use Rattle.scc_base.specs.Communicators.{AreRules, IsRule}
+use Rattle.scc_base.specs.declared.communicators.CommRule.{CommRule}
+use Rattle.scc_base.specs.declared.communicators.CommRule.TheVariants.{Absent, World}
+use Rattle.rcce_run.proofs.OrderLaws.{range_more}
+use Rattle.coll_more.specs.Tables.{src_len_of}
+use Rattle.coll_more.specs.declared.kinds.More.{More}
+use Rattle.coll_more.specs.declared.kinds.More.TheVariants.{Gather, Scatter, Allgather, Alltoall}
+use Rattle.coll_more.proofs.GoodLemmas.{whole_within}
+use Rattle.coll_run.specs.Teams.{HasJoined, MemberView}
+use Rattle.coll_run.proofs.JoinLemmas.{each_more}
+use Rattle.coll_program.specs.Jobs.{byte_at, src_of}
+use Rattle.coll_program.specs.Runs.{AreRanksOf}
+use Rattle.coll_program.specs.declared.command.Job.{Job}
+
+-- ---- the world alone
+
+absent_all : (n k : ℕ) → slice_index_or (replicate n Absent) k Absent ≡ Absent
+absent_all zero k = refl
+absent_all (suc n) zero = refl
+absent_all (suc n) (suc k) = absent_all n k
+
+world_rules : AreRules (World ∷ replicate 15 Absent)
+world_rules zero below = refl
+world_rules (suc k) below =
+    subst (λ (r : CommRule). IsRule (World ∷ replicate 15 Absent) (suc k) r) (sym (absent_all 15 k)) (λ e. absurd (omega (arith, e)))
+
+pub world_alone : (rules : List CommRule) → rules ≡ World ∷ replicate 15 Absent → AreRules rules
+world_alone rules is = subst (λ (x : List CommRule). AreRules x) (sym is) world_rules
+
+-- ---- what a rank hands in
+
+pub src_fits : (more : More) (rank nue len : ℕ) → nue ≤ 48 → len ≤ 1024 → src_len_of more rank nue len ≤ 65536
+src_fits Gather rank nue len few short = omega (arith, short)
+src_fits Scatter zero nue len few short = whole_within nue len few short
+src_fits Scatter (suc r) nue len few short = omega arith
+src_fits Allgather rank nue len few short = omega (arith, short)
+src_fits Alltoall rank nue len few short = whole_within nue len few short
+
+pub some_len : (more : More) (rank nue len i : ℕ) → i < src_len_of more rank nue len → 1 ≤ len
+some_len Gather rank nue zero i less = absurd (omega (arith, less))
+some_len Scatter zero nue zero i less = absurd (omega (arith, less))
+some_len Scatter (suc r) nue zero i less = absurd (omega (arith, less))
+some_len Allgather rank nue zero i less = absurd (omega (arith, less))
+some_len Alltoall rank nue zero i less = absurd (omega (arith, less))
+some_len more rank nue (suc n) i less = omega arith
+
+-- one byte more
+pub byte_more : (f : ℕ → ℕ) (n b : ℕ) (items later : List ℕ) → items ≡ map f (range_with_len 0 n) → later ≡ items ++ b ∷ [] → b ≡ f n → later ≡ map f (range_with_len 0 (n + 1))
+byte_more f n b items later so_far is byte =
+    is
+    ∙ (λ i. so_far i ++ byte i ∷ [])
+    ∙ sym (map-append f (range_with_len 0 n) (n ∷ []))
+    ∙ ap (map f) (sym (range_more 0 n n (omega arith)))
+
+pub src_long : (job : Job) (rank : ℕ) (src : List ℕ) (count : ℕ) → src ≡ src_of job rank → rank ≡ count → length src ≡ src_len_of job.more count job.nue job.len
+src_long job rank src count is same =
+    ap length is
+    ∙ length-map (range_with_len 0 (src_len_of job.more rank job.nue job.len)) (byte_at job.more rank job.len)
+    ∙ length-range_with_len 0 (src_len_of job.more rank job.nue job.len)
+    ∙ ap (λ (r : ℕ). src_len_of job.more r job.nue job.len) same
+
+-- ---- the ranks of a job
+
+pub no_ranks : (job : Job) (team : List MemberView) → team ≡ [] → AreRanksOf job 0 team
+no_ranks job team none = subst (AreRanksOf job 0) (sym none) (record {
+  each = refl;
+  fresh = record { fresh = λ k d low. absurd (omega (arith, low)); fits = λ k d low. absurd (omega (arith, low)) };
+  src = λ k d low. absurd (omega (arith, low));
+})
+
+pub rank_more : (job : Job) (count rank : ℕ) (team later : List MemberView) (src : List ℕ) → AreRanksOf job count team → HasJoined job.more job.len job.nue team src later → src ≡ src_of job rank → rank ≡ count
+    → AreRanksOf job (count + 1) later
+rank_more job count rank team later src are has is same = record {
+  each = (let long = length-append team (has.joined ∷ []) in let all = ap length has.is in let each = are.each in omega (arith, long, all, each));
+  fresh = has.fresh;
+  src = λ k d low.
+      subst (λ (l : List MemberView). (slice_index_or l k d).src ≡ src_of job k) (sym has.is)
+      (each_more (λ j m. m.src ≡ src_of job j) team has.joined are.src
+      (has.src_is ∙ is ∙ ap (src_of job) (same ∙ sym are.each)) k d (subst (λ (l : List MemberView). k < length l) has.is low));
+}

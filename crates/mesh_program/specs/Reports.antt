@@ -1,0 +1,20 @@
+-- What a report comes to.
+use Rattle.std.specs.Prelude.{◌≡◌, ℕ, List}
+use Rattle.mesh_load.specs.Mesh.{Link, carried}
+use Rattle.mesh_load.specs.Tables.{load_on}
+use Rattle.outcomes.specs.Outcomes.{Ran}
+use Rattle.mesh_program.specs.declared.report.Report.{Report}
+use Rattle.mesh_program.specs.Program.{ran_of}
+use Rattle.script_plain.specs.Ends.{all_finished}
+use Rattle.script_plain.specs.Matches.{plain_matches}
+use Rattle.script_plain.specs.Meaning.{plain_ends}
+use Rattle.script_reader.specs.Script.{Script}
+
+-- whether each rank has finished, and the lines
+abbrev pub report_ran : Report → Ran
+report_ran report = ran_of report.finished (load_on report.load)
+
+-- the report is that of a script's plain meaning
+pub record IsReportOf (at : List ℕ) (script : Script) (report : Report) : Type 0 where
+  pub finished : report.finished ≡ all_finished (plain_ends script)
+  pub load : (link : Link) → load_on report.load link ≡ carried at (plain_matches script) link

@@ -1,0 +1,70 @@
+//! The load of the mesh by a script, and its lines.
+
+ghost use Rattle.std.specs.Prelude.{◌≡◌, length, IfOk};
+ghost use Rattle.mesh_load.specs.Mesh.{Link, carried};
+ghost use Rattle.mesh_load.specs.Tables.{load_on};
+ghost use Rattle.script_plain.specs.Matches.{plain_matches};
+ghost use Rattle.script_plain.specs.Meaning.{plain_ends};
+ghost use Rattle.script_plain.specs.Ends.{all_finished};
+ghost use Rattle.mesh_program.specs.Reports.{IsReportOf};
+
+use crate::lines::write_mesh;
+use mesh_load::{Load, load};
+use rcce_io::{Sink, WriteFault, write_all};
+use scc_base::{CoreId, Rank};
+use script_plain::{End, UeEnd, plain_matches, plain_run};
+use script_reader::Scripts;
+use std::alloc::{AllocError, Global};
+
+/// Whether each rank has finished, and how many lines each link carries.
+#[derive(Drop)]
+pub struct Report {
+    pub finished: bool,
+    pub load: Load,
+}
+
+impl outcomes::Report for Report {
+    ghost use Rattle.mesh_program.specs.Reports.{report_ran};
+
+    ghost ran = { report_ran };
+
+    fn is_finished(&self) -> bool {
+        self.finished
+    }
+
+    fn write_out<S: Sink>(&self, sink: &mut S) -> Result<(), WriteFault> {
+        write_mesh(sink, &self.load)
+    }
+
+    fn write_err<S: Sink>(&self, sink: &mut S) -> Result<(), WriteFault> {
+        if self.finished {
+            return Ok(());
+        }
+        write_all(sink, b"rccemesh: not finished\n")
+    }
+}
+
+/// What the messages of a script come to, with the core of each rank.
+pub fn report_of(alloc: Global, at: &[CoreId; 48], script: &Scripts) -> Result<Report, AllocError>
+    ensures { IfOk result (λ report. IsReportOf at.now script.now report) }
+{
+    let end = plain_run(alloc, script)?;
+    let matches = plain_matches(alloc, script)?;
+    Ok(Report {
+        finished: is_finished(&end, script),
+        load: load(&matches, at),
+    })
+}
+
+/// Whether each rank has finished.
+fn is_finished(end: &End, script: &Scripts) -> bool
+    requires { length end.now ≡ script.now.nue }
+    ensures { result ≡ all_finished end.now }
+{
+    for number in 0..script.nue() {
+        if !matches!(end.ue(Rank::of(number)), UeEnd::Finished) {
+            return false;
+        }
+    }
+    true
+}

@@ -1,8 +1,0 @@
-use Rattle.std.proofs.Common.{map, take}
-use Rattle.rcce_io.specs.Sending.{Waits, joined}
-use Rattle.rccecheck.specs.Texts.{match_line}
-use Rattle.rccecheck.proofs.report.write_matches.Given as goal
-
-abbrev pub invariant-loop-i : goal.invariant-loop-i
-invariant-loop-i g l =
-    Waits (joined (map match_line (take l.i l.matches))) l.buffer (g.S.Sink.seen l.initial.sink) (g.S.Sink.seen l.sink)

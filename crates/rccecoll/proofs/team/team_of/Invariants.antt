@@ -1,5 +1,0 @@
-use Rattle.rccecoll.specs.Runs.{AreRanksOf}
-use Rattle.rccecoll.proofs.team.team_of.Given as goal
-
-abbrev pub invariant-loop-number : goal.invariant-loop-number
-invariant-loop-number l = AreRanksOf l.job l.number l.team.items

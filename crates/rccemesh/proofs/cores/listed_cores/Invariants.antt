@@ -1,6 +1,0 @@
-use Rattle.std.specs.Prelude.{option_map}
-use Rattle.rccemesh.proofs.CoreLaws.{SoFar}
-use Rattle.rccemesh.proofs.cores.listed_cores.Given as goal
-
-abbrev pub invariant-loop-number : goal.invariant-loop-number
-invariant-loop-number l = SoFar l.word l.number l.at (option_map (λ rest. rest.now) l.rest)

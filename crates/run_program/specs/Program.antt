@@ -1,0 +1,63 @@
+-- What `rccerun` does on its words (this project's profile).
+use Rattle.std.specs.Prelude.{ℕ, List, codes, Option, Some, None, Result, Ok, Err}
+use Rattle.script_reader.specs.declared.fault.ReadFault.{ReadFault}
+use Rattle.script_reader.specs.Faults.{kind_name}
+use Rattle.script_reader.specs.Reading.{most_script_bytes, parse_script}
+use Rattle.script_reader.specs.Script.{Script}
+use Rattle.script_gen.specs.Scripts.{gen_script_of}
+use Rattle.outcomes.specs.Plans.{Plan, Program}
+use Rattle.outcomes.specs.Plans.Plan.{Runs, Refuses, Reads}
+use Rattle.rcce_words.specs.CommandLine.{parse_command}
+use Rattle.rcce_words.specs.FaultTexts.{fault_text, word_at}
+use Rattle.rcce_words.specs.HostFile.{host_kind_name, parse_hosts}
+use Rattle.rcce_words.specs.declared.command.Job.{Job}
+use Rattle.rcce_words.specs.declared.command.Work.{Work}
+use Rattle.rcce_words.specs.declared.command.Work.TheVariants as work
+use Rattle.rcce_words.specs.declared.command.WordFault.{WordFault}
+use Rattle.rcce_words.specs.declared.host_file.HostFault.{HostFault}
+use Rattle.run_program.specs.Reports.{made_ran, run_ran}
+
+-- a script that was read runs to its plain end, and its first fault refuses its file
+abbrev pub parsed_plan : List ℕ → Result Script ReadFault → Plan
+parsed_plan file (Err fault) = Refuses file fault.line (kind_name fault.kind)
+parsed_plan file (Ok script) = Runs (run_ran script)
+
+-- the bytes of a script's file
+abbrev pub script_plan : List ℕ → ℕ → List ℕ → Plan
+script_plan file nue bytes = parsed_plan file (parse_script bytes nue)
+
+-- the script's file has at most 4 MiB
+abbrev pub file_plan : List ℕ → ℕ → Plan
+file_plan file nue = Reads file most_script_bytes (script_plan file nue)
+
+-- cores that were read lead on, and the first fault of the host file refuses it
+abbrev pub listed_plan : List ℕ → Plan → Result (List ℕ) HostFault → Plan
+listed_plan file next (Err fault) = Refuses file fault.line (host_kind_name fault.kind)
+listed_plan file next (Ok cores) = next
+
+-- the bytes of a host file
+abbrev pub hosts_plan : List ℕ → ℕ → Plan → List ℕ → Plan
+hosts_plan file nue next bytes = listed_plan file next (parse_hosts bytes nue)
+
+-- the host file comes first, if there is one, and has at most 64 KiB
+abbrev pub plan_behind : List (List ℕ) → ℕ → Plan → Option ℕ → Plan
+plan_behind words nue next None = next
+plan_behind words nue next (Some at) = Reads (word_at words at) 65536 (hosts_plan (word_at words at) nue next)
+
+-- the run of the script that is made of a number: no file is asked for
+abbrev pub made_plan : ℕ → ℕ → Plan
+made_plan nue seed = Runs (made_ran seed (gen_script_of nue seed))
+
+-- the script of a file, after the host file; or one that is made of a number
+abbrev pub work_plan : List (List ℕ) → Job → Work → Result Plan (List ℕ)
+work_plan words job (work.Script at) = Ok (plan_behind words job.nue (file_plan (word_at words at) job.nue) job.hosts)
+work_plan words job (work.Gen seed) = Ok (made_plan job.nue seed)
+
+-- the words: refused, or a job
+abbrev pub words_plan : List (List ℕ) → Result Job WordFault → Result Plan (List ℕ)
+words_plan words (Err fault) = Err (fault_text words fault)
+words_plan words (Ok job) = work_plan words job job.work
+
+-- the launcher, by its name and what it does on its words
+abbrev pub rccerun : Program
+rccerun = record { name = codes "rccerun"; plan = λ words. words_plan words (parse_command words) }

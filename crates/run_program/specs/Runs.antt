@@ -1,0 +1,58 @@
+-- The crew of a run, before its start and at its end.
+use Rattle.std.specs.Prelude.{◌≡◌, ℕ, ◌*◌, ◌<◌, ◌≤◌, Option, None, Some, List, length, slice_get, slice_index_or, sum_by}
+use Rattle.scc_base.specs.Setups.{SetupView}
+use Rattle.script_reader.specs.Script.{Script}
+use Rattle.script_plain.specs.Ends.{ended_at}
+use Rattle.script_plain.specs.Local.{cost_of, local_start}
+use Rattle.script_plain.specs.Meaning.{State, plain_end, plain_ends}
+use Rattle.script_gen.specs.Outcome.{sends_of, sent_bytes_of}
+use Rattle.script_gen.specs.Scripts.{gen_script_of}
+use Rattle.rcce_ue.specs.Ues.{UeView, counted}
+use Rattle.rcce_run.specs.declared.members.Member.{Member}
+use Rattle.rcce_run.specs.Crews.{EndsAs}
+use Rattle.rcce_run.specs.UeRuns.{IsFreshUe, ShowsEnd}
+use Rattle.rcce_run.specs.declared.ends.RunEnd.{RunEnd}
+use Rattle.scc_mesh.specs.Scenes.{ChipView}
+use Rattle.run_program.specs.History.{Asked, HasRun}
+
+-- a member with a unit of execution of this rank before its first turn
+pub record IsAtStart (script : Script) (setup : SetupView) (rank : ℕ) (member : Member UeView) : Type 0 where
+  pub fresh : IsFreshUe script setup rank member.worker
+  pub home : member.token ≡ None
+
+-- one for each rank
+pub record IsFresh (script : Script) (setup : SetupView) (crew : List (Member UeView)) : Type 0 where
+  pub count : length crew ≡ setup.nue
+  pub each : (rank : ℕ) (d : Member UeView) → rank < length crew → IsAtStart script setup rank (slice_index_or crew rank d)
+
+-- each rank has come to what the plain meaning of the script leaves of it
+pub record HaveEnded (script : Script) (crew : List (Member UeView)) : Type 0 where
+  pub count : length crew ≡ script.nue
+  pub each : (rank : ℕ) (d : Member UeView) → rank < script.nue → ShowsEnd (ended_at (plain_ends script) rank) (slice_index_or crew rank d).worker
+
+-- A unit of execution has counted what its rank sent in the plain meaning of the script: no more messages than the rank takes
+-- steps, each of at most 65,536 bytes.
+pub record CountsPlain (script : Script) (rank : ℕ) (ue : UeView) : Type 0 where
+  pub state : State
+  pub there : slice_get (plain_end script).cells rank ≡ Some state
+  pub sent : ue.sent ≡ counted (sum_by sends_of state.matched)
+  pub bytes : ue.sent_bytes ≡ counted (sum_by sent_bytes_of state.matched)
+  pub few : sum_by sends_of state.matched ≤ cost_of (local_start script rank)
+  pub short : sum_by sent_bytes_of state.matched ≤ 65536 * sum_by sends_of state.matched
+
+-- each unit of execution has counted what its rank sent
+pub record HaveSent (script : Script) (crew : List (Member UeView)) : Type 0 where
+  pub count : length crew ≡ script.nue
+  pub each : (rank : ℕ) (d : Member UeView) → rank < script.nue → CountsPlain script rank (slice_index_or crew rank d).worker
+
+-- a script that is made of a number is the one of this number
+abbrev pub IsMadeOf : Script → Option ℕ → Type 0
+IsMadeOf script None = Unit {0}
+IsMadeOf script (Some seed) = script ≡ gen_script_of script.nue seed
+
+-- a run over the chip that is over
+pub record IsOver (asked : Asked) (chip : ChipView) (crew : List (Member UeView)) (end : RunEnd) : Type 0 where
+  pub ended : HaveEnded asked.script crew
+  pub sent : HaveSent asked.script crew
+  pub answer : EndsAs end asked.script
+  pub history : HasRun asked chip

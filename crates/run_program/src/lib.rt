@@ -1,0 +1,18 @@
+//! `rccerun`: runs a script of messages between units of execution, and prints what they print.
+#![tactic(auto)]
+
+mod counts;
+mod crew;
+mod endings;
+mod launcher;
+mod lines;
+mod loaded;
+mod loading;
+mod pieces;
+mod report;
+mod run;
+
+pub use endings::Endings;
+pub use launcher::rccerun;
+pub use lines::write_end;
+pub use report::{write_printed, write_unfinished};

@@ -1,0 +1,192 @@
+//! The lines of units of execution: what each printed, and where one stands that has not finished.
+
+ghost use Rattle.std.specs.Prelude.{◌≡◌, [], ◌∷◌, codes, decimal};
+ghost use Rattle.rcce_io.specs.Sending.{Sends};
+ghost use Rattle.script_plain.specs.Ends.{is_finished};
+ghost use Rattle.run_program.specs.Reports.{end_text};
+ghost use Rattle.run_program.specs.Texts.{call_pieces, item_line, message_pieces, mismatch_line, type_text, waiting_line};
+
+use crate::pieces::Piece::{Hex, Number, Text, Values};
+use groups::Ty;
+use rcce_io::{Sink, TextSource, WriteFault, write_texts};
+use scc_base::{Call, Head, Rank};
+use script_plain::{PrintedItem, UeEnd};
+use script_reader::Form;
+
+/// The name of a type of values.
+fn type_text(ty: Ty) -> &'static str
+    ensures { result.now ≡ type_text ty }
+{
+    match ty {
+        Ty::Int => "int",
+        Ty::Long => "long",
+    }
+}
+
+/// The line of a printed register.
+#[derive(Clone, Copy)]
+pub struct ItemLine<'a> {
+    pub rank: Rank,
+    pub name: &'a str,
+    pub item: &'a PrintedItem<'a>,
+}
+
+impl TextSource for ItemLine<'_> {
+    ghost text = { λ l. item_line l.rank l.name.now l.item.now.form l.item.now.bytes };
+
+    fn write_to<S: Sink>(&self, sink: &mut S) -> Result<(), WriteFault> {
+        let ue = self.rank.number() as u32;
+        let bytes = self.item.bytes();
+        match self.item.form() {
+            Form::Hex => write_texts(
+                sink,
+                &[
+                    Text("ue "),
+                    Number(ue),
+                    Text(" "),
+                    Text(self.name),
+                    Text(" "),
+                    Hex(bytes),
+                    Text("\n"),
+                ],
+            ),
+            Form::Decimal(ty) => write_texts(
+                sink,
+                &[
+                    Text("ue "),
+                    Number(ue),
+                    Text(" "),
+                    Text(self.name),
+                    Text(" "),
+                    Text(type_text(ty)),
+                    Values(ty, bytes),
+                    Text("\n"),
+                ],
+            ),
+        }
+    }
+}
+
+/// Whether a unit of execution has finished.
+pub fn is_finished(end: &UeEnd) -> bool
+    ensures { result ≡ is_finished end.now }
+{
+    matches!(end, UeEnd::Finished)
+}
+
+/// Writes where a unit of execution stands, a line where it has not finished, else nothing.
+pub fn write_end<S: Sink>(sink: &mut S, rank: Rank, end: &UeEnd) -> Result<(), WriteFault>
+    ensures { Sends (end_text rank end.now) (S.seen sink.old) (S.seen sink.new) result }
+{
+    match end {
+        UeEnd::Finished => Ok(()),
+        UeEnd::Waits { line, call } => write_waiting(sink, rank, *line, call),
+        UeEnd::Mismatch {
+            line,
+            from,
+            sent,
+            asked,
+        } => write_mismatch(sink, rank, *line, *from, *sent, *asked),
+    }
+}
+
+fn write_waiting<S: Sink>(
+    sink: &mut S,
+    rank: Rank,
+    line: u32,
+    call: &Call,
+) -> Result<(), WriteFault>
+    ensures { Sends (waiting_line rank line (call_pieces call.now)) (S.seen sink.old) (S.seen sink.new) result }
+{
+    match call {
+        Call::Send { to, head } => write_message(sink, rank, line, "send to ", *to, *head),
+        Call::Recv { from, head } => write_message(sink, rank, line, "recv from ", *from, *head),
+        Call::Post { to, head } => write_message(sink, rank, line, "post to ", *to, head.head()),
+        Call::Bar { comm } => write_barrier(sink, rank, line, *comm),
+    }
+}
+
+fn write_message<S: Sink>(
+    sink: &mut S,
+    rank: Rank,
+    line: u32,
+    does: &str,
+    peer: Rank,
+    head: Head,
+) -> Result<(), WriteFault>
+    ensures { Sends (waiting_line rank line (message_pieces does.now peer head)) (S.seen sink.old) (S.seen sink.new) result }
+{
+    write_texts(
+        sink,
+        &[
+            Text("ue "),
+            Number(rank.number() as u32),
+            Text(" waits at line "),
+            Number(line),
+            Text(": "),
+            Text(does),
+            Number(peer.number() as u32),
+            Text(" "),
+            Text(head.kind_text()),
+            Text(" "),
+            Number(head.comm() as u32),
+            Text(" "),
+            Number(head.len()),
+            Text("\n"),
+        ],
+    )
+}
+
+fn write_barrier<S: Sink>(sink: &mut S, rank: Rank, line: u32, comm: u8) -> Result<(), WriteFault>
+    ensures { Sends (waiting_line rank line (codes "barrier " ∷ decimal comm ∷ [])) (S.seen sink.old) (S.seen sink.new) result }
+{
+    write_texts(
+        sink,
+        &[
+            Text("ue "),
+            Number(rank.number() as u32),
+            Text(" waits at line "),
+            Number(line),
+            Text(": "),
+            Text("barrier "),
+            Number(comm as u32),
+            Text("\n"),
+        ],
+    )
+}
+
+fn write_mismatch<S: Sink>(
+    sink: &mut S,
+    rank: Rank,
+    line: u32,
+    from: Rank,
+    sent: Head,
+    asked: Head,
+) -> Result<(), WriteFault>
+    ensures { Sends (mismatch_line rank line from sent asked) (S.seen sink.old) (S.seen sink.new) result }
+{
+    write_texts(
+        sink,
+        &[
+            Text("ue "),
+            Number(rank.number() as u32),
+            Text(" mismatch at line "),
+            Number(line),
+            Text(": from "),
+            Number(from.number() as u32),
+            Text(" sent "),
+            Text(sent.kind_text()),
+            Text(" "),
+            Number(sent.comm() as u32),
+            Text(" "),
+            Number(sent.len()),
+            Text(", asked "),
+            Text(asked.kind_text()),
+            Text(" "),
+            Number(asked.comm() as u32),
+            Text(" "),
+            Number(asked.len()),
+            Text("\n"),
+        ],
+    )
+}
