@@ -1,4 +1,4 @@
-//! What no clause says: the texts in full, the ends with failing calls, and that there is memory.
+//! What no clause and no row says: the greatest logs, the ends with failing calls, and that there is memory.
 
 use audit_program::rcceaudit;
 use outcomes::Status;
@@ -75,78 +75,8 @@ fn expect(rt: &impl Abort, run: &Ended, status: Status, out: &[u8], err: &[u8]) 
     assert!(rt; run.status == status);
 }
 
-#[test]
-fn a_legal_log(rt: HostRuntime) -> Result<(), Fail> {
-    let log = b"rcce log 2\n0 send 1 plain 0 4 01020304\n1 recv 0 plain 0 4 01020304\n";
-    let ended = run(rt.alloc(), judged(&["a.log"], log))?;
-    expect(&rt, &ended, Status::Finished, b"legal\n", b"");
-    assert!(rt; ended.status.number() == 0);
-    Ok(())
-}
-
-#[test]
-fn two_receives_before_their_sends(rt: HostRuntime) -> Result<(), Fail> {
-    let log =
-        b"rcce log 2\n0 recv 1 plain 0 1 aa\n0 send 1 plain 0 1 bb\n1 recv 0 plain 0 1 bb\n1 send 0 plain 0 1 aa\n";
-    let ended = run(rt.alloc(), judged(&["a.log"], log))?;
-    expect(&rt, &ended, Status::Stuck, b"not legal: ue 0 call 1\n", b"");
-    assert!(rt; ended.status.number() == 3);
-    Ok(())
-}
-
 /// The script of a message of four bytes.
 const FOUR_BYTES: &[u8] = b"ue 0\nbytes x 01020304\nsend 1 x\nue 1\nrecv 0 y 4\nprint y\n";
-
-#[test]
-fn the_log_of_a_run(rt: HostRuntime) -> Result<(), Fail> {
-    let ended = run(
-        rt.alloc(),
-        judged(&["-log", "-nue", "2", "a.log"], FOUR_BYTES),
-    )?;
-    let log = b"rcce log 2\n0 send 1 plain 0 4 01020304\n1 recv 0 plain 0 4 01020304\n";
-    expect(&rt, &ended, Status::Finished, log, b"");
-    let again = run(rt.alloc(), judged(&["a.log"], ended.out.bytes()))?;
-    expect(&rt, &again, Status::Finished, b"legal\n", b"");
-    Ok(())
-}
-
-#[test]
-fn the_log_of_a_run_that_does_not_finish(rt: HostRuntime) -> Result<(), Fail> {
-    let script = b"all\nbarrier\nue 0\nbytes x 07\npost 1 x\nsend 1 x\nue 2\nsplit 3 mod 2\n";
-    let ended = run(rt.alloc(), judged(&["-log", "-nue", "3", "a.log"], script))?;
-    let log = b"rcce log 3\ncomm 3 0 mod 2\n0 bar 0\n0 post 1 plain 0 1 07\n1 bar 0\n2 bar 0\n";
-    expect(&rt, &ended, Status::Stuck, log, b"");
-    let again = run(rt.alloc(), judged(&["a.log"], ended.out.bytes()))?;
-    expect(&rt, &again, Status::Finished, b"legal\n", b"");
-    Ok(())
-}
-
-#[test]
-fn scripts_that_are_refused(rt: HostRuntime) -> Result<(), Fail> {
-    let table: [(&[u8], &[u8]); 4] = [
-        (
-            b"ue 0\nbytes x 00\nsend 0 x\n",
-            b"rcceaudit: a.log line 3: SelfMessage\n",
-        ),
-        (
-            b"all\nrepeat 10001\nbarrier\nend\n",
-            b"rcceaudit: a.log line 0: TooLong\n",
-        ),
-        (
-            b"ue 0\nfill x 65536 0\nrepeat 4\nsend 1 x\nend\nbytes y 00\nsend 1 y\n",
-            b"rcceaudit: a.log line 0: TooLong\n",
-        ),
-        (
-            b"ue 1\nrepeat 5\nrecv 0 x 65536\nend\n",
-            b"rcceaudit: a.log line 0: TooLong\n",
-        ),
-    ];
-    for (script, text) in table {
-        let ended = run(rt.alloc(), judged(&["-log", "-nue", "2", "a.log"], script))?;
-        expect(&rt, &ended, Status::Script, b"", text);
-    }
-    Ok(())
-}
 
 #[test]
 fn as_much_as_a_log_may_have(rt: HostRuntime) -> Result<(), Fail> {
@@ -163,72 +93,8 @@ fn as_much_as_a_log_may_have(rt: HostRuntime) -> Result<(), Fail> {
 }
 
 #[test]
-fn refused_logs(rt: HostRuntime) -> Result<(), Fail> {
-    let empty = run(rt.alloc(), judged(&["a.log"], b""))?;
-    expect(
-        &rt,
-        &empty,
-        Status::Script,
-        b"",
-        b"rcceaudit: a.log line 1: BadHead\n",
-    );
-    let comm = run(
-        rt.alloc(),
-        judged(&["a.log"], b"rcce log 2\ncomm 1 2 mod 2\n"),
-    )?;
-    expect(
-        &rt,
-        &comm,
-        Status::Script,
-        b"",
-        b"rcceaudit: a.log line 2: BadComm\n",
-    );
-    let call = run(rt.alloc(), judged(&["a.log"], b"rcce log 2\n0 bar 0"))?;
-    expect(
-        &rt,
-        &call,
-        Status::Script,
-        b"",
-        b"rcceaudit: a.log line 2: BadCall\n",
-    );
-    Ok(())
-}
-
-#[test]
-fn words_that_are_refused(rt: HostRuntime) -> Result<(), Fail> {
-    let refused: [&[&str]; 7] = [
-        &[],
-        &["-log"],
-        &["a.log", "a.log"],
-        &["-log", "-nue", "49", "a.log"],
-        &["-log", "-nue", "2", "-a"],
-        &["-nue", "2", "-log", "a.log"],
-        &["-log", "-nue", "2", "a.log", "a.log"],
-    ];
-    for words in refused {
-        let ended = run(rt.alloc(), judged(words, b"rcce log 2\n"))?;
-        expect(
-            &rt,
-            &ended,
-            Status::Words,
-            b"",
-            b"rcceaudit: words refused\n",
-        );
-    }
-    Ok(())
-}
-
-#[test]
 fn faults_at_the_outside_calls(rt: HostRuntime) -> Result<(), Fail> {
     let log = b"rcce log 2\n";
-    let absent = run(rt.alloc(), judged(&["b.log"], log))?;
-    expect(
-        &rt,
-        &absent,
-        Status::Files,
-        b"",
-        b"rcceaudit: b.log: absent\n",
-    );
     for read in 1..4u64 {
         let call = Call {
             read: Some(read),

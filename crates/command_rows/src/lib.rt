@@ -1,4 +1,4 @@
-//! Tests of `rccemesh`, `rccecheck`, `rcceaudit` and `rccecoll`, by their top calls. There is no other code.
+//! Tests of `rccemesh`, `rccecheck`, `rcceaudit` and `rccecoll`, by their top calls: what no row of a run shows. There is no other code.
 #![tactic(auto)]
 
 #[cfg(test)]
