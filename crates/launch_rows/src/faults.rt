@@ -1,10 +1,10 @@
 //! What no clause says: that a run ends as its clauses say where each call on its files and sinks fails in turn.
 
-use run_program::rccerun;
 use crate::rows::{Ended, FOUR_BYTES, expect, words_of};
 use outcomes::Status;
 use rcce_io::{MemFiles, MemSink};
 use rcce_run::Open;
+use run_program::rccerun;
 use scc_mesh::Chip;
 use std::alloc::{Alloc, AllocError, Global};
 use std::process::Abort;

@@ -1,12 +1,8 @@
-//! Tests of `rccerun`, by its top call. There is no other code.
+//! Tests of `rccerun`, by its top call, of what no row of `rows/` can show. There is no other code.
 #![tactic(auto)]
 
 #[cfg(test)]
-mod asked;
-#[cfg(test)]
 mod faults;
-#[cfg(test)]
-mod made;
 #[cfg(test)]
 mod rows;
 #[cfg(test)]

@@ -1,10 +1,9 @@
-//! What no clause says: words, files and sinks that fail, the texts of ends, and that there is memory.
+//! What no clause says: files and sinks that fail, the texts of ends, and that there is memory.
 
-use run_program::rccerun;
-use run_program::write_end;
 use outcomes::Status;
 use rcce_io::{MemFiles, MemSink};
 use rcce_run::Open;
+use run_program::{rccerun, write_end};
 use scc_base::{Call, Head, Kind, PostHead, Rank};
 use scc_mesh::Chip;
 use script_plain::UeEnd;
@@ -62,7 +61,7 @@ pub fn run<R: Threads + Sync + Alloc<A = Global>>(
 }
 
 /// Runs a script on two units of execution.
-fn run_script<R: Threads + Sync + Alloc<A = Global>>(
+pub fn run_script<R: Threads + Sync + Alloc<A = Global>>(
     rt: &R,
     script: &[u8],
 ) -> Result<Ended, AllocError> {
@@ -75,91 +74,11 @@ pub fn expect(rt: &impl Abort, run: &Ended, status: Status, out: &[u8], err: &[u
     assert!(rt; run.status == status);
 }
 
-#[test]
-fn four_bytes_arrive(rt: HostRuntime) -> Result<(), Fail> {
-    let run = run(&rt, &["-nue", "2", "a.rcce"], "a.rcce", FOUR_BYTES)?;
-    expect(&rt, &run, Status::Finished, b"ue 1 y 01020304\n", b"");
-    Ok(())
-}
-
 /// A body that always answers want of memory meets each clause, and fails here.
 #[test]
 fn four_bytes_have_memory(rt: HostRuntime) -> Result<(), Fail> {
     let run = run_script(&rt, FOUR_BYTES)?;
     assert_ne!(rt; run.status, Status::Memory);
-    Ok(())
-}
-
-#[test]
-fn an_empty_message_arrives(rt: HostRuntime) -> Result<(), Fail> {
-    let script = b"ue 0\nbytes x -\nsend 1 x\nue 1\nrecv 0 y 0\nprint y\n";
-    let run = run_script(&rt, script.as_slice())?;
-    expect(&rt, &run, Status::Finished, b"ue 1 y -\n", b"");
-    Ok(())
-}
-
-#[test]
-fn two_equal_messages_arrive_in_order(rt: HostRuntime) -> Result<(), Fail> {
-    let script =
-        b"ue 0\nbytes x aa\nsend 1 x\nsend 1 x\nue 1\nrecv 0 y 1\nrecv 0 z 1\nprint y\nprint z\n";
-    let run = run_script(&rt, script.as_slice())?;
-    expect(&rt, &run, Status::Finished, b"ue 1 y aa\nue 1 z aa\n", b"");
-    Ok(())
-}
-
-#[test]
-fn a_message_that_nobody_receives_waits(rt: HostRuntime) -> Result<(), Fail> {
-    let script = b"ue 0\nbytes x aa\nsend 1 x\nsend 1 x\nue 1\nrecv 0 y 1\nprint y\n";
-    let run = run_script(&rt, script.as_slice())?;
-    let waits = b"ue 0 waits at line 4: send to 1 plain 0 1\n";
-    expect(&rt, &run, Status::Stuck, b"ue 1 y aa\n", waits);
-    Ok(())
-}
-
-#[test]
-fn a_receive_that_nobody_sends_waits(rt: HostRuntime) -> Result<(), Fail> {
-    let run = run_script(&rt, b"ue 1\nrecv 0 y 300\n")?;
-    let waits = b"ue 1 waits at line 2: recv from 0 plain 0 300\n";
-    expect(&rt, &run, Status::Stuck, b"", waits);
-    Ok(())
-}
-
-#[test]
-fn lengths_differ(rt: HostRuntime) -> Result<(), Fail> {
-    let script = b"ue 0\nbytes x 0001020304050607\nsend 1 x\nue 1\nrecv 0 y 4\n";
-    let run = run_script(&rt, script.as_slice())?;
-    let ends =
-        b"ue 0 waits at line 3: send to 1 plain 0 8\nue 1 mismatch at line 5: from 0 sent plain 0 8, asked plain 0 4\n";
-    expect(&rt, &run, Status::Stuck, b"", ends.as_slice());
-    Ok(())
-}
-
-#[test]
-fn an_empty_script_finishes(rt: HostRuntime) -> Result<(), Fail> {
-    let run = run_script(&rt, b"")?;
-    expect(&rt, &run, Status::Finished, b"", b"");
-    Ok(())
-}
-
-#[test]
-fn a_number_has_up_to_ten_digits(rt: HostRuntime) -> Result<(), Fail> {
-    for count in ["2", "48", "0000000002"] {
-        let run = run(&rt, &["-nue", count, "a.rcce"], "a.rcce", FOUR_BYTES)?;
-        expect(&rt, &run, Status::Finished, b"ue 1 y 01020304\n", b"");
-    }
-    Ok(())
-}
-
-#[test]
-fn absent_file(rt: HostRuntime) -> Result<(), Fail> {
-    let run = run(&rt, &["-nue", "2", "none.rcce"], "a.rcce", FOUR_BYTES)?;
-    expect(
-        &rt,
-        &run,
-        Status::Files,
-        b"",
-        b"rccerun: none.rcce: absent\n",
-    );
     Ok(())
 }
 
@@ -220,6 +139,57 @@ fn nothing_is_written_after_a_failed_write(rt: HostRuntime) -> Result<(), Fail> 
     expect(&rt, &run, Status::Write, b"u", b"");
     let run = run_with_faults(&rt, Some(1), None, Some(4))?;
     expect(&rt, &run, Status::Write, b"", b"rcc");
+    Ok(())
+}
+
+#[test]
+fn a_fault_that_cannot_be_written_is_a_failed_write(rt: HostRuntime) -> Result<(), Fail> {
+    let alloc = rt.alloc();
+    let words = words_of(alloc, &["-nue", "2", "s.rcce"])?;
+    let mut files = MemFiles::new(alloc);
+    files.add("s.rcce", b"ue 0\nbytes x 00\nsend 0 x\n")?;
+    let mut out = MemSink::new(alloc, 64, 64)?;
+    let mut err = MemSink::new(alloc, 64, 64)?;
+    err.fail_at(1);
+    let mut chip = Chip::blank();
+    let status = rccerun(
+        &rt,
+        alloc,
+        words.as_slice(),
+        &mut files,
+        &mut out,
+        &mut err,
+        &mut chip,
+        &Open,
+    );
+    let run = Ended { status, out, err };
+    expect(&rt, &run, Status::Write, b"", b"");
+    Ok(())
+}
+
+#[test]
+fn a_script_of_a_number_asks_for_no_file(rt: HostRuntime) -> Result<(), Fail> {
+    let alloc = rt.alloc();
+    let words = words_of(alloc, &["-nue", "2", "-gen", "0"])?;
+    let mut files = MemFiles::new(alloc);
+    files.fail_at(1);
+    let mut out = MemSink::new(alloc, 64, 7)?;
+    let mut err = MemSink::new(alloc, 64, 64)?;
+    out.fail_at(3);
+    let mut chip = Chip::blank();
+    let status = rccerun(
+        &rt,
+        alloc,
+        words.as_slice(),
+        &mut files,
+        &mut out,
+        &mut err,
+        &mut chip,
+        &Open,
+    );
+    assert!(rt; files.calls_made() == 0);
+    let run = Ended { status, out, err };
+    expect(&rt, &run, Status::Write, b"gen 0", b"");
     Ok(())
 }
 

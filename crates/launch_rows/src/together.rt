@@ -1,10 +1,10 @@
 //! What no clause says: without `-serial` the ranks run in threads of their own.
 
-use run_program::rccerun;
 use crate::rows::{FOUR_BYTES, words_of};
 use outcomes::Status;
 use rcce_io::{MemFiles, MemSink};
 use rcce_run::Gate;
+use run_program::rccerun;
 use scc_base::Rank;
 use scc_mesh::Chip;
 use std::sync::atomic::{AtomicBool, Ordering};
