@@ -6,3 +6,4 @@ pub mod KeyLemmas
 pub mod SetupLemmas
 pub mod SplitLaws
 pub mod TableLemmas
+pub mod WorldRules

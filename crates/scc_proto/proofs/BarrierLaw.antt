@@ -1,8 +1,8 @@
 -- Who has finished n barriers of a communicator has in its group only members that entered n.
 use Rattle.std.proofs.Common.{◌≡◌, ℕ, suc, ◌+◌, ◌<◌, ◌≤◌, ◌==◌, Bool, true, false, if◌then◌else◌, List, [], ◌∷◌, ◌++◌, refl, arith}
-use Rattle.scc_base.specs.Calls.{DataCall, Send, Recv, Post, Bar}
+use Rattle.scc_base.specs.Calls.{DataCall, Send, Recv, Post, Bar, Message}
 use Rattle.scc_base.specs.Setups.{SetupView, setup_key}
-use Rattle.scc_proto.specs.Messages.{Message, barriers_of, send_to}
+use Rattle.scc_proto.specs.Messages.{barriers_of, send_to}
 use Rattle.scc_proto.specs.Stages.{Stage, Idle, Drafting, Sending, Between, Taking, Barrier, Record}
 use Rattle.scc_proto.specs.Singles.{IsConsistent, open_barriers}
 use Rattle.scc_proto.specs.Passed.{passed_open, passed_calls, slot_of, is_received, is_gathered}

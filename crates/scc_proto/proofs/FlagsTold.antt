@@ -1,9 +1,10 @@
 -- The records tell every flag and every register; records that are alike tell the same flags.
 use Rattle.std.proofs.Common.{◌≡◌, ℕ, suc, ◌+◌, ◌-◌, ◌%◌, ◌==◌, Bool, true, false, if◌then◌else◌, List, ◌++◌, length, Option, Some, None, option_map, refl, sym, ◌∙◌, ap, arith, length-append}
 use Rattle.std.proofs.lemmas.Option.{same_Some}
+use Rattle.scc_base.specs.Calls.{Message}
 use Rattle.scc_base.specs.Heads.{MessageHead}
 use Rattle.scc_base.specs.Setups.{SetupView, place_of, root_of}
-use Rattle.scc_proto.specs.Messages.{Notes, Message, Progress, begun, is_last, with_chunk, sent_messages, received_messages}
+use Rattle.scc_proto.specs.Messages.{Notes, Progress, begun, is_last, with_chunk, sent_messages, received_messages}
 use Rattle.scc_proto.specs.Stages.{Stage, Idle, Drafting, Sending, Between, Taking, Barrier, OnItsWay, Record}
 use Rattle.scc_proto.specs.Words.{Memory, are_peers}
 use Rattle.scc_proto.specs.Records.{chunk_of}

@@ -1,12 +1,12 @@
 -- What a root has gathered in its barrier, and what a move of barriers leaves of the passed calls of others.
 use Rattle.std.proofs.Common.{◌≡◌, ◌≢◌, ◌⊎◌, ℕ, suc, ◌-◌, ◌<◌, ◌≤◌, ◌==◌, Bool, true, false, true≢false, ◌&&◌, nat_lt, nat_le, if◌then◌else◌, List, [], ◌∷◌, ◌++◌, length, Option, Some, None, ⊎_elim, refl, sym, ◌∙◌, ap, ap₂, subst, append-nil, arith}
 use Rattle.std.proofs.lemmas.Bool.Decides.{nat_tests}
-use Rattle.scc_base.specs.Calls.{DataCall, Bar}
+use Rattle.scc_base.specs.Calls.{DataCall, Bar, Message}
 use Rattle.scc_base.specs.Setups.{SetupView, setup_key, root_of}
 use Rattle.scc_base.proofs.Confluence.{equal_or_not}
 use Rattle.scc_base.proofs.ChangeLaws.{true_or_false}
 use Rattle.scc_proto.specs.Tables.{put}
-use Rattle.scc_proto.specs.Messages.{Message, begun, with_chunk, sent_messages, received_messages, send_to, message_of}
+use Rattle.scc_proto.specs.Messages.{begun, with_chunk, sent_messages, received_messages, send_to, message_of}
 use Rattle.scc_proto.specs.Stages.{Stage, Idle, Drafting, Sending, Between, Taking, Barrier, OnItsWay, Record}
 use Rattle.scc_proto.specs.Moves.{finished_if, calls_released, calls_let_go, look_gather, look_release}
 use Rattle.scc_proto.specs.Records.{chunk_of, last_of}

@@ -1,8 +1,7 @@
 -- The examples of legal lists.
 use Rattle.std.proofs.Common.{◌≡◌, ◌≢◌, ℕ, zero, suc, true, false, true≢false, List, [], ◌∷◌, ◌++◌, get_or, Option, Some, None, refl, sym, ◌∙◌, ap, subst, arith}
 use Rattle.std.proofs.lemmas.Bool.Decides.{nat_tests}
-use Rattle.scc_base.specs.Calls.{DataCall, Bar}
-use Rattle.scc_proto.specs.Messages.{Message}
+use Rattle.scc_base.specs.Calls.{DataCall, Bar, Message}
 use Rattle.scc_proto.specs.Legality.{Outgoing, Standing, CallStep, in_group, call_at, Makes, OwnStep, IsLegal, no_slots}
 use Rattle.scc_proto.specs.LegalExamples.{one_group, lists_of, slot_of_first, four_bytes, sending, receiving, posting}
 use Rattle.scc_proto.proofs.StepLaws.{own_step, step_told, first_call, itself}

@@ -1,10 +1,10 @@
 -- What legal lists say of the messages of a pair of ranks, and of the barriers of a group.
 use Rattle.std.proofs.Common.{◌≡◌, ℕ, zero, suc, ◌+◌, ◌<◌, ◌==◌, Bool, true, false, if◌then◌else◌, List, [], ◌∷◌, ◌++◌, Option, Some, refl, sym, ◌∙◌, ap, ap₂, subst, append_assoc, append-nil, arith}
 use Rattle.std.proofs.lemmas.Bool.Decides.{nat_tests}
-use Rattle.scc_base.specs.Calls.{DataCall, Send, Recv, Bar}
+use Rattle.scc_base.specs.Calls.{DataCall, Send, Recv, Bar, Message}
 use Rattle.scc_base.specs.Changes.{both}
 use Rattle.scc_base.specs.Runs.{Runs}
-use Rattle.scc_proto.specs.Messages.{Message, sent_messages, received_messages, barriers_of}
+use Rattle.scc_proto.specs.Messages.{sent_messages, received_messages, barriers_of}
 use Rattle.scc_proto.specs.Legality.{Outgoing, Standing, CallStep, Posting, Taking, Pairing, Meeting, in_group, Makes, OwnStep, IsUsedUp, IsLegal, no_slots, slot_message}
 use Rattle.scc_proto.proofs.LegalLaws.{legal_in_some_order}
 

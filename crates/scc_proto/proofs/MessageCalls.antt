@@ -1,11 +1,11 @@
 -- The moves of messages add nothing to the passed calls, or the calls of one post, one receive, or one send and its receive.
 use Rattle.std.proofs.Common.{◌≡◌, ◌≢◌, ℕ, suc, ◌<◌, ◌==◌, Bool, true, false, true≢false, ◌&&◌, if◌then◌else◌, List, [], ◌∷◌, ◌++◌, length, is_none, Option, Some, None, unwrap_or, ⊎_elim, refl, sym, ◌∙◌, ap, ap₂, subst, append-nil, arith}
-use Rattle.scc_base.specs.Calls.{DataCall, Recv}
+use Rattle.scc_base.specs.Calls.{DataCall, Recv, Message}
 use Rattle.scc_base.specs.Setups.{SetupView, IsSetup, setup_key}
 use Rattle.scc_base.proofs.Confluence.{equal_or_not}
 use Rattle.scc_base.proofs.ChangeLaws.{true_or_false}
 use Rattle.scc_proto.specs.Tables.{put}
-use Rattle.scc_proto.specs.Messages.{Notes, Message, Progress, begun, with_chunk, message_of, sent_messages, received_messages, send_to, recv_from, post_to, head_of, is_last, is_whole, chunk_bytes, chunk_words, bytes_from}
+use Rattle.scc_proto.specs.Messages.{Notes, Progress, begun, with_chunk, message_of, sent_messages, received_messages, send_to, recv_from, post_to, head_of, is_last, is_whole, chunk_bytes, chunk_words, bytes_from}
 use Rattle.scc_proto.specs.Stages.{Filling, Raised, Answered, Stage, Idle, Drafting, Sending, Between, Taking, Barrier, OnItsWay, Record}
 use Rattle.scc_proto.specs.Moves.{Move, DraftHeader, DraftChunk, RaiseSent, LookSent, ReadHeader, ReadChunk, LowerSent, RaiseReady, LookReady, LowerReady, FlipGather, LookGather, WriteRelease, LookRelease, StoreHeap, NoMove, Misplaced, is_posted, raise_sent, raise_ready, lower_ready, post_raised, finished_if, calls_raised, calls_received, calls_sent, after}
 use Rattle.scc_proto.specs.Permission.{is_drafted, may_raise, has_taken, may_go_on, is_answered_by}

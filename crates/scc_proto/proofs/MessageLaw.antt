@@ -1,8 +1,8 @@
 -- The messages of a pair of ranks, from the legality of the calls that they have passed.
 use Rattle.std.proofs.Common.{◌≡◌, ◌⊎◌, ℕ, ◌==◌, Bool, true, false, true≢false, if◌then◌else◌, List, [], ◌∷◌, ◌++◌, length, Option, Some, None, inl, inr, refl, sym, ◌∙◌, ap, append-nil}
-use Rattle.scc_base.specs.Calls.{DataCall, Send, Recv, Post, Bar}
+use Rattle.scc_base.specs.Calls.{DataCall, Send, Recv, Post, Bar, Message}
 use Rattle.scc_base.specs.Setups.{SetupView, setup_key}
-use Rattle.scc_proto.specs.Messages.{Message, begun, with_chunk, message_of, sent_messages, received_messages, send_to}
+use Rattle.scc_proto.specs.Messages.{begun, with_chunk, message_of, sent_messages, received_messages, send_to}
 use Rattle.scc_proto.specs.Stages.{Stage, Idle, Drafting, Sending, Between, Taking, Barrier, OnItsWay, Record}
 use Rattle.scc_proto.specs.Singles.{IsConsistent, IsPosted, is_free}
 use Rattle.scc_proto.specs.Records.{chunk_of}

@@ -1,7 +1,7 @@
 -- The messages and the barriers of lists of calls.
 use Rattle.std.proofs.Common.{◌≡◌, ℕ, suc, ◌+◌, Bool, true, false, ◌==◌, if◌then◌else◌, List, [], ◌∷◌, ◌++◌, refl, ◌∙◌, ap, arith, append-nil}
-use Rattle.scc_base.specs.Calls.{DataCall, Send, Recv, Post, Bar}
-use Rattle.scc_proto.specs.Messages.{Message, sent_messages, received_messages, barriers_of, send_to, recv_from, post_to}
+use Rattle.scc_base.specs.Calls.{DataCall, Send, Recv, Post, Bar, Message}
+use Rattle.scc_proto.specs.Messages.{sent_messages, received_messages, barriers_of, send_to, recv_from, post_to}
 
 -- a message that a test lets in
 abbrev pub message_if : Bool → Message → List Message

@@ -1,11 +1,11 @@
 -- Moves that pass nothing, and what a sender's side tells of its stage.
 use Rattle.std.proofs.Common.{◌≡◌, ◌≢◌, ℕ, suc, ◌==◌, Bool, true, false, true≢false, nat_le, if◌then◌else◌, List, [], ◌∷◌, ◌++◌, length, length-append, Option, Some, None, option_map, ⊎_elim, refl, sym, ◌∙◌, ap, ap₂, subst, arith}
 use Rattle.std.proofs.lemmas.Bool.Decides.{nat_tests}
-use Rattle.scc_base.specs.Calls.{DataCall, Bar}
+use Rattle.scc_base.specs.Calls.{DataCall, Bar, Message}
 use Rattle.scc_base.specs.Setups.{SetupView, setup_key, root_of}
 use Rattle.scc_base.proofs.Confluence.{equal_or_not}
 use Rattle.scc_proto.specs.Tables.{put}
-use Rattle.scc_proto.specs.Messages.{Notes, Message, Progress, begun, with_chunk, message_of, sent_messages, received_messages, send_to, note_word}
+use Rattle.scc_proto.specs.Messages.{Notes, Progress, begun, with_chunk, message_of, sent_messages, received_messages, send_to, note_word}
 use Rattle.scc_proto.specs.Stages.{Part, Filling, Raised, Answered, Stage, Idle, Drafting, Sending, Between, Taking, Barrier, OnItsWay, Record}
 use Rattle.scc_proto.specs.Moves.{draft_header, draft_chunk, read_chunk, lower_sent, look_ready, post_answered}
 use Rattle.scc_proto.specs.Records.{chunk_of, last_of}

@@ -1,7 +1,7 @@
 -- The phases of a pair under the moves of its sender.
 use Rattle.std.proofs.Common.{◌≡◌, ℕ, Bool, true, false, ◌&&◌, ◌==◌, if◌then◌else◌, List, [], ◌∷◌, ◌++◌, Option, Some, None, is_none, option_map, refl, sym, ◌∙◌, ap, subst, append-nil}
-use Rattle.scc_base.specs.Calls.{DataCall}
-use Rattle.scc_proto.specs.Messages.{Notes, note_word, Message, Progress, begun, is_last, with_chunk, message_of, head_of, sent_messages, send_to, post_to}
+use Rattle.scc_base.specs.Calls.{DataCall, Message}
+use Rattle.scc_proto.specs.Messages.{Notes, note_word, Progress, begun, is_last, with_chunk, message_of, head_of, sent_messages, send_to, post_to}
 use Rattle.scc_proto.specs.Stages.{Filling, Raised, Answered, Stage, Idle, Drafting, Sending, Between, Taking, Barrier, OnItsWay}
 use Rattle.scc_proto.specs.Moves.{draft_header, draft_chunk, raise_sent, look_ready, lower_ready, post_raised, post_answered, calls_raised, calls_sent, finished_if, is_posted}
 use Rattle.scc_proto.specs.Permission.{drafts_header, drafts_chunk, may_raise, may_go_on, is_drafted}

@@ -1,8 +1,8 @@
 -- The phases of a pair under the moves of its receiver.
 use Rattle.std.proofs.Common.{◌≡◌, ℕ, suc, Bool, true, false, ◌==◌, if◌then◌else◌, List, [], ◌∷◌, ◌++◌, Option, Some, None, option_map, unwrap_or, refl, sym, ◌∙◌, ap, subst, append-nil}
-use Rattle.scc_base.specs.Calls.{DataCall}
+use Rattle.scc_base.specs.Calls.{DataCall, Message}
 use Rattle.scc_base.specs.Setups.{SetupView}
-use Rattle.scc_proto.specs.Messages.{Notes, note_word, StandsIn, has_all, Message, Progress, begun, is_last, is_whole, is_head, with_chunk, chunk_bytes, chunk_words, message_of, head_of, received_messages, recv_from}
+use Rattle.scc_proto.specs.Messages.{Notes, note_word, StandsIn, has_all, Progress, begun, is_last, is_whole, is_head, with_chunk, chunk_bytes, chunk_words, message_of, head_of, received_messages, recv_from}
 use Rattle.scc_proto.specs.Stages.{Stage, Idle, Drafting, Sending, Between, Taking, Barrier}
 use Rattle.scc_proto.specs.Moves.{read_chunk, lower_sent, raise_ready, calls_received, finished_if}
 use Rattle.scc_proto.specs.Permission.{may_take, has_taken, says_head}

@@ -76,7 +76,13 @@ barrier_of_three = stores 2 40 97 0 1 ∷ stores 0 7 97 0 1 ∷ stores 1 5 97 0 
 -- four ranks, each on the core of its number: communicator 9 takes ranks 0 and 2 together, and 1 and 3, inside
 -- communicator 1, which has them all
 abbrev pub nested_ranks : SetupView
-nested_ranks = record { nue = 4; layout = LineFlags; hosts = 0 ∷ 1 ∷ 2 ∷ 3 ∷ []; comms = World ∷ Div 0 4 ∷ Absent ∷ Absent ∷ Absent ∷ Absent ∷ Absent ∷ Absent ∷ Absent ∷ Mod 1 2 ∷ [] }
+nested_ranks =
+    record {
+      nue = 4;
+      layout = LineFlags;
+      hosts = 0 ∷ 1 ∷ 2 ∷ 3 ∷ [];
+      comms = World ∷ Div 0 4 ∷ Absent ∷ Absent ∷ Absent ∷ Absent ∷ Absent ∷ Absent ∷ Absent ∷ Mod 1 2 ∷ [];
+    }
 
 -- ranks 0 and 2 meet in communicator 9, with this value of their gather flags
 abbrev pub two_meet : ℕ → List RankEvent
@@ -102,7 +108,9 @@ two_ranks_bits = two_ranks_by BitFlags
 
 -- a rank changes a word of line 1 of a core, under the core's register
 abbrev pub changes : (rank core sent ready word new : ℕ) → List RankEvent
-changes rank core sent ready word new = takes rank core ∷ loads rank core 1 0 sent ∷ loads rank core 1 1 ready ∷ loads rank core 1 2 0 ∷ loads rank core 1 3 0 ∷ stores rank core 1 word new ∷ frees rank core ∷ []
+changes rank core sent ready word new =
+    takes rank core ∷ loads rank core 1 0 sent ∷ loads rank core 1 1 ready ∷ loads rank core 1 2 0 ∷ loads rank core 1 3 0
+    ∷ stores rank core 1 word new ∷ frees rank core ∷ []
 
 -- rank 1 sends one byte to rank 0: it sets bit 1 of the `sent` flags of rank 0, which lowers it and sets
 -- bit 0 of the `ready` flags of rank 1. Word 3 of the header line is 1 in a post
@@ -166,9 +174,11 @@ begins_first layout = raises_sent layout ++ loads 1 1 1 0 1 ∷ loads 1 0 0 0 0 
 
 abbrev pub goes_second : Layout → List RankEvent
 goes_second layout = lowers_ready layout
-    ++ stores 0 0 (first_chunk layout) 3 0 ∷ stores 0 0 (first_chunk layout) 2 0 ∷ stores 0 0 (first_chunk layout) 1 0 ∷ stores 0 0 (first_chunk layout) 0 7 ∷ raises_sent layout
+    ++ stores 0 0 (first_chunk layout) 3 0 ∷ stores 0 0 (first_chunk layout) 2 0 ∷ stores 0 0 (first_chunk layout) 1 0 ∷ stores 0 0 (first_chunk layout) 0 7
+    ∷ raises_sent layout
     ++ loads 1 1 1 0 1 ∷ lowers_sent layout
-    ++ loads 1 0 (first_chunk layout) 0 7 ∷ loads 1 0 (first_chunk layout) 1 0 ∷ loads 1 0 (first_chunk layout) 2 0 ∷ loads 1 0 (first_chunk layout) 3 0 ∷ raises_ready layout
+    ++ loads 1 0 (first_chunk layout) 0 7 ∷ loads 1 0 (first_chunk layout) 1 0 ∷ loads 1 0 (first_chunk layout) 2 0 ∷ loads 1 0 (first_chunk layout) 3 0
+    ∷ raises_ready layout
     ++ lowers_ready layout
 
 abbrev pub two_chunks_by : Layout → (ℕ → ℕ) → List RankEvent

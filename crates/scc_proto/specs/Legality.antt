@@ -3,11 +3,10 @@
 -- all have come; posts and groups by keys are this project's profile).
 use Rattle.std.specs.Prelude.{◌≡◌, ◌≢◌, ℕ, ◌<◌, Bool, true, false, ◌&&◌, ◌==◌, nat_lt, if◌then◌else◌, List, [], ◌∷◌, ◌++◌, Option, Some, None}
 use Rattle.scc_base.specs.Heads.{MessageHead}
-use Rattle.scc_base.specs.Calls.{DataCall, Send, Recv, Post, Bar}
+use Rattle.scc_base.specs.Calls.{DataCall, Send, Recv, Post, Bar, Message}
 use Rattle.scc_base.specs.Changes.{Change, only, both}
 use Rattle.scc_base.specs.Groups.{is_with, place_in}
 use Rattle.scc_base.specs.Runs.{Runs, RunsLowest}
-use Rattle.scc_proto.specs.Messages.{Message}
 
 -- a message with the rank that it is for
 pub record Outgoing : Type 0 where

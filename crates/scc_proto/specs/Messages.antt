@@ -4,6 +4,7 @@ use Rattle.std.specs.Prelude.{◌≡◌, ℕ, zero, suc, ◌+◌, ◌-◌, ◌*�
 use Rattle.scc_base.specs.Bytes.{byte_of_word}
 use Rattle.scc_base.specs.Heads.{MessageHead}
 use Rattle.scc_base.specs.Calls.{DataCall, Send, Recv, Post, Bar}
+pub use Rattle.scc_base.specs.Calls.{Message}
 
 -- a word with its number in a header line or in a chunk buffer
 pub record Note : Type 0 where
@@ -63,11 +64,6 @@ is_head head = nat_lt head.kind 5 && (nat_lt head.comm 16 && (nat_le head.len 65
 -- a head that a posted message may have
 abbrev pub is_post_head : MessageHead → Bool
 is_post_head head = (head.kind == 0) && ((head.comm == 0) && nat_le head.len 3584)
-
--- a message with its bytes
-pub record Message : Type 0 where
-  pub head : MessageHead
-  pub bytes : List ℕ
 
 -- a message of which some chunks are through, with their bytes
 pub record Progress : Type 0 where
@@ -129,7 +125,8 @@ abbrev pub received_messages : ℕ → List DataCall → List Message
 received_messages s [] = []
 received_messages s (Send to head bytes ∷ calls) = received_messages s calls
 received_messages s (Post to head bytes ∷ calls) = received_messages s calls
-received_messages s (Recv from head bytes ∷ calls) = if from == s then record { head = head; bytes = bytes } ∷ received_messages s calls else received_messages s calls
+received_messages s (Recv from head bytes ∷ calls) =
+    if from == s then record { head = head; bytes = bytes } ∷ received_messages s calls else received_messages s calls
 received_messages s (Bar comm ∷ calls) = received_messages s calls
 
 -- how many barriers of a communicator are finished

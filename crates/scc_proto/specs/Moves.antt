@@ -79,7 +79,8 @@ flip_gather comm last stage = stage
 
 -- the root looks at its members one after the other; `v` is the value of the open barrier
 abbrev pub look_gather : ℕ → ℕ → ℕ → ℕ → Stage → Stage
-look_gather comm place value v (Barrier c seen released) = if (c == comm) && ((place == suc seen) && (value == v)) then Barrier c (suc seen) released else Barrier c seen released
+look_gather comm place value v (Barrier c seen released) =
+    if (c == comm) && ((place == suc seen) && (value == v)) then Barrier c (suc seen) released else Barrier c seen released
 look_gather comm place value v stage = stage
 
 abbrev pub write_release : ℕ → Stage → Stage
@@ -108,7 +109,8 @@ stage_after size move rec = rec.stage
 
 -- a posted message is on its way from its raise to the lowering of its `ready`
 abbrev pub post_raised : ℕ → Stage → Option OnItsWay → Option OnItsWay
-post_raised to (Drafting header chunk) post = if is_posted header then Some (record { to = to; head = head_of header; chunk = chunk; is_answered = false }) else post
+post_raised to (Drafting header chunk) post =
+    if is_posted header then Some (record { to = to; head = head_of header; chunk = chunk; is_answered = false }) else post
 post_raised to stage post = post
 
 abbrev pub post_answered : (ℕ → Bool) → OnItsWay → OnItsWay
@@ -140,7 +142,8 @@ abbrev pub finished_if : Bool → DataCall → List DataCall → List DataCall
 finished_if is_finished call calls = if is_finished then calls ++ call ∷ [] else calls
 
 abbrev pub calls_raised : ℕ → ℕ → Stage → List DataCall → List DataCall
-calls_raised size to (Drafting header chunk) calls = finished_if (is_posted header) (post_to to (message_of (with_chunk size (begun (head_of header)) chunk))) calls
+calls_raised size to (Drafting header chunk) calls =
+    finished_if (is_posted header) (post_to to (message_of (with_chunk size (begun (head_of header)) chunk))) calls
 calls_raised size to stage calls = calls
 
 abbrev pub calls_received : ℕ → Stage → List DataCall → List DataCall

@@ -1,7 +1,8 @@
 -- The messages from one rank to another, as the records of the two have them.
 use Rattle.std.specs.Prelude.{◌≡◌, ℕ, ◌==◌, if◌then◌else◌, [], ◌∷◌, ◌++◌, Option, Some, None}
+use Rattle.scc_base.specs.Calls.{Message}
 use Rattle.scc_base.specs.Setups.{SetupView}
-use Rattle.scc_proto.specs.Messages.{Message, begun, with_chunk, message_of, sent_messages, received_messages}
+use Rattle.scc_proto.specs.Messages.{begun, with_chunk, message_of, sent_messages, received_messages}
 use Rattle.scc_proto.specs.Stages.{Stage, Sending, OnItsWay, Record}
 use Rattle.scc_proto.specs.Records.{chunk_of}
 use Rattle.scc_proto.specs.Passed.{in_hand}

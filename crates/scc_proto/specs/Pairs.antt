@@ -1,8 +1,9 @@
 -- The phases of the messages from one rank to another: how their flags, the sender's buffer and the two
 -- records fit together (this project's profile of RCCE's handshake).
 use Rattle.std.specs.Prelude.{◌≡◌, ℕ, ◌<◌, Bool, true, false, ◌==◌, if◌then◌else◌, List, [], ◌∷◌, ◌++◌, Option, Some, None}
+use Rattle.scc_base.specs.Calls.{Message}
 use Rattle.scc_base.specs.Heads.{MessageHead}
-use Rattle.scc_proto.specs.Messages.{Notes, StandsIn, header_word, Message, Progress, begun, is_last, with_chunk, message_of, sent_messages, received_messages}
+use Rattle.scc_proto.specs.Messages.{Notes, StandsIn, header_word, Progress, begun, is_last, with_chunk, message_of, sent_messages, received_messages}
 use Rattle.scc_proto.specs.Stages.{Part, Filling, Raised, Answered, Stage, Drafting, Sending, Between, Taking, OnItsWay, Record}
 use Rattle.scc_proto.specs.Views.{View}
 
@@ -130,7 +131,8 @@ pub data Phase (size : ℕ) (x : Pair) : Type 0 where
   InRest : (through : Option Progress) → AtRest x through → Phase size x
   InRaised : (through : Option Progress) → (head : MessageHead) → (is_post : Bool) → (chunk : Notes) → IsRaised size x through head is_post chunk → Phase size x
   InTaken : (message : Progress) → (is_post : Bool) → (chunk words : Notes) → IsTaken size x message is_post chunk words → Phase size x
-  InReady : (through : Option Progress) → (is_answered is_post : Bool) → (message : Progress) → (chunk : Notes) → IsReady size x through is_answered is_post message chunk → Phase size x
+  InReady : (through : Option Progress) → (is_answered is_post : Bool) → (message : Progress) → (chunk : Notes)
+      → IsReady size x through is_answered is_post message chunk → Phase size x
 
 -- a header line holds a head
 abbrev pub HeaderStands : MessageHead → Bool → (ℕ → ℕ) → Type 0

@@ -45,7 +45,8 @@ is_gathered s comm me records = nat_le ((records me).flips comm) (gathered comm 
 
 -- the open call, where it is passed
 abbrev pub passed_open : SetupView → ℕ → Stage → (ℕ → Record) → List DataCall
-passed_open s me (Sending to part message chunk) records = if is_received me to records then send_to to (message_of (in_hand (chunk_of s) part message chunk)) ∷ [] else []
+passed_open s me (Sending to part message chunk) records =
+    if is_received me to records then send_to to (message_of (in_hand (chunk_of s) part message chunk)) ∷ [] else []
 passed_open s me (Barrier comm seen released) records = if is_gathered s comm me records then Bar comm ∷ [] else []
 passed_open s me stage records = []
 

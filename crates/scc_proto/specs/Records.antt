@@ -89,7 +89,8 @@ store_by s me rec place value (ReadyFlag from to) = if (to == me) && (value == 1
 store_by s me rec place value (SentFlags owner) = change_at LowerSent RaiseSent s me owner value (sent_noted rec place.core)
 store_by s me rec place value (ReadyFlags owner) = change_at LowerReady RaiseReady s me owner value (ready_noted rec place.core)
 store_by s me rec place value (GatherFlag comm owner) = if owner == me then FlipGather comm value (last_of s comm me) else Misplaced
-store_by s me rec place value (ReleaseFlag comm owner) = if leads s comm me owner then WriteRelease comm owner (place_of s comm owner) value (last_of s comm me) else Misplaced
+store_by s me rec place value (ReleaseFlag comm owner) =
+    if leads s comm me owner then WriteRelease comm owner (place_of s comm owner) value (last_of s comm me) else Misplaced
 store_by s me rec place value HeapWord = StoreHeap place value
 store_by s me rec place value IdleWord = Misplaced
 
@@ -105,8 +106,10 @@ pub data Act : Type 0 where
   Freeing : (core : ℕ) → Act
 
 abbrev pub load_act : SetupView → ℕ → Record → WordAt → ℕ → Role → Act
-load_act s me rec place value (SentFlags owner) = if is_some (rec.held place.core) then NotingSent place.core value else Moving (load_by s me value (SentFlags owner))
-load_act s me rec place value (ReadyFlags owner) = if is_some (rec.held place.core) then NotingReady place.core value else Moving (load_by s me value (ReadyFlags owner))
+load_act s me rec place value (SentFlags owner) =
+    if is_some (rec.held place.core) then NotingSent place.core value else Moving (load_by s me value (SentFlags owner))
+load_act s me rec place value (ReadyFlags owner) =
+    if is_some (rec.held place.core) then NotingReady place.core value else Moving (load_by s me value (ReadyFlags owner))
 load_act s me rec place value role = Moving (load_by s me value role)
 
 abbrev pub store_act : SetupView → ℕ → Record → WordAt → ℕ → Role → Act

@@ -40,7 +40,8 @@ pub record IsSound (s : SetupView) (me : ℕ) (rec : Record) : Type 0 where
   pub heads : (j : ℕ) (header : Notes) → rec.notes j ≡ Some header → AreOfHead header
   -- in a word of bit flags that was noted under a register, at the core of j: the own bits that this rank
   -- may raise next are clear
-  pub sent_clear : (j word : ℕ) → are_peers s me j ≡ true → sent_noted rec (host_of s.hosts j) ≡ Some word → is_drafting rec.stage rec.post ≡ true → bit_at word me ≡ 0
+  pub sent_clear : (j word : ℕ) → are_peers s me j ≡ true → sent_noted rec (host_of s.hosts j) ≡ Some word
+      → is_drafting rec.stage rec.post ≡ true → bit_at word me ≡ 0
   pub ready_clear : (j word : ℕ) → ready_noted rec (host_of s.hosts j) ≡ Some word → is_taking j rec.stage ≡ true → bit_at word me ≡ 0
   -- and at the own core: the bits that it may lower next are set
   pub sent_set : (j word : ℕ) (header : Notes) → sent_noted rec (host_of s.hosts me) ≡ Some word → rec.notes j ≡ Some header → bit_at word j ≡ 1
