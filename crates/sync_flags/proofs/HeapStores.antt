@@ -10,7 +10,7 @@ use Rattle.scc_proto.proofs.PlaceMoves.{heap_loaded, heap_stored}
 use Rattle.put_get.specs.Accesses.{loads_of}
 use Rattle.tas_lock.specs.Holds.{IsNotHolding, after_try}
 use Rattle.tas_lock.proofs.HoldLemmas.{next_tried}
-use Rattle.sync_flags.specs.Flags.{FlagView, flag_of, flag_value, with_bit}
+use Rattle.sync_flags.specs.Flags.{FlagView, flag_of, with_bit}
 use Rattle.sync_flags.specs.Writes.{MayWrite}
 
 pub heap_store_may : (seat : Seat) (rec : Record) (r : ℕ) (f : FlagView) (value : ℕ) → IsSetup seat.setup → r < seat.setup.nue → 225 ≤ f.line
