@@ -37,7 +37,8 @@ pub record WritesFlag (s : Sight) (c : Private) (core : ℕ) (flag : FlagPlace) 
 -- bit turned over, and the register freed
 pub data TriesBit (s : Sight) (c : Private) (core : ℕ) (flag : FlagPlace) (set : Bool) (done : Bool) (t : Sight) (d : Private) : Type 0 where
   Missed : done ≡ false → Did s (take_of core false ∷ []) t → d ≡ c → TriesBit s c core flag set done t d
-  Changed : done ≡ true → (words : List ℕ) → bit_at (slice_index words flag.word) flag.bit ≡ (if set then 0 else 1) → Did s (change_events (flag_word core flag) flag.bit set words) t
+  Changed : done ≡ true → (words : List ℕ) → bit_at (slice_index words flag.word) flag.bit ≡ (if set then 0 else 1)
+      → Did s (change_events (flag_word core flag) flag.bit set words) t
       → (m : Private) → Fills (record c { lines = [] }) (line_of_word (flag_word core flag)) words m
       → d ≡ record m { lines = noted m.lines (flag_word core flag) (with_bit flag.bit set (slice_index words flag.word)) }
       → TriesBit s c core flag set done t d

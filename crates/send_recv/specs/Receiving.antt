@@ -125,7 +125,8 @@ lines_left_by flags more lines now first Finished = 0
 
 -- how many lines a receive has left to load, looks apart
 abbrev pub lines_left : Layout → ℕ → RecvAt → ℕ
-lines_left layout size op = lines_left_by (flag_lines layout) (chunk_count size op.head.len - op.chunk) (lines_from size op.head.len op.chunk) (lines_now size op)
+lines_left layout size op =
+    lines_left_by (flag_lines layout) (chunk_count size op.head.len - op.chunk) (lines_from size op.head.len op.chunk) (lines_now size op)
     (op.chunk == 0) op.stage
 
 -- the turn makes a look
@@ -174,7 +175,8 @@ RecvMeans old now (turn.Waiting spot) = (now.op ≡ old.op) × (now.bytes ≡ ol
 RecvMeans old now turn.Done = (now.op.stage ≡ Finished) × (now.bytes ≡ old.bytes)
     × ((record_in now.sight).calls ≡ (record_in old.sight).calls ++ recv_call old.op old.bytes)
 RecvMeans old now (turn.Mismatch sent) = (now.op ≡ old.op) × (now.bytes ≡ old.bytes) × (old.op.stage ≡ Header)
-    × IsAtRest (record_in old.sight) (record_in now.sight) × (sent ≢ old.op.head) × (header : Notes) × ((record_in now.sight).notes old.op.from ≡ Some header) × SaysHead header sent
+    × IsAtRest (record_in old.sight) (record_in now.sight) × (sent ≢ old.op.head) × (header : Notes)
+    × ((record_in now.sight).notes old.op.from ≡ Some header) × SaysHead header sent
 
 -- the bytes of the message up to which the buffer is filled
 abbrev pub filled_by : (start len : ℕ) → RecvStage → ℕ → ℕ

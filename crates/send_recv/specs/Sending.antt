@@ -109,7 +109,8 @@ lines_in_hand size op = chunk_lines_of size op.head.len op.chunk
 -- last of them, or the header before the first
 abbrev pub waiting : Seat → SendAt → List ℕ → ℕ → Option Out
 waiting seat op bytes zero = if op.chunk == 0 then Some (whole_line (own_line seat 0) (header_words op.head op.posted)) else None
-waiting seat op bytes (suc i) = Some (whole_line (own_line seat (first_chunk seat.setup.layout + i)) (words_at bytes (chunk_start (chunk_of seat.setup) op.chunk + 32 * i)))
+waiting seat op bytes (suc i) =
+    Some (whole_line (own_line seat (first_chunk seat.setup.layout + i)) (words_at bytes (chunk_start (chunk_of seat.setup) op.chunk + 32 * i)))
 
 -- all words of the header are drafted
 abbrev pub HasHeader : Notes → SendAt → Type 0
@@ -153,7 +154,8 @@ abbrev pub IsAtSendStage : Seat → Record → Private → SendAt → List ℕ �
 IsAtSendStage seat rec c op bytes Header = (op.chunk ≡ 0) × (rec.stage ≡ Idle) × (c.out ≡ None)
 IsAtSendStage seat rec c op bytes (Lines i) = (i < lines_in_hand (chunk_of seat.setup) op) × (rec.post ≡ None) × (c.out ≡ waiting seat op bytes i)
     × DraftedBefore (chunk_of seat.setup) rec.stage op bytes i
-IsAtSendStage seat rec c op bytes Flush = (seat.setup.layout ≡ BitFlags) × (rec.post ≡ None) × (c.out ≡ waiting seat op bytes (lines_in_hand (chunk_of seat.setup) op))
+IsAtSendStage seat rec c op bytes Flush =
+    (seat.setup.layout ≡ BitFlags) × (rec.post ≡ None) × (c.out ≡ waiting seat op bytes (lines_in_hand (chunk_of seat.setup) op))
     × DraftedBefore (chunk_of seat.setup) rec.stage op bytes (lines_in_hand (chunk_of seat.setup) op)
 IsAtSendStage seat rec c op bytes Raise = (rec.post ≡ None) × IsBeforeRaise seat.setup.layout seat rec.stage c op bytes
 IsAtSendStage seat rec c op bytes Look = (op.posted ≡ false) × (rec.post ≡ None) × (c.out ≡ None) × (part : Part) × ((part ≡ Raised) ⊎ (part ≡ Answered))
@@ -208,7 +210,8 @@ send_spot_by layout own other to slot stage = None
 
 -- the spot at which the stage of a send makes its one try; at the start it is the slot's
 abbrev pub send_spot : Seat → SendAt → SlotAt → Option Spot
-send_spot seat op slot = send_spot_by seat.setup.layout (host_of seat.setup.hosts seat.rank) (host_of seat.setup.hosts op.to) op.to (slot_spot seat slot) op.stage
+send_spot seat op slot =
+    send_spot_by seat.setup.layout (host_of seat.setup.hosts seat.rank) (host_of seat.setup.hosts op.to) op.to (slot_spot seat slot) op.stage
 
 -- the call that an op which is not at its end is to finish
 abbrev pub send_call : SendAt → List ℕ → List DataCall
@@ -220,7 +223,8 @@ slot_after op slot = if is_sent op.stage then slot else (if op.posted then recor
 
 -- what each answer means for the op, the slot and the record
 abbrev pub SendMeans : Sender → Sender → Turn → Type 0
-SendMeans old now turn.Moved = (send_left (layout_at old.sight) (chunk_at old.sight) old.op old.slot ≡ send_left (layout_at old.sight) (chunk_at old.sight) now.op now.slot + 1)
+SendMeans old now turn.Moved =
+    (send_left (layout_at old.sight) (chunk_at old.sight) old.op old.slot ≡ send_left (layout_at old.sight) (chunk_at old.sight) now.op now.slot + 1)
     × ((record_in now.sight).calls ≡ (record_in old.sight).calls) × (is_sent old.op.stage ≡ false) × (is_sent now.op.stage ≡ false)
     × IsSameOrEmpty old.slot now.slot
 SendMeans old now (turn.Waiting spot) = (now.op ≡ old.op) × (now.slot ≡ old.slot) × IsAtRest (record_in old.sight) (record_in now.sight)

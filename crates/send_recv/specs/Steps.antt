@@ -72,7 +72,11 @@ abbrev pub after_line : ℕ → ℕ → RecvAt → RecvAt
 after_line size line op = record op { stage = if nat_lt (line + 1) (chunk_lines_of size op.head.len op.chunk) then receive.Lines (line + 1) else receive.Raise }
 
 abbrev pub after_raise : ℕ → Bool → RecvAt → RecvAt
-after_raise size gone op = if gone then (if is_last_chunk size op.head.len op.chunk then record op { stage = receive.Finished } else record op { chunk = op.chunk + 1; stage = receive.Look }) else op
+after_raise size gone op =
+    if gone
+    then (if is_last_chunk size op.head.len op.chunk then record op { stage = receive.Finished }
+    else record op { chunk = op.chunk + 1; stage = receive.Look })
+    else op
 
 abbrev pub raise_answer : ℕ → Bool → Spot → RecvAt → RecvTurn
 raise_answer size gone spot op = if gone then (if is_last_chunk size op.head.len op.chunk then recv_turn.Done else recv_turn.Moved) else recv_turn.Waiting spot
@@ -110,7 +114,8 @@ abbrev pub after_header : Layout → SendAt → SendAt
 after_header layout op = record op { stage = if chunk_lines_of (chunk_size layout) op.head.len op.chunk == 0 then before_raise layout else sending.Lines 0 }
 
 abbrev pub after_written : Layout → ℕ → SendAt → SendAt
-after_written layout line op = record op { stage = if nat_lt (line + 1) (chunk_lines_of (chunk_size layout) op.head.len op.chunk) then sending.Lines (line + 1) else before_raise layout }
+after_written layout line op =
+    record op { stage = if nat_lt (line + 1) (chunk_lines_of (chunk_size layout) op.head.len op.chunk) then sending.Lines (line + 1) else before_raise layout }
 
 abbrev pub after_flush : SendAt → SendAt
 after_flush op = record op { stage = sending.Raise }
@@ -128,7 +133,11 @@ abbrev pub after_seen : Bool → SendAt → SendAt
 after_seen gone op = if gone then record op { stage = sending.Lower } else op
 
 abbrev pub after_through : ℕ → Bool → SendAt → SendAt
-after_through size gone op = if gone then (if is_last_chunk size op.head.len op.chunk then record op { stage = sending.Finished } else record op { chunk = op.chunk + 1; stage = sending.Lines 0 }) else op
+after_through size gone op =
+    if gone
+    then (if is_last_chunk size op.head.len op.chunk then record op { stage = sending.Finished }
+    else record op { chunk = op.chunk + 1; stage = sending.Lines 0 })
+    else op
 
 abbrev pub through_answer : ℕ → Bool → Spot → SendAt → Turn
 through_answer size gone spot op = if gone then (if is_last_chunk size op.head.len op.chunk then turn.Done else turn.Moved) else turn.Waiting spot
