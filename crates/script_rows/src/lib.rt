@@ -1,13 +1,9 @@
-//! Tests of the script language, of what scripts mean, of generated scripts and of the load of the mesh. There is no other code.
+//! Tests of what no run of a program shows of scripts: their limits, any order of steps, and the texts of generated scripts. There is no other code.
 #![tactic(auto)]
 
 #[cfg(test)]
-mod ends;
-#[cfg(test)]
 mod generated;
 #[cfg(test)]
-mod loads;
+mod limits;
 #[cfg(test)]
-mod messages;
-#[cfg(test)]
-mod readings;
+mod runs;
