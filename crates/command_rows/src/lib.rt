@@ -1,4 +1,4 @@
-//! Tests of `rccemesh`, `rccecheck`, `rcceaudit` and `rccecoll`, by their top calls: what no row of a run shows. There is no other code.
+//! Tests of the five programs by their top calls: what no row of a run shows. There is no other code.
 #![tactic(auto)]
 
 #[cfg(test)]
@@ -8,4 +8,12 @@ mod check;
 #[cfg(test)]
 mod coll;
 #[cfg(test)]
+mod faults;
+#[cfg(test)]
+mod launches;
+#[cfg(test)]
 mod mesh;
+#[cfg(test)]
+mod runs;
+#[cfg(test)]
+mod together;

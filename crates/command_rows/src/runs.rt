@@ -1,6 +1,6 @@
 //! What no clause says: that the longest texts arrive, that the longest runs end, and that a plain run has the same lines.
 
-use crate::rows::{run, run_script};
+use crate::launches::{run, run_script};
 use outcomes::Status;
 use rcce_io::MemSink;
 use run_program::{write_printed, write_unfinished};

@@ -1,6 +1,6 @@
 //! What no clause says: without `-serial` the ranks run in threads of their own.
 
-use crate::rows::{FOUR_BYTES, words_of};
+use crate::launches::{FOUR_BYTES, words_of};
 use outcomes::Status;
 use rcce_io::{MemFiles, MemSink};
 use rcce_run::Gate;

@@ -1,6 +1,6 @@
 //! What no clause says: that a run ends as its clauses say where each call on its files and sinks fails in turn.
 
-use crate::rows::{Ended, FOUR_BYTES, expect, words_of};
+use crate::launches::{Ended, FOUR_BYTES, expect, words_of};
 use outcomes::Status;
 use rcce_io::{MemFiles, MemSink};
 use rcce_run::Open;
