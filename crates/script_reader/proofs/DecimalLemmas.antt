@@ -1,10 +1,11 @@
 -- A decimal text reads back as its number.
 use Rattle.std.proofs.Common.{◌≡◌, ℕ, ◌+◌, ◌-◌, ◌*◌, ◌/◌, ◌%◌, ◌<◌, ◌≤◌, Bool, true, false, cond, ◌&&◌, List, [], ◌∷◌, ◌++◌, length, Option, Some, None, decimal, ◌∙◌, ap, arith}
 use Rattle.std.specs.Prelude.{nat_le}
+use Rattle.std.specs.Char.{is_ascii_digit}
 use Rattle.std.proofs.lemmas.Bool.{and_from, le-leb, cond-true}
 use Rattle.std.proofs.lemmas.Bool.Decides.{nat_tests}
 use Rattle.std.proofs.lemmas.Fmt.{decimal_by_steps, decimal_nonempty, length-decimal-le}
-use Rattle.script_reader.specs.Words.{number_of, digits_value, is_digit}
+use Rattle.script_reader.specs.Words.{number_of, digits_value}
 
 passed : (t : Bool) (a b c : Option ℕ) (n : ℕ) → (a ≡ Some n → b ≡ c) → cond t a None ≡ Some n → cond t b None ≡ c
 passed true a b c n more is = more is
@@ -13,7 +14,7 @@ passed false a b c n more is = absurd cc
 digits-append : (limit front : ℕ) (xs ys : List ℕ) (n : ℕ) → digits_value limit front xs ≡ Some n → digits_value limit front (xs ++ ys) ≡ digits_value limit n ys
 digits-append limit front [] ys n is = ap (λ (m : ℕ). digits_value limit m ys) cc
 digits-append limit front (b ∷ xs) ys n is =
-    passed (is_digit b && nat_le (front * 10 + (b - 48)) limit) (digits_value limit (front * 10 + (b - 48)) xs) (digits_value limit (front * 10 + (b - 48)) (xs ++ ys)) (digits_value limit n ys) n
+    passed (is_ascii_digit b && nat_le (front * 10 + (b - 48)) limit) (digits_value limit (front * 10 + (b - 48)) xs) (digits_value limit (front * 10 + (b - 48)) (xs ++ ys)) (digits_value limit n ys) n
     (λ e. digits-append limit (front * 10 + (b - 48)) xs ys n e) is
 
 digit_passes : (limit front b : ℕ) → 48 ≤ b → b ≤ 57 → front * 10 + (b - 48) ≤ limit → digits_value limit front (b ∷ []) ≡ Some (front * 10 + (b - 48))

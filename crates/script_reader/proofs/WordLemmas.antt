@@ -7,9 +7,10 @@ use Rattle.std.proofs.lemmas.List.Elements.{All-get_or}
 use Rattle.std.proofs.lemmas.List.Sums.{AllPass-from_list_all, prefix_len-le-length}
 use Rattle.std.proofs.lemmas.Str.{IsUtf8-from_ascii}
 use Rattle.std.specs.Prelude.{nat_le, slice_index}
+use Rattle.std.specs.Char.{is_ascii_alphabetic}
 use Rattle.std.specs.List.{AllPass, list_all, position, position_or_len}
 use Rattle.std.specs.Str.{IsAscii, IsUtf8}
-use Rattle.script_reader.specs.Words.{is_letter, is_name, is_name_byte}
+use Rattle.script_reader.specs.Words.{is_name, is_name_byte}
 
 place-unwrapped : (n len : ℕ) → n ≤ len → unwrap_or (cond (ltb n len) (Some n) None) len ≡ n
 place-unwrapped n len h = grind (arith, nat_tests)
@@ -36,6 +37,6 @@ IsUtf8-from_name word h = IsUtf8-from_ascii word (ascii-from_pass word (AllPass-
 -- and has at most 16 bytes
 pub name-short : (word : List ℕ) → is_name word ≡ true → length word ≤ 16
 name-short word h =
-    let front = (and_parts (nat_le 1 (length word) && nat_le (length word) 16 && is_letter (slice_index word 0)) (list_all is_name_byte word) h).0 in
-    let lengths = (and_parts (nat_le 1 (length word) && nat_le (length word) 16) (is_letter (slice_index word 0)) front).0 in
+    let front = (and_parts (nat_le 1 (length word) && nat_le (length word) 16 && is_ascii_alphabetic (slice_index word 0)) (list_all is_name_byte word) h).0 in
+    let lengths = (and_parts (nat_le 1 (length word) && nat_le (length word) 16) (is_ascii_alphabetic (slice_index word 0)) front).0 in
     leb-true (length word) 16 (and_parts (nat_le 1 (length word)) (nat_le (length word) 16) lengths).1

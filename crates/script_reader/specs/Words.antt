@@ -1,5 +1,6 @@
 -- The first layer of the grammar: lines, words, numbers, names and bytes (this project's profile).
 use Rattle.std.specs.Prelude.{ℕ, ◌+◌, ◌-◌, ◌*◌, ◌^◌, ◌%◌, ◌==◌, ◌&&◌, ◌||◌, nat_le, not, Bool, if◌then◌else◌, List, [], ◌∷◌, length, drop, slice_index, slice_get, filter, codes, Option, Some, None}
+use Rattle.std.specs.Char.{is_ascii_alphabetic, is_ascii_digit}
 use Rattle.std.specs.Int.{w32, w64, to_le_bytes}
 use Rattle.std.specs.List.{before_first, list_all, slice_split}
 use Rattle.std.specs.Option.{option_map}
@@ -41,13 +42,11 @@ is_text line = list_all is_text_byte (uncommented line)
 abbrev pub words_of : List ℕ → List (List ℕ)
 words_of line = filter (λ word. not (length word == 0)) (slice_split is_blank (uncommented line))
 
-abbrev pub is_digit : ℕ → Bool
-is_digit b = nat_le 48 b && nat_le b 57
-
 -- the value of the decimal digits that follow those of the value `front`, as long as it is at most `limit`
 abbrev pub digits_value : ℕ → ℕ → List ℕ → Option ℕ
 digits_value limit front [] = Some front
-digits_value limit front (b ∷ rest) = if is_digit b && nat_le (front * 10 + (b - 48)) limit then digits_value limit (front * 10 + (b - 48)) rest else None
+digits_value limit front (b ∷ rest) =
+    if is_ascii_digit b && nat_le (front * 10 + (b - 48)) limit then digits_value limit (front * 10 + (b - 48)) rest else None
 
 -- one to so many decimal digits with a value of at most `limit`, leading zeros accepted
 abbrev pub decimal_of : ℕ → ℕ → List ℕ → Option ℕ
@@ -78,15 +77,12 @@ value_of_word ty word =
     then option_map (bytes_below ty) (decimal_of 20 (greatest ty + 1) (drop 1 word))
     else option_map (bytes_above ty) (decimal_of 20 (greatest ty) word)
 
-abbrev pub is_letter : ℕ → Bool
-is_letter b = nat_le 65 b && nat_le b 90 || nat_le 97 b && nat_le b 122
-
 abbrev pub is_name_byte : ℕ → Bool
-is_name_byte b = is_letter b || is_digit b || b == 95
+is_name_byte b = is_ascii_alphabetic b || is_ascii_digit b || b == 95
 
 -- a name: 1 to 16 letters, digits and underscores, and first a letter
 abbrev pub is_name : List ℕ → Bool
-is_name word = nat_le 1 (length word) && nat_le (length word) 16 && is_letter (slice_index word 0) && list_all is_name_byte word
+is_name word = nat_le 1 (length word) && nat_le (length word) 16 && is_ascii_alphabetic (slice_index word 0) && list_all is_name_byte word
 
 -- the bytes that a word stands for: none for `-`, else two hex digits each
 abbrev pub bytes_of : List ℕ → Option (List ℕ)

@@ -4,7 +4,7 @@ ghost use Rattle.std.specs.Prelude.{◌≡◌, ◌+◌, ◌≤◌, length, map, 
 ghost use Rattle.std.specs.List.{list_all};
 ghost use Rattle.script_reader.specs.Faults.{LineGives};
 ghost use Rattle.script_reader.specs.Said.{colour_said, hex_said, name_said, number_said, of_said, operation_said, peer_said, range_said, type_said, value_behind, values_said};
-ghost use Rattle.script_reader.specs.Words.{bytes_above, bytes_below, decimal_of, greatest, is_blank, is_digit, is_letter, is_name, is_name_byte, is_text, is_text_byte, line_count, lines_of, number_of, uncommented, words_of};
+ghost use Rattle.script_reader.specs.Words.{bytes_above, bytes_below, decimal_of, greatest, is_blank, is_name, is_name_byte, is_text, is_text_byte, line_count, lines_of, number_of, uncommented, words_of};
 
 use crate::bytes::Bytes;
 use crate::fault::{FaultKind, LineStop};
@@ -27,22 +27,10 @@ fn is_text_byte(b: u8) -> bool
     b == b'\t' || b == b'\n' || b == b'\r' || b' ' <= b && b <= b'~'
 }
 
-fn is_digit(b: u8) -> bool
-    ensures { result ≡ is_digit b }
-{
-    b'0' <= b && b <= b'9'
-}
-
-fn is_letter(b: u8) -> bool
-    ensures { result ≡ is_letter b }
-{
-    b'A' <= b && b <= b'Z' || b'a' <= b && b <= b'z'
-}
-
 fn is_name_byte(b: u8) -> bool
     ensures { result ≡ is_name_byte b }
 {
-    is_letter(b) || is_digit(b) || b == b'_'
+    b.is_ascii_alphabetic() || b.is_ascii_digit() || b == b'_'
 }
 
 /// The lines of a file, each without its line feed.
@@ -99,7 +87,7 @@ fn decimal(word: &[u8], most: usize, limit: u64) -> Option<u64>
     }
     let mut value: u64 = 0;
     for b in word {
-        if !is_digit(*b) {
+        if !b.is_ascii_digit() {
             return None;
         }
         let next = value as u128 * 10 + (*b - b'0') as u128;
@@ -323,7 +311,7 @@ fn is_name(word: &[u8]) -> bool
     ensures { result ≡ is_name word.now }
 {
     match word.len() {
-        1..=16 => is_letter(word[0]) && are_name_bytes(word),
+        1..=16 => word[0].is_ascii_alphabetic() && are_name_bytes(word),
         _ => false,
     }
 }
