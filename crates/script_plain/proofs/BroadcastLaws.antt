@@ -2,7 +2,7 @@
 use Rattle.std.proofs.Common.{◌≡◌, ℕ, ◌==◌, true, ◌&&◌, List, [], ◌∷◌, ◌++◌, length, map, Option, Some, None, refl, sym, ap, ◌∙◌, subst, arith, slice_get, slice_set}
 use Rattle.std.proofs.lemmas.Bool.{eq-eqb}
 use Rattle.std.proofs.lemmas.List.{append-nil}
-use Rattle.scc_base.specs.Calls.{DataCall}
+use Rattle.scc_base.specs.Calls.{DataCall, Message}
 use Rattle.scc_base.specs.Calls.DataCall.{Recv}
 use Rattle.scc_base.specs.Heads.{MessageHead, kind_number}
 use Rattle.scc_base.specs.Setups.{SetupView, place_of}
@@ -21,7 +21,7 @@ use Rattle.script_plain.specs.declared.prims.Source.TheVariants as source_of
 use Rattle.script_plain.specs.Collectives.{AreBroadcast, HasDone, IsOther, StandsAt, gone_by, gone_through}
 use Rattle.script_plain.specs.Local.{Local, asked_head, gone_on_gathering, gone_on_with, register_at}
 use Rattle.script_plain.specs.Meaning.{State, next_of}
-use Rattle.script_plain.specs.Messages.{AreDelivered, Message, is_of, received_by, sent_by}
+use Rattle.script_plain.specs.Messages.{AreDelivered, is_of, received_by, sent_by}
 use Rattle.script_plain.specs.Program.{Act, Prim, acts_of, can_call, parts_of, setup_of}
 use Rattle.script_plain.specs.Program.Act.{Send, Gather, Accept}
 use Rattle.script_plain.specs.Step.{Configuration}

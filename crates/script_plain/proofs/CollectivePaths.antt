@@ -6,7 +6,7 @@ use Rattle.std.proofs.lemmas.Grind.{flat_map-append}
 use Rattle.std.proofs.lemmas.List.{append-nil}
 use Rattle.std.proofs.lemmas.List.Elements.{filter-append}
 use Rattle.std.proofs.lemmas.Option.{same_Some, slice_get_past}
-use Rattle.scc_base.specs.Calls.{DataCall}
+use Rattle.scc_base.specs.Calls.{DataCall, Message}
 use Rattle.scc_base.specs.Calls.DataCall.{Send}
 use Rattle.scc_base.specs.Heads.{MessageHead}
 use Rattle.groups.proofs.StepLemmas.{get_front, get_behind}
@@ -16,7 +16,7 @@ use Rattle.script_plain.specs.declared.prims.Standing.TheVariants as standing
 use Rattle.script_plain.specs.Collectives.{gone_by, gone_through}
 use Rattle.script_plain.specs.Local.{gone_on, local_next, next_by_act, next_by_prim, prim_by_standing, source_bytes, with_length}
 use Rattle.script_plain.specs.Meaning.{State, next_of, recorded}
-use Rattle.script_plain.specs.Messages.{Message, is_of, sent_by}
+use Rattle.script_plain.specs.Messages.{is_of, sent_by}
 use Rattle.script_plain.specs.Next.{Next}
 use Rattle.script_plain.specs.Next.Next.{Ends, Goes, Posts, Sends, Recvs, Bars}
 use Rattle.script_plain.specs.Program.{Act, Prim}

@@ -3,13 +3,13 @@ use Rattle.std.proofs.Common.{◌≡◌, ℕ, ◌+◌, ◌<◌, ◌≤◌, ◌==
 use Rattle.std.proofs.lemmas.Bool.{cases_lt}
 use Rattle.std.proofs.lemmas.List.{append-nil}
 use Rattle.std.proofs.lemmas.Option.{slice_get_within}
-use Rattle.scc_base.specs.Calls.{DataCall}
+use Rattle.scc_base.specs.Calls.{DataCall, Message}
 use Rattle.script_reader.specs.declared.script.Item.{Item}
 use Rattle.script_reader.specs.declared.script.Stmt.{Stmt}
 use Rattle.script_reader.specs.Script.{Script}
 use Rattle.script_plain.specs.Collectives.{AreOwnWays, CameTo, IsOfRank, Made, StandsAt, gone_through, started}
 use Rattle.script_plain.specs.Meaning.{State}
-use Rattle.script_plain.specs.Messages.{Message, is_of, sent_by}
+use Rattle.script_plain.specs.Messages.{is_of, sent_by}
 use Rattle.script_plain.specs.Program.{Act, Prim, acts_of, setup_of}
 use Rattle.script_plain.specs.Step.{Configuration}
 use Rattle.script_plain.proofs.CollectivePaths.{Facing, chosen, through_both}

@@ -1,14 +1,14 @@
 -- The groups of a script's communicators, as the code finds them.
-use Rattle.std.proofs.Common.{◌≡◌, ◌≢◌, ℕ, zero, suc, ◌+◌, ◌<◌, ◌≤◌, ◌==◌, Bool, true, false, ◌&&◌, nat_lt, if◌then◌else◌, List, [], ◌∷◌, length, set, get_or, replicate, Option, Some, None, refl, sym, ap, ◌∙◌, subst, arith, slice_get, ⊎_elim}
+use Rattle.std.proofs.Common.{◌≡◌, ◌≢◌, ℕ, suc, ◌+◌, ◌<◌, ◌≤◌, ◌==◌, Bool, true, false, ◌&&◌, nat_lt, if◌then◌else◌, List, [], ◌∷◌, length, set, Option, Some, None, refl, sym, ap, ◌∙◌, subst, arith, slice_get, ⊎_elim}
 use Rattle.std.specs.Option.{option_map}
 use Rattle.std.proofs.lemmas.Bool.{eq-eqb, cases_eq, cases_lt, lt-ltb}
 use Rattle.std.proofs.lemmas.Bool.Decides.{nat_tests}
-use Rattle.std.proofs.lemmas.List.{get_or-replicate, get_or_past}
+use Rattle.std.proofs.lemmas.List.{get_or_past}
 use Rattle.std.proofs.lemmas.Option.{slice_get_within, same_Some}
-use Rattle.scc_base.specs.Communicators.{AreRules, IsRule, key_of, key_within, key_under, rule_of}
+use Rattle.scc_base.specs.Communicators.{key_of, key_within, key_under, rule_of}
 use Rattle.scc_base.specs.Groups.{is_with, root_in}
 use Rattle.scc_base.specs.declared.communicators.CommRule.{CommRule}
-use Rattle.scc_base.specs.declared.communicators.CommRule.TheVariants.{Absent, World}
+use Rattle.scc_base.specs.declared.communicators.CommRule.TheVariants.{Absent}
 use Rattle.scc_base.proofs.ChangeLaws.{true_or_false}
 use Rattle.scc_base.proofs.GroupFacts.{root_is, root_once, same_root}
 use Rattle.script_plain.specs.Next.{Next, is_at_barrier, past_barrier}
@@ -16,16 +16,6 @@ use Rattle.script_plain.specs.Step.{all_at_barrier, by_rank, past_if}
 use Rattle.script_plain.proofs.StepLaws as steps
 use Rattle.script_plain.proofs.RunLaws.{get-by_rank, stand_there, stands_there}
 use Rattle.script_plain.proofs.OrderLaws.{different, get_set, kept, list_same}
-
-rules_by : (rest : List CommRule) → ((n : ℕ) → n < 15 → get_or rest n Absent ≡ Absent) → (comm : ℕ) → comm < 16 → IsRule (World ∷ rest) comm (rule_of (World ∷ rest) comm)
-rules_by rest absent zero below = refl
-rules_by rest absent (suc n) below =
-    let P : CommRule → Type 0 = λ rule. IsRule (World ∷ rest) (suc n) rule in
-    subst P (sym (absent n (omega (arith, below)))) (λ e. absurd (omega (arith, e)))
-
--- the world alone
-pub world_alone : AreRules (World ∷ replicate 15 Absent)
-world_alone = rules_by (replicate 15 Absent) (λ n below. get_or-replicate 15 n Absent Absent below)
 
 absent_key : (comms : List CommRule) (comm r : ℕ) → rule_of comms comm ≡ Absent → key_of comms comm r ≡ 0
 unfolding key_of

@@ -18,6 +18,7 @@ pub mod MatchLaws
 pub mod CollectivePaths
 pub mod CollectiveGroups
 pub mod ReductionPaths
+pub mod StoppedLaws
 pub mod OwnWayLaws
 pub mod LengthLemmas
 pub mod CallableLaws

@@ -8,7 +8,7 @@ use Rattle.std.proofs.lemmas.List.{append-nil, get_or-set_same, get_or-set_other
 use Rattle.std.proofs.lemmas.List.Elements.{filter-append}
 use Rattle.std.proofs.lemmas.List.FromFn.{length-map-range_with_len}
 use Rattle.std.proofs.lemmas.Option.{slice_get-map, slice_get_past}
-use Rattle.scc_base.specs.Calls.{DataCall}
+use Rattle.scc_base.specs.Calls.{DataCall, Message}
 use Rattle.scc_base.specs.Calls.DataCall.{Send, Recv, Post, Bar}
 use Rattle.scc_base.specs.Groups.{is_with}
 use Rattle.scc_base.specs.Heads.{MessageHead}
@@ -19,7 +19,7 @@ use Rattle.script_reader.specs.Script.{Script}
 use Rattle.script_plain.specs.declared.posts.Posted.{Posted}
 use Rattle.script_plain.specs.Local.{Local, local_next, local_start}
 use Rattle.script_plain.specs.Meaning.{IsPlainStep, State, keys_of, next_of, plain_end, recorded, start_of, steps_left}
-use Rattle.script_plain.specs.Messages.{AreDelivered, AreReceivedAsSent, Message, is_of, received_by, received_from, sent_by, sent_to, waiting_for}
+use Rattle.script_plain.specs.Messages.{AreDelivered, AreReceivedAsSent, is_of, received_by, received_from, sent_by, sent_to, waiting_for}
 use Rattle.script_plain.specs.Next.{Next, is_at_barrier, past_barrier}
 use Rattle.script_plain.specs.Next.Next.{Ends, Goes, Posts, Sends, Recvs, Bars}
 use Rattle.script_plain.specs.Step.{Configuration, next_at, slot_at, all_at_barrier, by_rank, past_if, same_head}

@@ -4,7 +4,7 @@ use Rattle.std.proofs.Common.{◌≡◌, ℕ, zero, suc, ◌+◌, ◌*◌, ◌<�
 use Rattle.std.specs.Prelude.{slice_index}
 use Rattle.std.proofs.lemmas.Bool.{cases_lt, ltb-true}
 use Rattle.std.proofs.lemmas.Option.{get_or_from_slice_get, slice_get_within}
-use Rattle.scc_base.specs.Calls.{DataCall}
+use Rattle.scc_base.specs.Calls.{DataCall, Message}
 use Rattle.scc_base.specs.Heads.{MessageHead, kind_number}
 use Rattle.scc_base.specs.Setups.{SetupView, members_of, place_of, setup_key, size_of}
 use Rattle.scc_base.specs.declared.kinds.Kind.{Kind}
@@ -23,7 +23,7 @@ use Rattle.script_plain.specs.declared.prims.Source.TheVariants as source_of
 use Rattle.script_plain.specs.Collectives.{AllCame, AllGive, AreOwnWays, CameTo, Casts, Gives, IsOther, OthersGave, OthersGaveToAll, RootCame, Tells, gone_through}
 use Rattle.script_plain.specs.Local.{register_at}
 use Rattle.script_plain.specs.Meaning.{State}
-use Rattle.script_plain.specs.Messages.{AreDelivered, Message, is_of, received_by, sent_by}
+use Rattle.script_plain.specs.Messages.{AreDelivered, is_of, received_by, sent_by}
 use Rattle.script_plain.specs.Program.{Act, Prim, acts_of, can_call, setup_of}
 use Rattle.script_plain.specs.Program.Act.{Begin, Finish, Gather, Accept, Send}
 use Rattle.script_plain.specs.Step.{Configuration}

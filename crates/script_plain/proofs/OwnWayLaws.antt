@@ -19,6 +19,7 @@ use Rattle.script_plain.specs.Step.{Configuration, next_at, all_at_barrier, by_r
 use Rattle.script_plain.proofs.CollectivePaths.{through_both}
 use Rattle.script_plain.proofs.MessageLaws.{Logs, cell_other, cell_there, logs}
 use Rattle.script_plain.proofs.RunLaws.{get-by_rank, stands_there, there}
+use Rattle.script_plain.proofs.StoppedLaws.{StopsAt, stopped_ends, stops_next}
 use Rattle.script_plain.proofs.StepLaws as steps
 use Rattle.script_plain.proofs.StepLaws.Takes.{Alone, Left, Met, Fetched, RefusedPost, RefusedSend, Passed}
 
@@ -37,44 +38,16 @@ own_more start u bytes n is goes (inl (path, same)) =
 own_more start u bytes n is goes (inr (ends, path, same)) = absurd (goes (sym is ∙ ends))
 
 -- a rank that refuses a message stops
-abbrev Stops : {U : Type 0} → (U → Next U) → Next U → Type 0
-Stops next Ends = Unit {0}
-Stops next (Goes after) = Unit {0}
-Stops next (Posts message after) = Unit {0}
-Stops next (Sends to head bytes after) = Unit {0}
-Stops next (Recvs from head take refuse) = (sent : MessageHead) → next (refuse sent) ≡ Ends
-Stops next (Bars comm after) = Unit {0}
+abbrev Stops : Next State → Type 0
+Stops (Recvs from head take refuse) = (sent : MessageHead) → next_of (refuse sent) ≡ Ends
+Stops _ = Unit {0}
 
-stops_act : (u : Local) (line : ℕ) (a : Act) → Stops local_next (next_by_act u line a)
-unfolding local_next
-stops_act u line (Act.Set reg content) = tt
-stops_act u line (Act.Apply op ty dst src) = tt
-stops_act u line (Act.Print reg form) = tt
-stops_act u line (Act.Send to head source) = tt
-stops_act u line (Act.Post to reg) = tt
-stops_act u line (Act.Recv from reg head) = λ sent. refl
-stops_act u line (Act.Gather from head sized) = λ sent. refl
-stops_act u line (Act.Bar comm) = tt
-stops_act u line (Act.Begin reg) = tt
-stops_act u line (Act.Fold op ty) = tt
-stops_act u line (Act.Accept reg) = tt
-stops_act u line (Act.Finish reg) = tt
-stops_act u line Act.Pass = tt
-
-stops_prim : (u : Local) (o : Option Prim) → Stops local_next (next_by_prim u o)
-stops_prim u None = tt
-stops_prim u (Some prim) = stops_act u prim.line prim.act
-
-stops_local : (u : Local) → Stops local_next (local_next u)
-unfolding local_next
-stops_local u = stops_prim u (prim_by_standing u.standing u.left)
-
-stops : (calls : List DataCall) (n : Next Local) → Stops local_next n → Stops next_of (recorded calls n)
+stops : (calls : List DataCall) (n : Next Local) → StopsAt n → Stops (recorded calls n)
 stops calls Ends each = tt
 stops calls (Goes after) each = tt
 stops calls (Posts message after) each = tt
 stops calls (Sends to head bytes after) each = tt
-stops calls (Recvs from head take refuse) each = λ sent. ap (recorded calls) (each sent)
+stops calls (Recvs from head take refuse) each = λ sent. ap (recorded calls) (stopped_ends (refuse sent) (each sent))
 stops calls (Bars comm after) each = tt
 
 -- and uses up no primitive
@@ -115,7 +88,7 @@ stands c i n at is_some =
 
 own_refused : (start u : State) (from : ℕ) (head : MessageHead) (take : List ℕ → State) (refuse : MessageHead → State) (sent : MessageHead) → next_of u ≡ Recvs from head take refuse → IsOwn start u → IsOwn start (refuse sent)
 own_refused start u from head take refuse sent is own =
-    inr (subst (Stops next_of) is (stops u.matched (local_next u.local) (stops_local u.local)) sent, (way own).0, (way own).1)
+    inr (subst Stops is (stops u.matched (local_next u.local) (stops_next u.local)) sent, (way own).0, (way own).1)
   where
     same : (refuse sent).matched ≡ u.matched
     same = (subst (Logs u.matched) is (logs u.matched (local_next u.local))).1 sent

@@ -3,7 +3,7 @@ use Rattle.std.proofs.Common.{◌≡◌, ℕ, suc, ◌+◌, ◌*◌, ◌%◌, �
 use Rattle.std.proofs.lemmas.Bool.{cases_lt, ltb-true}
 use Rattle.std.proofs.lemmas.List.{append-nil, length-map, map-append}
 use Rattle.std.proofs.lemmas.Option.{slice_get_past}
-use Rattle.scc_base.specs.Calls.{DataCall}
+use Rattle.scc_base.specs.Calls.{DataCall, Message}
 use Rattle.scc_base.specs.Calls.DataCall.{Recv}
 use Rattle.scc_base.specs.Heads.{MessageHead, kind_number}
 use Rattle.scc_base.specs.Setups.{SetupView, place_of}
@@ -25,7 +25,7 @@ use Rattle.script_plain.specs.declared.prims.Source.TheVariants as source_of
 use Rattle.script_plain.specs.Collectives.{AreReduced, AreReducedToAll, AreToldAll, AreUntouched, CameTo, Gives, HasDone, IsOther, gone_by, gone_through}
 use Rattle.script_plain.specs.Local.{asked_head, folded, gone_on, gone_on_folding, gone_on_gathering, register_at, with_length}
 use Rattle.script_plain.specs.Meaning.{State, next_of}
-use Rattle.script_plain.specs.Messages.{AreDelivered, Message, is_of, received_by, sent_by}
+use Rattle.script_plain.specs.Messages.{AreDelivered, is_of, received_by, sent_by}
 use Rattle.script_plain.specs.Program.{Act, Prim, acts_of, can_call, part_of, parts_of, setup_of}
 use Rattle.script_plain.specs.Program.Act.{Send, Gather, Begin, Fold, Accept, Finish}
 use Rattle.script_plain.specs.Step.{Configuration}

@@ -1,7 +1,7 @@
 -- How receives and folds of a reduction go.
 use Rattle.std.proofs.Common.{◌≡◌, ◌≢◌, ℕ, zero, suc, ◌*◌, ◌%◌, ◌≤◌, ◌==◌, true, ◌&&◌, List, [], ◌∷◌, ◌++◌, length, map, Some, refl, sym, ap, ◌∙◌, subst, arith, slice_get, slice_index_or}
 use Rattle.std.proofs.lemmas.Bool.{eq-eqb}
-use Rattle.scc_base.specs.Calls.{DataCall}
+use Rattle.scc_base.specs.Calls.{DataCall, Message}
 use Rattle.scc_base.specs.Calls.DataCall.{Recv}
 use Rattle.scc_base.specs.Heads.{MessageHead}
 use Rattle.groups.specs.Folds.{bytes_in, fold_of, fold_values}
@@ -12,7 +12,7 @@ use Rattle.script_plain.specs.declared.prims.Operands.{Operands}
 use Rattle.script_plain.specs.Collectives.{gone_by, gone_through}
 use Rattle.script_plain.specs.Local.{folded, gone_on_folding, gone_on_gathering, register_at, with_length}
 use Rattle.script_plain.specs.Meaning.{State, next_of}
-use Rattle.script_plain.specs.Messages.{Message, is_of, received_by}
+use Rattle.script_plain.specs.Messages.{is_of, received_by}
 use Rattle.script_plain.specs.Program.{Act, Prim}
 use Rattle.script_plain.specs.Program.Act.{Gather, Begin, Fold}
 use Rattle.script_plain.proofs.CollectiveGroups.{AreApart, Each, each_both, each_on, gathers}

@@ -1,17 +1,11 @@
 -- The messages of a pair of ranks, by what each has done.
 use Rattle.std.specs.Prelude.{◌≡◌, ℕ, ◌==◌, Bool, ◌&&◌, if◌then◌else◌, List, [], ◌∷◌, ◌++◌, Option, Some, None, slice_get}
 use Rattle.std.specs.List.{filter, flat_map}
-use Rattle.scc_base.specs.Calls.{DataCall}
+use Rattle.scc_base.specs.Calls.{DataCall, Message}
 use Rattle.scc_base.specs.Calls.DataCall.{Send, Recv, Post}
-use Rattle.scc_base.specs.Heads.{MessageHead}
 use Rattle.script_plain.specs.declared.posts.Posted.{Posted}
 use Rattle.script_plain.specs.Meaning.{State}
 use Rattle.script_plain.specs.Step.{Configuration, slot_at}
-
--- a message: its head and its bytes
-pub record Message : Type 0 where
-  pub head : MessageHead
-  pub bytes : List ℕ
 
 -- the message that a call sends to a rank, and the one that it receives from a rank
 abbrev pub sent_by : ℕ → DataCall → List Message
