@@ -22,6 +22,7 @@ use Rattle.script_plain.specs.Local.{Local, local_next}
 use Rattle.script_plain.specs.Moves.{is_ended, is_stopped, went}
 use Rattle.script_plain.specs.Next.{Next, is_going}
 use Rattle.script_plain.specs.Next.Next.{Ends, Goes, Posts, Sends, Recvs, Bars}
+use Rattle.script_plain.proofs.StoppedLaws.{stopped_ends}
 use Rattle.rcce_ue.specs.Left.{left_of, rest_of}
 use Rattle.rcce_ue.specs.Standing.{IsFree, IsNoCall, Tied, keeping}
 use Rattle.rcce_ue.specs.Turns.{IsStill, Turns, slot_aim}
@@ -30,7 +31,7 @@ use Rattle.rcce_ue.specs.declared.calls.Open.TheVariants.{Nothing}
 use Rattle.rcce_ue.proofs.EnterLemmas.{entered_left, entered_tied, holds_none}
 use Rattle.rcce_ue.proofs.KeepLemmas.{begun_at, kept_tied, not_over, parity_kept, unless_below, unless_falls}
 use Rattle.rcce_ue.proofs.MeasureLemmas.{falls}
-use Rattle.rcce_ue.proofs.PathLemmas.{goes_on, stood_went, stopped_ends}
+use Rattle.rcce_ue.proofs.PathLemmas.{goes_on, stood_went}
 use Rattle.rcce_ue.proofs.RecvTurns.{none_stored}
 
 -- where no call stands next and nothing of the rank's own, nothing stands next

@@ -30,12 +30,12 @@ use Rattle.script_plain.specs.Ready.{IsReady}
 use Rattle.script_plain.specs.declared.posts.Posted.{Posted}
 use Rattle.script_plain.proofs.ReadyLemmas.{ready-law}
 use Rattle.script_plain.proofs.StepLaws as steps
+use Rattle.script_plain.proofs.StoppedLaws.{stopped_ends}
 use Rattle.rcce_ue.specs.Left.{left_of, next_bound, open_left, rest_behind, rest_of, unless}
 use Rattle.rcce_ue.specs.Standing.{IsFree, IsLastTarget, OpStands, Stood, Tied, bytes_sent, keeping}
 use Rattle.rcce_ue.specs.Standing.Stood.{Runs, Refused}
 use Rattle.rcce_ue.specs.Ues.{IsBegun, UeView, counted, entered, is_sending, opened}
 use Rattle.rcce_ue.proofs.MeasureLemmas.{falls, opened_by}
-use Rattle.rcce_ue.proofs.PathLemmas.{stopped_ends}
 
 -- the call that a rank comes to can be made
 pub ready_here : (m : MachineView) (rec : Record) (last : Option Posted) → IsBegun m → Stood (started m.script m.rank) rec m.local last → IsReady m.script m.rank (local_next m.local)

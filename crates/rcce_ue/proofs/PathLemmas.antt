@@ -1,5 +1,5 @@
 -- What a rank has done, one more primitive or call at a time.
-use Rattle.std.proofs.Common.{◌≡◌, ◌≢◌, ℕ, Bool, true, false, List, [], ◌∷◌, ◌++◌, length, Option, Some, None, refl, sym, ap, subst}
+use Rattle.std.proofs.Common.{◌≡◌, ◌≢◌, ℕ, Bool, true, false, List, [], ◌∷◌, ◌++◌, length, Option, Some, refl, sym, ap, subst}
 use Rattle.scc_base.specs.Calls.{DataCall}
 use Rattle.scc_base.specs.Calls.DataCall.{Send, Recv, Post, Bar}
 use Rattle.scc_base.specs.Heads.{MessageHead}
@@ -7,66 +7,24 @@ use Rattle.scc_proto.specs.Messages.{Notes}
 use Rattle.scc_proto.specs.Stages.{Record}
 use Rattle.send_recv.specs.Receiving.{SaysHead}
 use Rattle.script_plain.specs.declared.posts.Posted.{Posted}
-use Rattle.script_plain.specs.declared.prims.Standing.{Standing}
-use Rattle.script_plain.specs.declared.prims.Standing.TheVariants as standing
-use Rattle.script_plain.specs.Local.{Local, local_next, next_by_act, next_by_prim, prim_by_standing}
+use Rattle.script_plain.specs.Local.{Local, local_next}
 use Rattle.script_plain.specs.Meaning.{State, next_of, recorded}
-use Rattle.script_plain.specs.Moves.{is_stopped, is_stopped_by}
-use Rattle.script_plain.specs.Next.{Next}
+use Rattle.script_plain.specs.Moves.{is_stopped}
 use Rattle.script_plain.specs.Next.Next.{Ends, Goes, Posts, Sends, Recvs, Bars}
 use Rattle.script_plain.specs.Paths.{Came}
 use Rattle.script_plain.specs.Paths.Came.{Went, Leaves, Passed, Took, Joined}
-use Rattle.script_plain.specs.Program.{Act, Prim}
+use Rattle.script_plain.proofs.StoppedLaws.{refused_stops}
+pub use Rattle.script_plain.proofs.StoppedLaws.{stopped_ends}
 use Rattle.rcce_ue.specs.Standing.{Stood, state_at}
 use Rattle.rcce_ue.specs.Standing.Stood.{Runs, Refused}
 
--- nothing stands next at a rank that a mismatch stopped
-stopped_by : (u : Local) (s : Standing) → is_stopped_by s ≡ true → next_by_prim u (prim_by_standing s u.left) ≡ Ends
-stopped_by u standing.Running is = absurd (cc)
-stopped_by u (standing.Mismatched line from sent asked) is = refl
-
-pub stopped_ends : (u : Local) → is_stopped u ≡ true → local_next u ≡ Ends
-unfolding local_next
-stopped_ends u is = stopped_by u u.standing is
-
--- so a rank where something stands next was not stopped
+-- a rank where something stands next was not stopped
 pub goes_on : (u : Local) → (local_next u ≡ Ends → ⊥) → is_stopped u ≡ false
 goes_on u next = by (is_stopped u) refl
   where
     by : (b : Bool) → is_stopped u ≡ b → b ≡ false
     by true is = absurd (next (stopped_ends u is))
     by false is = refl
-
--- a rank that refuses a message is stopped
-abbrev StopsAt : Next Local → Type 0
-StopsAt (Recvs from head take refuse) = (sent : MessageHead) → is_stopped (refuse sent) ≡ true
-StopsAt _ = Unit {0}
-
-stops_act : (u : Local) (line : ℕ) (a : Act) → StopsAt (next_by_act u line a)
-stops_act u line (Act.Set reg content) = tt
-stops_act u line (Act.Apply op ty dst src) = tt
-stops_act u line (Act.Print reg form) = tt
-stops_act u line (Act.Send to head source) = tt
-stops_act u line (Act.Post to reg) = tt
-stops_act u line (Act.Recv from reg head) = λ sent. refl
-stops_act u line (Act.Gather from head sized) = λ sent. refl
-stops_act u line (Act.Bar comm) = tt
-stops_act u line (Act.Begin reg) = tt
-stops_act u line (Act.Fold op ty) = tt
-stops_act u line (Act.Accept reg) = tt
-stops_act u line (Act.Finish reg) = tt
-stops_act u line Act.Pass = tt
-
-stops_prim : (u : Local) (o : Option Prim) → StopsAt (next_by_prim u o)
-stops_prim u None = tt
-stops_prim u (Some prim) = stops_act u prim.line prim.act
-
-stops_next : (u : Local) → StopsAt (local_next u)
-unfolding local_next
-stops_next u = stops_prim u (prim_by_standing u.standing u.left)
-
-pub refused_stops : (u : Local) (from : ℕ) (head sent : MessageHead) (take : List ℕ → Local) (refuse : MessageHead → Local) → local_next u ≡ Recvs from head take refuse → is_stopped (refuse sent) ≡ true
-refused_stops u from head sent take refuse is = (subst StopsAt is (stops_next u)) sent
 
 module _ (start : State) (rec : Record) (u : Local) (last : Option Posted) where
   -- a rank that was not stopped came by itself to where it is

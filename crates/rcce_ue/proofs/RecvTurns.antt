@@ -27,6 +27,7 @@ use Rattle.script_plain.specs.Local.{Local, local_next}
 use Rattle.script_plain.specs.Moves.{is_ended, is_stopped, length_in, refused, taken}
 use Rattle.script_plain.specs.Next.{Next, is_going}
 use Rattle.script_plain.specs.Next.Next.{Ends, Goes, Posts, Sends, Recvs, Bars}
+use Rattle.script_plain.proofs.StoppedLaws.{refused_stops}
 use Rattle.rcce_ue.specs.Left.{left_of, next_bound, rest_of, unless}
 use Rattle.rcce_ue.specs.Standing.{IsFree, IsRecvOf, Tied, bytes_sent, keeping}
 use Rattle.rcce_ue.specs.Turns.{IsStill, Turns}
@@ -36,7 +37,7 @@ use Rattle.rcce_ue.proofs.CountLemmas.{bytes_same, sends_same}
 use Rattle.rcce_ue.proofs.EnterLemmas.{entered_left, entered_tied}
 use Rattle.rcce_ue.proofs.KeepLemmas.{begun_at, hands_kept, kept_tied, not_over, parity_kept, unless_below, unless_falls}
 use Rattle.rcce_ue.proofs.MeasureLemmas.{falls}
-use Rattle.rcce_ue.proofs.PathLemmas.{goes_on, refused_stops, stood_got, stood_refused}
+use Rattle.rcce_ue.proofs.PathLemmas.{goes_on, stood_got, stood_refused}
 
 -- a receive stands next
 next_there : (op : RecvAt) (n : Next Local) → IsRecvOf op n → n ≡ Ends → ⊥
