@@ -1,16 +1,17 @@
 -- Room for all calls that are planned is room for those that are made.
-use Rattle.std.proofs.Common.{◌≡◌, ◌+◌, true, List, [], ◌∷◌, ◌++◌, length, map, length-append, refl, sym, ◌∙◌, ap, arith}
+use Rattle.std.proofs.Common.{◌≡◌, ◌+◌, true, List, [], ◌∷◌, ◌++◌, length, map, length-append, refl, ◌∙◌, ap, arith}
 use Rattle.std.specs.Prelude.{All, flat_map, nat_le}
 use Rattle.std.proofs.lemmas.Bool.{leb-true}
 use Rattle.std.proofs.lemmas.List.Elements.{All-head, All-tail}
-use Rattle.scc_base.specs.Calls.{DataCall, Send, Recv, Post, Bar, HasItsBytes, call_of}
+use Rattle.scc_base.specs.Calls.{DataCall, Send, Recv, Post, Bar, HasItsBytes, bytes_asked, call_of}
 use Rattle.scc_base.specs.declared.calls.Call.{Call}
 use Rattle.scc_proto.proofs.Tests.{both_first, both_second}
 use Rattle.call_tap.specs.Kept.{HasRoom}
-use Rattle.call_tap.specs.Planned.{has_room_for, bytes_asked, bytes_planned}
+use Rattle.call_tap.specs.Planned.{has_room_for, bytes_planned}
 use Rattle.call_tap.specs.Watching.{bytes_of}
 
-one_long : (call : DataCall) → HasItsBytes call → length (bytes_of call) ≡ bytes_asked (call_of call)
+-- a call's own bytes are as many as it moves
+pub one_long : (call : DataCall) → HasItsBytes call → length (bytes_of call) ≡ bytes_asked (call_of call)
 one_long (Send to head bytes) long = long
 one_long (Recv from head bytes) long = long
 one_long (Post to head bytes) long = long
@@ -23,7 +24,7 @@ all_long (call ∷ calls) long =
     let b = all_long calls (All-tail HasItsBytes call calls long) in
     length-append (bytes_of call) (flat_map bytes_of calls) ∙ omega (arith, a, b)
 
-planned_append : (one other : List Call) → bytes_planned (one ++ other) ≡ bytes_planned one + bytes_planned other
+pub planned_append : (one other : List Call) → bytes_planned (one ++ other) ≡ bytes_planned one + bytes_planned other
 planned_append [] other = omega arith
 planned_append (call ∷ one) other = let a = planned_append one other in omega (arith, a)
 

@@ -1,14 +1,7 @@
 -- Calls that are known before they are made, without the bytes that go with them.
 use Rattle.std.specs.Prelude.{ℕ, ◌+◌, nat_le, Bool, ◌&&◌, List, [], ◌∷◌, length}
+use Rattle.scc_base.specs.Calls.{bytes_asked}
 use Rattle.scc_base.specs.declared.calls.Call.{Call}
-use Rattle.scc_base.specs.declared.calls.Call.TheVariants.{Send, Recv, Post, Bar}
-
--- how many bytes a call moves
-abbrev pub bytes_asked : Call → ℕ
-bytes_asked (Send to head) = head.len
-bytes_asked (Recv from head) = head.len
-bytes_asked (Post to head) = head.len
-bytes_asked (Bar comm) = 0
 
 -- how many bytes calls move together
 abbrev pub bytes_planned : List Call → ℕ
