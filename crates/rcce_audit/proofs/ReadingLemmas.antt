@@ -12,6 +12,7 @@ use Rattle.scc_base.specs.Calls.{DataCall}
 use Rattle.scc_base.specs.Communicators.{AreRules, IsRule, rule_of}
 use Rattle.scc_base.specs.declared.communicators.CommRule.{CommRule}
 use Rattle.scc_base.specs.declared.communicators.CommRule.TheVariants.{Absent, World, Mod, Div}
+use Rattle.scc_base.proofs.WorldRules as world
 use Rattle.rcce_audit.specs.declared.faults.LogFault.{LogFault}
 use Rattle.rcce_audit.specs.declared.faults.LogKind.TheVariants as kind
 use Rattle.rcce_audit.specs.declared.faults.LogStop.{LogStop}
@@ -59,11 +60,10 @@ pub record IsReading (r : Reading) : Type 0 where
   pub begun : (last : ℕ) → r.rank ≡ Some last → (q : ℕ) → last < q → calls_of r.log q ≡ []
 
 no_rules : (c : ℕ) → rule_of world_alone (suc c) ≡ Absent
-no_rules c = get_or-replicate_same 15 c Absent
+no_rules c = world.absent_after c
 
 world_rules : AreRules world_alone
-world_rules zero below = refl
-world_rules (suc c) below = subst (IsRule world_alone (suc c)) (sym (no_rules c)) (λ is. absurd cc)
+world_rules = world.world_alone world_alone refl
 
 no_lists : (q : ℕ) → get_or no_calls q [] ≡ []
 unfolding no_calls

@@ -1,19 +1,13 @@
 -- Logs whose calls are held elsewhere, without their bytes, which stand one after the other.
 use Rattle.std.specs.Prelude.{ℕ, List, [], ◌∷◌, drop, map, take}
 use Rattle.scc_base.specs.Calls.{DataCall, Send, Recv, Post, Bar}
+pub use Rattle.scc_base.specs.Calls.{bytes_asked as bytes_in}
 use Rattle.scc_base.specs.declared.calls.Call.{Call}
 use Rattle.scc_base.specs.declared.calls.Call.TheVariants as call
 use Rattle.rcce_audit.specs.declared.held.CallList.{CallList}
 use Rattle.rcce_audit.specs.declared.held.HeldLog.{HeldLog}
 use Rattle.rcce_audit.specs.Logs.{LogView}
 use Rattle.rcce_audit.specs.Texts.{log_text}
-
--- how many bytes a call moves
-abbrev pub bytes_in : Call → ℕ
-bytes_in (call.Send to head) = head.len
-bytes_in (call.Recv from head) = head.len
-bytes_in (call.Post to head) = head.len
-bytes_in (call.Bar comm) = 0
 
 -- the call with these bytes
 abbrev pub data_by : Call → List ℕ → DataCall
