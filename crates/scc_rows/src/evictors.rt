@@ -53,12 +53,14 @@ fn the_named_entry_leaves_and_no_other(rt: HostRuntime) -> Result<(), Fail> {
     let mut chip = new_pair(rt.alloc())?;
     let mut port = counted(&mut chip, Rank::of(0));
     let mut core = Core::new(MiddleOnce { done: false });
-    assert!(rt; loads_for(&mut core, &mut port, 225) == 4);
-    assert!(rt; loads_for(&mut core, &mut port, 226) == 4);
-    assert!(rt; loads_for(&mut core, &mut port, 227) == 4);
-    assert!(rt; loads_for(&mut core, &mut port, 225) == 0);
-    assert!(rt; loads_for(&mut core, &mut port, 227) == 0);
-    assert!(rt; loads_for(&mut core, &mut port, 226) == 4);
-    assert!(rt; loads_for(&mut core, &mut port, 226) == 0);
+    assert!(rt;
+        loads_for(&mut core, &mut port, 225) == 4
+            && loads_for(&mut core, &mut port, 226) == 4
+            && loads_for(&mut core, &mut port, 227) == 4
+            && loads_for(&mut core, &mut port, 225) == 0
+            && loads_for(&mut core, &mut port, 227) == 0
+            && loads_for(&mut core, &mut port, 226) == 4
+            && loads_for(&mut core, &mut port, 226) == 0
+    );
     Ok(())
 }

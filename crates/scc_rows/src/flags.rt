@@ -9,6 +9,7 @@ use line_cache::{Evict, Never};
 use put_get::Core;
 use scc_base::{Buf, CoreId, Layout, Place, Rank, Spot, Stalled};
 use scc_proto::Port;
+use std::alloc::Global;
 use std::test::Fail;
 use sync_flags::{Flag, flag_read, flag_write, wait_until};
 
@@ -44,17 +45,14 @@ fn read<P: Port, V: Evict>(core: &mut Core<V>, port: &mut P, at: Rank, flag: Fla
     flag_read(core, port, at, flag)
 }
 
-// What a rank finds that waits for a flag at itself, which another rank sets and clears.
-#[derive(Drop)]
-struct Answers {
-    early: Result<(), Stalled>,
-    set: bool,
-    cleared: bool,
-    late: bool,
+/// Whether a call stalled there after so many polls.
+pub(crate) fn stalls(answer: Result<(), Stalled>, spot: Spot, polls: u32) -> bool {
+    answer == Err(Stalled { spot, polls })
 }
 
-// Rank 1 waits for its flag in vain, then rank 0 sets it, and clears it again.
-fn found<P: Port, Q: Port>(first: &mut P, second: &mut Q, flag: Flag) -> Answers
+// Whether rank 1 waits in vain for its flag, with this bit of word 0 in line 230, and then sees that rank 0 sets it
+// and clears it again.
+fn is_seen<P: Port, Q: Port>(first: &mut P, second: &mut Q, flag: Flag, bit: u8) -> bool
     requires rests { IsAtRest (P.sight first.old) }
     requires free { MayTake (P.sight first.old) 1 flag }
     requires heap { 225 ≤ flag.line }
@@ -67,57 +65,52 @@ fn found<P: Port, Q: Port>(first: &mut P, second: &mut Q, flag: Flag) -> Answers
     let seen = wait_until(&mut waiter, second, flag, true, 1);
     let unwritten = write(&mut writer, first, at, flag, false, 1);
     let unseen = wait_until(&mut waiter, second, flag, false, 1);
-    Answers {
-        early,
-        set: written.is_ok() && seen.is_ok(),
-        cleared: unwritten.is_ok() && unseen.is_ok(),
-        late: read(&mut writer, first, at, flag),
-    }
+    let late = read(&mut writer, first, at, flag);
+    let place = Place::new(CoreId::of(1), 230, 0);
+    stalls(early, Spot::Flag { place, bit }, 2)
+        && written.is_ok()
+        && seen.is_ok()
+        && unwritten.is_ok()
+        && unseen.is_ok()
+        && !late
+}
+
+// Whether a flag goes from one rank of a new chip to the other.
+fn goes_over(alloc: Global, flag: Flag, bit: u8) -> Result<bool, Fail>
+    requires heap { 225 ≤ flag.line }
+{
+    let mut chip = pair_in(alloc, Layout::bits())?;
+    let Pair {
+        mut first,
+        mut second,
+    } = spread_pair(&mut chip);
+    Ok(is_seen(&mut first, &mut second, flag, bit))
 }
 
 #[test]
 fn a_flag_goes_from_one_rank_to_the_other(rt: HostRuntime) -> Result<(), Fail> {
-    let buffer = Buf::new(230, 1).ok_or("a line")?;
-    for (flag, bit) in [(Flag::line(&buffer), 0), (Flag::bit(&buffer, 63), 63)] {
-        let mut chip = pair_in(rt.alloc(), Layout::bits())?;
-        let Pair {
-            mut first,
-            mut second,
-        } = spread_pair(&mut chip);
-        let found = found(&mut first, &mut second, flag);
-        let place = Place::new(CoreId::of(1), 230, 0);
-        let stalled = Stalled {
-            spot: Spot::Flag { place, bit },
-            polls: 2,
-        };
-        assert!(rt; found.early == Err(stalled));
-        assert!(rt; found.set);
-        assert!(rt; found.cleared);
-        assert!(rt; !found.late);
-    }
+    let buffer = Buf::new(230, 1).expect(&rt, "a line");
+    assert!(rt; goes_over(rt.alloc(), Flag::line(&buffer), 0)?);
+    assert!(rt; goes_over(rt.alloc(), Flag::bit(&buffer, 63), 63)?);
     Ok(())
 }
 
 #[test]
 fn a_bit_stalls_at_a_register_that_another_rank_holds(rt: HostRuntime) -> Result<(), Fail> {
-    let buffer = Buf::new(255, 1).ok_or("a line")?;
+    let buffer = Buf::new(255, 1).expect(&rt, "a line");
     let flag = Flag::bit(&buffer, 5);
     let mut chip = pair_in(rt.alloc(), Layout::lines())?;
     let mut ports = spread_pair(&mut chip);
-    let register = CoreId::of(0);
+    let (root, register) = (Rank::of(0), CoreId::of(0));
     let mut core = Core::new(Never);
-    if !take(&mut ports.first, register) {
-        return Err("a register that is free".into());
-    }
-    let stalled = write(&mut core, &mut ports.second, Rank::of(0), flag, true, 3);
+    let taken = take(&mut ports.first, register);
+    assert!(rt; taken);
+    let stalled = write(&mut core, &mut ports.second, root, flag, true, 3);
     free(&mut ports.first, register);
-    let written = write(&mut core, &mut ports.second, Rank::of(0), flag, true, 3);
-    let set = read(&mut core, &mut ports.second, Rank::of(0), flag);
-    let spot = Spot::Register { core: register };
-    assert!(rt; stalled == Err(Stalled { spot, polls: 3 }));
-    assert!(rt; written.is_ok());
-    assert!(rt; set);
+    let written = write(&mut core, &mut ports.second, root, flag, true, 3);
+    let set = read(&mut core, &mut ports.second, root, flag);
+    assert!(rt; stalls(stalled, Spot::Register { core: register }, 3));
     // A look at the line each, and none where the register was held.
-    assert!(rt; ports.second.loads() == 8);
+    assert!(rt; written.is_ok() && set && ports.second.loads() == 8);
     Ok(())
 }

@@ -4,8 +4,16 @@ use mpb_alloc::{Heap, MallocFault};
 use scc_base::Buf;
 use std::test::Fail;
 
-fn run_of(answer: Result<Buf, MallocFault>) -> Result<(u8, u8), MallocFault> {
-    answer.map(|buffer| (buffer.first(), buffer.lines()))
+// Whether so many bytes are given as these lines.
+fn gives(heap: &mut Heap, bytes: usize, first: u8, lines: u8) -> bool {
+    match heap.malloc(bytes) {
+        Ok(buffer) => buffer.first() == first && buffer.lines() == lines,
+        Err(_) => false,
+    }
+}
+
+fn is_full(heap: &mut Heap, bytes: usize, asked: usize, longest: usize) -> bool {
+    heap.malloc(bytes) == Err(MallocFault::Full { asked, longest })
 }
 
 fn give_back(heap: &mut Heap, buffer: Buf) -> bool {
@@ -17,42 +25,26 @@ fn give_back(heap: &mut Heap, buffer: Buf) -> bool {
 }
 
 #[test]
-fn a_whole_heap_goes_out_and_comes_back(rt: HostRuntime) -> Result<(), Fail> {
+fn a_whole_heap_goes_out_and_comes_back(rt: HostRuntime) {
     let mut heap = Heap::new();
-    assert!(rt; heap.fits(992));
-    assert!(rt; !heap.fits(993));
-    assert!(rt; !heap.fits(0));
-    let whole = heap.malloc(992)?;
-    assert!(rt; (whole.first(), whole.lines()) == (225, 31));
-    let full = MallocFault::Full {
-        asked: 1,
-        longest: 0,
-    };
-    assert!(rt; run_of(heap.malloc(1)) == Err(full));
-    assert!(rt; give_back(&mut heap, whole));
-    assert!(rt; run_of(heap.malloc(33)) == Ok((225, 2)));
-    assert!(rt; run_of(heap.malloc(0)) == Err(MallocFault::Empty));
-    Ok(())
+    assert!(rt; heap.fits(992) && !heap.fits(993) && !heap.fits(0));
+    let whole = heap.malloc(992).expect(&rt, "31 lines");
+    assert!(rt; whole.first() == 225 && whole.lines() == 31);
+    assert!(rt; is_full(&mut heap, 1, 1, 0));
+    assert!(rt; give_back(&mut heap, whole) && gives(&mut heap, 33, 225, 2));
+    assert!(rt; heap.malloc(0) == Err(MallocFault::Empty));
 }
 
 #[test]
-fn the_lowest_run_that_fits_is_taken_and_neighbours_join(rt: HostRuntime) -> Result<(), Fail> {
+fn the_lowest_run_that_fits_is_taken_and_neighbours_join(rt: HostRuntime) {
     let mut heap = Heap::new();
-    let first = heap.malloc(64)?;
-    let second = heap.malloc(96)?;
-    let third = heap.malloc(32)?;
-    assert!(rt; give_back(&mut heap, first));
-    assert!(rt; give_back(&mut heap, third));
+    let first = heap.malloc(64).expect(&rt, "2 lines");
+    let second = heap.malloc(96).expect(&rt, "3 lines");
+    let third = heap.malloc(32).expect(&rt, "a line");
+    assert!(rt; give_back(&mut heap, first) && give_back(&mut heap, third));
     assert!(rt; !give_back(&mut heap, third));
-    assert!(rt; run_of(heap.malloc(96)) == Ok((230, 3)));
-    let full = MallocFault::Full {
-        asked: 24,
-        longest: 23,
-    };
-    assert!(rt; run_of(heap.malloc(768)) == Err(full));
-    assert!(rt; give_back(&mut heap, second));
-    assert!(rt; run_of(heap.malloc(160)) == Ok((225, 5)));
-    Ok(())
+    assert!(rt; gives(&mut heap, 96, 230, 3) && is_full(&mut heap, 768, 24, 23));
+    assert!(rt; give_back(&mut heap, second) && gives(&mut heap, 160, 225, 5));
 }
 
 #[test]

@@ -15,22 +15,34 @@ fn bring(cache: &mut Cache, at: Line, number: u64) {
     }
 }
 
+/// Brings each line of a core in, with a number as each word that is one more at each line.
+fn bring_all(cache: &mut Cache, core: u8, first: u16) {
+    for number in 0..=255u8 {
+        bring(
+            cache,
+            line(core, number),
+            u64::from(first) + u64::from(number),
+        );
+    }
+}
+
+fn holds(cache: &Cache, at: Line, words: [u64; 4]) -> bool {
+    cache.look(at) == Some(words)
+}
+
+fn lacks(cache: &Cache, at: Line) -> bool {
+    cache.look(at).is_none()
+}
+
 #[test]
 fn a_full_cache_drops_its_first_entry(rt: HostRuntime) {
     let mut cache = Cache::new();
-    for number in 0..=255u8 {
-        bring(&mut cache, line(0, number), u64::from(number));
-    }
-    for number in 0..=255u8 {
-        bring(&mut cache, line(1, number), 256 + u64::from(number));
-    }
-    assert!(rt; cache.len() == 512);
-    assert!(rt; cache.look(line(0, 0)) == Some([0; 4]));
+    bring_all(&mut cache, 0, 0);
+    bring_all(&mut cache, 1, 256);
+    assert!(rt; cache.len() == 512 && holds(&cache, line(0, 0), [0; 4]));
     bring(&mut cache, line(2, 0), 512);
-    assert!(rt; cache.len() == 512);
-    assert!(rt; cache.look(line(0, 0)).is_none());
-    assert!(rt; cache.look(line(0, 1)) == Some([1; 4]));
-    assert!(rt; cache.look(line(2, 0)) == Some([512; 4]));
+    assert!(rt; cache.len() == 512 && lacks(&cache, line(0, 0)));
+    assert!(rt; holds(&cache, line(0, 1), [1; 4]) && holds(&cache, line(2, 0), [512; 4]));
 }
 
 #[test]
@@ -40,15 +52,12 @@ fn a_write_changes_a_held_line_and_brings_none_in(rt: HostRuntime) {
     bring(&mut cache, line(3, 41), 8);
     cache.note_write(line(3, 41).word(2), 99);
     cache.note_write(line(4, 41).word(2), 99);
-    assert!(rt; cache.look(line(3, 40)) == Some([7; 4]));
-    assert!(rt; cache.look(line(3, 41)) == Some([8, 8, 99, 8]));
-    assert!(rt; cache.look(line(4, 41)).is_none());
+    let written = [8, 8, 99, 8];
+    assert!(rt; holds(&cache, line(3, 40), [7; 4]) && holds(&cache, line(3, 41), written));
+    assert!(rt; lacks(&cache, line(4, 41)));
     assert!(rt; cache.len() == 2);
-    if cache.len() == 2 {
-        cache.drop_at(0);
-    }
-    assert!(rt; cache.look(line(3, 40)).is_none());
-    assert!(rt; cache.look(line(3, 41)) == Some([8, 8, 99, 8]));
+    cache.drop_at(0);
+    assert!(rt; lacks(&cache, line(3, 40)) && holds(&cache, line(3, 41), written));
     cache.invalidate();
     assert!(rt; cache.is_empty());
 }
@@ -102,16 +111,14 @@ fn seeded_answers_are_those_of_an_independent_program(rt: HostRuntime) {
     );
 }
 
+/// Whether an evictor gives this answer at one held line and at a full cache, and drops nothing where none is held.
+fn always_answers<V: Evict>(evict: &mut V, want: Option<usize>) -> bool {
+    evict.drop_one(0).is_none() && evict.drop_one(1) == want && evict.drop_one(512) == want
+}
+
 #[test]
 fn evictors_of_one_answer(rt: HostRuntime) {
-    let mut never = Never;
-    let mut none = Choice::Never;
-    let mut always = Always::new();
-    for held in [0, 1, 512] {
-        assert!(rt; never.drop_one(held).is_none());
-        assert!(rt; none.drop_one(held).is_none());
-    }
-    assert!(rt; always.drop_one(0).is_none());
-    assert!(rt; always.drop_one(1) == Some(0));
-    assert!(rt; always.drop_one(512) == Some(0));
+    assert!(rt; always_answers(&mut Never, None));
+    assert!(rt; always_answers(&mut Choice::Never, None));
+    assert!(rt; always_answers(&mut Always::new(), Some(0)));
 }

@@ -31,6 +31,5 @@ fn a_taken_register_is_taken_after_its_release(rt: HostRuntime) {
     assert!(rt; port.events.len() == 1);
     port.taken[5] = false;
     assert!(rt; could_take(&mut port, core));
-    assert!(rt; port.events.len() == 3);
-    assert!(rt; !port.taken[5]);
+    assert!(rt; port.events.len() == 3 && !port.taken[5]);
 }

@@ -3,7 +3,7 @@
 ghost use Rattle.std.specs.Prelude.{◌≡◌, [], IfOk};
 ghost use Rattle.scc_proto.specs.Lone.{lone_sight};
 
-use scc_base::{CommRule, CoreId, Layout, Place, Rank, Setup};
+use scc_base::{CommRule, CoreId, Layout, Line, Place, Rank, Setup};
 use scc_proto::examples::store_then_load;
 use scc_proto::{CountingPort, LonePort, Port};
 use std::alloc::Global;
@@ -39,16 +39,15 @@ fn taken<P: Port>(port: &mut P) -> bool
 fn a_word_has_what_was_stored(rt: HostRuntime) -> Result<(), Fail> {
     let mut port = chip(rt.alloc())?;
     assert!(rt; kept(&mut port, 7) == 7);
-    assert!(rt; port.load(Place::new(CoreId::of(7), 240, 2)) == 0);
-    assert!(rt; port.load(Place::new(CoreId::of(7), 240, 1)) == 7);
+    let line = Line::new(CoreId::of(7), 240);
+    assert!(rt; port.load(line.word(2)) == 0 && port.load(line.word(1)) == 7);
     Ok(())
 }
 
 #[test]
 fn loads_are_counted(rt: HostRuntime) -> Result<(), Fail> {
     let mut port = CountingPort::new(chip(rt.alloc())?);
-    assert!(rt; kept(&mut port, 9) == 9);
-    assert!(rt; port.loads() == 1);
+    assert!(rt; kept(&mut port, 9) == 9 && port.loads() == 1);
     Ok(())
 }
 

@@ -2,6 +2,7 @@
 
 ghost use Rattle.std.specs.Prelude.{◌≡◌, ◌<◌, ◌≤◌, [], None};
 
+use crate::flags::stalls;
 use crate::listed_ports::{ListedPort, listed_port};
 use line_cache::Never;
 use mpb_alloc::{Heap, MallocFault};
@@ -65,11 +66,11 @@ fn a_heap_flag_is_written_and_waited_for(rt: HostRuntime) {
     let flag = Flag::line(&buffer);
     write(&mut core, &mut port, flag, true);
     assert!(rt; port.events.len() == 1);
-    assert!(rt; wait_until(&mut core, &mut port, flag, true, 1).is_ok());
-    assert!(rt; port.events.len() == 5);
+    let seen = wait_until(&mut core, &mut port, flag, true, 1).is_ok();
+    assert!(rt; seen && port.events.len() == 5);
     write(&mut core, &mut port, flag, false);
-    assert!(rt; wait_until(&mut core, &mut port, flag, false, 1).is_ok());
-    assert!(rt; port.events.len() == 10);
+    let seen = wait_until(&mut core, &mut port, flag, false, 1).is_ok();
+    assert!(rt; seen && port.events.len() == 10);
     assert!(rt; heap.is_out(buffer));
     flag_free(&mut heap, buffer);
     assert!(rt; !heap.is_out(buffer));
@@ -80,15 +81,9 @@ fn a_wait_stalls_after_its_polls(rt: HostRuntime) {
     let mut port = listed_port(&rt, rt.alloc());
     let mut core = Core::new(Never);
     let buffer = Buf::new(230, 1).expect(&rt, "a line");
-    let stalled = Err(Stalled {
-        spot: Spot::Flag {
-            place: Place::new(CoreId::of(0), 230, 0),
-            bit: 7,
-        },
-        polls: 3,
-    });
-    assert!(rt; wait_until(&mut core, &mut port, Flag::bit(&buffer, 7), true, 3) == stalled);
-    assert!(rt; port.events.len() == 12);
+    let stalled = wait_until(&mut core, &mut port, Flag::bit(&buffer, 7), true, 3);
+    let place = Place::new(CoreId::of(0), 230, 0);
+    assert!(rt; stalls(stalled, Spot::Flag { place, bit: 7 }, 3) && port.events.len() == 12);
 }
 
 #[test]
@@ -98,10 +93,7 @@ fn a_bit_is_changed_alone(rt: HostRuntime) {
     let mut core = Core::new(Never);
     let buffer = Buf::new(230, 1).expect(&rt, "a line");
     assert!(rt; write_bit(&mut core, &mut port, &buffer, 5).is_ok());
-    let word = port.words[20];
-    assert!(rt; word == 0b1010_0001);
-    assert!(rt; port.events.len() == 7);
-    assert!(rt; !port.taken[0]);
+    assert!(rt; port.words[20] == 0b1010_0001 && port.events.len() == 7 && !port.taken[0]);
     let _ = port.setup.nue();
     assert!(rt; flag_read(&mut core, &mut port, Rank::of(0), Flag::bit(&buffer, 5)));
     assert!(rt; port.events.len() == 11);
@@ -113,10 +105,7 @@ fn a_second_bit_is_changed_on_the_same_port(rt: HostRuntime) {
     let mut core = Core::new(Never);
     let buffer = Buf::new(230, 1).expect(&rt, "a line");
     assert!(rt; write_two_bits(&mut core, &mut port, &buffer, 5, 7));
-    let word = port.words[20];
-    assert!(rt; word == 0b1010_0000);
-    assert!(rt; port.events.len() == 14);
-    assert!(rt; !port.taken[0]);
+    assert!(rt; port.words[20] == 0b1010_0000 && port.events.len() == 14 && !port.taken[0]);
 }
 
 #[test]
@@ -125,14 +114,9 @@ fn a_bit_stalls_where_its_register_is_taken(rt: HostRuntime) {
     port.taken[0] = true;
     let mut core = Core::new(Never);
     let buffer = Buf::new(230, 1).expect(&rt, "a line");
-    let stalled = Err(Stalled {
-        spot: Spot::Register {
-            core: CoreId::of(0),
-        },
-        polls: 2,
-    });
-    assert!(rt; write_bit(&mut core, &mut port, &buffer, 5) == stalled);
-    assert!(rt; port.events.len() == 2);
+    let stalled = write_bit(&mut core, &mut port, &buffer, 5);
+    let core = CoreId::of(0);
+    assert!(rt; stalls(stalled, Spot::Register { core }, 2) && port.events.len() == 2);
 }
 
 #[test]
