@@ -8,18 +8,31 @@ use scc_base::{CommRule, Layout};
 use std::alloc::Global;
 use std::test::Fail;
 
-/// A collective call of all ranks: which one, and how long a piece is.
-#[derive(Clone, Copy, PartialEq, Eq)]
-struct Meeting {
-    more: More,
-    len: u32,
+/// An evictor that can be made for each rank.
+pub(crate) trait Fresh: Evict + Drop {
+    fn fresh() -> Self;
 }
 
-// These calls at a rank, the next one last.
-fn jobs_of(alloc: Global, calls: &[Meeting], rank: u8, nue: u8) -> Result<Vec<Job>, Fail> {
+impl Fresh for Never {
+    fn fresh() -> Never {
+        Never
+    }
+}
+
+impl Fresh for Always {
+    fn fresh() -> Always {
+        Always::new()
+    }
+}
+
+/// The four collective calls.
+pub(crate) const KINDS: &[More] = &[More::Gather, More::Scatter, More::Allgather, More::Alltoall];
+
+// A call that a rank makes twice.
+fn jobs_of(alloc: Global, more: More, len: u32, rank: u8, nue: u8) -> Result<Vec<Job>, Fail> {
     let mut jobs = Vec::new(alloc);
-    for call in calls.iter().rev() {
-        jobs.push(Job::new(alloc, call.more, call.len, rank, nue)?)?;
+    for _ in 0..2 {
+        jobs.push(Job::new(alloc, more, len, rank, nue)?)?;
     }
     Ok(jobs)
 }
@@ -34,86 +47,72 @@ fn join_with<V: Evict + Drop>(
     team.join(Member::new(alloc, evict, jobs))
 }
 
-// A rank for each evictor, with these calls to make.
-fn met<V: Evict + Drop>(
+// Some ranks, which make a call twice each.
+fn met<V: Fresh>(
     alloc: Global,
     layout: Layout,
-    mut evictors: Vec<V>,
-    calls: &[Meeting],
+    nue: u8,
+    more: More,
+    len: u32,
 ) -> Result<Team<Member<V>>, Fail> {
-    let nue = evictors.len().min(48) as u8;
     let mut team = Team::new(alloc, opened(alloc, nue, layout, CommRule::Absent)?);
     for rank in 0..nue {
-        let evict = evictors.pop().ok_or("an evictor")?;
-        join_with(alloc, &mut team, evict, jobs_of(alloc, calls, rank, nue)?)?;
+        let jobs = jobs_of(alloc, more, len, rank, nue)?;
+        join_with(alloc, &mut team, V::fresh(), jobs)?;
     }
     Ok(team)
 }
 
-// Whether the first ranks have made so many calls, each with the bytes that were to come.
-fn are_right<V: Evict + Drop>(team: &Team<Member<V>>, order: &[usize], count: usize) -> bool {
-    let mut right = true;
+// Whether these ranks have made two calls, each with the bytes that were to come.
+fn are_right<V: Evict + Drop>(team: &Team<Member<V>>, order: &[usize]) -> bool {
     for at in order {
-        right = team
-            .player(*at)
-            .is_some_and(|member| member.right as usize == count)
-            && right;
-    }
-    right
-}
-
-// Whether calls end at all ranks by turns in this order, and each rank has got its pieces.
-fn end_right<V: Evict + Drop>(
-    alloc: Global,
-    layout: Layout,
-    evictors: Vec<V>,
-    order: &[usize],
-    calls: &[Meeting],
-) -> Result<bool, Fail> {
-    let mut team = met(alloc, layout, evictors, calls)?;
-    let ends = team.rounds(order, 2_000) > 0;
-    Ok(ends && are_right(&team, order, calls.len()))
-}
-
-/// Evictors that drop no line.
-pub(crate) fn nevers(alloc: Global, count: usize) -> Result<Vec<Never>, Fail> {
-    let mut evictors = Vec::new(alloc);
-    for _ in 0..count {
-        evictors.push(Never)?;
-    }
-    Ok(evictors)
-}
-
-/// Evictors that drop a line at each fill.
-pub(crate) fn always(alloc: Global, count: usize) -> Result<Vec<Always>, Fail> {
-    let mut evictors = Vec::new(alloc);
-    for _ in 0..count {
-        evictors.push(Always::new())?;
-    }
-    Ok(evictors)
-}
-
-// How often the pieces come, of pieces of no byte, one byte and a line and one byte, each call twice, with either evictor.
-fn times_right(alloc: Global, layout: Layout, order: &[usize]) -> Result<u32, Fail> {
-    let count = order.len();
-    let mut times: u32 = 0;
-    for more in [More::Gather, More::Scatter, More::Allgather, More::Alltoall] {
-        for len in [0, 1, 33] {
-            let calls = [Meeting { more, len }, Meeting { more, len }];
-            let never = end_right(alloc, layout, nevers(alloc, count)?, order, &calls)?;
-            let evicted = end_right(alloc, layout, always(alloc, count)?, order, &calls)?;
-            times = times.saturating_add((never && evicted) as u32);
+        match team.player(*at) {
+            Some(member) if member.right == 2 => {}
+            _ => return false,
         }
     }
-    Ok(times)
+    true
 }
+
+// Whether a call that is made twice ends at all ranks by turns in this order, and each rank has got its pieces.
+fn end_right<V: Fresh>(
+    alloc: Global,
+    layout: Layout,
+    order: &[usize],
+    more: More,
+    len: u32,
+) -> Result<bool, Fail> {
+    let mut team = met::<V>(alloc, layout, order.len().min(48) as u8, more, len)?;
+    Ok(team.rounds(order, 2_000) > 0 && are_right(&team, order))
+}
+
+// Whether the pieces of this length come in both layouts, where no line is evicted and where one is at each fill.
+fn come(alloc: Global, order: &[usize], more: More, len: u32) -> Result<bool, Fail> {
+    let mut right = true;
+    for layout in [Layout::LineFlags, Layout::BitFlags] {
+        right = end_right::<Never>(alloc, layout, order, more, len)? && right;
+        right = end_right::<Always>(alloc, layout, order, more, len)? && right;
+    }
+    Ok(right)
+}
+
+// Whether the pieces come of each call, of no byte, of one and of a line and one byte.
+fn all_come(alloc: Global, order: &[usize]) -> Result<bool, Fail> {
+    let mut right = true;
+    for more in KINDS {
+        for len in &[0, 1, 33] {
+            right = come(alloc, order, *more, *len)? && right;
+        }
+    }
+    Ok(right)
+}
+
+const ORDERS: &[&[usize]] = &[&[0, 1], &[0, 1, 2], &[2, 0, 1]];
 
 #[test]
 fn the_pieces_come_to_two_and_three_ranks(rt: HostRuntime) -> Result<(), Fail> {
-    for layout in [Layout::lines(), Layout::bits()] {
-        assert!(rt; times_right(rt.alloc(), layout, &[0, 1])? == 12);
-        assert!(rt; times_right(rt.alloc(), layout, &[0, 1, 2])? == 12);
-        assert!(rt; times_right(rt.alloc(), layout, &[2, 0, 1])? == 12);
+    for order in ORDERS {
+        assert!(rt; all_come(rt.alloc(), order)?);
     }
     Ok(())
 }

@@ -4,11 +4,11 @@ ghost use Rattle.std.specs.Prelude.{◌≡◌, ◌≤◌, IfOk, length};
 ghost use Rattle.coll_more.specs.Tables.{src_len_of};
 ghost use Rattle.coll_run.specs.Teams.{AreFresh, IsFreshTeam};
 
-use crate::meetings::{always, nevers};
+use crate::meetings::{Fresh, KINDS};
 use chip_teams::opened;
 use coll_more::{More, src_len};
 use coll_run::{Member, join, run};
-use line_cache::Evict;
+use line_cache::{Always, Evict, Never};
 use scc_base::{CommRule, Layout, Rank};
 use std::alloc::Global;
 use std::test::Fail;
@@ -68,14 +68,8 @@ fn src_of(alloc: Global, more: More, rank: Rank, nue: u8, len: u32) -> Result<Ve
     Ok(src)
 }
 
-/// The ranks of a run, one for each evictor, before their first turns.
-fn team_of<V: Evict + Drop>(
-    alloc: Global,
-    mut evictors: Vec<V>,
-    more: More,
-    nue: u8,
-    len: u32,
-) -> Result<Vec<Member<V>>, Fail>
+/// The ranks of a run before their first turns.
+fn team_of<V: Fresh>(alloc: Global, more: More, nue: u8, len: u32) -> Result<Vec<Member<V>>, Fail>
     requires few { nue ≤ 48 }
     requires short { len ≤ 1024 }
     ensures each { IfOk result (λ team. length team.items ≡ nue) }
@@ -84,8 +78,7 @@ fn team_of<V: Evict + Drop>(
     let mut team = Vec::new(alloc);
     for number in 0..nue {
         let src = src_of(alloc, more, Rank::of(number), nue, len)?;
-        let evict = evictors.pop().ok_or("an evictor")?;
-        join(alloc, &mut team, nue, evict, more, len, src)?;
+        join(alloc, &mut team, nue, V::fresh(), more, len, src)?;
     }
     Ok(team)
 }
@@ -100,48 +93,49 @@ fn is_right(bytes: &[u8], more: More, rank: usize, len: usize) -> bool {
     true
 }
 
-/// How many ranks have got what they were to get.
-fn count_right<V: Evict + Drop>(team: &[Member<V>], more: More, len: usize) -> usize {
-    let mut right: usize = 0;
+/// Whether all ranks have got what they were to get.
+fn all_right<V: Evict + Drop>(team: &[Member<V>], more: More, len: usize) -> bool {
     for rank in 0..team.len() {
-        if is_right(team[rank].dst(), more, rank, len) {
-            right = right.saturating_add(1);
+        if !is_right(team[rank].dst(), more, rank, len) {
+            return false;
         }
     }
-    right
+    true
 }
 
-/// Whether all ranks get their pieces in a run.
-fn ends_right<V: Evict + Drop>(
+/// Whether all ranks get their pieces in a run, of at most 48 ranks and 1,024 bytes a piece.
+fn ends_right<V: Fresh>(
     alloc: Global,
-    evictors: Vec<V>,
     layout: Layout,
     more: More,
     nue: u8,
     len: u32,
-) -> Result<bool, Fail>
-    requires few { nue ≤ 48 }
-    requires short { len ≤ 1024 }
-{
+) -> Result<bool, Fail> {
+    if nue > 48 || len > 1_024 {
+        return Ok(false);
+    }
     let mut chip = opened(alloc, nue, layout, CommRule::Absent)?;
-    let mut team = team_of(alloc, evictors, more, nue, len)?;
+    let mut team = team_of::<V>(alloc, more, nue, len)?;
     run(&mut chip, team.as_mut_slice());
-    Ok(count_right(team.as_slice(), more, len as usize) == nue as usize)
+    Ok(all_right(team.as_slice(), more, len as usize))
 }
 
-/// How many of the four kinds come right, in both layouts and with either evictor.
-fn kinds_right(alloc: Global, nue: u8, len: u32) -> Result<usize, Fail>
-    requires few { nue ≤ 48 }
-    requires short { len ≤ 1024 }
-{
-    let mut right: usize = 0;
-    for more in [More::Gather, More::Scatter, More::Allgather, More::Alltoall] {
-        for layout in [Layout::lines(), Layout::bits()] {
-            let never = ends_right(alloc, nevers(alloc, nue as usize)?, layout, more, nue, len)?;
-            let evicted = ends_right(alloc, always(alloc, nue as usize)?, layout, more, nue, len)?;
-            if never && evicted {
-                right = right.saturating_add(1);
-            }
+/// Whether a kind comes right in both layouts and with either evictor.
+fn kind_right(alloc: Global, more: More, nue: u8, len: u32) -> Result<bool, Fail> {
+    let mut right = true;
+    for layout in [Layout::LineFlags, Layout::BitFlags] {
+        right = ends_right::<Never>(alloc, layout, more, nue, len)? && right;
+        right = ends_right::<Always>(alloc, layout, more, nue, len)? && right;
+    }
+    Ok(right)
+}
+
+/// Whether each kind comes right, with pieces of each length.
+fn kinds_right(alloc: Global, nue: u8) -> Result<bool, Fail> {
+    let mut right = true;
+    for more in KINDS {
+        for len in &[0, 1, 32, 33, 1_024] {
+            right = kind_right(alloc, *more, nue, *len)? && right;
         }
     }
     Ok(right)
@@ -149,18 +143,14 @@ fn kinds_right(alloc: Global, nue: u8, len: u32) -> Result<usize, Fail>
 
 #[test]
 fn each_kind_comes_to_its_end(rt: HostRuntime) -> Result<(), Fail> {
-    for nue in [1, 2, 3] {
-        for len in [0, 1, 32, 33, 1024] {
-            assert!(rt; kinds_right(rt.alloc(), nue, len)? == 8);
-        }
+    for nue in 1..4u8 {
+        assert!(rt; kinds_right(rt.alloc(), nue)?);
     }
     Ok(())
 }
 
 #[test]
 fn each_kind_comes_to_its_end_on_all_cores(rt: HostRuntime) -> Result<(), Fail> {
-    for len in [0, 1, 32, 33, 1024] {
-        assert!(rt; kinds_right(rt.alloc(), 48, len)? == 8);
-    }
+    assert!(rt; kinds_right(rt.alloc(), 48)?);
     Ok(())
 }

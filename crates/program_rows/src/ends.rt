@@ -1,13 +1,25 @@
 //! Ends of programs: texts of complaints, the ends of the program of the tests, numbers among words, and that there is memory.
 
 use crate::line_count::line_count;
+use outcomes::Status::{Files, Finished, Memory, Script, Words, Write};
 use outcomes::{Complaint, Status, number_in, ue_count};
 use rcce_io::{MemFiles, MemSink};
 use std::alloc::{AllocError, Global};
 use std::process::Abort;
 use std::test::Fail;
 
-/// How a run ended, and what it wrote.
+/// A run of the program: its words, the call of each kind that fails, how it ends, and what it writes.
+///
+/// The kinds are the calls that read files, the writes to `out` and those to `err`. Each is counted from 1: at 0 none fails.
+type Row = (
+    &'static [&'static str],
+    [u64; 3],
+    Status,
+    &'static str,
+    &'static str,
+);
+
+/// How a run ended, what it wrote, and how many calls read files.
 #[derive(Drop)]
 struct Ended {
     status: Status,
@@ -16,34 +28,33 @@ struct Ended {
     reads: u64,
 }
 
-/// A run of the program, of which the given calls fail.
-#[derive(Clone, Copy)]
-struct Call<'a> {
-    words: &'a [&'a str],
-    read: Option<u64>,
-    out_write: Option<u64>,
-    err_write: Option<u64>,
-}
-
-/// Runs the program where `a` holds two lines and a half, and `long` more than is read. A write takes at most two bytes.
-fn run(alloc: Global, call: Call) -> Result<Ended, AllocError> {
-    let mut words = Vec::new(alloc);
-    for text in call.words {
-        words.push(String::from_str(alloc, text)?)?;
-    }
+/// Where `a` holds two lines and a half, `most` as many bytes as are read, and `long` one more.
+fn three_files(alloc: Global) -> Result<MemFiles, AllocError> {
+    let lines = vec![in alloc; b'\n'; 5_001]?;
     let mut files = MemFiles::new(alloc);
     files.add("a", b"one\ntwo\nthree")?;
+    files.add("most", &lines[1..])?;
+    files.add("long", &lines)?;
+    Ok(files)
+}
+
+fn words_of(alloc: Global, texts: &[&str]) -> Result<Vec<String>, AllocError> {
+    let mut words = Vec::new(alloc);
+    for text in texts {
+        words.push(String::from_str(alloc, text)?)?;
+    }
+    Ok(words)
+}
+
+/// Runs the program. A write takes at most two bytes.
+fn run(alloc: Global, texts: &[&str], failing: [u64; 3]) -> Result<Ended, AllocError> {
+    let words = words_of(alloc, texts)?;
+    let mut files = three_files(alloc)?;
     let mut out = MemSink::new(alloc, 64, 2)?;
     let mut err = MemSink::new(alloc, 64, 2)?;
-    if let Some(read) = call.read {
-        files.fail_at(read);
-    }
-    if let Some(write) = call.out_write {
-        out.fail_at(write);
-    }
-    if let Some(write) = call.err_write {
-        err.fail_at(write);
-    }
+    files.fail_at(failing[0]);
+    out.fail_at(failing[1]);
+    err.fail_at(failing[2]);
     let status = line_count(alloc, words.as_slice(), &mut files, &mut out, &mut err);
     let reads = files.calls_made();
     Ok(Ended {
@@ -54,164 +65,166 @@ fn run(alloc: Global, call: Call) -> Result<Ended, AllocError> {
     })
 }
 
-fn expect(rt: &impl Abort, run: &Ended, status: Status, out: &[u8], err: &[u8]) {
-    assert!(rt; run.out.bytes() == out);
-    assert!(rt; run.err.bytes() == err);
-    assert!(rt; run.status == status);
+/// Whether the call that was to fail, if one was, is the last of those that were made.
+fn is_last(failing: u64, made: u64) -> bool {
+    failing == 0 || failing == made
 }
 
-/// A call with no failures.
-fn words<'a>(words: &'a [&'a str]) -> Call<'a> {
-    Call {
-        words,
-        read: None,
-        out_write: None,
-        err_write: None,
-    }
+/// Whether no call was made behind one that fails, and none that reads a file where the words are refused.
+fn stops(ended: &Ended, failing: [u64; 3]) -> bool {
+    is_last(failing[0], ended.reads)
+        && is_last(failing[1], ended.out.writes_made())
+        && is_last(failing[2], ended.err.writes_made())
+        && (ended.status != Words || ended.reads == 0)
 }
+
+fn expect<R: Abort>(rt: &R, alloc: Global, rows: &[Row]) -> Result<(), Fail> {
+    for (words, failing, status, out, err) in rows {
+        let ended = run(alloc, words, *failing)?;
+        assert!(rt; ended.out.bytes() == out.as_bytes());
+        assert!(rt; ended.err.bytes() == err.as_bytes());
+        assert!(rt; ended.status == *status && stops(&ended, *failing));
+    }
+    Ok(())
+}
+
+const COUNTED: &[Row] = &[(&["a"], [0, 0, 0], Finished, "2\n", "")];
 
 #[test]
 fn lines_are_counted(rt: HostRuntime) -> Result<(), Fail> {
-    let run = run(rt.alloc(), words(&["a"]))?;
-    expect(&rt, &run, Status::Finished, b"2\n", b"");
-    assert!(rt; run.status.number() == 0);
-    Ok(())
+    assert!(rt; Finished.number() == 0);
+    expect(&rt, rt.alloc(), COUNTED)
 }
+
+const REFUSED: &[Row] = &[
+    (&[], [0, 0, 0], Words, "", "lines: words refused\n"),
+    (&["-a"], [0, 0, 0], Words, "", "lines: words refused\n"),
+    (&["a", "a"], [0, 0, 0], Words, "", "lines: words refused\n"),
+];
 
 #[test]
 fn words_are_refused_before_a_file_is_asked_for(rt: HostRuntime) -> Result<(), Fail> {
-    let refused: [&[&str]; 3] = [&[], &["-a"], &["a", "a"]];
-    for given in refused {
-        let run = run(rt.alloc(), words(given))?;
-        expect(&rt, &run, Status::Words, b"", b"lines: words refused\n");
-        assert!(rt; run.reads == 0);
-    }
-    Ok(())
+    expect(&rt, rt.alloc(), REFUSED)
 }
+
+const ABSENT: &[Row] = &[(&["b"], [0, 0, 0], Files, "", "lines: b: absent\n")];
 
 #[test]
 fn an_absent_file(rt: HostRuntime) -> Result<(), Fail> {
-    let run = run(rt.alloc(), words(&["b"]))?;
-    expect(&rt, &run, Status::Files, b"", b"lines: b: absent\n");
-    Ok(())
+    expect(&rt, rt.alloc(), ABSENT)
 }
+
+const READ_FAULTS: &[Row] = &[
+    (&["a"], [1, 0, 0], Files, "", "lines: a: read fault\n"),
+    (&["a"], [2, 0, 0], Files, "", "lines: a: read fault\n"),
+    (&["a"], [3, 0, 0], Files, "", "lines: a: read fault\n"),
+];
 
 #[test]
 fn nothing_is_read_behind_a_read_fault(rt: HostRuntime) -> Result<(), Fail> {
-    for read in 1..4u64 {
-        let call = Call {
-            read: Some(read),
-            ..words(&["a"])
-        };
-        let run = run(rt.alloc(), call)?;
-        expect(&rt, &run, Status::Files, b"", b"lines: a: read fault\n");
-        assert!(rt; run.reads == read);
-    }
-    Ok(())
+    expect(&rt, rt.alloc(), READ_FAULTS)
 }
+
+const FAILED_WRITES: &[Row] = &[
+    (&["a"], [0, 2, 0], Write, "2", ""),
+    (&["b"], [0, 0, 3], Write, "", "line"),
+];
 
 #[test]
 fn nothing_is_written_behind_a_failed_write(rt: HostRuntime) -> Result<(), Fail> {
-    let call = Call {
-        out_write: Some(2),
-        ..words(&["a"])
-    };
-    let ended = run(rt.alloc(), call)?;
-    expect(&rt, &ended, Status::Write, b"2", b"");
-    assert!(rt; (ended.out.writes_made(), ended.err.writes_made()) == (2, 0));
-    let call = Call {
-        err_write: Some(3),
-        ..words(&["b"])
-    };
-    let ended = run(rt.alloc(), call)?;
-    expect(&rt, &ended, Status::Write, b"", b"line");
-    assert!(rt; (ended.out.writes_made(), ended.err.writes_made()) == (0, 3));
-    Ok(())
+    expect(&rt, rt.alloc(), FAILED_WRITES)
 }
+
+const LONG: &[Row] = &[
+    (
+        &["long"],
+        [0, 0, 0],
+        Script,
+        "",
+        "lines: long line 0: TooLong\n",
+    ),
+    (&["most"], [0, 0, 0], Finished, "5000\n", ""),
+];
 
 #[test]
 fn a_longer_file_is_refused(rt: HostRuntime) -> Result<(), Fail> {
-    let alloc = rt.alloc();
-    let mut files = MemFiles::new(alloc);
-    files.add("long", &[b'\n'; 5_001])?;
-    files.add("most", &[b'\n'; 5_000])?;
-    let table = [
-        ("long", Status::Script, "", "lines: long line 0: TooLong\n"),
-        ("most", Status::Finished, "5000\n", ""),
-    ];
-    for (name, status, out_text, err_text) in table {
-        let mut words = Vec::new(alloc);
-        words.push(String::from_str(alloc, name)?)?;
-        let mut out = MemSink::new(alloc, 64, 64)?;
-        let mut err = MemSink::new(alloc, 64, 64)?;
-        let ended = line_count(alloc, words.as_slice(), &mut files, &mut out, &mut err);
-        assert!(rt; ended == status);
-        assert!(rt; out.bytes() == out_text.as_bytes());
-        assert!(rt; err.bytes() == err_text.as_bytes());
+    expect(&rt, rt.alloc(), LONG)
+}
+
+const COMPLAINTS: &[(Complaint<'static>, Status, &str)] = &[
+    (
+        Complaint::Words {
+            fault: "bad number after ",
+            word: "-nue",
+            behind: ": ",
+            value: "49",
+        },
+        Words,
+        "rccerun: bad number after -nue: 49\n",
+    ),
+    (
+        Complaint::Refused {
+            file: "s.rcce",
+            line: 3,
+            kind: "SelfMessage",
+        },
+        Script,
+        "rccerun: s.rcce line 3: SelfMessage\n",
+    ),
+    (Complaint::Memory, Memory, "rccerun: no memory\n"),
+    (
+        Complaint::Absent("s.rcce"),
+        Files,
+        "rccerun: s.rcce: absent\n",
+    ),
+    (
+        Complaint::ReadFault("s.rcce"),
+        Files,
+        "rccerun: s.rcce: read fault\n",
+    ),
+];
+
+#[test]
+fn each_complaint_has_one_line(rt: HostRuntime) -> Result<(), Fail> {
+    for (complaint, status, text) in COMPLAINTS {
+        let mut sink = MemSink::new(rt.alloc(), 64, 64)?;
+        assert!(rt; complaint.write("rccerun", &mut sink) == Ok(()));
+        assert!(rt; sink.bytes() == text.as_bytes() && complaint.status() == *status);
     }
     Ok(())
 }
 
-#[test]
-fn each_complaint_has_one_line(rt: HostRuntime) -> Result<(), Fail> {
-    let refused = Complaint::Refused {
-        file: "s.rcce",
-        line: 3,
-        kind: "SelfMessage",
-    };
-    let words = Complaint::Words {
-        fault: "bad number after ",
-        word: "-nue",
-        behind: ": ",
-        value: "49",
-    };
-    let table = [
-        (words, Status::Words, "rccerun: bad number after -nue: 49\n"),
-        (
-            refused,
-            Status::Script,
-            "rccerun: s.rcce line 3: SelfMessage\n",
-        ),
-        (Complaint::Memory, Status::Memory, "rccerun: no memory\n"),
-        (
-            Complaint::Absent("s.rcce"),
-            Status::Files,
-            "rccerun: s.rcce: absent\n",
-        ),
-        (
-            Complaint::ReadFault("s.rcce"),
-            Status::Files,
-            "rccerun: s.rcce: read fault\n",
-        ),
-    ];
-    for (complaint, status, text) in table {
-        let mut sink = MemSink::new(rt.alloc(), 64, 64)?;
-        complaint.write("rccerun", &mut sink)?;
-        assert!(rt; sink.bytes() == text.as_bytes());
-        assert!(rt; complaint.status() == status);
-    }
-    Ok(())
+const COUNTS: &[(&str, Option<u8>)] = &[
+    ("1", Some(1)),
+    ("48", Some(48)),
+    ("0000000048", Some(48)),
+    ("00000000048", None),
+    ("0", None),
+    ("49", None),
+    ("", None),
+    ("+2", None),
+    ("2 ", None),
+    ("4294967296", None),
+];
+
+/// A word, the numbers between which it is to be, and the number that it is.
+const NUMBERS: &[(&str, u32, u32, Option<u32>)] = &[
+    ("4294967295", 0, 4_294_967_295, Some(4_294_967_295)),
+    ("9999999999", 0, 4_294_967_295, None),
+    ("0", 0, 1_024, Some(0)),
+    ("1025", 0, 1_024, None),
+];
+
+fn holds<R: Abort>(rt: &R, is: bool, word: &str) {
+    assert!(rt; is, "{word}");
 }
 
 #[test]
 fn numbers_have_one_to_ten_digits(rt: HostRuntime) {
-    let counts = [
-        ("1", Some(1)),
-        ("48", Some(48)),
-        ("0000000048", Some(48)),
-        ("00000000048", None),
-        ("0", None),
-        ("49", None),
-        ("", None),
-        ("+2", None),
-        ("2 ", None),
-        ("4294967296", None),
-    ];
-    for (word, count) in counts {
-        assert!(rt; ue_count(word) == count, "{word}");
+    for (word, count) in COUNTS {
+        holds(&rt, ue_count(word) == *count, word);
     }
-    assert!(rt; number_in("4294967295", 0, 4_294_967_295) == Some(4_294_967_295));
-    assert!(rt; number_in("9999999999", 0, 4_294_967_295) == None);
-    assert!(rt; number_in("0", 0, 1_024) == Some(0));
-    assert!(rt; number_in("1025", 0, 1_024) == None);
+    for (word, least, most, number) in NUMBERS {
+        holds(&rt, number_in(word, *least, *most) == *number, word);
+    }
 }

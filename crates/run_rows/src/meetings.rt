@@ -6,8 +6,10 @@ use crate::runs::{Evictors, FOUR_BYTES, Nevers, come};
 use line_cache::Evict;
 use rcce_run::{Gate, Mode, Open, RunEnd};
 use scc_base::{Layout, Rank};
+use std::alloc::Global;
 use std::sync::atomic::{AtomicU64, Ordering};
 use std::test::Fail;
+use std::thread::Threads;
 
 /// How often a rank looks for the other one.
 const LOOKS: u64 = 50_000_000;
@@ -36,6 +38,11 @@ impl Meeting {
             }
         }
         self.missed.fetch_add(1, Ordering::SeqCst);
+    }
+
+    /// Whether two have come, and none waited in vain.
+    fn was_held(&self) -> bool {
+        self.came.load(Ordering::SeqCst) > 1 && self.missed.load(Ordering::SeqCst) == 0
     }
 }
 
@@ -86,22 +93,30 @@ impl<'a> Evictors<Meets<'a>> for MeetAt<'a> {
     }
 }
 
+/// Whether four bytes arrive by two ranks that meet.
+fn meet<V: Evict + Drop + Send, E: Evictors<V>, G: Gate + Sync, R: Threads + Sync>(
+    rt: &R,
+    alloc: Global,
+    evictors: &E,
+    gate: &G,
+    meeting: &Meeting,
+) -> Result<bool, Fail> {
+    let came = come(
+        rt,
+        alloc,
+        FOUR_BYTES,
+        Layout::lines(),
+        evictors,
+        Mode::Threads,
+        gate,
+    )?;
+    Ok(came.end == RunEnd::Finished && meeting.was_held())
+}
+
 #[test]
 fn two_ranks_wait_for_each_other_at_the_gate(rt: HostRuntime) -> Result<(), Fail> {
     let meeting = Meeting::new();
-    let layout = Layout::lines();
-    let came = come(
-        &rt,
-        rt.alloc(),
-        &FOUR_BYTES,
-        layout,
-        &Nevers,
-        Mode::Threads,
-        &meeting,
-    )?;
-    assert!(rt; came.end == RunEnd::Finished);
-    assert!(rt; meeting.came.load(Ordering::SeqCst) > 1);
-    assert!(rt; meeting.missed.load(Ordering::SeqCst) == 0);
+    assert!(rt; meet(&rt, rt.alloc(), &Nevers, &meeting, &meeting)?);
     Ok(())
 }
 
@@ -109,18 +124,6 @@ fn two_ranks_wait_for_each_other_at_the_gate(rt: HostRuntime) -> Result<(), Fail
 fn two_ranks_wait_for_each_other_inside_their_turns(rt: HostRuntime) -> Result<(), Fail> {
     let meeting = Meeting::new();
     let evictors = MeetAt { meeting: &meeting };
-    let layout = Layout::lines();
-    let came = come(
-        &rt,
-        rt.alloc(),
-        &FOUR_BYTES,
-        layout,
-        &evictors,
-        Mode::Threads,
-        &Open,
-    )?;
-    assert!(rt; came.end == RunEnd::Finished);
-    assert!(rt; meeting.came.load(Ordering::SeqCst) > 1);
-    assert!(rt; meeting.missed.load(Ordering::SeqCst) == 0);
+    assert!(rt; meet(&rt, rt.alloc(), &evictors, &Open, &meeting)?);
     Ok(())
 }

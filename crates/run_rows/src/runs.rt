@@ -18,20 +18,20 @@ use std::test::Fail;
 use std::thread::Threads;
 
 /// A script for some ranks, and what it comes to.
-#[derive(Clone, Copy)]
+#[derive(Drop)]
 pub(crate) struct Row<'a> {
-    pub(crate) shows: &'a str,
-    pub(crate) nue: u8,
+    shows: &'a str,
+    nue: u8,
     pub(crate) script: &'a [u8],
-    pub(crate) end: RunEnd,
+    end: RunEnd,
     /// How each rank ends, and at which line: `f` has finished, `w` waits, `m` was stopped by a mismatch.
-    pub(crate) ranks: &'a [(u8, u32)],
+    ranks: &'a [(u8, u32)],
     /// The bytes of all printed items, in rank order.
-    pub(crate) printed: &'a [u8],
+    printed: &'a [u8],
 }
 
 /// Rank 0 sends four bytes to rank 1, which prints them.
-pub(crate) const FOUR_BYTES: Row<'static> = Row {
+pub(crate) const FOUR_BYTES: &Row<'static> = &Row {
     shows: "four bytes",
     nue: 2,
     script: b"ue 0\nbytes x 01020304\nsend 1 x\nue 1\nrecv 0 y 4\nprint y\n",
@@ -78,7 +78,8 @@ impl Evictors<Seeded> for Seeds {
 }
 
 /// The setup of a script, on cores 0 and up.
-fn setup_of(scripts: &Scripts, layout: Layout) -> Option<Setup>
+pub(crate) fn setup_of(scripts: &Scripts, layout: Layout) -> Option<Setup>
+    ensures layout { IfSome result (λ s. s.layout ≡ layout) }
     ensures ranks { IfSome result (λ s. s.nue ≡ scripts.now.nue) }
     ensures communicators { IfSome result (λ s. s.comms ≡ rules_of scripts.now.items) }
 {
@@ -182,6 +183,18 @@ pub(crate) fn come<V: Evict + Drop + Send, E: Evictors<V>, G: Gate + Sync, R: Th
     note(alloc, end, crew.as_slice())
 }
 
+/// Whether a run came to all that its row says.
+fn is_as_told(came: &Came, row: &Row) -> bool {
+    came.end == row.end
+        && came.ranks.as_slice() == row.ranks
+        && came.printed.as_slice() == row.printed
+}
+
+/// Asserts something of a row by what it shows.
+fn holds<R: Abort>(rt: &R, is: bool, shows: &str) {
+    assert!(rt; is, "{shows}");
+}
+
 /// Runs a row's script in some modes and both layouts, and compares what it comes to.
 fn expect<V: Evict + Drop + Send, E: Evictors<V>, R: Threads + Sync + Alloc<A = Global> + Abort>(
     rt: &R,
@@ -190,86 +203,80 @@ fn expect<V: Evict + Drop + Send, E: Evictors<V>, R: Threads + Sync + Alloc<A = 
     evictors: &E,
 ) -> Result<(), Fail> {
     for mode in modes {
-        for layout in [Layout::lines(), Layout::bits()] {
+        for layout in [Layout::LineFlags, Layout::BitFlags] {
             let came = come(rt, rt.alloc(), row, layout, evictors, *mode, &Open)?;
-            assert!(rt; came.end == row.end, "{}: {mode:?}", row.shows);
-            assert!(rt;
-                came.ranks.as_slice() == row.ranks,
-                "{}: {mode:?}",
-                row.shows
-            );
-            assert!(rt;
-                came.printed.as_slice() == row.printed,
-                "{}: {mode:?}",
-                row.shows
-            );
+            holds(rt, is_as_told(&came, row), row.shows);
         }
     }
     Ok(())
 }
 
+const MODES: &[Mode] = &[
+    Mode::Serial(0),
+    Mode::Serial(1),
+    Mode::Serial(2),
+    Mode::Serial(u64::MAX),
+    Mode::Threads,
+];
+
 #[test]
 fn four_bytes_arrive_in_every_mode_and_with_every_evictor(rt: HostRuntime) -> Result<(), Fail> {
-    let modes = [
-        Mode::Serial(0),
-        Mode::Serial(1),
-        Mode::Serial(2),
-        Mode::Serial(u64::MAX),
-        Mode::Threads,
-    ];
-    expect(&rt, &FOUR_BYTES, &modes, &Nevers)?;
-    expect(&rt, &FOUR_BYTES, &modes, &Each)?;
-    expect(&rt, &FOUR_BYTES, &modes, &Seeds)
+    expect(&rt, FOUR_BYTES, MODES, &Nevers)?;
+    expect(&rt, FOUR_BYTES, MODES, &Each)?;
+    expect(&rt, FOUR_BYTES, MODES, &Seeds)
 }
+
+const ROWS: &[Row<'static>] = &[
+    Row {
+        shows: "a ring that all send first",
+        nue: 3,
+        script: b"all\nfill x 1 9\nsend +1 x\nrecv -1 y 1\nprint y\n",
+        end: RunEnd::Stuck,
+        ranks: &[(b'w', 3), (b'w', 3), (b'w', 3)],
+        printed: &[],
+    },
+    Row {
+        shows: "a ring that all post first",
+        nue: 3,
+        script: b"all\nfill x 1 9\npost +1 x\nrecv -1 y 1\nprint y\n",
+        end: RunEnd::Finished,
+        ranks: &[(b'f', 0), (b'f', 0), (b'f', 0)],
+        printed: &[9, 9, 9],
+    },
+    Row {
+        shows: "a posted message that nobody takes",
+        nue: 2,
+        script: b"ue 0\nbytes x 05\npost 1 x\nprint x\n",
+        end: RunEnd::Stuck,
+        ranks: &[(b'w', 3), (b'f', 0)],
+        printed: &[5],
+    },
+    Row {
+        shows: "a sum in groups of groups",
+        nue: 6,
+        script: b"rcce 2\nall\nsplit 1 div 3\nsplit 9 of 1 mod 2\nrank x int\nallreduce 9 sum int y x\nbarrier 9\nbarrier 1\nprint y\n",
+        end: RunEnd::Finished,
+        ranks: &[(b'f', 0); 6],
+        printed: &[
+            2, 0, 0, 0, 1, 0, 0, 0, 2, 0, 0, 0, 8, 0, 0, 0, 4, 0, 0, 0, 8, 0, 0, 0,
+        ],
+    },
+    Row {
+        shows: "lengths that differ",
+        nue: 2,
+        script: b"ue 0\nbytes x 0001020304050607\nsend 1 x\nue 1\nrecv 0 y 4\nprint y\n",
+        end: RunEnd::Stuck,
+        ranks: &[(b'w', 3), (b'm', 5)],
+        printed: &[],
+    },
+];
+
+const BOTH_MODES: &[Mode] = &[Mode::Serial(1), Mode::Threads];
 
 #[test]
 fn scripts_come_to_their_ends(rt: HostRuntime) -> Result<(), Fail> {
-    let rows = [
-        Row {
-            shows: "a ring that all send first",
-            nue: 3,
-            script: b"all\nfill x 1 9\nsend +1 x\nrecv -1 y 1\nprint y\n",
-            end: RunEnd::Stuck,
-            ranks: &[(b'w', 3), (b'w', 3), (b'w', 3)],
-            printed: &[],
-        },
-        Row {
-            shows: "a ring that all post first",
-            nue: 3,
-            script: b"all\nfill x 1 9\npost +1 x\nrecv -1 y 1\nprint y\n",
-            end: RunEnd::Finished,
-            ranks: &[(b'f', 0), (b'f', 0), (b'f', 0)],
-            printed: &[9, 9, 9],
-        },
-        Row {
-            shows: "a posted message that nobody takes",
-            nue: 2,
-            script: b"ue 0\nbytes x 05\npost 1 x\nprint x\n",
-            end: RunEnd::Stuck,
-            ranks: &[(b'w', 3), (b'f', 0)],
-            printed: &[5],
-        },
-        Row {
-            shows: "a sum in groups of groups",
-            nue: 6,
-            script: b"rcce 2\nall\nsplit 1 div 3\nsplit 9 of 1 mod 2\nrank x int\nallreduce 9 sum int y x\nbarrier 9\nbarrier 1\nprint y\n",
-            end: RunEnd::Finished,
-            ranks: &[(b'f', 0); 6],
-            printed: &[
-                2, 0, 0, 0, 1, 0, 0, 0, 2, 0, 0, 0, 8, 0, 0, 0, 4, 0, 0, 0, 8, 0, 0, 0,
-            ],
-        },
-        Row {
-            shows: "lengths that differ",
-            nue: 2,
-            script: b"ue 0\nbytes x 0001020304050607\nsend 1 x\nue 1\nrecv 0 y 4\nprint y\n",
-            end: RunEnd::Stuck,
-            ranks: &[(b'w', 3), (b'm', 5)],
-            printed: &[],
-        },
-    ];
-    for row in &rows {
-        expect(&rt, row, &[Mode::Serial(1), Mode::Threads], &Seeds)?;
+    for row in ROWS {
+        expect(&rt, row, BOTH_MODES, &Seeds)?;
     }
     Ok(())
 }

@@ -150,42 +150,66 @@ fn told_apart<R: Threads + Sync>(
     Ok(all)
 }
 
-// Whether a message of this length arrives, sent or posted. In each round one of the two ranks can move, also where no
-// thread can be had and they take their turns one after the other.
+// Whether a row of bytes is this long, and as `fill` makes it from 0 on.
+fn is_filled(bytes: &[u8], len: usize) -> bool {
+    for i in 0..bytes.len() {
+        if bytes[i] != (i % 251) as u8 {
+            return false;
+        }
+    }
+    bytes.len() == len
+}
+
+// Whether a message of this length arrives. In each round one of the two ranks can move, also where no thread can be had
+// and they take their turns one after the other.
 fn arrives<R: Threads + Sync>(
     rt: &R,
     alloc: Global,
     layout: Layout,
-    call: &str,
-    len: usize,
+    text: &[u8],
+    len: u16,
 ) -> Result<bool, Fail> {
-    let text = format!(in alloc;
-        "ue 0\nfill x {len} 0\n{call} 1 x\nue 1\nrecv 0 y {len}\nprint y\n"
-    )?;
-    let told = told_apart(rt, alloc, text.as_bytes(), layout, 2 * (len / 32) + 60)?;
-    let mut bytes = Vec::new(alloc);
-    for i in 0..len {
-        bytes.push((i % 251) as u8)?;
-    }
-    if told.len() != 2 {
-        return Err("both ranks".into());
-    }
-    let ended = told[0].end == End::Finished && told[1].end == End::Finished;
-    Ok(ended && told[1].printed == bytes)
+    let len = len as usize;
+    let told = told_apart(rt, alloc, text, layout, 2 * (len / 32) + 60)?;
+    Ok(match told.as_slice() {
+        [first, second] => {
+            first.end == End::Finished
+                && second.end == End::Finished
+                && is_filled(second.printed.as_slice(), len)
+        }
+        _ => false,
+    })
 }
+
+// A message that is sent or posted, and its length.
+const MESSAGES: &[(&[u8], u16)] = &[
+    (
+        b"ue 0\nfill x 0 0\nsend 1 x\nue 1\nrecv 0 y 0\nprint y\n",
+        0,
+    ),
+    (
+        b"ue 0\nfill x 33 0\nsend 1 x\nue 1\nrecv 0 y 33\nprint y\n",
+        33,
+    ),
+    (
+        b"ue 0\nfill x 3585 0\nsend 1 x\nue 1\nrecv 0 y 3585\nprint y\n",
+        3_585,
+    ),
+    (
+        b"ue 0\nfill x 6625 0\nsend 1 x\nue 1\nrecv 0 y 6625\nprint y\n",
+        6_625,
+    ),
+    (
+        b"ue 0\nfill x 3584 0\npost 1 x\nue 1\nrecv 0 y 3584\nprint y\n",
+        3_584,
+    ),
+];
 
 #[test]
 fn messages_arrive_between_threads(rt: HostRuntime) -> Result<(), Fail> {
-    for layout in [Layout::lines(), Layout::bits()] {
-        for (call, len) in [
-            ("send", 0),
-            ("send", 33),
-            ("send", 3_585),
-            ("send", 6_625),
-            ("post", 3_584),
-        ] {
-            assert!(rt; arrives(&rt, rt.alloc(), layout, call, len)?);
-        }
+    for (text, len) in MESSAGES {
+        assert!(rt; arrives(&rt, rt.alloc(), Layout::lines(), text, *len)?);
+        assert!(rt; arrives(&rt, rt.alloc(), Layout::bits(), text, *len)?);
     }
     Ok(())
 }

@@ -1,6 +1,7 @@
 //! What scripts come to over a chip with one seat.
 
-use crate::scripts::{End, Fresh, run};
+use crate::scripts::End::{Finished, Mismatch, Waits};
+use crate::scripts::{End, Fresh, Told, run};
 use line_cache::{Always, Never};
 use scc_base::Layout;
 use std::alloc::Global;
@@ -8,55 +9,46 @@ use std::process::Abort;
 use std::test::Fail;
 
 /// What is wanted of a rank: its end, the bytes that it prints, and how many turns it may take that move.
-#[derive(Clone, Copy)]
-struct Wanted<'a> {
-    end: End,
-    printed: &'a [u8],
-    most: u64,
-}
+type Wanted = (End, &'static [u8], u64);
 
-fn finished(printed: &[u8], most: u64) -> Wanted<'_> {
-    Wanted {
-        end: End::Finished,
-        printed,
-        most,
+/// A script, and what is wanted of each rank.
+type Row = (&'static [u8], &'static [Wanted]);
+
+// Whether each rank has come to its end, has printed these bytes, and has taken no more turns that move than its bound.
+fn are_wanted(all: &[Told], wanted: &[Wanted]) -> bool {
+    for (told, (end, printed, most)) in all.iter().zip(wanted) {
+        if told.end != *end || told.printed.as_slice() != *printed || told.moved > *most {
+            return false;
+        }
     }
+    all.len() == wanted.len()
 }
 
-// A script with this evictor comes to this, and no rank takes more turns that move than its bound.
-fn comes_to<V: Fresh, R: Abort>(
-    rt: &R,
+// Whether a script with this evictor comes to what is wanted, of at most 48 ranks.
+fn comes_to<V: Fresh>(
     alloc: Global,
-    text: &[u8],
-    wanted: &[Wanted<'_>],
+    row: &Row,
     layout: Layout,
     backwards: bool,
-) -> Result<(), Fail> {
+) -> Result<bool, Fail> {
+    let (text, wanted) = *row;
     let nue = wanted.len();
     if nue < 1 || nue > 48 {
-        return Err("a run of 1 to 48 ranks".into());
+        return Ok(false);
     }
     let all = run::<V>(alloc, text, nue as u8, layout, backwards)?;
-    assert!(rt; all.len() == nue);
-    for (told, rank) in all.iter().zip(wanted) {
-        assert!(rt; told.end == rank.end);
-        assert!(rt; told.printed.as_slice() == rank.printed);
-        assert!(rt; told.moved <= rank.most);
-    }
-    Ok(())
+    Ok(are_wanted(all.as_slice(), wanted))
 }
 
-// The same in both layouts, in both orders of the ranks, with an evictor that drops nothing and one that drops all.
-fn always_comes_to<R: Abort>(
-    rt: &R,
-    alloc: Global,
-    text: &[u8],
-    wanted: &[Wanted<'_>],
-) -> Result<(), Fail> {
-    for layout in [Layout::lines(), Layout::bits()] {
-        for backwards in [false, true] {
-            comes_to::<Never, R>(rt, alloc, text, wanted, layout, backwards)?;
-            comes_to::<Always, R>(rt, alloc, text, wanted, layout, backwards)?;
+// The same of each script, in both layouts, in both orders of the ranks, with an evictor that drops nothing and one that
+// drops all.
+fn always_come_to<R: Abort>(rt: &R, alloc: Global, rows: &[Row]) -> Result<(), Fail> {
+    for row in rows {
+        for layout in [Layout::LineFlags, Layout::BitFlags] {
+            for backwards in [false, true] {
+                assert!(rt; comes_to::<Never>(alloc, row, layout, backwards)?);
+                assert!(rt; comes_to::<Always>(alloc, row, layout, backwards)?);
+            }
         }
     }
     Ok(())
@@ -72,23 +64,33 @@ const RING_OF_POSTS: &[u8] = b"all\nrank r int\npost +1 r\nrecv -1 y 4\nprint y\
 const HALO: &[u8] =
     b"all\nrank mine int\neven\nrepeat 3\nsend +1 mine\nrecv -1 left 4\nend\nodd\nrepeat 3\nrecv -1 left 4\nsend +1 mine\nend\nall\nprint left\n";
 
+const MESSAGES: &[Row] = &[
+    (
+        FOUR_BYTES,
+        &[(Finished, &[], 12), (Finished, &[1, 2, 3, 4], 12)],
+    ),
+    (
+        RING_OF_POSTS,
+        &[
+            (Finished, &[2, 0, 0, 0], 24),
+            (Finished, &[0, 0, 0, 0], 24),
+            (Finished, &[1, 0, 0, 0], 24),
+        ],
+    ),
+    (
+        HALO,
+        &[
+            (Finished, &[3, 0, 0, 0], 72),
+            (Finished, &[0, 0, 0, 0], 72),
+            (Finished, &[1, 0, 0, 0], 72),
+            (Finished, &[2, 0, 0, 0], 72),
+        ],
+    ),
+];
+
 #[test]
 fn messages_come_over_the_chip(rt: HostRuntime) -> Result<(), Fail> {
-    let two = [finished(&[], 12), finished(&[1, 2, 3, 4], 12)];
-    always_comes_to(&rt, rt.alloc(), FOUR_BYTES, &two)?;
-    let three = [
-        finished(&[2, 0, 0, 0], 24),
-        finished(&[0, 0, 0, 0], 24),
-        finished(&[1, 0, 0, 0], 24),
-    ];
-    always_comes_to(&rt, rt.alloc(), RING_OF_POSTS, &three)?;
-    let four = [
-        finished(&[3, 0, 0, 0], 72),
-        finished(&[0, 0, 0, 0], 72),
-        finished(&[1, 0, 0, 0], 72),
-        finished(&[2, 0, 0, 0], 72),
-    ];
-    always_comes_to(&rt, rt.alloc(), HALO, &four)
+    always_come_to(&rt, rt.alloc(), MESSAGES)
 }
 
 // A broadcast from place 0, a reduction to it, and a reduction to all.
@@ -99,29 +101,41 @@ const COLLECTIVES: &[u8] =
 const SPLIT_AGAIN: &[u8] =
     b"rcce 2\nall\nsplit 1 mod 2\nsplit 2 of 1 div 2\nbarrier 2\nrank mine int\nints sum 0\nallreduce 2 sum int sum mine\nprint sum\n";
 
+const GROUPS: &[Row] = &[
+    (
+        COLLECTIVES,
+        &[(Finished, &[7, 8, 0, 0, 0, 0, 0, 0, 0, 0], 14)],
+    ),
+    (
+        COLLECTIVES,
+        &[
+            (Finished, &[7, 8, 1, 0, 0, 0, 1, 0, 0, 0], 60),
+            (Finished, &[7, 8, 0, 0, 0, 0, 1, 0, 0, 0], 55),
+        ],
+    ),
+    (
+        COLLECTIVES,
+        &[
+            (Finished, &[7, 8, 3, 0, 0, 0, 2, 0, 0, 0], 106),
+            (Finished, &[7, 8, 0, 0, 0, 0, 2, 0, 0, 0], 55),
+            (Finished, &[7, 8, 0, 0, 0, 0, 2, 0, 0, 0], 55),
+        ],
+    ),
+    (
+        SPLIT_AGAIN,
+        &[
+            (Finished, &[2, 0, 0, 0], 55),
+            (Finished, &[4, 0, 0, 0], 53),
+            (Finished, &[2, 0, 0, 0], 53),
+            (Finished, &[4, 0, 0, 0], 51),
+            (Finished, &[4, 0, 0, 0], 30),
+        ],
+    ),
+];
+
 #[test]
 fn groups_fold_their_values(rt: HostRuntime) -> Result<(), Fail> {
-    let one = [finished(&[7, 8, 0, 0, 0, 0, 0, 0, 0, 0], 14)];
-    always_comes_to(&rt, rt.alloc(), COLLECTIVES, &one)?;
-    let two = [
-        finished(&[7, 8, 1, 0, 0, 0, 1, 0, 0, 0], 60),
-        finished(&[7, 8, 0, 0, 0, 0, 1, 0, 0, 0], 55),
-    ];
-    always_comes_to(&rt, rt.alloc(), COLLECTIVES, &two)?;
-    let three = [
-        finished(&[7, 8, 3, 0, 0, 0, 2, 0, 0, 0], 106),
-        finished(&[7, 8, 0, 0, 0, 0, 2, 0, 0, 0], 55),
-        finished(&[7, 8, 0, 0, 0, 0, 2, 0, 0, 0], 55),
-    ];
-    always_comes_to(&rt, rt.alloc(), COLLECTIVES, &three)?;
-    let five = [
-        finished(&[2, 0, 0, 0], 55),
-        finished(&[4, 0, 0, 0], 53),
-        finished(&[2, 0, 0, 0], 53),
-        finished(&[4, 0, 0, 0], 51),
-        finished(&[4, 0, 0, 0], 30),
-    ];
-    always_comes_to(&rt, rt.alloc(), SPLIT_AGAIN, &five)
+    always_come_to(&rt, rt.alloc(), GROUPS)
 }
 
 const ANOTHER_HEAD: &[u8] = b"ue 0\nbytes x 01020304\nsend 1 x\nue 1\nrecv 0 y 3\nprint y\n";
@@ -130,43 +144,48 @@ const ONLY_PRINTS: &[u8] = b"all\nbytes x ff\nrepeat 2\nprint x\nend\n";
 
 const OWN_POST: &[u8] = b"ue 0\nbytes x 01\npost 1 x\nprint x\nue 1\nbytes y 02\n";
 
+const RESTS: &[Row] = &[
+    (
+        ANOTHER_HEAD,
+        &[
+            (Waits { line: 3 }, &[], 12),
+            (Mismatch { line: 5 }, &[], 12),
+        ],
+    ),
+    (
+        ONLY_PRINTS,
+        &[(Finished, &[255, 255], 6), (Finished, &[255, 255], 6)],
+    ),
+    (
+        OWN_POST,
+        &[(Waits { line: 3 }, &[1], 13), (Finished, &[], 1)],
+    ),
+];
+
 #[test]
 fn ranks_stop_wait_and_only_print(rt: HostRuntime) -> Result<(), Fail> {
-    let stopped = [
-        Wanted {
-            end: End::Waits { line: 3 },
-            printed: &[],
-            most: 12,
-        },
-        Wanted {
-            end: End::Mismatch { line: 5 },
-            printed: &[],
-            most: 12,
-        },
-    ];
-    always_comes_to(&rt, rt.alloc(), ANOTHER_HEAD, &stopped)?;
-    let prints = [finished(&[255, 255], 6), finished(&[255, 255], 6)];
-    always_comes_to(&rt, rt.alloc(), ONLY_PRINTS, &prints)?;
-    let waits = [
-        Wanted {
-            end: End::Waits { line: 3 },
-            printed: &[1],
-            most: 13,
-        },
-        finished(&[], 1),
-    ];
-    always_comes_to(&rt, rt.alloc(), OWN_POST, &waits)
+    always_come_to(&rt, rt.alloc(), RESTS)
+}
+
+const TWO_POSTS: &[u8] =
+    b"ue 0\nbytes x 01020304\nsend 1 x\npost 1 x\npost 1 x\nue 1\nrecv 0 y 4\n";
+
+// Whether the first post is on its way, and counted, and the second waits for its slot.
+fn counts_one_post(all: &[Told]) -> bool {
+    match all {
+        [first, second] => {
+            first.end == Waits { line: 5 }
+                && first.sent == 2
+                && first.sent_bytes == 8
+                && second.sent == 0
+        }
+        _ => false,
+    }
 }
 
 #[test]
 fn a_message_on_its_way_is_counted_once(rt: HostRuntime) -> Result<(), Fail> {
-    let text = b"ue 0\nbytes x 01020304\nsend 1 x\npost 1 x\npost 1 x\nue 1\nrecv 0 y 4\n";
-    let told = run::<Never>(rt.alloc(), text, 2, Layout::lines(), false)?;
-    assert!(rt; told.len() == 2);
-    // The first post is on its way, and the second waits for its slot.
-    assert!(rt; told[0].end == End::Waits { line: 5 });
-    assert!(rt; told[0].sent == 2);
-    assert!(rt; told[0].sent_bytes == 8);
-    assert!(rt; told[1].sent == 0);
+    let all = run::<Never>(rt.alloc(), TWO_POSTS, 2, Layout::lines(), false)?;
+    assert!(rt; counts_one_post(all.as_slice()));
     Ok(())
 }

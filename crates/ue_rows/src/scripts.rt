@@ -63,7 +63,7 @@ impl<'s, V: Evict + Drop> Player for Runner<'s, V> {
 }
 
 /// How a rank's run ended.
-#[derive(Clone, Copy, PartialEq, Eq)]
+#[derive(Clone, Copy, PartialEq)]
 pub(crate) enum End {
     Finished,
     Waits { line: u32 },
@@ -169,36 +169,24 @@ fn team_of<'s, V: Fresh>(
     Ok(team)
 }
 
-// One turn of each rank, in this order. Whether one of them moved.
-fn sweep<V: Evict + Drop>(team: &mut Team<Runner<'_, V>>, order: &[usize]) -> bool {
+// One turn of each rank, in rank order or the other way round. Whether one of them moved.
+fn sweep<V: Evict + Drop>(team: &mut Team<Runner<'_, V>>, nue: usize, backwards: bool) -> bool {
     let mut moved = false;
-    for at in order {
-        moved = team.turn(*at) == Some(Turn::Moved) || moved;
+    for number in 0..nue {
+        let at = if backwards { nue - 1 - number } else { number };
+        moved = matches!(team.turn(at), Some(Turn::Moved)) || moved;
     }
     moved
 }
 
 // Sweeps until no rank moves. Whether they came to that.
-fn settles<V: Evict + Drop>(team: &mut Team<Runner<'_, V>>, order: &[usize]) -> bool {
+fn settles<V: Evict + Drop>(team: &mut Team<Runner<'_, V>>, nue: usize, backwards: bool) -> bool {
     for _ in 0..1_000 {
-        if !sweep(team, order) {
+        if !sweep(team, nue, backwards) {
             return true;
         }
     }
     false
-}
-
-// The ranks in order, or the other way round.
-fn order_of(alloc: Global, nue: u8, backwards: bool) -> Result<Vec<usize>, Fail> {
-    let mut order = Vec::new(alloc);
-    for number in 0..nue as usize {
-        order.push(if backwards {
-            nue as usize - 1 - number
-        } else {
-            number
-        })?;
-    }
-    Ok(order)
 }
 
 // What is told of each rank.
@@ -216,7 +204,8 @@ fn all_told<V: Evict + Drop>(
     Ok(all)
 }
 
-/// What is told of each rank of a script after sweeps, in rank order or the other way round.
+/// What is told of each rank of a script after sweeps, in rank order or the other way round, and of none where
+/// they come to no rest.
 pub(crate) fn run<V: Fresh>(
     alloc: Global,
     text: &[u8],
@@ -229,9 +218,9 @@ pub(crate) fn run<V: Fresh>(
 {
     let scripts = script_of(alloc, text, nue)?;
     let mut team = team_of::<V>(alloc, &scripts, layout)?;
-    let order = order_of(alloc, nue, backwards)?;
-    if !settles(&mut team, order.as_slice()) {
-        return Err("a run that ends".into());
+    if settles(&mut team, nue as usize, backwards) {
+        all_told(alloc, &team, nue)
+    } else {
+        Ok(Vec::new(alloc))
     }
-    all_told(alloc, &team, nue)
 }
