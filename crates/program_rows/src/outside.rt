@@ -202,7 +202,8 @@ fn a_file_that_is_read_in_pieces_arrives_whole(rt: HostRuntime) -> Result<(), Fa
 
 #[test]
 fn each_name_has_its_own_contents(rt: HostRuntime) -> Result<(), Fail> {
-    let mut files = file_a(rt.alloc(), b"one")?;
+    let mut files = MemFiles::new(rt.alloc());
+    files.add("a", b"one")?;
     files.add("b", b"")?;
     assert!(rt; files.has_file("b") && !files.has_file("c"));
     assert!(rt;
