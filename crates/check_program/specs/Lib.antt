@@ -1,6 +1,5 @@
 pub mod Waiting
 pub mod Texts
 pub mod Program
-pub mod Job
 pub mod Reports
 pub mod Statuses

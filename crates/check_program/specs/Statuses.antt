@@ -11,7 +11,7 @@ use Rattle.script_plain.specs.Meaning.{plain_ends}
 use Rattle.outcomes.specs.declared.status.Status.{Status}
 use Rattle.outcomes.specs.declared.status.Status.TheVariants as status
 use Rattle.outcomes.specs.Delivery.{AreSteady, Sinks}
-use Rattle.check_program.specs.Program.{Command, command_of}
+use Rattle.rcce_words.specs.ScriptWords.{Command, script_command}
 
 -- a script that was read: 0 exactly where each rank of its plain meaning finishes, else 3; a refused one: 2
 abbrev pub parsed_status : Result Script ReadFault → Status
@@ -30,7 +30,7 @@ command_status (Some command) files = contents_status command.nue (contents_of c
 
 -- words
 abbrev pub run_status : List (List ℕ) → List NamedFile → Status
-run_status words files = command_status (command_of words) files
+run_status words files = command_status (script_command words) files
 
 -- Where the files tell their contents and no call failed, the status is that of a run of the script. The one other answer is
 -- want of memory.

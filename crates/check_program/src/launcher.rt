@@ -1,21 +1,21 @@
 //! The top call.
 
-ghost use Rattle.std.specs.Prelude.{◌≤◌, codes, map, string_bytes, List, ℕ};
+ghost use Rattle.std.specs.Prelude.{◌≤◌, codes, map, string_bytes};
 ghost use Rattle.rcce_io.specs.Files.{FilesView};
 ghost use Rattle.outcomes.specs.Coming.{Comes, IsMeant};
 ghost use Rattle.outcomes.specs.Complaints.{outcome_of};
 ghost use Rattle.outcomes.specs.Delivery.{sinks};
 ghost use Rattle.outcomes.specs.Promises.{Promises};
-ghost use Rattle.check_program.specs.Job.{job_command};
-ghost use Rattle.check_program.specs.Program.{command_of, command_plan, parsed_plan, rccecheck, script_plan, words_plan};
+ghost use Rattle.rcce_words.specs.ScriptWords.{job_command, plan_of, script_command};
+ghost use Rattle.check_program.specs.Program.{command_plan, rccecheck, run_plan};
 ghost use Rattle.check_program.specs.Reports.{report_ran};
 ghost use Rattle.check_program.specs.Statuses.{HasRunStatus};
 
-use crate::command::{Job, job_of};
 use crate::report::{Report, report_of};
-use outcomes::{Complaint, Status, deliver, read_file};
+use outcomes::{Complaint, Status, deliver};
 use rcce_io::{Files, Sink};
-use script_reader::{MOST_SCRIPT_BYTES, ReadStop, Scripts, read_script};
+use rcce_words::{ScriptJob, parse_script_words, read_script_file};
+use script_reader::Scripts;
 use std::alloc::Global;
 
 /// Says which messages of a script come, and who waits for whom at its end. The words are those after the program's name.
@@ -48,52 +48,34 @@ fn run_words<'a, F: Files>(
     words: &'a [String],
     files: &mut F,
 ) -> Result<Report, Complaint<'a>>
-    ensures { IsMeant (codes "rccecheck") (words_plan (command_of (map string_bytes words.now)))
+    ensures { IsMeant (codes "rccecheck") (plan_of command_plan (script_command (map string_bytes words.now)))
         (F.seen files.old) (F.seen files.new) (outcome_of (codes "rccecheck") report_ran result) }
 {
-    match job_of(words) {
+    match parse_script_words(words) {
         Some(job) => run_file(alloc, files, job),
         None => Err(Complaint::words("words refused")),
     }
 }
 
-// Reads the script's file, and goes on with its bytes.
+// Reads the script's file, and looks at the script.
 fn run_file<'a, F: Files>(
     alloc: Global,
     files: &mut F,
-    job: Job<'a>,
+    job: ScriptJob<'a>,
 ) -> Result<Report, Complaint<'a>>
     requires some { 1 ≤ job.nue }
     requires most { job.nue ≤ 48 }
     ensures { Comes (codes "rccecheck") (command_plan (job_command job.entry))
         (F.seen files.old) (F.seen files.new) (outcome_of (codes "rccecheck") report_ran result) }
 {
-    match read_file(alloc, files, job.script, MOST_SCRIPT_BYTES) {
-        Ok(bytes) => run_bytes(alloc, job, bytes.as_slice()),
+    match read_script_file(alloc, files, job.script, job.nue) {
+        Ok(script) => run_script(alloc, script),
         Err(complaint) => Err(complaint),
     }
 }
 
-// Reads the script, and looks at it.
-fn run_bytes<'a>(alloc: Global, job: Job<'a>, bytes: &[u8]) -> Result<Report, Complaint<'a>>
-    requires some { 1 ≤ job.nue }
-    requires most { job.nue ≤ 48 }
-    ensures { (files : FilesView) → Comes (codes "rccecheck") (script_plan (job_command job.entry) bytes.now) files files
-        (outcome_of (codes "rccecheck") report_ran result) }
-{
-    match read_script(alloc, bytes, job.nue) {
-        Ok(script) => run_script(alloc, script),
-        Err(ReadStop::Fault(fault)) => Err(Complaint::Refused {
-            file: job.script,
-            line: fault.line,
-            kind: fault.kind.name(),
-        }),
-        Err(ReadStop::Memory) => Err(Complaint::Memory),
-    }
-}
-
 fn run_script<'a>(alloc: Global, script: Scripts) -> Result<Report, Complaint<'a>>
-    ensures { (file : List ℕ) (files : FilesView) → Comes (codes "rccecheck") (parsed_plan file (Ok script)) files files
+    ensures { (files : FilesView) → Comes (codes "rccecheck") (run_plan script) files files
         (outcome_of (codes "rccecheck") report_ran result) }
 {
     match report_of(alloc, &script) {

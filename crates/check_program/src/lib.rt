@@ -2,7 +2,6 @@
 #![tactic(auto)]
 
 mod cause;
-mod command;
 mod launcher;
 mod lines;
 mod report;

@@ -1,6 +1,6 @@
 pub mod Cores
 pub mod Texts
 pub mod Program
-pub mod Job
+pub mod Jobs
 pub mod Reports
 pub mod Words

@@ -1,39 +1,41 @@
 -- What `rccemesh` does on its words (this project's profile).
-use Rattle.std.specs.Prelude.{ℕ, Bool, ◌&&◌, not, if◌then◌else◌, List, [], ◌∷◌, codes, Option, Some, None, option_map, option_and_then, Result, Ok, Err}
+use Rattle.std.specs.Prelude.{ℕ, Bool, if◌then◌else◌, List, [], ◌∷◌, codes, Option, None, option_map, option_and_then}
 use Rattle.std.specs.Str.{bytes_eq}
-use Rattle.script_reader.specs.declared.fault.ReadFault.{ReadFault}
-use Rattle.script_reader.specs.Faults.{kind_name}
-use Rattle.script_reader.specs.Reading.{most_script_bytes, parse_script}
 use Rattle.script_reader.specs.Script.{Script}
 use Rattle.script_plain.specs.Ends.{all_finished}
 use Rattle.script_plain.specs.Matches.{plain_matches}
 use Rattle.script_plain.specs.Meaning.{plain_ends}
 use Rattle.mesh_load.specs.Mesh.{Link, carried}
-use Rattle.outcomes.specs.Numbers.{is_option, ue_count_of}
 use Rattle.outcomes.specs.Outcomes.{Ran}
 use Rattle.outcomes.specs.Plans.{Plan, Program}
-use Rattle.outcomes.specs.Plans.Plan.{Runs, Refuses, Reads}
+use Rattle.outcomes.specs.Plans.Plan.{Runs}
+use Rattle.rcce_words.specs.ScriptFiles.{script_plan}
+use Rattle.rcce_words.specs.ScriptWords.{Command, plan_of, script_command}
 use Rattle.mesh_program.specs.Cores.{listed_cores, own_cores}
 use Rattle.mesh_program.specs.Texts.{mesh_text}
 
--- a number of units of execution, the core of each, and the name of a script's file
-pub record Command : Type 0 where
-  pub nue : ℕ
+-- a number of units of execution and the name of a script's file, and the core of each rank
+pub record Placed : Type 0 where
+  pub command : Command
   pub at : List ℕ
-  pub script : List ℕ
 
--- a command, where there are cores for its ranks
-abbrev pub command_with : List ℕ → ℕ → Option (List ℕ) → Option Command
-command_with script nue cores = option_map (λ at. record { nue = nue; at = at; script = script }) cores
+-- a command, with the cores for its ranks
+abbrev pub placed_on : Command → List ℕ → Placed
+placed_on command at = record { command = command; at = at }
+
+-- a command on the cores of its ranks' own numbers
+abbrev pub on_own : Command → Placed
+on_own command = placed_on command (own_cores command.nue)
+
+-- a command on the cores of a list, where it has as many as there are ranks
+abbrev pub on_listed : List ℕ → Command → Option Placed
+on_listed cores command = option_map (placed_on command) (listed_cores command.nue cores)
 
 -- the words `-nue N SCRIPT` or `-nue N -at LIST SCRIPT`, and no others
-abbrev pub command_of : List (List ℕ) → Option Command
-command_of (option ∷ number ∷ script ∷ []) =
-    if bytes_eq option (codes "-nue") && not (is_option script) then option_and_then (λ nue. command_with script nue (Some (own_cores nue))) (ue_count_of number) else None
+abbrev pub command_of : List (List ℕ) → Option Placed
+command_of (option ∷ number ∷ script ∷ []) = option_map on_own (script_command (option ∷ number ∷ script ∷ []))
 command_of (option ∷ number ∷ at ∷ cores ∷ script ∷ []) =
-    if bytes_eq option (codes "-nue") && bytes_eq at (codes "-at") && not (is_option script)
-    then option_and_then (λ nue. command_with script nue (listed_cores nue cores)) (ue_count_of number)
-    else None
+    if bytes_eq at (codes "-at") then option_and_then (on_listed cores) (script_command (option ∷ number ∷ script ∷ [])) else None
 command_of _ = None
 
 -- these lines, and a word on err where a rank has not finished
@@ -44,24 +46,14 @@ ran_by finished text = record { finished = finished; out = text; err = if finish
 abbrev pub ran_of : Bool → (Link → ℕ) → Ran
 ran_of finished on = ran_by finished (mesh_text on)
 
--- a script that was read is run by its plain meaning, and its first fault refuses its file
-abbrev pub parsed_plan : List ℕ → List ℕ → Result Script ReadFault → Plan
-parsed_plan file at (Err fault) = Refuses file fault.line (kind_name fault.kind)
-parsed_plan file at (Ok script) = Runs (ran_of (all_finished (plain_ends script)) (carried at (plain_matches script)))
+-- a script is run by its plain meaning
+abbrev pub run_plan : List ℕ → Script → Plan
+run_plan at script = Runs (ran_of (all_finished (plain_ends script)) (carried at (plain_matches script)))
 
--- the bytes of the script's file
-abbrev pub script_plan : Command → List ℕ → Plan
-script_plan command bytes = parsed_plan command.script command.at (parse_script bytes command.nue)
-
--- the script's file has at most 4 MiB
-abbrev pub command_plan : Command → Plan
-command_plan command = Reads command.script most_script_bytes (script_plan command)
-
--- the words: refused, or a command
-abbrev pub words_plan : Option Command → Result Plan (List ℕ)
-words_plan None = Err (codes "words refused")
-words_plan (Some command) = Ok (command_plan command)
+-- the script's file
+abbrev pub command_plan : Placed → Plan
+command_plan placed = script_plan (run_plan placed.at) placed.command.script placed.command.nue
 
 -- the program, by its name and what it does on its words
 abbrev pub rccemesh : Program
-rccemesh = record { name = codes "rccemesh"; plan = λ words. words_plan (command_of words) }
+rccemesh = record { name = codes "rccemesh"; plan = λ words. plan_of command_plan (command_of words) }

@@ -1,65 +1,58 @@
 //! The words after the program's name.
 
-ghost use Rattle.std.specs.Prelude.{◌∷◌, [], map, string_bytes};
-ghost use Rattle.mesh_program.specs.Job.{IsJob};
+ghost use Rattle.std.specs.Prelude.{◌≡◌, ◌≤◌, ◌∷◌, [], IfSome, codes, map, option_map, string_bytes};
+ghost use Rattle.mesh_program.specs.Jobs.{placed_job};
 ghost use Rattle.mesh_program.specs.Program.{command_of};
 
 use crate::cores::{listed_cores, own_cores};
-use outcomes::{is_option, ue_count};
+use rcce_words::{ScriptJob, script_job};
 use scc_base::CoreId;
 
-/// What the words ask for: how many units of execution, the core of each, and the script's file.
+/// What the words ask for: how many units of execution and the script's file, and the core of each rank.
 #[derive(Clone, Copy)]
 pub struct Job<'a> {
-    pub nue: u8,
+    pub asked: ScriptJob<'a>,
     pub at: [CoreId; 48],
-    pub script: &'a str,
 }
 
 /// What the words ask for, if they are `-nue N SCRIPT` or `-nue N -at LIST SCRIPT`. No memory is taken.
 pub fn job_of(words: &[String]) -> Option<Job<'_>>
-    ensures { IsJob (command_of (map string_bytes words.now)) result }
+    ensures gives { option_map placed_job result ≡ command_of (map string_bytes words.now) }
+    ensures some { IfSome result (λ job. 1 ≤ job.asked.nue) }
+    ensures most { IfSome result (λ job. job.asked.nue ≤ 48) }
 {
     match words {
-        [option, count, script] => plain_job(option, count, script),
-        [option, count, at, cores, script] => placed_job(option, count, at, cores, script),
+        [option, count, script] => own_job(option.as_str(), count.as_str(), script.as_str()),
+        [option, count, at, cores, script] if at.as_str() == "-at" => {
+            listed_job(
+                option.as_str(),
+                count.as_str(),
+                cores.as_str(),
+                script.as_str(),
+            )
+        }
         _ => None,
     }
 }
 
 /// A job whose ranks are on the cores of their own numbers.
-fn plain_job<'a>(option: &'a String, count: &'a String, script: &'a String) -> Option<Job<'a>>
-    ensures { IsJob (command_of (string_bytes option.now ∷ string_bytes count.now ∷ string_bytes script.now ∷ [])) result }
+fn own_job<'a>(option: &str, count: &str, script: &'a str) -> Option<Job<'a>>
+    ensures gives { option_map placed_job result ≡ command_of (option.now ∷ count.now ∷ script.now ∷ []) }
+    ensures some { IfSome result (λ job. 1 ≤ job.asked.nue) }
+    ensures most { IfSome result (λ job. job.asked.nue ≤ 48) }
 {
-    if option.as_str() != "-nue" || is_option(script.as_str()) {
-        return None;
-    }
-    let nue = ue_count(count.as_str())?;
-    Some(Job {
-        nue,
-        at: own_cores(nue),
-        script: script.as_str(),
-    })
+    let asked = script_job(option, count, script)?;
+    let at = own_cores(asked.nue);
+    Some(Job { asked, at })
 }
 
 /// A job whose ranks are on the cores of a list.
-fn placed_job<'a>(
-    option: &'a String,
-    count: &'a String,
-    at: &'a String,
-    cores: &'a String,
-    script: &'a String,
-) -> Option<Job<'a>>
-    ensures { IsJob (command_of (string_bytes option.now ∷ string_bytes count.now ∷ string_bytes at.now ∷ string_bytes cores.now ∷ string_bytes script.now ∷ [])) result }
+fn listed_job<'a>(option: &str, count: &str, cores: &str, script: &'a str) -> Option<Job<'a>>
+    ensures gives { option_map placed_job result ≡ command_of (option.now ∷ count.now ∷ codes "-at" ∷ cores.now ∷ script.now ∷ []) }
+    ensures some { IfSome result (λ job. 1 ≤ job.asked.nue) }
+    ensures most { IfSome result (λ job. job.asked.nue ≤ 48) }
 {
-    if option.as_str() != "-nue" || at.as_str() != "-at" || is_option(script.as_str()) {
-        return None;
-    }
-    let nue = ue_count(count.as_str())?;
-    let at = listed_cores(cores.as_bytes(), nue)?;
-    Some(Job {
-        nue,
-        at,
-        script: script.as_str(),
-    })
+    let asked = script_job(option, count, script)?;
+    let at = listed_cores(cores.as_bytes(), asked.nue)?;
+    Some(Job { asked, at })
 }

@@ -1,2 +1,3 @@
 mod Examples
 pub mod HostLemmas
+pub mod ScriptLemmas

@@ -3,4 +3,4 @@ use Rattle.mesh_program.proofs.PlanLemmas.{comes_run}
 use Rattle.mesh_program.proofs.launcher.run_script.Goals as goal
 
 pub returns-in-Ok : goal.returns-in-Ok
-returns-in-Ok c = λ file files. comes_run (codes "rccemesh") file c.args.at.now c.args.script c.in-Ok.report files c.in-Ok.ensures
+returns-in-Ok c = λ files. comes_run (codes "rccemesh") c.args.at.now c.args.script c.in-Ok.report files c.in-Ok.ensures
