@@ -1,9 +1,9 @@
 -- A list of core numbers, one for each rank (this project's profile of `rccemesh`).
 use Rattle.std.specs.Prelude.{ℕ, ◌+◌, ◌-◌, ◌*◌, ◌==◌, ◌&&◌, not, nat_lt, Bool, true, if◌then◌else◌, is_some, List, [], ◌∷◌, length, map, Option, Some, None}
+use Rattle.std.specs.Char.{is_ascii_digit}
 use Rattle.std.specs.List.{list_all, list_any, range_with_len, slice_split}
 use Rattle.std.specs.Option.{unwrap_or}
 use Rattle.mesh_load.specs.Mesh.{core_of}
-use Rattle.outcomes.specs.Numbers.{is_digit}
 
 -- a number that the chip has a core for
 abbrev pub chip_core : ℕ → Option ℕ
@@ -11,8 +11,9 @@ chip_core number = if nat_lt number 48 then Some number else None
 
 -- the number of a core: one digit, or two of which the first is no zero
 abbrev pub core_number : List ℕ → Option ℕ
-core_number (digit ∷ []) = if is_digit digit then chip_core (digit - 48) else None
-core_number (first ∷ second ∷ []) = if is_digit first && is_digit second && not (first == 48) then chip_core ((first - 48) * 10 + (second - 48)) else None
+core_number (digit ∷ []) = if is_ascii_digit digit then chip_core (digit - 48) else None
+core_number (first ∷ second ∷ []) =
+    if is_ascii_digit first && is_ascii_digit second && not (first == 48) then chip_core ((first - 48) * 10 + (second - 48)) else None
 core_number _ = None
 
 -- a comma

@@ -2,7 +2,6 @@
 
 ghost use Rattle.std.specs.Prelude.{◌≡◌, ◌∷◌, ◌==◌, ◌<◌, ◌≤◌, length, option_map, take, IfSome};
 ghost use Rattle.std.specs.List.{list_any, position};
-ghost use Rattle.outcomes.specs.Numbers.{is_digit};
 ghost use Rattle.mesh_program.specs.Cores.{core_number, is_comma, listed_cores, own_cores, parts_behind, parts_of};
 
 use scc_base::CoreId;
@@ -50,19 +49,13 @@ fn cut_word(word: &[u8]) -> Cut<'_>
     }
 }
 
-fn is_digit(byte: u8) -> bool
-    ensures { result ≡ is_digit byte }
-{
-    b'0' <= byte && byte <= b'9'
-}
-
 /// The core of a number.
 fn core_number(text: &[u8]) -> Option<CoreId>
     ensures { result ≡ core_number text.now }
 {
     match text {
-        [digit] if is_digit(*digit) => CoreId::new(*digit - b'0'),
-        [first, second] if is_digit(*first) && is_digit(*second) && *first != b'0' => {
+        [digit] if digit.is_ascii_digit() => CoreId::new(*digit - b'0'),
+        [first, second] if first.is_ascii_digit() && second.is_ascii_digit() && *first != b'0' => {
             CoreId::new((*first - b'0') * 10 + (*second - b'0'))
         }
         _ => None,

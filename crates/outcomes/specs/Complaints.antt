@@ -26,4 +26,5 @@ outcome_of program ran (Err why) = complaint_outcome program why
 abbrev pub ReadsFile : List ℕ → ℕ → FilesView → FilesView → Result (List ℕ) Complaint → Type 0
 ReadsFile file limit before between (Ok bytes) = (program : List ℕ) (next : List ℕ → Plan) (after : FilesView) (o : Outcome) →
     Comes program (next bytes) between after o → Comes program (Reads file limit next) before after o
-ReadsFile file limit before after (Err why) = (program : List ℕ) (next : List ℕ → Plan) → Comes program (Reads file limit next) before after (complaint_outcome program why)
+ReadsFile file limit before after (Err why) =
+    (program : List ℕ) (next : List ℕ → Plan) → Comes program (Reads file limit next) before after (complaint_outcome program why)

@@ -1,14 +1,12 @@
 -- Words that are numbers, and words that are options (this project's profile of its programs' words).
 use Rattle.std.specs.Prelude.{ℕ, ◌+◌, ◌-◌, ◌*◌, ◌==◌, ◌&&◌, nat_le, Bool, false, if◌then◌else◌, List, [], ◌∷◌, length, Option, Some, None, option_and_then}
-
--- a decimal digit
-abbrev pub is_digit : ℕ → Bool
-is_digit b = nat_le 48 b && nat_le b 57
+use Rattle.std.specs.Char.{is_ascii_digit}
 
 -- the value of the decimal digits that follow those of the value `front`, as long as it is at most `most`
 abbrev pub digits_value : ℕ → ℕ → List ℕ → Option ℕ
 digits_value most front [] = Some front
-digits_value most front (b ∷ rest) = if is_digit b && nat_le (front * 10 + (b - 48)) most then digits_value most (front * 10 + (b - 48)) rest else None
+digits_value most front (b ∷ rest) =
+    if is_ascii_digit b && nat_le (front * 10 + (b - 48)) most then digits_value most (front * 10 + (b - 48)) rest else None
 
 -- a number: 1 to 10 decimal digits with a value of at most `most`, leading zeros accepted
 abbrev pub number_to : ℕ → List ℕ → Option ℕ

@@ -30,7 +30,8 @@ words_refused program text = complains status.Words (program ∷ codes ": " ∷ 
 
 -- a file that is refused, for a line and a kind of fault
 abbrev pub file_refused : List ℕ → List ℕ → ℕ → List ℕ → Outcome
-file_refused program file line kind = complains status.Script (program ∷ codes ": " ∷ file ∷ codes " line " ∷ decimal line ∷ codes ": " ∷ kind ∷ codes "\n" ∷ [])
+file_refused program file line kind =
+    complains status.Script (program ∷ codes ": " ∷ file ∷ codes " line " ∷ decimal line ∷ codes ": " ∷ kind ∷ codes "\n" ∷ [])
 
 -- a file that is longer than its limit
 abbrev pub too_long : List ℕ → List ℕ → Outcome

@@ -27,7 +27,8 @@ contents_outcome program file limit next (Some bytes) = if nat_lt limit (length 
 abbrev pub plan_outcome : List ℕ → Plan → List NamedFile → Outcome
 plan_outcome program (Runs ran) files = run_outcome ran
 plan_outcome program (Refuses file line kind) files = file_refused program file line kind
-plan_outcome program (Reads file limit next) files = contents_outcome program file limit (λ bytes. plan_outcome program (next bytes) files) (contents_of file files)
+plan_outcome program (Reads file limit next) files =
+    contents_outcome program file limit (λ bytes. plan_outcome program (next bytes) files) (contents_of file files)
 
 -- how the plan of words, or their refusal, is to end
 abbrev pub words_outcome : List ℕ → Result Plan (List ℕ) → List NamedFile → Outcome

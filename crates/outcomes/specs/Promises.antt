@@ -27,7 +27,8 @@ EndsAsMeant program words files files_after before after s =
 pub record Promises (program : Program) (words : List (List ℕ)) (files files_after : FilesView) (before after : Sinks) (s : Status) : Type 0 where
   -- The output theorem: where the files tell their contents and no call failed, the status and both texts are those of the
   -- expected outcome, or of want of memory.
-  pub output : IfSome files.told (λ told. IsSteady files.faults files_after.faults → AreSteady before after → ShowsOr program.name (expected program words told) before after s)
+  pub output : IfSome files.told (λ told. IsSteady files.faults files_after.faults → AreSteady before after
+      → ShowsOr program.name (expected program words told) before after s)
   -- refused words: whatever the files are. They never give want of memory.
   pub refused : (text : List ℕ) → program.plan words ≡ Err text → AreSteady before after → Shows (words_refused program.name text) before after s
   -- words that ask for no file: whatever the files are
@@ -45,7 +46,8 @@ pub record Promises (program : Program) (words : List (List ℕ)) (files files_a
   -- with the statuses 1, 2, 4 and 5 nothing was written to out
   pub quiet : is_quiet s ≡ true → after.out ≡ before.out
   -- each sink took a front of its text, and with any status but that of a failed write both took theirs whole
-  pub fronts : (o : Outcome) × IsMeant program.name (program.plan words) files files_after o × TakesFront o.out before.out after.out × TakesFront o.err before.err after.err
+  pub fronts : (o : Outcome) × IsMeant program.name (program.plan words) files files_after o
+      × TakesFront o.out before.out after.out × TakesFront o.err before.err after.err
   pub whole : (s ≡ status.Write → ⊥) → (o : Outcome) × IsMeant program.name (program.plan words) files files_after o × Shows o before after s
   -- what is told of the files stays, and no count of faults falls
   pub told : files_after.told ≡ files.told

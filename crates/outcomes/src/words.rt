@@ -1,7 +1,7 @@
 //! Words that are numbers, and words that are options. No memory is taken.
 
 ghost use Rattle.std.specs.Prelude.{◌≡◌, ◌≤◌, IfSome};
-ghost use Rattle.outcomes.specs.Numbers.{is_digit, is_option, number_in, number_to, ue_count_of};
+ghost use Rattle.outcomes.specs.Numbers.{is_option, number_in, number_to, ue_count_of};
 
 /// The longest number, in digits.
 const MOST_DIGITS: usize = 10;
@@ -43,12 +43,6 @@ pub fn ue_count(word: &str) -> Option<u8>
     }
 }
 
-fn is_digit(b: u8) -> bool
-    ensures { result ≡ is_digit b }
-{
-    b'0' <= b && b <= b'9'
-}
-
 fn number_to(word: &[u8], most: u32) -> Option<u32>
     ensures gives { result ≡ number_to most word.now }
     ensures within { IfSome result (λ n. n ≤ most) }
@@ -58,7 +52,7 @@ fn number_to(word: &[u8], most: u32) -> Option<u32>
     }
     let mut value: u32 = 0;
     for b in word {
-        if !is_digit(*b) {
+        if !b.is_ascii_digit() {
             return None;
         }
         let next = value as u64 * 10 + (*b - b'0') as u64;
