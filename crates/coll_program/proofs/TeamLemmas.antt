@@ -1,36 +1,18 @@
 -- The ranks of a job and the bytes that they hand in.
-use Rattle.std.proofs.Common.{◌≡◌, ℕ, zero, suc, ◌+◌, ◌<◌, ◌≤◌, List, [], ◌∷◌, ◌++◌, length, map, replicate, slice_index_or, refl, sym, ◌∙◌, ap, subst, arith, length-append}
+use Rattle.std.proofs.Common.{◌≡◌, ℕ, zero, suc, ◌+◌, ◌<◌, ◌≤◌, List, [], ◌∷◌, ◌++◌, length, map, slice_index_or, refl, sym, ◌∙◌, ap, subst, arith, length-append}
 use Rattle.std.specs.List.{range_with_len}
 use Rattle.std.proofs.lemmas.List.{length-map, map-append}
 use Rattle.std.proofs.lemmas.List.FromFn.{length-range_with_len}
-use Rattle.scc_base.specs.Communicators.{AreRules, IsRule}
-use Rattle.scc_base.specs.declared.communicators.CommRule.{CommRule}
-use Rattle.scc_base.specs.declared.communicators.CommRule.TheVariants.{Absent, World}
 use Rattle.rcce_run.proofs.OrderLaws.{range_more}
 use Rattle.coll_more.specs.Tables.{src_len_of}
 use Rattle.coll_more.specs.declared.kinds.More.{More}
 use Rattle.coll_more.specs.declared.kinds.More.TheVariants.{Gather, Scatter, Allgather, Alltoall}
 use Rattle.coll_more.proofs.GoodLemmas.{whole_within}
 use Rattle.coll_run.specs.Teams.{HasJoined, MemberView}
-use Rattle.coll_run.proofs.JoinLemmas.{each_more}
+use Rattle.coll_run.proofs.JoinLemmas.{each_joined}
 use Rattle.coll_program.specs.Jobs.{byte_at, src_of}
 use Rattle.coll_program.specs.Runs.{AreRanksOf}
 use Rattle.coll_program.specs.declared.command.Job.{Job}
-
--- ---- the world alone
-
-absent_all : (n k : ℕ) → slice_index_or (replicate n Absent) k Absent ≡ Absent
-absent_all zero k = refl
-absent_all (suc n) zero = refl
-absent_all (suc n) (suc k) = absent_all n k
-
-world_rules : AreRules (World ∷ replicate 15 Absent)
-world_rules zero below = refl
-world_rules (suc k) below =
-    subst (λ (r : CommRule). IsRule (World ∷ replicate 15 Absent) (suc k) r) (sym (absent_all 15 k)) (λ e. absurd (omega (arith, e)))
-
-pub world_alone : (rules : List CommRule) → rules ≡ World ∷ replicate 15 Absent → AreRules rules
-world_alone rules is = subst (λ (x : List CommRule). AreRules x) (sym is) world_rules
 
 -- ---- what a rank hands in
 
@@ -80,6 +62,6 @@ rank_more job count rank team later src are has is same = record {
   fresh = has.fresh;
   src = λ k d low.
       subst (λ (l : List MemberView). (slice_index_or l k d).src ≡ src_of job k) (sym has.is)
-      (each_more (λ j m. m.src ≡ src_of job j) team has.joined are.src
+      (each_joined (λ j m. m.src ≡ src_of job j) team has.joined are.src
       (has.src_is ∙ is ∙ ap (src_of job) (same ∙ sym are.each)) k d (subst (λ (l : List MemberView). k < length l) has.is low));
 }

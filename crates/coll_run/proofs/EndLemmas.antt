@@ -66,7 +66,7 @@ module _ (more : More) (len : ℕ) (chip now : ChipView) (team later : List Memb
   rests_by : (k : ℕ) → k < s.nue → RestsAt s (records_in now) k (member k).op → Rests s memory (records_in now k) k (member k).op
   rests_by k low (OverThen over) = AtEnd over
   rests_by k low (Waiting waits) =
-      Waits (vain_like s waits.memory memory waits.records (records_in now) waits.agrees agrees waits.alike k low (next_at (member k).op.stage) waits.vain)
+      Waits (vain_like s waits.memory memory waits.records (records_in now) waits.agrees agrees waits.alike k low (next_at (member k).op.stage) waits.waits.vain)
   rests_by k low (MetThen sent met) = Met sent met
 
   rested : HaveRested more len s memory (events_in now) member

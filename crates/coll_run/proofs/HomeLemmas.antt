@@ -8,8 +8,7 @@ use Rattle.scc_proto.specs.Like.{Like}
 use Rattle.scc_proto.specs.Ports.{Did, Sight, record_in}
 use Rattle.scc_proto.specs.Records.{record_of}
 use Rattle.scc_proto.specs.Stages.{FlagWords, Record}
-use Rattle.scc_mesh.specs.Keeping.{WasStep, records_by}
-use Rattle.scc_mesh.specs.Scenes.{ChipView, IsWhole, WasSeatStep, about_in, events_in, home_in, is_port_of, records_in, sight_in}
+use Rattle.scc_mesh.specs.Scenes.{ChipView, IsWhole, WasSeatStep, about_in, events_in, is_port_of, records_in, sight_in}
 use Rattle.scc_mesh.specs.Turns.{IsTurned, Saw}
 use Rattle.scc_mesh.proofs.LookLaws.{saw_later}
 use Rattle.scc_mesh.proofs.PortEnds.{chip_ends}
@@ -18,15 +17,16 @@ use Rattle.put_get.specs.Cores.{MadeSteps}
 use Rattle.send_recv.specs.Receiving.{recv_waits}
 use Rattle.send_recv.specs.declared.answers.RecvTurn.{RecvTurn}
 use Rattle.send_recv.specs.declared.answers.RecvTurn.TheVariants as turn
-use Rattle.rcce_run.specs.Turns.{NoneElseHolds}
-use Rattle.rcce_run.proofs.HomeTurns.{alike_then, none_else}
+use Rattle.rcce_run.specs.Turns.{NoneElseHolds, WaitsThen}
+use Rattle.rcce_run.proofs.HomeTurns.{look_later, waits_behind}
 use Rattle.coll_more.specs.Ops.{taking_part}
 use Rattle.coll_more.specs.Standing.{MoreStands}
 use Rattle.coll_more.specs.Turns.{MetOther, MoreTurned, is_over}
 use Rattle.coll_more.specs.declared.kinds.More.{More}
 use Rattle.coll_more.proofs.EndLemmas.{stands_there}
+use Rattle.coll_run.specs.Resting.{next_at}
 use Rattle.coll_run.specs.Teams.{MemberStands, MemberView, seat_of, sight_of}
-use Rattle.coll_run.specs.Turns.{CameTo, HasStayed, HasWaited, MetThen, OverThen, OwnTurn, RestsAt, StayedAtHome, TurnMeans, TurnedAtHome, Waiting, WaitsThen, has_moved}
+use Rattle.coll_run.specs.Turns.{CameTo, HasStayed, HasWaited, MetThen, OverThen, OwnTurn, RestsAt, StayedAtHome, TurnMeans, TurnedAtHome, Waiting, has_moved}
 use Rattle.coll_run.proofs.LookLemmas.{means_by}
 
 -- ---- through the port
@@ -47,14 +47,7 @@ means_later P Q turns s r own events old new turn.Moved means = means
 means_later P Q turns s r own events old new (turn.Waiting spot) means = record {
   stayed = means.stayed;
   rests = means.rests;
-  look = record {
-    before = means.look.before;
-    look = means.look.look;
-    behind = means.look.behind;
-    is = means.look.is;
-    step = turns (own ++ means.look.before) means.look.look means.look.step;
-    vain = means.look.vain;
-  };
+  look = look_later P Q turns s r own events (next_at new.op.stage) means.look;
 }
 means_later P Q turns s r own events old new turn.Done means = means
 means_later P Q turns s r own events old new (turn.Mismatch sent) means = means
@@ -137,18 +130,8 @@ module _ (more : More) (len : ℕ) where
     rests_so stayed rests = record { op = stayed.op; slot = stayed.slot; alike = like_now stayed; rests = rests }
 
     module _ (free : NoneElseHolds (about_in chip) (records_in chip) r) (waited : HasWaited (Saw now r) (about_in now) r (events_in chip r) events old new) where
-      was : WasStep (about_in now) (home_in now) r (events_in chip r ++ waited.look.before) waited.look.look
-      was = waited.look.step.step
-
-      waits_then : WaitsThen (about_in now) (records_in now) r new.op
-      waits_then = record {
-        memory = was.memory;
-        records = records_by (about_in now) was.lists;
-        agrees = was.before.agree;
-        alike = alike_then chip now r is events longer beyond waited.look.before waited.look.behind waited.look.look waited.look.is waited.rests waited.stayed.alike was;
-        vain = waited.look.vain was.memory (records_by (about_in now) was.lists) was.before.agree (ap (record_of (about_in now) r) was.own)
-            (none_else chip now r is events longer beyond waited.look.before waited.look.behind waited.look.look waited.look.is waited.rests waited.stayed.alike was free) was.step;
-      }
+      waits_then : WaitsThen (about_in now) (records_in now) r (next_at new.op.stage)
+      waits_then = waits_behind chip now r is events longer beyond free waited.rests waited.stayed.alike (next_at new.op.stage) waited.look
 
     comes_by : (answer : RecvTurn) → NoneElseHolds (about_in chip) (records_in chip) r → TurnMeans (Saw now r) (about_in chip) r (events_in chip r) events old new answer → CameTo (has_moved answer) chip r now old new
     comes_by turn.Moved free means = means

@@ -1,5 +1,5 @@
 -- What each answer of a collective call's turn means to a run.
-use Rattle.std.proofs.Common.{◌≡◌, ◌⊎◌, inl, inr, ℕ, ◌<◌, true, false, List, [], ◌∷◌, ◌++◌, Some, is_none, refl, sym, ap, ◌∙◌, subst}
+use Rattle.std.proofs.Common.{◌≡◌, ◌⊎◌, inl, inr, ℕ, ◌<◌, true, false, List, [], ◌++◌, Some, refl, sym, ap, ◌∙◌, subst}
 use Rattle.std.specs.List.{list_all}
 use Rattle.scc_base.specs.Heads.{MessageHead}
 use Rattle.scc_base.specs.declared.events.Event.{Event}
@@ -14,18 +14,16 @@ use Rattle.scc_proto.specs.Views.{view_of}
 use Rattle.scc_proto.specs.Words.{IsStep, Memory}
 use Rattle.scc_proto.proofs.FlagsTold.{like_self}
 use Rattle.put_get.specs.Accesses.{WereSteps}
-use Rattle.sync_flags.specs.Tries.{changing_after}
 use Rattle.send_recv.specs.Ops.{SendAt, SlotAt}
 use Rattle.send_recv.specs.Receiving.{recv_waits}
 use Rattle.send_recv.specs.declared.answers.RecvTurn.{RecvTurn}
 use Rattle.send_recv.specs.declared.answers.RecvTurn.TheVariants as turn
 use Rattle.rcce_run.specs.Sweep.{RaiseWaits, SlotWaits}
-use Rattle.rcce_run.specs.Sweep as sweep
-use Rattle.rcce_run.specs.Turns.{NoneElseHolds}
+use Rattle.rcce_run.specs.Turns.{NoneElseHolds, Waits}
 use Rattle.rcce_run.proofs.Looks.{waits_same}
 use Rattle.rcce_run.proofs.UeLooks as looks
-use Rattle.rcce_run.proofs.UeLooks.{Tells, told}
-use Rattle.rcce_run.proofs.UeTurns.{Sought, like_before, rest_alike, sought_by, take_allowed}
+use Rattle.rcce_run.proofs.UeLooks.{Tells}
+use Rattle.rcce_run.proofs.UeTurns.{Sought, rest_alike, sought_by, sought_like, sought_tells}
 use Rattle.coll_more.specs.Ops.{MoreAt, bytes_of, table_of, window, taking_part}
 use Rattle.coll_more.specs.Standing.{MoreStands, StandsAt}
 use Rattle.coll_more.specs.Turns.{MetOther, MoreTurned, aim_by, is_over, left_by, more_left}
@@ -53,37 +51,36 @@ module _ (stepped : List Event → Event → Type 0) (s t : Sight) (old new : Me
     module _ (memory : Memory) (records : ℕ → Record) (agrees : Agrees s.seat.setup memory records) (mine : records s.seat.rank ≡ record_in (and_then s sought.look.before))
         (others : NoneElseHolds s.seat.setup records s.seat.rank) (step : IsStep memory sought.look.event) where
       like : Like (record_in s) (records s.seat.rank)
-      like = subst (λ (r : Record). Like (record_in s) r) (sym mine)
-          (like_before s t turned.events sought.look.before (sought.look.event ∷ sought.look.behind) turned.did rests sought.look.is alike)
+      like = sought_like stepped (aim_by s.seat old.slot old.op.stage) s t turned.events sought turned.did memory records agrees mine others step rests alike
 
       tells : Tells memory sought.aim
-      tells = told s.seat.setup memory records s.seat.rank agrees others (changing_after false sought.look.before) sought.aim sought.look.event sought.look.try_is sought.look.vain
-          (λ takes. subst (λ (r : Record). is_none (r.held sought.look.event.place.core) ≡ true) (sym mine)
-          (take_allowed s t turned.events sought.look.before sought.look.behind sought.look.event turned.did sought.look.is takes)) step
+      tells = sought_tells stepped (aim_by s.seat old.slot old.op.stage) s t turned.events sought turned.did memory records agrees mine others step
 
-      abbrev IsVain : Record → Stage → Type 0
-      IsVain rec st = sweep.Vain s.seat.setup (view_of s.seat.setup memory) s.seat.rank rec (next_at st)
+      abbrev Here : Record → Stage → Type 0
+      Here rec st = Waits s.seat.setup (view_of s.seat.setup memory) s.seat.rank rec (next_at st)
 
-      sending_vain : (op : SendAt) (call : PieceCall) → SlotWaits (view_of s.seat.setup memory) s.seat.rank (record_in s)
-          ⊎ ((op.posted ≡ false) × RaiseWaits s.seat.setup (view_of s.seat.setup memory) s.seat.rank op.to op.head (records s.seat.rank)) → IsVain (records s.seat.rank) (Sending call op)
-      sending_vain op call (inl slot) =
-          (waits_same s.seat.setup (view_of s.seat.setup memory) s.seat.rank (record_in s) (records s.seat.rank) like (next_at (Sending call op))
-          (record { vain = inl slot; at_end = λ e. absurd (cc (e)) })).vain
-      sending_vain op call (inr (own, raise)) = inr raise
+      sending_waits : (op : SendAt) (call : PieceCall) → SlotWaits (view_of s.seat.setup memory) s.seat.rank (record_in s)
+          ⊎ ((op.posted ≡ false) × RaiseWaits s.seat.setup (view_of s.seat.setup memory) s.seat.rank op.to op.head (records s.seat.rank)) → Here (records s.seat.rank) (Sending call op)
+      sending_waits op call (inl slot) =
+          waits_same s.seat.setup (view_of s.seat.setup memory) s.seat.rank (record_in s) (records s.seat.rank) like (next_at (Sending call op))
+          (record { vain = inl slot; at_end = λ e. absurd (cc (e)) })
+      sending_waits op call (inr (own, raise)) = record { vain = inr raise; at_end = λ e. absurd (cc (e)) }
 
-      vain_by : (st : Stage) → StandsAt s old.core old.slot (table_of s.seat old.op) old.op.ended old.src old.dst st → aim_by s.seat old.slot st ≡ Some sought.aim → IsVain (records s.seat.rank) st
-      vain_by Own st is = absurd (cc (is))
-      vain_by Between st is = absurd (cc (is))
-      vain_by (Sending call op) st is =
-          sending_vain op call (looks.send_waits s.seat memory records agrees (record_in s) like old.core op old.slot (bytes_of call old.src old.dst) sought.aim tells st.2 is)
-      vain_by (Receiving call op) st is =
-          looks.recv_waits s.seat memory records agrees (record_in s) like old.core op (window call.first call.len old.dst) sought.aim tells st.3 is
+      waits_by : (st : Stage) → StandsAt s old.core old.slot (table_of s.seat old.op) old.op.ended old.src old.dst st → aim_by s.seat old.slot st ≡ Some sought.aim → Here (records s.seat.rank) st
+      waits_by Own st is = absurd (cc (is))
+      waits_by Between st is = absurd (cc (is))
+      waits_by (Sending call op) st is =
+          sending_waits op call (looks.send_waits s.seat memory records agrees (record_in s) like old.core op old.slot (bytes_of call old.src old.dst) sought.aim tells st.2 is)
+      waits_by (Receiving call op) st is = record {
+        vain = looks.recv_waits s.seat memory records agrees (record_in s) like old.core op (window call.first call.len old.dst) sought.aim tells st.3 is;
+        at_end = λ e. absurd (cc (e));
+      }
 
-      vain_old : IsVain (records s.seat.rank) old.op.stage
-      vain_old = vain_by old.op.stage stands.at sought.aim_is
+      waits_old : Here (records s.seat.rank) old.op.stage
+      waits_old = waits_by old.op.stage stands.at sought.aim_is
 
-      vain_here : IsVain (records s.seat.rank) new.op.stage
-      vain_here = let still = turned.means.0 in subst (λ (x : MoreAt). IsVain (records s.seat.rank) x.stage) (sym still.same_op) vain_old
+      waits_here : Here (records s.seat.rank) new.op.stage
+      waits_here = let still = turned.means.0 in subst (λ (x : MoreAt). Here (records s.seat.rank) x.stage) (sym still.same_op) waits_old
 
     pub has_waited : HasWaited stepped s.seat.setup s.seat.rank s.events turned.events old new
     unfolding record_in
@@ -100,7 +97,7 @@ module _ (stepped : List Event → Event → Type 0) (s t : Sight) (old new : Me
         behind = sought.look.behind;
         is = sought.look.is;
         step = sought.look.step;
-        vain = λ memory records agrees mine others step. vain_here memory records agrees mine others step;
+        waits = λ memory records agrees mine others step. waits_here memory records agrees mine others step;
       };
     }
 

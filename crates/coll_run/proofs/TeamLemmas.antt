@@ -48,7 +48,7 @@ rests_kept s old now k op like same (Waiting waits) = Waiting (record {
   records = waits.records;
   agrees = waits.agrees;
   alike = λ j. like_both (waits.records j) (old j) (now j) (waits.alike j) (like j);
-  vain = waits.vain;
+  waits = waits.waits;
 })
 rests_kept s old now k op like same (MetThen sent met) = MetThen sent (subst (λ (rec : Record). MetOther rec sent op.stage) same met)
 

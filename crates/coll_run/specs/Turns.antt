@@ -4,19 +4,15 @@ use Rattle.std.specs.List.{list_all}
 use Rattle.scc_base.specs.Heads.{MessageHead}
 use Rattle.scc_base.specs.Setups.{SetupView}
 use Rattle.scc_base.specs.declared.events.Event.{Event}
-use Rattle.scc_proto.specs.Agreement.{Agrees}
 use Rattle.scc_proto.specs.Like.{Like}
 use Rattle.scc_proto.specs.Records.{record_of}
 use Rattle.scc_proto.specs.Resting.{is_resting}
 use Rattle.scc_proto.specs.Stages.{Record}
-use Rattle.scc_proto.specs.Views.{view_of}
-use Rattle.scc_proto.specs.Words.{IsStep, Memory}
 use Rattle.scc_mesh.specs.Scenes.{ChipView, about_in, events_in, records_in}
 use Rattle.scc_mesh.specs.Turns.{IsTurned, Saw}
 use Rattle.send_recv.specs.declared.answers.RecvTurn.{RecvTurn}
 use Rattle.send_recv.specs.declared.answers.RecvTurn.TheVariants as turn
-use Rattle.rcce_run.specs.Sweep.{Vain}
-use Rattle.rcce_run.specs.Turns as run
+use Rattle.rcce_run.specs.Turns.{LookedAt, WaitsThen}
 use Rattle.coll_more.specs.Ops.{MoreAt}
 use Rattle.coll_more.specs.Turns.{MetOther, is_over, more_left}
 use Rattle.coll_more.specs.declared.kinds.More.{More}
@@ -42,23 +38,11 @@ pub record HasStayed (s : SetupView) (rank : ℕ) (own events : List Event) (old
   pub slot : new.slot ≡ old.slot
   pub alike : Like (record_of s rank own) (record_of s rank (own ++ events))
 
--- among the events of a turn, made after the own events before it, is one look by which the rank waits: wherever it is a
--- step of words that agree with records, the rank's own being that before the look and no other rank holding a register,
--- it was vain
-pub record LookedAt (stepped : List Event → Event → Type 0) (s : SetupView) (rank : ℕ) (own events : List Event) (op : MoreAt) : Type 0 where
-  pub before : List Event
-  pub look : Event
-  pub behind : List Event
-  pub is : events ≡ before ++ look ∷ behind
-  pub step : stepped (own ++ before) look
-  pub vain : (memory : Memory) (records : ℕ → Record) → Agrees s memory records → records rank ≡ record_of s rank (own ++ before)
-      → run.NoneElseHolds s records rank → IsStep memory look → Vain s (view_of s memory) rank (records rank) (next_at op.stage)
-
--- a turn that waited: it stored nothing, and its look was vain
+-- a turn that waited: it stored nothing, and its look shows what it waits for
 pub record HasWaited (stepped : List Event → Event → Type 0) (s : SetupView) (rank : ℕ) (own events : List Event) (old new : MemberView) : Type 0 where
   pub stayed : HasStayed s rank own events old new
   pub rests : list_all is_resting events ≡ true
-  pub look : LookedAt stepped s rank own events new.op
+  pub look : LookedAt stepped s rank own events (next_at new.op.stage)
 
 -- what each answer means
 abbrev pub TurnMeans : (List Event → Event → Type 0) → SetupView → ℕ → (own events : List Event) → (old new : MemberView) → RecvTurn → Type 0
@@ -82,18 +66,10 @@ abbrev pub has_moved : RecvTurn → Bool
 has_moved turn.Moved = true
 has_moved answer = false
 
--- a rank waits: its look is vain in some words that agree with records alike to these
-pub record WaitsThen (s : SetupView) (now : ℕ → Record) (rank : ℕ) (op : MoreAt) : Type 0 where
-  pub memory : Memory
-  pub records : ℕ → Record
-  pub agrees : Agrees s memory records
-  pub alike : (j : ℕ) → Like (records j) (now j)
-  pub vain : Vain s (view_of s memory) rank (records rank) (next_at op.stage)
-
 -- a rank rests: it is at its end, or waits, or has met another head
 pub data RestsAt (s : SetupView) (now : ℕ → Record) (rank : ℕ) (op : MoreAt) : Type 0 where
   OverThen : is_over (seat_of s rank) op ≡ true → RestsAt s now rank op
-  Waiting : WaitsThen s now rank op → RestsAt s now rank op
+  Waiting : WaitsThen s now rank (next_at op.stage) → RestsAt s now rank op
   MetThen : (sent : MessageHead) → MetOther (now rank) sent op.stage → RestsAt s now rank op
 
 -- what a turn at home came to

@@ -12,7 +12,7 @@ use Rattle.scc_proto.proofs.FlagsTold.{like_both, like_self}
 use Rattle.scc_mesh.specs.Scenes.{ChipView, about_in, events_in, records_in}
 use Rattle.scc_mesh.specs.Turns.{IsTurned}
 use Rattle.script_plain.specs.Local.{Local}
-use Rattle.script_plain.specs.Meaning.{State}
+use Rattle.script_plain.specs.Meaning.{State, next_of}
 use Rattle.rcce_run.specs.declared.rests.Rest.{Rest}
 use Rattle.rcce_run.specs.declared.rests.Rest.TheVariants as rest
 use Rattle.rcce_run.specs.Crews.{AllRest, CrewStands, GoesOn, IsCrew, OneTurn, OneUnfinished, SweepStands, SweptTo, WorkerRests, all_left, end_by}
@@ -35,7 +35,7 @@ rests_kept true s old now k u like rests = record {
 }
 rests_kept false s old now k u like (inl rests) =
     inl (record { over = record { ends = rests.over.ends; idle = sym (like k).stage ∙ rests.over.idle }; stopped = rests.stopped })
-rests_kept false s old now k u like (inr waits) = inr (subst (λ (v : State). WaitsThen s now k v) (λ i. record { local = u; matched = (like k).calls i }) (record {
+rests_kept false s old now k u like (inr waits) = inr (subst (λ (v : State). WaitsThen s now k (next_of v)) (λ i. record { local = u; matched = (like k).calls i }) (record {
   memory = waits.memory;
   records = waits.records;
   agrees = waits.agrees;

@@ -12,7 +12,6 @@ use Rattle.scc_proto.specs.Ports.{Sight, Did}
 use Rattle.scc_proto.specs.Records.{record_from, record_of}
 use Rattle.scc_proto.specs.Resting.{is_resting}
 use Rattle.scc_proto.specs.Stages.{Record, blank}
-use Rattle.scc_proto.specs.Views.{view_of}
 use Rattle.scc_proto.proofs.FlagsTold.{like_both, like_self, like_sym}
 use Rattle.scc_proto.proofs.PortLaws.{record_from-append}
 use Rattle.scc_proto.proofs.RestLaw.{resting_part}
@@ -26,7 +25,8 @@ use Rattle.scc_mesh.proofs.TurnLaws.{turn_leaves}
 use Rattle.script_plain.specs.Local.{Local}
 use Rattle.script_plain.specs.Meaning.{State, next_of}
 use Rattle.script_plain.specs.Moves.{is_stopped}
-use Rattle.rcce_run.specs.Turns.{WorkerView, HasStayed, HasWaited, IsDone, IsOver, NoneElseHolds, OwnTurn, Turned, TurnedAtHome, TurnMeans, Waits, WaitsThen, rest_by, state_of}
+use Rattle.script_plain.specs.Next.{Next}
+use Rattle.rcce_run.specs.Turns.{WorkerView, HasStayed, HasWaited, IsDone, IsOver, LookedAt, NoneElseHolds, OwnTurn, Turned, TurnedAtHome, TurnMeans, WaitsThen, rest_by, state_of}
 
 -- the record of more events, by the record of the first of them
 pub record_split : (s : SetupView) (r : ℕ) (own events : List Event) → record_of s r (own ++ events) ≡ record_from s r (record_of s r own) events
@@ -40,6 +40,17 @@ both_pass one two all =
     (both_first (list_all is_resting one) (list_all is_resting two) parts, both_second (list_all is_resting one) (list_all is_resting two) parts)
 
 -- an event that was a step for the port is one for the chip
+pub look_later : {U : Type 0} (P Q : List Event → Event → Type 0) → ((own : List Event) (e : Event) → P own e → Q own e) → (s : SetupView) (r : ℕ) (own events : List Event) (n : Next U)
+    → LookedAt P s r own events n → LookedAt Q s r own events n
+look_later P Q turns s r own events n look = record {
+  before = look.before;
+  look = look.look;
+  behind = look.behind;
+  is = look.is;
+  step = turns (own ++ look.before) look.look look.step;
+  waits = look.waits;
+}
+
 means_later : (P Q : List Event → Event → Type 0) → ((own : List Event) (e : Event) → P own e → Q own e) → (s : SetupView) (r : ℕ) (own events : List Event) (old new : WorkerView) (answer : Turn)
     → TurnMeans P s r own events old new answer → TurnMeans Q s r own events old new answer
 means_later P Q turns s r own events old new turn.Moved means = means
@@ -48,14 +59,7 @@ means_later P Q turns s r own events old new (turn.Waiting spot) means = record 
   left = means.left;
   rests = means.rests;
   alike = means.alike;
-  look = record {
-    before = means.look.before;
-    look = means.look.look;
-    behind = means.look.behind;
-    is = means.look.is;
-    step = turns (own ++ means.look.before) means.look.look means.look.step;
-    waits = means.look.waits;
-  };
+  look = look_later P Q turns s r own events (next_of (state_of old.local (record_of s r own))) means.look;
 }
 means_later P Q turns s r own events old new turn.Done means = means
 
@@ -95,17 +99,33 @@ module _ (chip now : ChipView) (r : ℕ) (is : IsTurned chip r now) (events : Li
       (cases_lt j (about_in now).nue)
 
   -- no other rank held a register when the look was made
-  pub none_else : NoneElseHolds (about_in chip) (records_in chip) r → NoneElseHolds (about_in now) (records_by (about_in now) was.lists) r
+  none_else : NoneElseHolds (about_in chip) (records_in chip) r → NoneElseHolds (about_in now) (records_by (about_in now) was.lists) r
   none_else free k core low ne =
       ap (λ (es : List Event). (record_of (about_in now) k es).held core) (same_list k ne ∙ is.others k ne)
       ∙ ap (λ (s : SetupView). (record_of s k (events_in chip k)).held core) is.about
       ∙ free k core (subst (λ (s : SetupView). k < s.nue) is.about low) ne
 
-  pub alike_then : (j : ℕ) → Like (records_by (about_in now) was.lists j) (records_in now j)
+  alike_then : (j : ℕ) → Like (records_by (about_in now) was.lists j) (records_in now j)
   alike_then j =
       same_or_other (Like (record_of (about_in now) j (was.lists j)) (records_in now j)) j r
       (λ t e. subst (λ (k : ℕ). Like (record_of (about_in now) k (was.lists k)) (records_in now k)) (sym e) mine)
       (λ t ne. subst (λ (es : List Event). Like (record_of (about_in now) j (was.lists j)) (record_of (about_in now) j es)) (same_list j ne) (like_self (record_of (about_in now) j (was.lists j))))
+
+-- so a rank that a look showed to wait waits behind its turn
+pub waits_behind : {U : Type 0} (chip now : ChipView) (r : ℕ) → IsTurned chip r now → (events : List Event) → events_in now r ≡ events_in chip r ++ events
+    → ((q : ℕ) → (about_in now).nue ≤ q → events_in now q ≡ []) → NoneElseHolds (about_in chip) (records_in chip) r → list_all is_resting events ≡ true
+    → Like (record_of (about_in now) r (events_in chip r)) (record_of (about_in now) r (events_in chip r ++ events)) → (n : Next U)
+    → LookedAt (Saw now r) (about_in now) r (events_in chip r) events n → WaitsThen (about_in now) (records_in now) r n
+waits_behind chip now r is events longer beyond free rests stayed n look =
+    let was : WasStep (about_in now) (home_in now) r (events_in chip r ++ look.before) look.look = look.step.step in
+    record {
+      memory = was.memory;
+      records = records_by (about_in now) was.lists;
+      agrees = was.before.agree;
+      alike = alike_then chip now r is events longer beyond look.before look.behind look.look look.is rests stayed was;
+      waits = look.waits was.memory (records_by (about_in now) was.lists) was.before.agree (ap (record_of (about_in now) r) was.own)
+          (none_else chip now r is events longer beyond look.before look.behind look.look look.is rests stayed was free) was.step;
+    }
 
 module _ {A : Type 0} (seen : A → WorkerView) (tied : A → SetupView → ℕ → List Event → Type 0) where
   own_turn_of : (chip now : ChipView) (r later hold name : ℕ) (w x : A) (answer : Turn) → IsWhole chip → r < (about_in chip).nue → is_port_of now later ≡ true
@@ -186,20 +206,10 @@ module _ {A : Type 0} (seen : A → WorkerView) (tied : A → SetupView → ℕ 
         }
 
     module _ (free : NoneElseHolds (about_in chip) (records_in chip) r) (waited : HasWaited (Saw now r) (about_in now) r (events_in chip r) events (seen w) (seen x)) where
-      was : WasStep (about_in now) (home_in now) r (events_in chip r ++ waited.look.before) waited.look.look
-      was = waited.look.step.step
-
-      stayed_waits : WaitsThen (about_in now) (records_in now) r (state_of (seen x).local (records_in now r))
-      stayed_waits = record {
-        memory = was.memory;
-        records = records_by (about_in now) was.lists;
-        agrees = was.before.agree;
-        alike = alike_then chip now r is events longer beyond waited.look.before waited.look.behind waited.look.look waited.look.is waited.rests waited.alike was;
-        waits = subst (λ (u : State). Waits (about_in now) (view_of (about_in now) was.memory) r (record_of (about_in now) r (was.lists r)) (next_of u))
-            (λ i. record { local = sym waited.local i; matched = calls i })
-            (waited.look.waits was.memory (records_by (about_in now) was.lists) was.before.agree (ap (record_of (about_in now) r) was.own)
-            (none_else chip now r is events longer beyond waited.look.before waited.look.behind waited.look.look waited.look.is waited.rests waited.alike was free) was.step);
-      }
+      stayed_waits : WaitsThen (about_in now) (records_in now) r (next_of (state_of (seen x).local (records_in now r)))
+      stayed_waits =
+          subst (λ (u : State). WaitsThen (about_in now) (records_in now) r (next_of u)) (λ i. record { local = sym waited.local i; matched = calls i })
+          (waits_behind chip now r is events longer beyond free waited.rests waited.alike (next_of (state_of (seen w).local (record_of (about_in now) r (events_in chip r)))) waited.look)
         where
           calls : (record_of (about_in now) r (events_in chip r)).calls ≡ (records_in now r).calls
           calls = waited.alike.calls ∙ ap (λ (es : List Event). (record_of (about_in now) r es).calls) (sym longer)

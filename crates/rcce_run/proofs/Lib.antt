@@ -27,3 +27,4 @@ pub mod RunLaws
 pub mod SentLaws
 pub mod FinishedLaws
 pub mod CrewGrowth
+pub mod FreshCrews

@@ -20,9 +20,9 @@ use Rattle.script_plain.specs.Next.Next.{Recvs}
 use Rattle.script_plain.specs.Ready.{IsReady}
 use Rattle.script_plain.proofs.CameDid.{came_matched}
 use Rattle.script_plain.proofs.ReadyLemmas.{ready-law}
+use Rattle.script_plain.proofs.StoppedLaws.{stopped_ends}
 use Rattle.rcce_ue.specs.Standing as ue
 use Rattle.rcce_ue.specs.Ues.{UeView}
-use Rattle.rcce_ue.proofs.PathLemmas.{stopped_ends}
 use Rattle.rcce_run.specs.Sweep.{Stood, Running, Stopped}
 use Rattle.rcce_run.specs.Turns.{Fits, state_of}
 use Rattle.rcce_run.specs.Ues.{UeStands, ue_seen}

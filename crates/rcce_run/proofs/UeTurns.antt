@@ -32,6 +32,7 @@ use Rattle.script_plain.specs.Meaning.{recorded}
 use Rattle.script_plain.specs.Moves.{bytes_out, is_ended, is_stopped, length_in}
 use Rattle.script_plain.specs.Next.{Next}
 use Rattle.script_plain.specs.Next.Next.{Ends, Goes, Posts, Sends, Recvs, Bars}
+use Rattle.script_plain.proofs.StoppedLaws.{stopped_ends}
 use Rattle.rcce_ue.specs.Left.{left_of}
 use Rattle.rcce_ue.specs.Standing.{IsBarOf, IsRecvOf, IsSendOf, OpStands, Tied}
 use Rattle.rcce_ue.specs.Turns.{UeTurned, aim_by, ue_aim}
@@ -39,7 +40,6 @@ use Rattle.rcce_ue.specs.Ues.{UeView}
 use Rattle.rcce_ue.specs.declared.calls.Open.{Open}
 use Rattle.rcce_ue.specs.declared.calls.Open.TheVariants.{Nothing, Sending, Receiving, Meeting}
 use Rattle.rcce_ue.proofs.OtherPort.{tied_there}
-use Rattle.rcce_ue.proofs.PathLemmas.{stopped_ends}
 use Rattle.rcce_ue.proofs.WaitLemmas.{VainStep, found}
 use Rattle.rcce_run.specs.Sweep.{BarWaits, RaiseWaits, SlotWaits, TakeWaits}
 use Rattle.rcce_run.specs.Turns.{HasWaited, IsDone, NoneElseHolds, TurnMeans, Turned, Waits}
@@ -121,7 +121,7 @@ if_some false o aim is = absurd (cc (is))
 -- ---- a turn that waits
 
 -- the record before a part of events that rest is alike
-pub like_before : (s t : Sight) (events before behind : List Event) → Did s events t → list_all is_resting events ≡ true → events ≡ before ++ behind → Like (record_in s) (record_in t)
+like_before : (s t : Sight) (events before behind : List Event) → Did s events t → list_all is_resting events ≡ true → events ≡ before ++ behind → Like (record_in s) (record_in t)
     → Like (record_in s) (record_in (and_then s before))
 unfolding record_in
 like_before s t events before behind did rests is alike =
@@ -133,7 +133,7 @@ like_before s t events before behind did rests is alike =
     subst (λ (x : Record). Like rec x) (sym (record_split s.seat.setup s.seat.rank s.events before)) (resting_part s.seat.setup s.seat.rank rec before behind front rest whole)
 
 -- a register is taken only where the rank does not hold it
-pub take_allowed : (s t : Sight) (events before behind : List Event) (e : Event) → Did s events t → events ≡ before ++ e ∷ behind → is_take e.access ≡ true
+take_allowed : (s t : Sight) (events before behind : List Event) (e : Event) → Did s events t → events ≡ before ++ e ∷ behind → is_take e.access ≡ true
     → is_none ((record_in (and_then s before)).held e.place.core) ≡ true
 take_allowed s t events before behind e did is takes =
     let made : WereMade s.seat (record_in s) (before ++ e ∷ behind) = subst (WereMade s.seat (record_in s)) is did.made in
@@ -153,6 +153,20 @@ sought_by stepped tried past events waits spot is steps (NoTry none no_spot) = a
 sought_by stepped tried past events waits spot is steps (Vain at aims one vain here) = record { aim = at; aim_is = aims; look = found stepped past at false 0 events one vain steps }
 sought_by stepped tried past events waits spot is steps (Fruitful at aims one vain no_spot) = absurd (cc (is, no_spot))
 
+-- where the look is a step of words that agree with records, the rank's own being that before it: the record is alike to the one
+-- before the turn, and the words tell what the look was for
+module _ (stepped : List Event → Event → Type 0) (tried : Option Aim) (s t : Sight) (events : List Event) (sought : Sought stepped tried s.events events) (did : Did s events t)
+    (memory : Memory) (records : ℕ → Record) (agrees : Agrees s.seat.setup memory records) (mine : records s.seat.rank ≡ record_in (and_then s sought.look.before))
+    (others : NoneElseHolds s.seat.setup records s.seat.rank) (step : IsStep memory sought.look.event) where
+  pub sought_like : list_all is_resting events ≡ true → Like (record_in s) (record_in t) → Like (record_in s) (records s.seat.rank)
+  sought_like rests alike = subst (λ (r : Record). Like (record_in s) r) (sym mine)
+      (like_before s t events sought.look.before (sought.look.event ∷ sought.look.behind) did rests sought.look.is alike)
+
+  pub sought_tells : Tells memory sought.aim
+  sought_tells = told s.seat.setup memory records s.seat.rank agrees others (changing_after false sought.look.before) sought.aim sought.look.event sought.look.try_is sought.look.vain
+      (λ takes. subst (λ (r : Record). is_none (r.held sought.look.event.place.core) ≡ true) (sym mine)
+      (take_allowed s t events sought.look.before sought.look.behind sought.look.event did sought.look.is takes)) step
+
 module _ (stepped : List Event → Event → Type 0) (x : UeView) (s t : Sight) (now : UeView) (spot : Spot) (tied : Tied x s) (later : Tied now t) (turned : UeTurned x s now t (turn.Waiting spot))
     (steps : WereSteps stepped s.events turned.events) where
   sought : Sought stepped (ue_aim s.seat x now.parity) s.events turned.events
@@ -167,13 +181,10 @@ module _ (stepped : List Event → Event → Type 0) (x : UeView) (s t : Sight) 
   module _ (memory : Memory) (records : ℕ → Record) (agrees : Agrees s.seat.setup memory records) (mine : records s.seat.rank ≡ record_in (and_then s sought.look.before))
       (others : NoneElseHolds s.seat.setup records s.seat.rank) (step : IsStep memory sought.look.event) where
     like : Like (record_in s) (records s.seat.rank)
-    like = subst (λ (r : Record). Like (record_in s) r) (sym mine)
-        (like_before s t turned.events sought.look.before (sought.look.event ∷ sought.look.behind) turned.did rests sought.look.is alike)
+    like = sought_like stepped (ue_aim s.seat x now.parity) s t turned.events sought turned.did memory records agrees mine others step rests alike
 
     tells : Tells memory sought.aim
-    tells = told s.seat.setup memory records s.seat.rank agrees others (changing_after false sought.look.before) sought.aim sought.look.event sought.look.try_is sought.look.vain
-        (λ takes. subst (λ (r : Record). is_none (r.held sought.look.event.place.core) ≡ true) (sym mine)
-        (take_allowed s t turned.events sought.look.before sought.look.behind sought.look.event turned.did sought.look.is takes)) step
+    tells = sought_tells stepped (ue_aim s.seat x now.parity) s t turned.events sought turned.did memory records agrees mine others step
 
     parity : IsParityOf (record_in s) now.parity
     parity comm low = later.parity_is comm low ∙ ap (λ (n : ℕ). n % 2) (sym (alike.flips comm))

@@ -41,7 +41,8 @@ pub record GoesOn {A : Type 0} (seen : A → WorkerView) (chip : ChipView) (crew
   pub left : all_left seen later ≤ all_left seen crew
 
 -- one of the workers took a turn
-pub record OneTurn {A : Type 0} (seen : A → WorkerView) (tied : A → SetupView → ℕ → List Event → Type 0) (chip : ChipView) (crew : List A) (at : ℕ) (now : ChipView) (later : List A) (came : Rest) : Type 0 where
+pub record OneTurn {A : Type 0} (seen : A → WorkerView) (tied : A → SetupView → ℕ → List Event → Type 0)
+    (chip : ChipView) (crew : List A) (at : ℕ) (now : ChipView) (later : List A) (came : Rest) : Type 0 where
   pub within : at < length crew
   pub old : A
   pub new : A
@@ -70,12 +71,14 @@ SweptTo {A} seen rest.Finished n chip crew now later = (k : ℕ) (d : A) → k <
 SweptTo seen rest.Unfinished n chip crew now later = AllRest seen now later n × OneUnfinished seen now later n
 
 -- after turns of workers the crew is tied to its chip again, and has gone on
-pub record CrewStands {A : Type 0} (seen : A → WorkerView) (tied : A → SetupView → ℕ → List Event → Type 0) (chip : ChipView) (crew : List A) (now : ChipView) (later : List A) : Type 0 where
+pub record CrewStands {A : Type 0} (seen : A → WorkerView) (tied : A → SetupView → ℕ → List Event → Type 0)
+    (chip : ChipView) (crew : List A) (now : ChipView) (later : List A) : Type 0 where
   pub is_crew : IsCrew tied now later
   pub goes : GoesOn seen chip crew now later
 
 -- and after turns of the first n workers, one after the other, which came to this
-pub record SweepStands {A : Type 0} (seen : A → WorkerView) (tied : A → SetupView → ℕ → List Event → Type 0) (came : Rest) (n : ℕ) (chip : ChipView) (crew : List A) (now : ChipView) (later : List A) : Type 0 where
+pub record SweepStands {A : Type 0} (seen : A → WorkerView) (tied : A → SetupView → ℕ → List Event → Type 0)
+    (came : Rest) (n : ℕ) (chip : ChipView) (crew : List A) (now : ChipView) (later : List A) : Type 0 where
   pub stands : CrewStands seen tied chip crew now later
   pub swept : SweptTo seen came n chip crew now later
 

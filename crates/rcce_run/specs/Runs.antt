@@ -18,13 +18,16 @@ rounds_of mode.Threads = rounds.InThreads
 rounds_of (mode.Serial seed) = rounds.Picked (pcg32_of_seed (pcg32_seed 16 seed))
 
 -- a round: on one thread a thousand turns for each rank, of the ranks that the generator's next words name
-abbrev pub NextRound : {A : Type 0} → (A → WorkerView) → (A → SetupView → ℕ → List Event → Type 0) → Rounds → Rounds → ChipView → List A → ChipView → List A → Type 0
+abbrev pub NextRound : {A : Type 0} → (A → WorkerView) → (A → SetupView → ℕ → List Event → Type 0)
+    → Rounds → Rounds → ChipView → List A → ChipView → List A → Type 0
 NextRound seen tied rounds.InThreads new chip crew now later = new ≡ rounds.InThreads
 NextRound seen tied (rounds.Picked picks) new chip crew now later =
-    (new ≡ rounds.Picked (drawn pcg32 (1000 * length crew) picks)) × TurnsOf seen tied (named pcg32 (length crew) (1000 * length crew) picks) chip crew now later
+    (new ≡ rounds.Picked (drawn pcg32 (1000 * length crew) picks))
+    × TurnsOf seen tied (named pcg32 (length crew) (1000 * length crew) picks) chip crew now later
 
 -- so many rounds with a sweep behind each one
-abbrev pub RoundsTo : {A : Type 0} → (A → WorkerView) → (A → SetupView → ℕ → List Event → Type 0) → Rounds → ℕ → Rounds → ChipView → List A → ChipView → List A → Type 0
+abbrev pub RoundsTo : {A : Type 0} → (A → WorkerView) → (A → SetupView → ℕ → List Event → Type 0)
+    → Rounds → ℕ → Rounds → ChipView → List A → ChipView → List A → Type 0
 RoundsTo seen tied rounds.InThreads n new chip crew now later = new ≡ rounds.InThreads
 RoundsTo seen tied (rounds.Picked picks) n new chip crew now later =
     (new ≡ rounds.Picked (drawn_in pcg32 (length crew) n picks)) × TurnsOf seen tied (ranks_by pcg32 (length crew) n picks) chip crew now later

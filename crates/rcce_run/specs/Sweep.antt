@@ -72,7 +72,8 @@ pub data BarWaits (s : SetupView) (view : View) (me comm : ℕ) (rec : Record) :
   AtRoot : (seen member : ℕ) → is_present s comm ≡ true → place_of s comm me ≡ 0 → rec.stage ≡ Barrier comm seen 0 → seen < last_of s comm me
       → member < s.nue → setup_key s comm member ≡ setup_key s comm me → place_of s comm member ≡ suc seen
       → view.gather comm member ≢ rec.flips comm % 2 → BarWaits s view me comm rec
-  AtMember : is_present s comm ≡ true → place_of s comm me ≢ 0 → rec.stage ≡ Barrier comm 0 0 → view.release comm me ≢ rec.flips comm % 2 → BarWaits s view me comm rec
+  AtMember : is_present s comm ≡ true → place_of s comm me ≢ 0 → rec.stage ≡ Barrier comm 0 0 → view.release comm me ≢ rec.flips comm % 2
+      → BarWaits s view me comm rec
 
 -- what a rank waits for, by what stands next there. At its end nothing is open; a statement of its own does not wait; a
 -- post, and a send before its first chunk, wait for the rank's own slot
@@ -86,7 +87,8 @@ Vain s view me rec (Bars comm after) = BarWaits s view me comm rec
 
 -- a sweep has found every rank waiting: words and records agree, each rank's state fits its record, and each look that a
 -- rank waits at is vain
-pub record Swept {U : Type 0} (next : U → Next U) (s : SetupView) (memory : Memory) (records : ℕ → Record) (starts states : ℕ → U) (lasts : ℕ → Option Posted) : Type 0 where
+pub record Swept {U : Type 0} (next : U → Next U) (s : SetupView) (memory : Memory) (records : ℕ → Record)
+    (starts states : ℕ → U) (lasts : ℕ → Option Posted) : Type 0 where
   pub agrees : Agrees s memory records
   pub stands : (k : ℕ) → k < s.nue → Stood next s k (starts k) (records k) (states k) (lasts k)
   pub vain : (k : ℕ) → k < s.nue → Vain s (view_of s memory) k (records k) (next (states k))

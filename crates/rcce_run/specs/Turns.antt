@@ -57,15 +57,15 @@ NoneElseHolds s records me = (k core : ℕ) → k < s.nue → k ≢ me → (reco
 
 -- among the events of a turn, made after the own events before it, is one look by which the rank waits: wherever it is a
 -- step of words that agree with records, the rank's own being that before the look and no other rank holding a register,
--- it shows that the rank waits
-pub record LookedAt (stepped : List Event → Event → Type 0) (s : SetupView) (rank : ℕ) (own events : List Event) (u : State) : Type 0 where
+-- it shows that the rank waits for what stands next
+pub record LookedAt {U : Type 0} (stepped : List Event → Event → Type 0) (s : SetupView) (rank : ℕ) (own events : List Event) (n : Next U) : Type 0 where
   pub before : List Event
   pub look : Event
   pub behind : List Event
   pub is : events ≡ before ++ look ∷ behind
   pub step : stepped (own ++ before) look
-  pub waits : (memory : Memory) (records : ℕ → Record) → Agrees s memory records → records rank ≡ record_of s rank (own ++ before) → NoneElseHolds s records rank → IsStep memory look
-      → Waits s (view_of s memory) rank (records rank) (next_of u)
+  pub waits : (memory : Memory) (records : ℕ → Record) → Agrees s memory records → records rank ≡ record_of s rank (own ++ before)
+      → NoneElseHolds s records rank → IsStep memory look → Waits s (view_of s memory) rank (records rank) n
 
 -- a turn that waited: it stored nothing, left the record alike and the worker as it was, and its look shows what it waits for
 pub record HasWaited (stepped : List Event → Event → Type 0) (s : SetupView) (rank : ℕ) (own events : List Event) (old new : WorkerView) : Type 0 where
@@ -73,7 +73,7 @@ pub record HasWaited (stepped : List Event → Event → Type 0) (s : SetupView)
   pub left : new.left ≡ old.left
   pub rests : list_all is_resting events ≡ true
   pub alike : Like (record_of s rank own) (record_of s rank (own ++ events))
-  pub look : LookedAt stepped s rank own events (state_of old.local (record_of s rank own))
+  pub look : LookedAt stepped s rank own events (next_of (state_of old.local (record_of s rank own)))
 
 -- nothing stands next at a rank, and nothing is open there
 pub record IsOver (rec : Record) (u : Local) : Type 0 where
@@ -115,13 +115,13 @@ both_rest rest.Unfinished rest.Moved = rest.Moved
 both_rest rest.Unfinished rest.Finished = rest.Unfinished
 both_rest rest.Unfinished rest.Unfinished = rest.Unfinished
 
--- a rank waits: some words agree with records that are alike to these, and there it waits
-pub record WaitsThen (s : SetupView) (now : ℕ → Record) (me : ℕ) (u : State) : Type 0 where
+-- a rank waits: some words agree with records that are alike to these, and there it waits for what stands next
+pub record WaitsThen {U : Type 0} (s : SetupView) (now : ℕ → Record) (me : ℕ) (n : Next U) : Type 0 where
   pub memory : Memory
   pub records : ℕ → Record
   pub agrees : Agrees s memory records
   pub alike : (j : ℕ) → Like (records j) (now j)
-  pub waits : Waits s (view_of s memory) me (records me) (next_of u)
+  pub waits : Waits s (view_of s memory) me (records me) n
 
 -- a rank has finished: nothing stands next, it was not stopped, and its slot is empty
 pub record HasFinished (rec : Record) (u : Local) : Type 0 where
@@ -137,7 +137,7 @@ pub record HasStopped (rec : Record) (u : Local) : Type 0 where
 -- a rank rests: it has finished, or it was stopped or waits
 abbrev pub RestsAt : Bool → SetupView → (ℕ → Record) → ℕ → Local → Type 0
 RestsAt true s now me u = HasFinished (now me) u
-RestsAt false s now me u = HasStopped (now me) u ⊎ WaitsThen s now me (state_of u (now me))
+RestsAt false s now me u = HasStopped (now me) u ⊎ WaitsThen s now me (next_of (state_of u (now me)))
 
 -- a turn of a rank at home that did not move
 pub record HasStayed (finished : Bool) (chip : ChipView) (r : ℕ) (now : ChipView) (old new : WorkerView) : Type 0 where
@@ -153,7 +153,8 @@ CameTo rest.Finished chip r now old new = HasStayed true chip r now old new
 CameTo rest.Unfinished chip r now old new = HasStayed false chip r now old new
 
 -- a turn of a rank at home, through a port of its own
-pub record OwnTurn {A : Type 0} (seen : A → WorkerView) (tied : A → SetupView → ℕ → List Event → Type 0) (chip : ChipView) (r : ℕ) (old : A) (now : ChipView) (new : A) (answer : Turn) : Type 0 where
+pub record OwnTurn {A : Type 0} (seen : A → WorkerView) (tied : A → SetupView → ℕ → List Event → Type 0)
+    (chip : ChipView) (r : ℕ) (old : A) (now : ChipView) (new : A) (answer : Turn) : Type 0 where
   pub turned : IsTurned chip r now
   pub events : List Event
   pub longer : events_in now r ≡ events_in chip r ++ events
@@ -162,7 +163,8 @@ pub record OwnTurn {A : Type 0} (seen : A → WorkerView) (tied : A → SetupVie
   pub means : TurnMeans (Saw now r) (about_in chip) r (events_in chip r) events (seen old) (seen new) answer
 
 -- and what it came to
-pub record TurnedAtHome {A : Type 0} (seen : A → WorkerView) (tied : A → SetupView → ℕ → List Event → Type 0) (chip : ChipView) (r : ℕ) (old : A) (now : ChipView) (new : A) (came : Rest) : Type 0 where
+pub record TurnedAtHome {A : Type 0} (seen : A → WorkerView) (tied : A → SetupView → ℕ → List Event → Type 0)
+    (chip : ChipView) (r : ℕ) (old : A) (now : ChipView) (new : A) (came : Rest) : Type 0 where
   pub turned : IsTurned chip r now
   pub ties : tied new (about_in now) r (events_in now r)
   pub script : (seen new).script ≡ (seen old).script

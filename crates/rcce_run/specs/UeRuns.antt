@@ -32,6 +32,16 @@ pub record IsFreshUe (script : Script) (s : SetupView) (rank : ℕ) (ue : UeView
   pub machine : ue.machine ≡ record { script = script; setup = s; rank = rank; local = local_start script rank }
   pub tied : (sight : Sight) → sight.seat.setup ≡ s → sight.seat.rank ≡ rank → sight.events ≡ [] → Tied ue sight
 
+-- a member with a UE of this rank before its first turn, and with no token
+pub record IsFreshMember (script : Script) (s : SetupView) (rank : ℕ) (member : Member UeView) : Type 0 where
+  pub fresh : IsFreshUe script s rank member.worker
+  pub home : member.token ≡ None
+
+-- such members for the first n ranks
+pub record AreFresh (script : Script) (s : SetupView) (n : ℕ) (crew : List (Member UeView)) : Type 0 where
+  pub count : length crew ≡ n
+  pub each : (rank : ℕ) (d : Member UeView) → rank < n → IsFreshMember script s rank (slice_index_or crew rank d)
+
 -- a chip that is open without events, all its ranks at home, and for each rank, in rank order, a UE of this script with the
 -- chip's setup, before its first turn
 pub record IsFreshCrew (script : Script) (chip : ChipView) (crew : List (Member UeView)) : Type 0 where

@@ -1,5 +1,5 @@
 use Rattle.std.proofs.Common.{refl}
-use Rattle.coll_program.proofs.TeamLemmas.{world_alone}
+use Rattle.scc_base.proofs.WorldRules.{world_alone}
 use Rattle.coll_program.proofs.team.rules.Goals as goal
 
 pub returns-clause-valid : goal.returns-clause-valid
