@@ -1,30 +1,22 @@
--- The units of execution of a run, before its start and at its end.
-use Rattle.std.proofs.Common.{◌≡◌, ℕ, ◌+◌, ◌<◌, List, [], ◌∷◌, ◌++◌, length, refl, sym, subst, ap, ◌∙◌, arith, slice_index_or, Option, Some, None}
-use Rattle.scc_base.specs.Setups.{SetupView}
+-- The units of execution of a run at its end.
+use Rattle.std.proofs.Common.{◌≡◌, ℕ, ◌<◌, List, length, refl, sym, subst, ap, ◌∙◌, arith, slice_index_or, Option, Some, None}
 use Rattle.script_reader.specs.Script.{Script}
 use Rattle.script_plain.specs.Ends.{all_finished, ended_at}
 use Rattle.script_plain.specs.Meaning.{plain_ends}
 use Rattle.rcce_run.specs.Crews.{EndsAs}
 use Rattle.rcce_ue.specs.Ues.{UeView}
 use Rattle.run_program.specs.Reports.{by_rank, ran_by, unfinished_text}
-use Rattle.rcce_run.proofs.CrewGrowth.{each_more}
 use Rattle.rcce_run.proofs.FinishedLaws.{plain_count}
 use Rattle.rcce_run.specs.Sent.{CountsSends}
-use Rattle.rcce_run.specs.UeRuns.{AreHome, HasPlainCalls, IsFreshCrew, IsFreshUe, IsSameChip, ShowsEnd, WaitsOpen}
+use Rattle.rcce_run.specs.UeRuns.{AreHome, HasPlainCalls, IsSameChip, ShowsEnd, WaitsOpen}
 use Rattle.rcce_run.specs.declared.ends.RunEnd.{RunEnd}
 use Rattle.scc_base.specs.Calls.{DataCall}
 use Rattle.scc_proto.specs.Passed.{open_call}
 use Rattle.rcce_run.specs.declared.members.Member.{Member}
 use Rattle.scc_mesh.specs.Scenes.{ChipView, IsNew, about_in, records_in}
 use Rattle.run_program.specs.History.{Asked}
-use Rattle.run_program.specs.Runs.{HaveEnded, IsAtStart, IsFresh, IsOver}
+use Rattle.run_program.specs.Runs.{HaveEnded, IsOver}
 use Rattle.run_program.proofs.SentLemmas.{counts_plain}
-
--- one unit of execution more
-pub fresh_more : (script : Script) (setup : SetupView) (n : ℕ) (crew : List (Member UeView)) (ue : Member UeView) → length crew ≡ n
-    → ((rank : ℕ) (d : Member UeView) → rank < n → IsAtStart script setup rank (slice_index_or crew rank d)) → IsAtStart script setup n ue
-    → (rank : ℕ) (d : Member UeView) → rank < n + 1 → IsAtStart script setup rank (slice_index_or (crew ++ ue ∷ []) rank d)
-fresh_more script setup n crew ue count each last = each_more (IsAtStart script setup) n crew ue count each last
 
 module _ (script view : Script) (same : script ≡ view) (crew : List (Member UeView)) (ended : HaveEnded script crew) where
   -- as many units of execution as ends
@@ -48,16 +40,6 @@ ran_finished script (Some seed) = refl
 pub ran_err : (script : Script) (seed : Option ℕ) → (ran_by script seed).err ≡ by_rank unfinished_text 0 (plain_ends script)
 ran_err script None = refl
 ran_err script (Some seed) = refl
-
--- a crew that is fresh for a new chip
-pub fresh_crew : (script : Script) (setup : SetupView) (chip : ChipView) (crew : List (Member UeView)) → IsNew setup chip → IsFresh script setup crew → IsFreshCrew script chip crew
-fresh_crew script setup chip crew new fresh = record {
-  whole = new.whole;
-  empty = λ r low. new.empty r;
-  each = fresh.count ∙ ap (λ (s : SetupView). s.nue) (sym new.about);
-  fresh = λ k d low. subst (λ (s : SetupView). IsFreshUe script s k (slice_index_or crew k d).worker) (sym new.about) (fresh.each k d low).fresh;
-  home = λ k d low. (fresh.each k d low).home;
-}
 
 -- what a run of such a crew leaves
 pub run_over : (asked : Asked) (chip now : ChipView) (crew later : List (Member UeView)) (end : RunEnd) → asked.setup.nue ≡ asked.script.nue → IsNew asked.setup chip → length crew ≡ asked.setup.nue

@@ -20,4 +20,5 @@ pub record HasRun (asked : Asked) (chip : ChipView) : Type 0 where
   pub setup : about_in chip ≡ asked.setup
   pub whole : IsWhole chip
   pub finished : (rank : ℕ) → rank < asked.script.nue → HasPlainCalls asked.script rank (records_in chip rank)
-  pub opened : (rank : ℕ) (call : DataCall) → rank < asked.script.nue → open_call (about_in chip) (records_in chip rank) ≡ Some call → WaitsOpen asked.script rank call
+  pub opened : (rank : ℕ) (call : DataCall) → rank < asked.script.nue → open_call (about_in chip) (records_in chip rank) ≡ Some call
+      → WaitsOpen asked.script rank call

@@ -53,4 +53,6 @@ waiting_line rank line pieces = joined ((codes "ue " ∷ decimal rank ∷ codes 
 
 -- a unit of execution whose receive met another head than it asked for
 abbrev pub mismatch_line : ℕ → ℕ → ℕ → MessageHead → MessageHead → List ℕ
-mismatch_line rank line from sent asked = joined ((codes "ue " ∷ decimal rank ∷ codes " mismatch at line " ∷ decimal line ∷ codes ": from " ∷ decimal from ∷ codes " sent " ∷ []) ++ head_pieces sent ++ (codes ", asked " ∷ []) ++ head_pieces asked ++ (codes "\n" ∷ []))
+mismatch_line rank line from sent asked =
+    joined ((codes "ue " ∷ decimal rank ∷ codes " mismatch at line " ∷ decimal line ∷ codes ": from " ∷ decimal from ∷ codes " sent " ∷ [])
+    ++ head_pieces sent ++ (codes ", asked " ∷ []) ++ head_pieces asked ++ (codes "\n" ∷ []))

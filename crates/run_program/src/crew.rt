@@ -1,9 +1,9 @@
 //! The units of execution of a run.
 
 ghost use Rattle.std.specs.Prelude.{◌≡◌, IfOk};
+ghost use Rattle.rcce_run.specs.UeRuns.{AreFresh};
 ghost use Rattle.script_reader.specs.Script.{rules_of};
 ghost use Rattle.run_program.specs.Evictors.{evictor_of};
-ghost use Rattle.run_program.specs.Runs.{IsFresh};
 
 use line_cache::{Choice, Seeded};
 use rcce_run::Crew;
@@ -21,7 +21,7 @@ pub fn crew_of<'s>(
 ) -> Result<Vec<Crew<'s, Choice>>, AllocError>
     requires ranks { setup.now.nue ≡ scripts.now.nue }
     requires communicators { setup.now.comms ≡ rules_of scripts.now.items }
-    ensures { IfOk result (λ crew. IsFresh scripts.now setup.now crew.items) }
+    ensures { IfOk result (λ crew. AreFresh scripts.now setup.now setup.now.nue crew.items) }
 {
     let mut crew = Vec::with_capacity(alloc, setup.nue() as usize)?;
     for number in 0..setup.nue() {

@@ -4,12 +4,12 @@ ghost use Rattle.std.specs.Prelude.{◌≡◌, map, string_bytes, None};
 ghost use Rattle.outcomes.specs.Delivery.{sinks};
 ghost use Rattle.outcomes.specs.Promises.{EndsWith, Promises};
 ghost use Rattle.scc_mesh.specs.Scenes.{IsNew, IsOpen};
-ghost use Rattle.rcce_run.specs.UeRuns.{AreLegal};
+ghost use Rattle.rcce_run.specs.UeRuns.{AreFresh, AreLegal};
 ghost use Rattle.rcce_words.specs.CommandLine.{parse_command};
 ghost use Rattle.run_program.specs.Asking.{ChipTells};
 ghost use Rattle.run_program.specs.Loading.{Launches, Ran, asked_by};
 ghost use Rattle.run_program.specs.Program.{rccerun};
-ghost use Rattle.run_program.specs.Runs.{IsFresh, IsMadeOf, IsOver};
+ghost use Rattle.run_program.specs.Runs.{IsMadeOf, IsOver};
 
 use crate::crew::crew_of;
 use crate::loaded::Loaded;
@@ -111,7 +111,7 @@ fn run_crew<R: Threads + Sync, G: Gate + Sync>(
     gate: &G,
 ) -> RunEnd
     requires chip { IsNew loaded.now.setup chip.old }
-    requires fresh { IsFresh loaded.now.script loaded.now.setup crew.old }
+    requires fresh { AreFresh loaded.now.script loaded.now.setup loaded.now.setup.nue crew.old }
     ensures over { IsOver (asked_by loaded.now) chip.new crew.new result }
     ensures legal { AreLegal chip.new }
 {

@@ -1,15 +1,16 @@
 use Rattle.run_program.specs.Loading.{asked_by}
-use Rattle.run_program.proofs.RunLemmas.{fresh_crew, run_over}
+use Rattle.rcce_run.proofs.FreshCrews.{crew_fresh}
+use Rattle.run_program.proofs.RunLemmas.{run_over}
 use Rattle.run_program.proofs.launcher.run_crew.Goals as goal
 
 pub run-requires-clause-fresh : goal.run-requires-clause-fresh
 run-requires-clause-fresh g c =
     let loaded = c.args.loaded.now in
-    λ lifetimes outlive. (loaded.script, fresh_crew loaded.script loaded.setup _ _ c.requires.chip c.requires.fresh)
+    λ lifetimes outlive. (loaded.script, crew_fresh loaded.script loaded.setup _ c.requires.fresh _ c.requires.chip)
 
 pub returns-clause-over : goal.returns-clause-over
 returns-clause-over g c =
     let loaded = c.args.loaded.now in
-    let fresh = fresh_crew loaded.script loaded.setup _ _ c.requires.chip c.requires.fresh in
+    let fresh = crew_fresh loaded.script loaded.setup _ c.requires.fresh _ c.requires.chip in
     run_over (asked_by loaded) _ _ _ _ _ loaded.ranks c.requires.chip c.requires.fresh.count c.run.ensures.stands c.run.ensures.home
     (c.run.ensures.answer loaded.script fresh) (c.run.ensures.ends loaded.script fresh) (c.run.ensures.calls loaded.script fresh) (c.run.ensures.sent loaded.script fresh) (c.run.ensures.opened loaded.script fresh)
