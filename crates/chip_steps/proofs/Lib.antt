@@ -1,3 +1,2 @@
 pub mod IdleLemmas
-pub mod WorldLemmas
 pub mod NumberLemmas

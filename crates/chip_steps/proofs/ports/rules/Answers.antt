@@ -1,5 +1,5 @@
 use Rattle.std.proofs.Common.{refl}
-use Rattle.chip_steps.proofs.WorldLemmas.{world_alone}
+use Rattle.scc_base.proofs.WorldRules.{world_alone}
 use Rattle.chip_steps.proofs.ports.rules.Goals as goal
 
 pub returns : goal.returns
