@@ -1,6 +1,6 @@
 //! Blank chips, and ranks that are away, in this thread and in others.
 
-ghost use Rattle.std.specs.Prelude.{◌≡◌, ◌<◌, ◌⊎◌, ℕ, [], IsSomeAnd, Contains};
+ghost use Rattle.std.specs.Prelude.{◌≡◌, ◌<◌, ◌⊎◌, ℕ, [], IsSomeAnd, IfOk, Contains};
 ghost use Rattle.scc_base.specs.Events.{load_of};
 ghost use Rattle.scc_base.specs.Places.{WordAt};
 ghost use Rattle.scc_base.specs.Setups.{IsSetup, setup_key, host_of};
@@ -12,10 +12,11 @@ ghost use Rattle.scc_proto.specs.Agreement.{Agrees};
 ghost use Rattle.scc_mesh.specs.Keeping.{IsStoredAt};
 ghost use Rattle.scc_mesh.specs.Scenes.{IsOpen, IsWhole, IsHomeBelow, about_in, table_in, events_in, records_in};
 
-use crate::fixtures::world_of;
+use crate::fixtures::{counted, new_pair, world_of};
 use scc_base::{CoreId, Layout, Place, Rank};
 use scc_mesh::{Chip, SeatPort, Token, Words};
 use scc_proto::Port;
+use std::alloc::Global;
 use std::test::Fail;
 use std::thread;
 use std::thread::Threads;
@@ -26,18 +27,15 @@ fn a_blank_chip_opens(rt: HostRuntime) -> Result<(), Fail> {
     assert!(rt; !chip.is_open());
     let setup = world_of(48, Layout::lines()).ok_or("a setup")?;
     chip.open(rt.alloc(), setup)?;
-    assert!(rt; chip.is_open());
-    assert!(rt; chip.setup().nue() == 48);
+    assert!(rt; chip.is_open() && chip.setup().nue() == 48);
     Ok(())
 }
 
 #[test]
 fn all_words_are_zero_at_the_start(rt: HostRuntime) -> Result<(), Fail> {
-    let mut chip = Chip::blank();
-    let setup = world_of(2, Layout::lines()).ok_or("a setup")?;
-    chip.open(rt.alloc(), setup)?;
+    let mut chip = new_pair(rt.alloc())?;
     let mut sum = 0;
-    let mut port = chip.port(Rank::of(0));
+    let mut port = counted(&mut chip, Rank::of(0));
     for core in 0..48 {
         for line in 0..=255 {
             sum |= port.load(Place::new(CoreId::of(core), line, 3));
@@ -45,6 +43,15 @@ fn all_words_are_zero_at_the_start(rt: HostRuntime) -> Result<(), Fail> {
     }
     assert!(rt; sum == 0);
     Ok(())
+}
+
+// A chip of two ranks that was just opened.
+fn opened_pair(alloc: Global) -> Result<Chip, Fail>
+    ensures whole { IfOk result (λ chip. IsWhole chip) }
+    ensures ranks { IfOk result (λ chip. (about_in chip).nue ≡ 2) }
+    ensures none { IfOk result (λ chip. (r : ℕ) → events_in chip r ≡ []) }
+{
+    new_pair(alloc)
 }
 
 fn load_once(words: Words<'_>, token: Token) -> Token
@@ -180,14 +187,13 @@ fn step_apart<R: Threads + Sync>(rt: &R, chip: &mut Chip)
 
 #[test]
 fn two_ranks_step_in_threads_of_their_own(rt: HostRuntime) -> Result<(), Fail> {
-    let mut chip = Chip::blank();
-    let setup = world_of(2, Layout::lines()).ok_or("a setup")?;
-    chip.open(rt.alloc(), setup)?;
+    let mut chip = opened_pair(rt.alloc())?;
     step_apart(&rt, &mut chip);
     let _nue = chip.setup().nue();
     let mut port = chip.port(Rank::of(0));
-    assert!(rt; port.load(Place::new(CoreId::of(0), 240, 0)) == 7);
-    assert!(rt; port.load(Place::new(CoreId::of(1), 240, 0)) == 8);
+    let first = port.load(Place::new(CoreId::of(0), 240, 0));
+    let second = port.load(Place::new(CoreId::of(1), 240, 0));
+    assert!(rt; first == 7 && second == 8);
     Ok(())
 }
 
@@ -203,9 +209,7 @@ fn away_and_home(chip: &mut Chip)
 
 #[test]
 fn a_rank_goes_away_and_comes_home(rt: HostRuntime) -> Result<(), Fail> {
-    let mut chip = Chip::blank();
-    let setup = world_of(2, Layout::lines()).ok_or("a setup")?;
-    chip.open(rt.alloc(), setup)?;
+    let mut chip = opened_pair(rt.alloc())?;
     away_and_home(&mut chip);
     assert!(rt; chip.is_open());
     Ok(())

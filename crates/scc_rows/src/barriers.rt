@@ -5,6 +5,7 @@ ghost use Rattle.scc_base.specs.Communicators.{rule_of};
 ghost use Rattle.scc_base.specs.declared.communicators.CommRule.TheVariants.{Absent};
 ghost use Rattle.scc_mesh.specs.Scenes.{IsNew, about_in};
 
+use crate::fixtures::LAYOUTS;
 use barrier::{BarOp, BarStop, Parity, barrier};
 use chip_teams::{Player, Team, opened};
 use line_cache::Never;
@@ -94,25 +95,37 @@ fn rounds_of(alloc: Global, layout: Layout, nue: u8, order: &[usize]) -> Result<
     Ok(team.rounds(order, 20))
 }
 
+/// The orders of two and of three ranks.
+const ORDERS: &[&[usize]] = &[
+    &[0, 1],
+    &[1, 0],
+    &[0, 1, 2],
+    &[0, 2, 1],
+    &[1, 0, 2],
+    &[1, 2, 0],
+    &[2, 0, 1],
+    &[2, 1, 0],
+];
+
 #[test]
 fn members_pass_twice_in_every_order(rt: HostRuntime) -> Result<(), Fail> {
-    for layout in [Layout::lines(), Layout::bits()] {
-        assert!(rt; rounds_of(rt.alloc(), layout, 1, &[0])? == 2);
-        for order in [[0, 1], [1, 0]] {
-            assert!(rt; rounds_of(rt.alloc(), layout, 2, &order)? > 0);
-        }
-        for order in [
-            [0, 1, 2],
-            [0, 2, 1],
-            [1, 0, 2],
-            [1, 2, 0],
-            [2, 0, 1],
-            [2, 1, 0],
-        ] {
-            assert!(rt; rounds_of(rt.alloc(), layout, 3, &order)? > 0);
+    for layout in LAYOUTS {
+        assert!(rt; rounds_of(rt.alloc(), *layout, 1, &[0])? == 2);
+        for order in ORDERS {
+            assert!(rt; rounds_of(rt.alloc(), *layout, order.len() as u8, order)? > 0);
         }
     }
     Ok(())
+}
+
+// Whether a turn of a rank is the last of its barriers.
+fn passes(team: &mut Team<Entrant>, at: usize) -> bool {
+    team.turn(at) == Some(Turn::Done)
+}
+
+// Whether a turn of a rank goes on within a barrier.
+fn moves(team: &mut Team<Entrant>, at: usize) -> bool {
+    team.turn(at) == Some(Turn::Moved)
 }
 
 #[test]
@@ -120,38 +133,40 @@ fn nobody_passes_before_all_have_entered(rt: HostRuntime) -> Result<(), Fail> {
     let chip = opened(rt.alloc(), 3, Layout::lines(), CommRule::Absent)?;
     let mut team = entrants(rt.alloc(), chip, 0, 0)?;
     for _ in 0..10 {
-        assert!(rt; team.turn(0) != Some(Turn::Done));
-        assert!(rt; team.turn(1) != Some(Turn::Done));
+        assert!(rt; !passes(&mut team, 0) && !passes(&mut team, 1));
     }
     assert!(rt; team.rounds(&[0, 1, 2], 10) > 0);
     Ok(())
 }
 
+// So many ranks of which those of even number are one group, and the others another, which enter a barrier of it.
+fn entrants_of_split(alloc: Global, layout: Layout, nue: u8) -> Result<Team<Entrant>, Fail> {
+    let chip = opened(alloc, nue, layout, CommRule::Mod { parent: 0, k: 2 })?;
+    entrants(alloc, chip, 8, 0)
+}
+
+// Whether rank 0 alone does not pass a barrier of its group, and passes it with rank 2.
+fn passes_with_two(team: &mut Team<Entrant>) -> bool {
+    let alone = team.rounds(&[0], 5);
+    alone == 0 && team.rounds(&[2, 0], 5) > 0
+}
+
 #[test]
 fn the_groups_of_a_split_do_not_wait_for_each_other(rt: HostRuntime) -> Result<(), Fail> {
-    for layout in [Layout::lines(), Layout::bits()] {
-        // Ranks 0 and 2 are one group, 1 and 3 another; both are at it at once.
-        let split = CommRule::Mod { parent: 0, k: 2 };
-        let chip = opened(rt.alloc(), 4, layout, split)?;
-        let mut team = entrants(rt.alloc(), chip, 8, 0)?;
-        assert!(rt; team.turn(0) == Some(Turn::Moved));
-        assert!(rt; team.turn(1) == Some(Turn::Moved));
-        assert!(rt; team.rounds(&[3, 1], 5) > 0);
-        assert!(rt; team.rounds(&[0], 5) == 0);
-        assert!(rt; team.rounds(&[2, 0], 5) > 0);
+    for layout in LAYOUTS {
+        // Both groups are at it at once.
+        let mut team = entrants_of_split(rt.alloc(), *layout, 4)?;
+        assert!(rt; moves(&mut team, 0) && moves(&mut team, 1));
+        assert!(rt; team.rounds(&[3, 1], 5) > 0 && passes_with_two(&mut team));
     }
     Ok(())
 }
 
 #[test]
 fn a_rank_that_is_a_group_of_its_own_waits_for_nobody(rt: HostRuntime) -> Result<(), Fail> {
-    for layout in [Layout::lines(), Layout::bits()] {
-        let split = CommRule::Mod { parent: 0, k: 2 };
-        let chip = opened(rt.alloc(), 3, layout, split)?;
-        let mut team = entrants(rt.alloc(), chip, 8, 0)?;
-        assert!(rt; team.turn(1) == Some(Turn::Done));
-        assert!(rt; team.rounds(&[0], 5) == 0);
-        assert!(rt; team.rounds(&[2, 0], 5) > 0);
+    for layout in LAYOUTS {
+        let mut team = entrants_of_split(rt.alloc(), *layout, 3)?;
+        assert!(rt; passes(&mut team, 1) && passes_with_two(&mut team));
     }
     Ok(())
 }
@@ -169,19 +184,28 @@ fn entered_by_root(chip: &mut Chip, polls: u32) -> Result<(), BarStop>
     barrier(&mut core, &mut port, BarOp::new(0), &mut parity, polls)
 }
 
+// Whether a barrier stalled at this line of the other core, after two tries.
+fn is_stalled(answer: Result<(), BarStop>, line: u8) -> bool {
+    let place = Place::new(CoreId::of(46), line, 0);
+    match answer {
+        Err(BarStop::Stalled { op: _, spot, polls }) => {
+            spot == Spot::Flag { place, bit: 0 } && polls == 2
+        }
+        Ok(()) => false,
+    }
+}
+
+/// The lines of the gather flags of the world.
+const GATHERS: &[(Layout, u8)] = &[(Layout::LineFlags, 97), (Layout::BitFlags, 2)];
+
 #[test]
 fn the_root_alone_is_stalled_at_the_other_gather_flag(rt: HostRuntime) -> Result<(), Fail> {
-    for (layout, line) in [(Layout::lines(), 97), (Layout::bits(), 2)] {
-        let mut chip = opened(rt.alloc(), 2, layout, CommRule::Absent)?;
+    for (layout, line) in GATHERS {
+        let mut chip = opened(rt.alloc(), 2, *layout, CommRule::Absent)?;
         if chip.setup().rule(0) == CommRule::Absent {
             return Err("a communicator of all ranks".into());
         }
-        let place = Place::new(CoreId::of(46), line, 0);
-        let Err(BarStop::Stalled { op: _, spot, polls }) = entered_by_root(&mut chip, 2) else {
-            return Err("a barrier that one rank alone passes".into());
-        };
-        assert!(rt; spot == Spot::Flag { place, bit: 0 });
-        assert!(rt; polls == 2);
+        assert!(rt; is_stalled(entered_by_root(&mut chip, 2), *line));
     }
     Ok(())
 }

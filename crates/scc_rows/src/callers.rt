@@ -15,7 +15,7 @@ use std::test::Fail;
 pub(crate) const POLLS: u32 = 3;
 
 /// A call of a rank.
-#[derive(Clone, Copy, PartialEq, Eq)]
+#[derive(Clone, Copy)]
 pub(crate) enum Deed {
     Send,
     Post,
@@ -24,7 +24,7 @@ pub(crate) enum Deed {
 }
 
 /// What a call came to.
-#[derive(Drop, PartialEq, Eq)]
+#[derive(Drop, PartialEq)]
 pub(crate) enum End {
     Done,
     NothingSent,

@@ -21,8 +21,7 @@ fn every_word_is_zero_after_open(rt: HostRuntime) -> Result<(), Fail> {
             }
         }
     }
-    assert!(rt; found == 0);
-    assert!(rt; port.loads() == 49_152);
+    assert!(rt; found == 0 && port.loads() == 49_152);
     Ok(())
 }
 
@@ -31,11 +30,12 @@ fn a_store_is_seen_by_another_ranks_load(rt: HostRuntime) -> Result<(), Fail> {
     let mut chip = new_pair(rt.alloc())?;
     let mut ports = spread_pair(&mut chip);
     let place = heap_word(&ports.first, Rank::of(1), 255, 3);
-    assert!(rt; ports.first.load(place) == 0);
+    let early = ports.first.load(place);
     store(&mut ports.second, Rank::of(1), 255, 3, u64::MAX);
-    assert!(rt; ports.first.load(place) == u64::MAX);
+    let seen = ports.first.load(place);
     store(&mut ports.second, Rank::of(1), 255, 2, 5);
-    assert!(rt; ports.first.load(place) == u64::MAX);
+    let late = ports.first.load(place);
+    assert!(rt; early == 0 && seen == u64::MAX && late == u64::MAX);
     assert!(rt; ports.second.load(place) == u64::MAX);
     Ok(())
 }
@@ -46,14 +46,12 @@ fn a_register_is_taken_once_until_it_is_freed(rt: HostRuntime) -> Result<(), Fai
     let mut ports = spread_pair(&mut chip);
     let core = CoreId::of(47);
     let first = take(&mut ports.first, core);
-    assert!(rt; first);
     let second = take(&mut ports.second, core);
-    assert!(rt; !second);
+    assert!(rt; first && !second);
     free(&mut ports.first, core);
     let again = take(&mut ports.second, core);
-    assert!(rt; again);
     let late = take(&mut ports.first, core);
-    assert!(rt; !late);
+    assert!(rt; again && !late);
     Ok(())
 }
 
@@ -84,9 +82,6 @@ fn a_lock_is_another_ranks_only_after_its_release(rt: HostRuntime) -> Result<(),
     give_back(&mut ports.first, held);
     let late = passes(&mut ports.second, core);
     let first = passes(&mut ports.first, core);
-    assert!(rt; !early);
-    assert!(rt; !again);
-    assert!(rt; late);
-    assert!(rt; first);
+    assert!(rt; !early && !again && late && first);
     Ok(())
 }

@@ -12,8 +12,12 @@ use scc_mesh::{Chip, OnePort, SeatPort};
 use scc_proto::{CountingPort, Port};
 use std::alloc::Global;
 use std::cell::Cell;
+use std::process::Abort;
 use std::test::Fail;
 use tas_lock::{Held, release, try_acquire};
+
+/// Both layouts of the flags.
+pub(crate) const LAYOUTS: &[Layout] = &[Layout::LineFlags, Layout::BitFlags];
 
 /// The cores in the order of their numbers.
 pub(crate) fn cores_in_order() -> [CoreId; 48] {
@@ -49,6 +53,11 @@ pub(crate) fn pair_in(alloc: Global, layout: Layout) -> Result<Chip, Fail>
     let mut chip = Chip::blank();
     chip.open(alloc, setup)?;
     Ok(chip)
+}
+
+/// A buffer of so many lines.
+pub(crate) fn buffer<R: Abort>(rt: &R, first: u8, lines: u8) -> Buf {
+    Buf::new(first, lines).expect(rt, "a buffer")
 }
 
 /// The port of one rank, with its loads counted.

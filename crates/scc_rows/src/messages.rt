@@ -3,6 +3,7 @@
 ghost use Rattle.std.specs.Prelude.{◌≡◌, ◌≤◌, length, SomeIff};
 ghost use Rattle.scc_base.specs.Heads.{plain_head};
 
+use crate::fixtures::LAYOUTS;
 use chip_teams::{Player, Team, opened};
 use line_cache::{Always, Evict, Never};
 use put_get::Core;
@@ -13,7 +14,7 @@ use std::alloc::Global;
 use std::test::Fail;
 
 /// What a rank is to do with a message.
-#[derive(Clone, Copy, PartialEq, Eq)]
+#[derive(Clone, Copy)]
 pub(crate) enum Deed {
     Send,
     Post,
@@ -274,112 +275,122 @@ fn exchanged<V: Evict + Drop>(
     Ok(arrived_in(&team))
 }
 
-// How many messages of these lengths arrive: none, one byte, one chunk and one byte more, in the chunks of either
-// layout, and the longest.
+/// No byte, one byte, one chunk and one byte more, in the chunks of either layout, and the longest message.
+const LENGTHS: &[usize] = &[0, 1, 3_584, 3_585, 6_624, 6_625, 65_536];
+
+// How many messages of these lengths arrive.
 fn lengths_arrived(alloc: Global, layout: Layout) -> Result<u32, Fail> {
     let mut arrived: u32 = 0;
-    for len in [0, 1, 3_584, 3_585, 6_624, 6_625, 65_536] {
+    for len in LENGTHS {
         let one = exchanged(
             alloc,
             layout,
             (Never, Never),
-            &[(Deed::Send, len)],
-            &[(Deed::Receive, len)],
+            &[(Deed::Send, *len)],
+            &[(Deed::Receive, *len)],
         )?;
         arrived = arrived.saturating_add(one);
     }
     Ok(arrived)
 }
 
-// Two messages of one length, sent or posted, and received in order.
-fn two_arrived(alloc: Global, layout: Layout, deed: Deed) -> Result<u32, Fail> {
-    let received = [(Deed::Receive, 33), (Deed::Receive, 33)];
-    exchanged(
-        alloc,
-        layout,
-        (Never, Never),
-        &[(deed, 33), (deed, 33)],
-        &received,
-    )
+const TWO_SENT: &[(Deed, usize)] = &[(Deed::Send, 33), (Deed::Send, 33)];
+
+const TWO_POSTED: &[(Deed, usize)] = &[(Deed::Post, 33), (Deed::Post, 33)];
+
+const TWO_RECEIVED: &[(Deed, usize)] = &[(Deed::Receive, 33), (Deed::Receive, 33)];
+
+// Whether two messages of one length, sent or posted, are received in order.
+fn two_arrive(alloc: Global, layout: Layout, two: &[(Deed, usize)]) -> Result<bool, Fail> {
+    Ok(exchanged(alloc, layout, (Never, Never), two, TWO_RECEIVED)? == 2)
 }
 
-// Messages sent and posted, where each fill of either rank evicts a line.
-fn evicted_arrived(alloc: Global, layout: Layout) -> Result<u32, Fail> {
-    exchanged(
-        alloc,
-        layout,
-        (Always::new(), Always::new()),
-        &[(Deed::Send, 6_625), (Deed::Post, 40)],
-        &[(Deed::Receive, 6_625), (Deed::Receive, 40)],
-    )
+const SENT_AND_POSTED: &[(Deed, usize)] = &[(Deed::Send, 6_625), (Deed::Post, 40)];
+
+const BOTH_RECEIVED: &[(Deed, usize)] = &[(Deed::Receive, 6_625), (Deed::Receive, 40)];
+
+// Whether messages sent and posted arrive, where each fill of either rank evicts a line.
+fn evicted_arrive(alloc: Global, layout: Layout) -> Result<bool, Fail> {
+    let evictors = (Always::new(), Always::new());
+    Ok(exchanged(alloc, layout, evictors, SENT_AND_POSTED, BOTH_RECEIVED)? == 2)
 }
 
 #[test]
 fn messages_arrive_whole_and_in_order(rt: HostRuntime) -> Result<(), Fail> {
-    for layout in [Layout::lines(), Layout::bits()] {
-        assert!(rt; lengths_arrived(rt.alloc(), layout)? == 7);
-        assert!(rt; two_arrived(rt.alloc(), layout, Deed::Send)? == 2);
-        assert!(rt; two_arrived(rt.alloc(), layout, Deed::Post)? == 2);
-        assert!(rt; evicted_arrived(rt.alloc(), layout)? == 2);
+    for layout in LAYOUTS {
+        assert!(rt; lengths_arrived(rt.alloc(), *layout)? == 7);
+        assert!(rt; two_arrive(rt.alloc(), *layout, TWO_SENT)?);
+        assert!(rt; two_arrive(rt.alloc(), *layout, TWO_POSTED)?);
+        assert!(rt; evicted_arrive(rt.alloc(), *layout)?);
     }
     Ok(())
 }
 
+// Whether a turn of a rank waits.
+fn waits(team: &mut Team<Talker<Never>>, at: usize) -> bool {
+    matches!(&team.turn(at), Some(Turn::Waiting(_)))
+}
+
+const SEND: &[(Deed, usize)] = &[(Deed::Send, 100)];
+
+const RECEIVE: &[(Deed, usize)] = &[(Deed::Receive, 100)];
+
 // Whether a receive waits until the sender has taken its turns, and then goes on.
 fn receive_goes_on(alloc: Global, layout: Layout) -> Result<bool, Fail> {
-    let mut team = talking(
-        alloc,
-        layout,
-        (Never, Never),
-        &[(Deed::Send, 100)],
-        &[(Deed::Receive, 100)],
-    )?;
+    let mut team = talking(alloc, layout, (Never, Never), SEND, RECEIVE)?;
     let early = team.rounds(&[1], 20);
-    let waits = matches!(&team.turn(1), Some(Turn::Waiting(_)));
+    let receiver_waits = waits(&mut team, 1);
     // Once the message is sent the sender waits in its turn, and the receive goes on.
     let alone = team.rounds(&[0], 20);
-    let sender_waits = matches!(&team.turn(0), Some(Turn::Waiting(_)));
+    let sender_waits = waits(&mut team, 0);
     let moves = team.turn(1) == Some(Turn::Moved);
     let ends = team.rounds(&[1, 0], 20) > 0;
-    Ok(early == 0 && waits && alone == 0 && sender_waits && moves && ends && arrived_in(&team) == 1)
+    let stood = early == 0 && receiver_waits && alone == 0 && sender_waits;
+    Ok(stood && moves && ends && arrived_in(&team) == 1)
 }
+
+const SEND_FORTY: &[(Deed, usize)] = &[(Deed::Send, 40)];
+
+const RECEIVE_MORE: &[(Deed, usize)] = &[(Deed::Receive, 41), (Deed::Receive, 40)];
 
 // Whether a receive of another length meets the head that was sent, and leaves the message to the next receive.
 fn other_length_is_met(alloc: Global, layout: Layout) -> Result<bool, Fail> {
-    let received = [(Deed::Receive, 41), (Deed::Receive, 40)];
-    let mut team = talking(
-        alloc,
-        layout,
-        (Never, Never),
-        &[(Deed::Send, 40)],
-        &received,
-    )?;
+    let mut team = talking(alloc, layout, (Never, Never), SEND_FORTY, RECEIVE_MORE)?;
     let ends = team.rounds(&[0, 1], 100) > 0;
     let met = team.player(1).is_some_and(|receiver| receiver.met == Head::plain(40)
         && receiver.asked == Head::plain(41));
     Ok(ends && met && arrived_in(&team) == 1)
 }
 
+const LONG_AND_SHORT: &[(Deed, usize)] = &[(Deed::Post, 3_584), (Deed::Post, 7)];
+
+const THEIR_RECEIVES: &[(Deed, usize)] = &[(Deed::Receive, 3_584), (Deed::Receive, 7)];
+
 // Whether a second post waits until the first is taken.
 fn second_post_waits(alloc: Global, layout: Layout) -> Result<bool, Fail> {
-    let posted = [(Deed::Post, 3_584), (Deed::Post, 7)];
-    let received = [(Deed::Receive, 3_584), (Deed::Receive, 7)];
-    let mut team = talking(alloc, layout, (Never, Never), &posted, &received)?;
+    let mut team = talking(
+        alloc,
+        layout,
+        (Never, Never),
+        LONG_AND_SHORT,
+        THEIR_RECEIVES,
+    )?;
     let alone = team.rounds(&[0], 300);
-    let waits = matches!(&team.turn(0), Some(Turn::Waiting(_)));
+    let stands = waits(&mut team, 0);
     // The first is received while the sender does nothing, and the second has not come.
     let first = team.rounds(&[1], 300);
     let one = arrived_in(&team);
     let ends = team.rounds(&[0, 1], 300) > 0;
-    Ok(alone == 0 && waits && first == 0 && one == 1 && ends && arrived_in(&team) == 2)
+    let stood = alone == 0 && stands && first == 0 && one == 1;
+    Ok(stood && ends && arrived_in(&team) == 2)
 }
 
 #[test]
 fn a_call_that_waits_goes_on(rt: HostRuntime) -> Result<(), Fail> {
-    for layout in [Layout::lines(), Layout::bits()] {
-        assert!(rt; receive_goes_on(rt.alloc(), layout)?);
-        assert!(rt; other_length_is_met(rt.alloc(), layout)?);
-        assert!(rt; second_post_waits(rt.alloc(), layout)?);
+    for layout in LAYOUTS {
+        assert!(rt; receive_goes_on(rt.alloc(), *layout)?);
+        assert!(rt; other_length_is_met(rt.alloc(), *layout)?);
+        assert!(rt; second_post_waits(rt.alloc(), *layout)?);
     }
     Ok(())
 }

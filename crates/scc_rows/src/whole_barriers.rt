@@ -3,6 +3,7 @@
 ghost use Rattle.std.specs.Prelude.{◌<◌};
 ghost use Rattle.scc_mesh.specs.Scenes.{IsNew, about_in};
 
+use crate::fixtures::LAYOUTS;
 use barrier::{BarOp, BarStop, Parity, barrier};
 use chip_teams::{Player, Team, opened};
 use line_cache::Never;
@@ -94,35 +95,37 @@ fn passes(team: &mut Team<Passer>, at: usize) -> bool {
     team.turn(at) == Some(Turn::Done)
 }
 
+// Whether a rank waits at each of the other's flags in turn, and the barrier then goes on, at both.
+fn stalls_and_goes_on(team: &mut Team<Passer>, gather: u8, release: u8) -> bool {
+    let root = waits_at(team, 0, gather);
+    let other = waits_at(team, 1, release);
+    let again = waits_at(team, 1, release);
+    root && other && again && passes(team, 0) && passes(team, 1)
+}
+
+/// The lines of the gather and the release flags of the world.
+const FLAGS: &[(Layout, u8, u8)] = &[(Layout::LineFlags, 97, 105), (Layout::BitFlags, 2, 10)];
+
 #[test]
 fn a_barrier_that_stalled_goes_on(rt: HostRuntime) -> Result<(), Fail> {
-    for (layout, gather, release) in [(Layout::lines(), 97, 105), (Layout::bits(), 2, 10)] {
-        let chip = opened(rt.alloc(), 2, layout, CommRule::Absent)?;
+    for (layout, gather, release) in FLAGS {
+        let chip = opened(rt.alloc(), 2, *layout, CommRule::Absent)?;
         let mut team = passers(rt.alloc(), chip, 0)?;
         // Twice, so that the flags are flipped up and down again.
-        for _ in 0..2 {
-            assert!(rt; waits_at(&mut team, 0, gather));
-            assert!(rt; waits_at(&mut team, 1, release));
-            assert!(rt; waits_at(&mut team, 1, release));
-            assert!(rt; passes(&mut team, 0));
-            assert!(rt; passes(&mut team, 1));
-        }
+        assert!(rt; stalls_and_goes_on(&mut team, *gather, *release));
+        assert!(rt; stalls_and_goes_on(&mut team, *gather, *release));
     }
     Ok(())
 }
 
 #[test]
 fn a_groups_barrier_goes_on_without_the_other_ranks(rt: HostRuntime) -> Result<(), Fail> {
-    for layout in [Layout::lines(), Layout::bits()] {
+    for layout in LAYOUTS {
         // Ranks 0 and 2 are one group, and rank 1 is another.
-        let split = CommRule::Mod { parent: 0, k: 2 };
-        let chip = opened(rt.alloc(), 3, layout, split)?;
+        let chip = opened(rt.alloc(), 3, *layout, CommRule::Mod { parent: 0, k: 2 })?;
         let mut team = passers(rt.alloc(), chip, 8)?;
-        assert!(rt; !passes(&mut team, 2));
-        assert!(rt; passes(&mut team, 0));
-        assert!(rt; !passes(&mut team, 0));
-        assert!(rt; passes(&mut team, 2));
-        assert!(rt; passes(&mut team, 1));
+        assert!(rt; !passes(&mut team, 2) && passes(&mut team, 0) && !passes(&mut team, 0));
+        assert!(rt; passes(&mut team, 2) && passes(&mut team, 1));
     }
     Ok(())
 }

@@ -5,13 +5,14 @@ ghost use Rattle.scc_proto.specs.Words.{are_peers};
 ghost use Rattle.send_recv.specs.Calling.{IsBetweenMessages};
 
 use crate::callers::{Caller, Deed, End, POLLS, calling};
-use crate::fixtures::{counted, pair_in};
+use crate::fixtures::{LAYOUTS, counted, pair_in};
 use chip_teams::Team;
 use line_cache::{Evict, Never};
 use put_get::Core;
 use scc_base::{CoreId, Head, Layout, Place, PostHead, Rank, Spot};
 use scc_proto::Port;
 use send_recv::{RecvOp, RecvStop, SendOp, SendStop, Slot, recv, recv_test, send};
+use std::alloc::Global;
 use std::test::Fail;
 
 /// Receives a message of as many bytes as the buffer has from rank 0.
@@ -80,25 +81,68 @@ fn post<P: Port, V: Evict>(
     )
 }
 
+/// What a buffer holds before a receive.
+const SEVENS: &[u8] = &[7, 7, 7, 7];
+
+// Whether a buffer holds it still.
+fn is_kept(bytes: &[u8]) -> bool {
+    bytes == SEVENS
+}
+
+// Whether a receive stalled here, after so many tries.
+fn is_stalled(answer: Result<(), RecvStop>, at: Spot, tries: u32) -> bool {
+    match answer {
+        Err(RecvStop::Stalled { op: _, spot, polls }) => spot == at && polls == tries,
+        _ => false,
+    }
+}
+
+// Whether a test found nothing.
+fn is_nothing(answer: Result<bool, RecvStop>) -> bool {
+    matches!(answer, Ok(false))
+}
+
+// The flag by which rank 0 tells a message to rank 1.
+fn sent_spot() -> Spot {
+    Spot::Flag {
+        place: Place::new(CoreId::of(1), 1, 0),
+        bit: 0,
+    }
+}
+
+// The flag at which rank 0 waits for the answer of rank 1.
+fn answer_spot(layout: Layout) -> Spot {
+    let place = match layout {
+        Layout::LineFlags => Place::new(CoreId::of(0), 50, 0),
+        Layout::BitFlags => Place::new(CoreId::of(0), 1, 1),
+    };
+    Spot::Flag {
+        place,
+        bit: layout.ready(Rank::of(1)).bit(),
+    }
+}
+
+// Whether a post stalled at that flag, after so many tries.
+fn is_unanswered(answer: Result<(), SendStop>, layout: Layout, tries: u32) -> bool {
+    match answer {
+        Err(SendStop::Stalled { op: _, spot, polls }) => {
+            spot == answer_spot(layout) && polls == tries
+        }
+        Ok(()) => false,
+    }
+}
+
 #[tactic(auto, using(crate::proofs::MessageLemmas::fresh_free, crate::proofs::MessageLemmas::second_peers))]
 #[test]
 fn a_receive_of_nothing_stalls_after_its_polls(rt: HostRuntime) -> Result<(), Fail> {
-    for layout in [Layout::lines(), Layout::bits()] {
-        let mut chip = pair_in(rt.alloc(), layout)?;
+    for layout in LAYOUTS {
+        let mut chip = pair_in(rt.alloc(), *layout)?;
         let mut port = counted(&mut chip, Rank::of(1));
         let mut core = Core::new(Never);
         let slot = Slot::new();
         let mut got = [7; 4];
-        let Err(RecvStop::Stalled { op: _, spot, polls }) = receive(
-            &mut core, &mut port, &slot, &mut got, 3,
-        ) else {
-            return Err("a receive that finds nothing".into());
-        };
-        assert!(rt; port.loads() == 12);
-        let place = Place::new(CoreId::of(1), 1, 0);
-        assert!(rt; spot == Spot::Flag { place, bit: 0 });
-        assert!(rt; polls == 3);
-        assert!(rt; got == [7; 4]);
+        let answer = receive(&mut core, &mut port, &slot, &mut got, 3);
+        assert!(rt; is_stalled(answer, sent_spot(), 3) && port.loads() == 12 && is_kept(&got));
     }
     Ok(())
 }
@@ -106,18 +150,14 @@ fn a_receive_of_nothing_stalls_after_its_polls(rt: HostRuntime) -> Result<(), Fa
 #[tactic(auto, using(crate::proofs::MessageLemmas::fresh_free, crate::proofs::MessageLemmas::second_peers))]
 #[test]
 fn a_test_of_nothing_makes_one_look(rt: HostRuntime) -> Result<(), Fail> {
-    for layout in [Layout::lines(), Layout::bits()] {
-        let mut chip = pair_in(rt.alloc(), layout)?;
+    for layout in LAYOUTS {
+        let mut chip = pair_in(rt.alloc(), *layout)?;
         let mut port = counted(&mut chip, Rank::of(1));
         let mut core = Core::new(Never);
         let slot = Slot::new();
         let mut got = [7; 4];
-        let Ok(found) = receive_if_sent(&mut core, &mut port, &slot, &mut got, 3) else {
-            return Err("a test that finds nothing".into());
-        };
-        assert!(rt; !found);
-        assert!(rt; port.loads() == 4);
-        assert!(rt; got == [7; 4]);
+        let answer = receive_if_sent(&mut core, &mut port, &slot, &mut got, 3);
+        assert!(rt; is_nothing(answer) && port.loads() == 4 && is_kept(&got));
     }
     Ok(())
 }
@@ -125,38 +165,35 @@ fn a_test_of_nothing_makes_one_look(rt: HostRuntime) -> Result<(), Fail> {
 #[tactic(auto, using(crate::proofs::MessageLemmas::fresh_free, crate::proofs::MessageLemmas::first_peers, crate::proofs::MessageLemmas::still_peers))]
 #[test]
 fn a_second_post_waits_for_the_first(rt: HostRuntime) -> Result<(), Fail> {
-    for (layout, line, word) in [(Layout::lines(), 50, 0), (Layout::bits(), 1, 1)] {
-        let mut chip = pair_in(rt.alloc(), layout)?;
+    for layout in LAYOUTS {
+        let mut chip = pair_in(rt.alloc(), *layout)?;
         let mut port = counted(&mut chip, Rank::of(0));
         let mut core = Core::new(Never);
         let mut slot = Slot::new();
         let Ok(()) = post(&mut core, &mut port, &mut slot, &[1, 2], 2) else {
             return Err("a first post".into());
         };
-        assert!(rt; slot.holds() == Some(Rank::of(1)));
-        let Err(SendStop::Stalled { op: _, spot, polls }) = post(
-            &mut core,
-            &mut port,
-            &mut slot,
-            &[3, 4],
-            2,
-        ) else {
-            return Err("a post while another is on its way".into());
-        };
-        let place = Place::new(CoreId::of(0), line, word);
-        assert!(rt;
-            spot == Spot::Flag {
-                place,
-                bit: layout.ready(Rank::of(1)).bit()
-            }
-        );
-        assert!(rt; polls == 2);
+        let held = slot.holds() == Some(Rank::of(1));
+        let answer = post(&mut core, &mut port, &mut slot, &[3, 4], 2);
+        assert!(rt; held && is_unanswered(answer, *layout, 2));
     }
     Ok(())
 }
 
-// Whether the last call of a rank came to this.
-fn ended(team: &Team<Caller>, at: usize, end: End) -> bool {
+// Rank 0 makes the first call and rank 1 the second, with so many bytes each.
+fn calling_once(
+    alloc: Global,
+    layout: Layout,
+    first: Deed,
+    second: Deed,
+    len: usize,
+) -> Result<Team<Caller>, Fail> {
+    calling(alloc, layout, &[(first, len)], &[(second, len)])
+}
+
+// Whether the next call of a rank comes to this.
+fn comes_to(team: &mut Team<Caller>, at: usize, end: End) -> bool {
+    let _ = team.turn(at);
     let wanted = Some(end);
     match team.player(at) {
         Some(caller) => caller.end == wanted,
@@ -164,170 +201,138 @@ fn ended(team: &Team<Caller>, at: usize, end: End) -> bool {
     }
 }
 
-// Whether the receiver's bytes are those that were posted last.
-fn is_arrived(team: &Team<Caller>) -> bool {
+// Whether the next call of a rank is done.
+fn is_done(team: &mut Team<Caller>, at: usize) -> bool {
+    comes_to(team, at, End::Done)
+}
+
+// Whether the next call of a rank stalls here.
+fn stalls(team: &mut Team<Caller>, at: usize, spot: Spot) -> bool {
+    comes_to(team, at, End::Stalled { spot, polls: POLLS })
+}
+
+// Whether the next call of a rank is done, and the receiver's bytes are then those that were sent last.
+fn arrives(team: &mut Team<Caller>, at: usize) -> bool {
+    let done = is_done(team, at);
     let (Some(sender), Some(receiver)) = (team.player(0), team.player(1)) else {
         return false;
     };
-    sender.bytes == receiver.bytes
+    done && sender.bytes == receiver.bytes
 }
 
-// Whether the receiver met this head where it asked for that one.
-fn met_heads(team: &Team<Caller>, met: Option<Head>, asked: Option<Head>) -> bool {
-    team.player(1)
-        .is_some_and(|caller| caller.met == met && caller.asked == asked)
+// Whether the receiver met a head of 8 bytes where it asked for one of 4.
+fn met_eight_for_four(team: &Team<Caller>) -> bool {
+    team.player(1).is_some_and(|caller| caller.met == Head::plain(8)
+        && caller.asked == Head::plain(4))
 }
 
 #[test]
 fn a_receive_that_stalled_goes_on(rt: HostRuntime) -> Result<(), Fail> {
-    for layout in [Layout::lines(), Layout::bits()] {
-        let mut team = calling(
-            rt.alloc(),
-            layout,
-            &[(Deed::Post, 100)],
-            &[(Deed::Receive, 100)],
-        )?;
-        let _ = team.turn(1);
-        let place = Place::new(CoreId::of(1), 1, 0);
-        let spot = Spot::Flag { place, bit: 0 };
-        assert!(rt; ended(&team, 1, End::Stalled { spot, polls: POLLS }));
-        let _ = team.turn(0);
-        assert!(rt; ended(&team, 0, End::Done));
-        let _ = team.turn(1);
-        assert!(rt; ended(&team, 1, End::Done));
-        assert!(rt; is_arrived(&team));
+    for layout in LAYOUTS {
+        let mut team = calling_once(rt.alloc(), *layout, Deed::Post, Deed::Receive, 100)?;
+        let stalled = stalls(&mut team, 1, sent_spot());
+        let posted = is_done(&mut team, 0);
+        assert!(rt; stalled && posted && arrives(&mut team, 1));
     }
     Ok(())
 }
 
+/// Calls that receive what was posted, each with a number of bytes.
+const POSTED: &[(Deed, usize)] = &[
+    (Deed::Receive, 0),
+    (Deed::Receive, 1),
+    (Deed::Receive, 3_584),
+    (Deed::Test, 0),
+    (Deed::Test, 1),
+    (Deed::Test, 3_584),
+];
+
 #[test]
 fn a_posted_message_is_received_and_tested(rt: HostRuntime) -> Result<(), Fail> {
-    for layout in [Layout::lines(), Layout::bits()] {
-        for deed in [Deed::Receive, Deed::Test] {
-            for len in [0, 1, 3_584] {
-                let mut team = calling(rt.alloc(), layout, &[(Deed::Post, len)], &[(deed, len)])?;
-                let _ = team.turn(0);
-                let _ = team.turn(1);
-                assert!(rt; ended(&team, 1, End::Done));
-                assert!(rt; is_arrived(&team));
-            }
+    for layout in LAYOUTS {
+        for (deed, len) in POSTED {
+            let mut team = calling_once(rt.alloc(), *layout, Deed::Post, *deed, *len)?;
+            let _ = team.turn(0);
+            assert!(rt; arrives(&mut team, 1));
         }
     }
     Ok(())
+}
+
+// Whether a call of 4 bytes is told that 8 were posted, and a call of 8 bytes then receives them.
+fn other_length_is_told(alloc: Global, layout: Layout, deed: Deed) -> Result<bool, Fail> {
+    let mut team = calling(alloc, layout, &[(Deed::Post, 8)], &[(deed, 4), (deed, 8)])?;
+    let _ = team.turn(0);
+    let other = comes_to(&mut team, 1, End::OtherHead);
+    let told = met_eight_for_four(&team);
+    let arrived = arrives(&mut team, 1);
+    Ok(other && told && arrived)
 }
 
 #[test]
 fn another_length_is_told_and_leaves_the_message(rt: HostRuntime) -> Result<(), Fail> {
-    for layout in [Layout::lines(), Layout::bits()] {
-        for deed in [Deed::Receive, Deed::Test] {
-            let mut team = calling(
-                rt.alloc(),
-                layout,
-                &[(Deed::Post, 8)],
-                &[(deed, 4), (deed, 8)],
-            )?;
-            let _ = team.turn(0);
-            let _ = team.turn(1);
-            assert!(rt; ended(&team, 1, End::OtherHead));
-            assert!(rt; met_heads(&team, Head::plain(8), Head::plain(4)));
-            let _ = team.turn(1);
-            assert!(rt; ended(&team, 1, End::Done));
-            assert!(rt; is_arrived(&team));
-        }
+    for layout in LAYOUTS {
+        assert!(rt; other_length_is_told(rt.alloc(), *layout, Deed::Receive)?);
+        assert!(rt; other_length_is_told(rt.alloc(), *layout, Deed::Test)?);
     }
     Ok(())
 }
+
+const POST: &[(Deed, usize)] = &[(Deed::Post, 33)];
+
+const TEST_AND_RECEIVE: &[(Deed, usize)] = &[(Deed::Test, 33), (Deed::Receive, 33)];
 
 #[test]
 fn a_test_of_nothing_leaves_a_later_receive(rt: HostRuntime) -> Result<(), Fail> {
-    for layout in [Layout::lines(), Layout::bits()] {
-        let calls = [(Deed::Test, 33), (Deed::Receive, 33)];
-        let mut team = calling(rt.alloc(), layout, &[(Deed::Post, 33)], &calls)?;
-        let _ = team.turn(1);
-        assert!(rt; ended(&team, 1, End::NothingSent));
+    for layout in LAYOUTS {
+        let mut team = calling(rt.alloc(), *layout, POST, TEST_AND_RECEIVE)?;
+        let nothing = comes_to(&mut team, 1, End::NothingSent);
         let _ = team.turn(0);
-        let _ = team.turn(1);
-        assert!(rt; ended(&team, 1, End::Done));
-        assert!(rt; is_arrived(&team));
+        assert!(rt; nothing && arrives(&mut team, 1));
     }
     Ok(())
 }
+
+const TWO_POSTS: &[(Deed, usize)] = &[(Deed::Post, 40), (Deed::Post, 40)];
+
+const TWO_RECEIVES: &[(Deed, usize)] = &[(Deed::Receive, 40), (Deed::Receive, 40)];
 
 #[test]
 fn a_post_that_stalled_goes_on(rt: HostRuntime) -> Result<(), Fail> {
-    for layout in [Layout::lines(), Layout::bits()] {
-        let posts = [(Deed::Post, 40), (Deed::Post, 40)];
-        let receives = [(Deed::Receive, 40), (Deed::Receive, 40)];
-        let mut team = calling(rt.alloc(), layout, &posts, &receives)?;
-        let _ = team.turn(0);
-        assert!(rt; ended(&team, 0, End::Done));
-        let _ = team.turn(0);
-        let ready = layout.ready(Rank::of(1));
-        let spot = Spot::Flag {
-            place: ready.place(CoreId::of(0)),
-            bit: ready.bit(),
-        };
-        assert!(rt; ended(&team, 0, End::Stalled { spot, polls: POLLS }));
-        for at in [1, 0, 1] {
-            let _ = team.turn(at);
-            assert!(rt; ended(&team, at, End::Done));
-            assert!(rt; is_arrived(&team));
-        }
+    for layout in LAYOUTS {
+        let mut team = calling(rt.alloc(), *layout, TWO_POSTS, TWO_RECEIVES)?;
+        let posted = is_done(&mut team, 0);
+        let stalled = stalls(&mut team, 0, answer_spot(*layout));
+        assert!(rt; posted && stalled);
+        assert!(rt; arrives(&mut team, 1) && arrives(&mut team, 0) && arrives(&mut team, 1));
     }
     Ok(())
-}
-
-// The flag at which a rank 0 waits for the answer of rank 1.
-fn answer_spot(layout: Layout) -> Spot {
-    let ready = layout.ready(Rank::of(1));
-    Spot::Flag {
-        place: ready.place(CoreId::of(0)),
-        bit: ready.bit(),
-    }
 }
 
 #[test]
 fn a_send_that_stalled_goes_on(rt: HostRuntime) -> Result<(), Fail> {
-    for layout in [Layout::lines(), Layout::bits()] {
-        let mut team = calling(
-            rt.alloc(),
-            layout,
-            &[(Deed::Send, 100)],
-            &[(Deed::Receive, 100)],
-        )?;
-        for _ in 0..2 {
-            let _ = team.turn(0);
-            let spot = answer_spot(layout);
-            assert!(rt; ended(&team, 0, End::Stalled { spot, polls: POLLS }));
-        }
-        for at in [1, 0] {
-            let _ = team.turn(at);
-            assert!(rt; ended(&team, at, End::Done));
-        }
-        assert!(rt; is_arrived(&team));
+    for layout in LAYOUTS {
+        let mut team = calling_once(rt.alloc(), *layout, Deed::Send, Deed::Receive, 100)?;
+        let first = stalls(&mut team, 0, answer_spot(*layout));
+        let again = stalls(&mut team, 0, answer_spot(*layout));
+        let received = is_done(&mut team, 1);
+        assert!(rt; first && again && received && arrives(&mut team, 0));
     }
     Ok(())
 }
 
+/// A byte more than a chunk.
+const TWO_CHUNKS: &[(Layout, usize)] = &[(Layout::LineFlags, 3_585), (Layout::BitFlags, 6_625)];
+
 #[test]
 fn a_send_of_two_chunks_stalls_at_each(rt: HostRuntime) -> Result<(), Fail> {
-    for (layout, len) in [(Layout::lines(), 3_585), (Layout::bits(), 6_625)] {
-        let mut team = calling(
-            rt.alloc(),
-            layout,
-            &[(Deed::Send, len)],
-            &[(Deed::Receive, len)],
-        )?;
-        for _ in 0..2 {
-            let _ = team.turn(0);
-            let spot = answer_spot(layout);
-            assert!(rt; ended(&team, 0, End::Stalled { spot, polls: POLLS }));
-            let _ = team.turn(1);
-        }
-        assert!(rt; ended(&team, 1, End::Done));
-        let _ = team.turn(0);
-        assert!(rt; ended(&team, 0, End::Done));
-        assert!(rt; is_arrived(&team));
+    for (layout, len) in TWO_CHUNKS {
+        let mut team = calling_once(rt.alloc(), *layout, Deed::Send, Deed::Receive, *len)?;
+        let first = stalls(&mut team, 0, answer_spot(*layout));
+        let _ = team.turn(1);
+        let second = stalls(&mut team, 0, answer_spot(*layout));
+        let received = is_done(&mut team, 1);
+        assert!(rt; first && second && received && arrives(&mut team, 0));
     }
     Ok(())
 }

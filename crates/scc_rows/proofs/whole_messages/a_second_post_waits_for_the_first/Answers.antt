@@ -1,6 +1,5 @@
-use Rattle.std.proofs.Common.{ap, subst, ℕ}
+use Rattle.std.proofs.Common.{ap}
 use Rattle.put_get.specs.Cores.{Private}
-use Rattle.scc_rows.specs.Rests.{IsFresh}
 use Rattle.scc_rows.proofs.MessageLemmas.{fresh_free}
 use Rattle.scc_rows.proofs.whole_messages.a_second_post_waits_for_the_first.Goals as goal
 
