@@ -13,7 +13,8 @@ use Rattle.rcce_audit.proofs.ReadingLemmas.{text_back}
 use Rattle.rcce_audit.proofs.VerdictLemmas.{verdict_once}
 use Rattle.scc_mesh.specs.Scenes.{ChipView}
 use Rattle.audit_program.specs.History.{ChipTells}
-use Rattle.audit_program.specs.Program.{Command, IsJudge, log_plan, named_plan, verdict_ran}
+use Rattle.rcce_words.specs.ScriptWords.{Command}
+use Rattle.audit_program.specs.Program.{IsJudge, log_plan, named_plan, verdict_ran}
 
 -- want of memory may stand for each
 pub comes_memory : (judge : LogView → Verdict) (program file : List ℕ) (said : Result LogView LogFault) (files : FilesView) → Comes program (log_plan judge file said) files files (no_memory program)

@@ -1,16 +1,13 @@
 -- What the plan of a run comes to, and what the run leaves on the chip.
-use Rattle.std.proofs.Common.{◌≡◌, ℕ, ◌≤◌, List, length, map, codes, refl, sym, subst, ap, inl, inr, Bool, true, false, if◌then◌else◌, Option, Some, None, Result, Ok, Err}
+use Rattle.std.proofs.Common.{◌≡◌, ℕ, List, map, codes, refl, sym, subst, inl, inr, Bool, true, false, if◌then◌else◌, Option, Some, None, Result, Ok, Err}
 use Rattle.std.specs.List.{range_with_len}
 use Rattle.rcce_io.specs.Files.{FilesView, NamedFile}
 use Rattle.scc_base.specs.Setups.{SetupView}
 use Rattle.scc_mesh.specs.Scenes.{ChipView}
-use Rattle.script_reader.specs.Reading.{most_script_bytes, parse_script}
-use Rattle.script_reader.specs.Faults.{kind_name}
-use Rattle.script_reader.specs.declared.fault.ReadFault.{ReadFault}
 use Rattle.script_reader.specs.Script.{Script}
 use Rattle.script_reader.specs.Settled as settled
-use Rattle.outcomes.specs.Coming.{ByTest, Comes, Holds, IsMeant}
-use Rattle.outcomes.specs.Complaints.{ReadsFile, complaint_outcome, outcome_of}
+use Rattle.outcomes.specs.Coming.{ByTest, Comes, IsMeant}
+use Rattle.outcomes.specs.Complaints.{complaint_outcome, outcome_of}
 use Rattle.outcomes.specs.Delivery.{Delivers, Sinks}
 use Rattle.outcomes.specs.Outcomes.{Outcome, Ran, file_refused, no_memory, run_outcome}
 use Rattle.outcomes.specs.Plans.{Plan}
@@ -21,17 +18,18 @@ use Rattle.outcomes.specs.declared.complaint.Complaint.TheVariants as complaint
 use Rattle.outcomes.specs.declared.status.Status.{Status}
 use Rattle.log_run.specs.LogRuns.{HasRun}
 use Rattle.log_run.specs.Sizes.{has_room_for_all}
-use Rattle.audit_program.specs.declared.command.Job.{Job}
 use Rattle.audit_program.specs.declared.logged.Logged.{Logged}
 use Rattle.rcce_audit.specs.declared.verdicts.Verdict.TheVariants as verdict
 use Rattle.rcce_audit.specs.Grammar.{log_of}
 use Rattle.rcce_audit.specs.Logs.{LogView}
 use Rattle.rcce_audit.specs.Texts.{log_text}
 use Rattle.rcce_audit.specs.Verdicts.{IsVerdict}
-use Rattle.audit_program.specs.History.{HasLogged, RunTells, ScriptIn, WordsTell, chip_log, setup_by}
-use Rattle.audit_program.specs.Job.{IsJob, job_command}
-use Rattle.audit_program.specs.Loading.{Ends, HasRan, Launches, Leads, Loads, LoadsBytes, logged_ran}
-use Rattle.audit_program.specs.Program.{Command, command_plan, log_ran, parsed_plan, run_plan, run_words_plan, script_log, script_plan}
+use Rattle.rcce_words.specs.declared.script_words.ScriptJob.{ScriptJob}
+use Rattle.rcce_words.specs.ScriptFiles.{LeadsTo, ScriptIn}
+use Rattle.rcce_words.specs.ScriptWords.{Command, job_command, plan_of}
+use Rattle.audit_program.specs.History.{HasLogged, RunTells, WordsTell, chip_log, setup_by}
+use Rattle.audit_program.specs.Loading.{Ends, HasRan, Launches, logged_ran}
+use Rattle.audit_program.specs.Program.{command_plan, log_ran, run_plan, script_log}
 use Rattle.audit_program.proofs.BackLemmas.{judged_legal, read_back}
 
 -- ---- statuses
@@ -115,64 +113,34 @@ has_logged script set chip whole same run =
       judged = subst (λ (l : LogView). IsVerdict l verdict.Yes) (sym log) (judged_legal script chip whole own);
     }
 
--- ---- the script's file
-
-pub loads_ok : (command : Command) (bytes : List ℕ) (before between : FilesView) (script : Script) → ReadsFile command.script most_script_bytes before between (Ok bytes) → length bytes ≤ most_script_bytes
-    → Holds before.told command.script bytes → parse_script bytes command.nue ≡ Ok script → Loads before.told command before between (Ok script)
-loads_ok command bytes before between script reads few holds said = record {
-  goes = λ o came. reads (codes "rcceaudit") (script_plan command) between o
-      (subst (λ (r : Result Script ReadFault). Comes (codes "rcceaudit") (parsed_plan command.script r) between between o) (sym said) came);
-  asked = (bytes, few, holds, said);
-}
-
-pub loads_by : (command : Command) (bytes : List ℕ) (before between : FilesView) (answer : Result Script Complaint) → ReadsFile command.script most_script_bytes before between (Ok bytes) → length bytes ≤ most_script_bytes
-    → Holds before.told command.script bytes → LoadsBytes command bytes answer → Loads before.told command before between answer
-loads_by command bytes before between (Ok script) reads few holds said = loads_ok command bytes before between script reads few holds said
-loads_by command bytes before between (Err why) reads few holds came = reads (codes "rcceaudit") (script_plan command) between _ (came between)
-
-pub comes_fault : (command : Command) (bytes : List ℕ) (fault : ReadFault) (kind : List ℕ) (files : FilesView) → parse_script bytes command.nue ≡ Err fault → kind ≡ kind_name fault.kind
-    → Comes (codes "rcceaudit") (script_plan command bytes) files files (file_refused (codes "rcceaudit") command.script fault.line kind)
-comes_fault command bytes fault kind files said named =
-    subst (λ (r : Result Script ReadFault). Comes (codes "rcceaudit") (parsed_plan command.script r) files files (file_refused (codes "rcceaudit") command.script fault.line kind)) (sym said)
-    (refl, inl (ap (λ (k : List ℕ). file_refused (codes "rcceaudit") command.script fault.line k) named))
-
-stopped_by : (file : List ℕ) (said : Result Script ReadFault) (files : FilesView) → Comes (codes "rcceaudit") (parsed_plan file said) files files (no_memory (codes "rcceaudit"))
-stopped_by file (Ok script) files = comes_memory (codes "rcceaudit") file script files
-stopped_by file (Err fault) files = (refl, inr refl)
-
-pub comes_stopped : (command : Command) (bytes : List ℕ) (files : FilesView) → Comes (codes "rcceaudit") (script_plan command bytes) files files (no_memory (codes "rcceaudit"))
-comes_stopped command bytes files = stopped_by command.script (parse_script bytes command.nue) files
-
 -- ---- the whole call
 
-tells_by : (test : Bool) (told : Option (List NamedFile)) (command : Command) (script : Script) (chip : ChipView) (o : Outcome) → ScriptIn told command script
+tells_by : (test : Bool) (told : Option (List NamedFile)) (command : Command) (script : Script) (chip : ChipView) (o : Outcome) → ScriptIn command.script told command.nue script
     → ByTest test (chip ≡ None) ((o ≡ run_outcome (log_ran script)) × HasLogged script chip)
-    → ByTest test (chip ≡ None) ((x : Script) × ScriptIn told command x × (o ≡ run_outcome (log_ran x)) × HasLogged x chip)
+    → ByTest test (chip ≡ None) ((x : Script) × ScriptIn command.script told command.nue x × (o ≡ run_outcome (log_ran x)) × HasLogged x chip)
 tells_by true told command script chip o asked shows = shows
 tells_by false told command script chip o asked shows = (script, asked, shows.0, shows.1)
 
-pub ends_ran : (command : Command) (before after : FilesView) (script : Script) (chip : ChipView) (sinks sinks_after : Sinks) (s : Status) → Leads before.told command before after script
-    → HasRan command.script script chip sinks sinks_after s → Ends (RunTells before.told command chip) (run_words_plan (Some command)) before after sinks sinks_after s
+pub ends_ran : (command : Command) (before after : FilesView) (script : Script) (chip : ChipView) (sinks sinks_after : Sinks) (s : Status) → LeadsTo command.script command.nue before after script
+    → HasRan command.script script chip sinks sinks_after s → Ends (RunTells before.told command chip) (plan_of command_plan (Some command)) before after sinks sinks_after s
 ends_ran command before after script chip sinks sinks_after s leads ran =
-    (ran.outcome, leads.goes ran.outcome (ran.comes after), ran.delivers, tells_by (is_quiet ran.outcome.status) before.told command script chip ran.outcome leads.asked ran.shows)
+    (ran.outcome, leads.goes (codes "rcceaudit") (run_plan command.script) after ran.outcome (ran.comes after), ran.delivers, tells_by (is_quiet ran.outcome.status) before.told command script chip ran.outcome leads.stands ran.shows)
 
 pub ends_complained : (command : Command) (before after : FilesView) (chip : ChipView) (why : Complaint) (sinks sinks_after : Sinks) (s : Status) → Comes (codes "rcceaudit") (command_plan command) before after (complaint_outcome (codes "rcceaudit") why)
-    → Delivers (complaint_outcome (codes "rcceaudit") why) sinks sinks_after s → chip ≡ None → Ends (RunTells before.told command chip) (run_words_plan (Some command)) before after sinks sinks_after s
+    → Delivers (complaint_outcome (codes "rcceaudit") why) sinks sinks_after s → chip ≡ None → Ends (RunTells before.told command chip) (plan_of command_plan (Some command)) before after sinks sinks_after s
 ends_complained command before after chip why sinks sinks_after s came delivers blank =
     let o : Outcome = complaint_outcome (codes "rcceaudit") why in
-    let P : Bool → Type 0 = λ b. ByTest b (chip ≡ None) ((x : Script) × ScriptIn before.told command x × (o ≡ run_outcome (log_ran x)) × HasLogged x chip) in
+    let P : Bool → Type 0 = λ b. ByTest b (chip ≡ None) ((x : Script) × ScriptIn command.script before.told command.nue x × (o ≡ run_outcome (log_ran x)) × HasLogged x chip) in
     (o, came, delivers, subst P (sym (quiet (codes "rcceaudit") why)) blank)
 
-pub ends_words : (command : Option Command) (job : Job) (before after : FilesView) (chip : ChipView) (sinks sinks_after : Sinks) (s : Status) → IsJob command (Some job)
-    → Ends (RunTells before.told (job_command job) chip) (run_words_plan (Some (job_command job))) before after sinks sinks_after s
-    → Ends (WordsTell before.told command chip) (run_words_plan command) before after sinks sinks_after s
-ends_words None job before after chip sinks sinks_after s is ends = absurd is
-ends_words (Some command) job before after chip sinks sinks_after s is ends =
-    let same : job_command job ≡ command = rw (is.nue, is.script) refl in
-    subst (λ (x : Command). Ends (RunTells before.told x chip) (run_words_plan (Some x)) before after sinks sinks_after s) same ends
+pub ends_words : (command : Option Command) (job : ScriptJob) (before after : FilesView) (chip : ChipView) (sinks sinks_after : Sinks) (s : Status) → Some (job_command job) ≡ command
+    → Ends (RunTells before.told (job_command job) chip) (plan_of command_plan (Some (job_command job))) before after sinks sinks_after s
+    → Ends (WordsTell before.told command chip) (plan_of command_plan command) before after sinks sinks_after s
+ends_words command job before after chip sinks sinks_after s is ends =
+    subst (λ (x : Option Command). Ends (WordsTell before.told x chip) (plan_of command_plan x) before after sinks sinks_after s) is ends
 
-pub ends_refused : (command : Option Command) (files : FilesView) (chip : ChipView) (o : Outcome) (sinks sinks_after : Sinks) (s : Status) → IsJob command None
+pub ends_refused : (command : Option Command) (files : FilesView) (chip : ChipView) (o : Outcome) (sinks sinks_after : Sinks) (s : Status) → None ≡ command
     → IsMeant (codes "rcceaudit") (Err (codes "words refused")) files files o → Delivers o sinks sinks_after s → chip ≡ None
-    → Ends (WordsTell files.told command chip) (run_words_plan command) files files sinks sinks_after s
-ends_refused None files chip o sinks sinks_after s is meant delivers blank = (o, meant, delivers, blank)
-ends_refused (Some command) files chip o sinks sinks_after s is meant delivers blank = absurd is
+    → Ends (WordsTell files.told command chip) (plan_of command_plan command) files files sinks sinks_after s
+ends_refused command files chip o sinks sinks_after s is meant delivers blank =
+    subst (λ (x : Option Command). Ends (WordsTell files.told x chip) (plan_of command_plan x) files files sinks sinks_after s) is (o, meant, delivers, blank)

@@ -1,14 +1,15 @@
 -- What a call of `rcceaudit` leaves on the chip (this project's profile).
-use Rattle.std.specs.Prelude.{◌≡◌, ◌≤◌, ℕ, List, length, map, Option, Some, None, Ok}
+use Rattle.std.specs.Prelude.{◌≡◌, ℕ, List, map, Option, Some, None, Ok}
 use Rattle.std.specs.List.{range_with_len}
 use Rattle.rcce_io.specs.Files.{NamedFile}
 use Rattle.scc_base.specs.Setups.{SetupView}
 use Rattle.scc_mesh.specs.Scenes.{ChipView, about_in, records_in}
-use Rattle.script_reader.specs.Reading.{most_script_bytes, parse_script}
 use Rattle.script_reader.specs.Script.{Script, rules_of}
-use Rattle.outcomes.specs.Coming.{ByTest, Holds}
+use Rattle.outcomes.specs.Coming.{ByTest}
 use Rattle.outcomes.specs.Outcomes.{Outcome, run_outcome}
 use Rattle.outcomes.specs.Statuses.{is_quiet}
+use Rattle.rcce_words.specs.ScriptFiles.{ScriptIn}
+use Rattle.rcce_words.specs.ScriptWords.{Command}
 use Rattle.rcce_words.specs.Setups.{default_setup}
 use Rattle.rcce_audit.specs.declared.verdicts.Verdict.TheVariants as verdict
 use Rattle.rcce_audit.specs.Grammar.{log_of}
@@ -16,11 +17,7 @@ use Rattle.rcce_audit.specs.Logs.{LogView}
 use Rattle.rcce_audit.specs.Texts.{log_text}
 use Rattle.rcce_audit.specs.Verdicts.{IsVerdict}
 use Rattle.log_run.specs.LogRuns.{HasRun}
-use Rattle.audit_program.specs.Program.{Command, log_ran, script_log}
-
--- this script stands in the file, where files are told
-abbrev pub ScriptIn : Option (List NamedFile) → Command → Script → Type 0
-ScriptIn told command script = (bytes : List ℕ) × (length bytes ≤ most_script_bytes) × Holds told command.script bytes × (parse_script bytes command.nue ≡ Ok script)
+use Rattle.audit_program.specs.Program.{log_ran, script_log}
 
 -- the setup of a run: line flags, and rank r on core r
 abbrev pub setup_by : Script → SetupView
@@ -42,7 +39,7 @@ pub record HasLogged (script : Script) (chip : ChipView) : Type 0 where
 -- Else it is blank.
 abbrev pub RunTells : Option (List NamedFile) → Command → ChipView → Outcome → Type 0
 RunTells told command chip o = ByTest (is_quiet o.status) (chip ≡ None)
-    ((script : Script) × ScriptIn told command script × (o ≡ run_outcome (log_ran script)) × HasLogged script chip)
+    ((script : Script) × ScriptIn command.script told command.nue script × (o ≡ run_outcome (log_ran script)) × HasLogged script chip)
 
 -- where words are refused the chip is blank
 abbrev pub WordsTell : Option (List NamedFile) → Option Command → ChipView → Outcome → Type 0

@@ -1,4 +1,3 @@
 pub mod Program
-pub mod Job
 pub mod History
 pub mod Loading

@@ -1,8 +1,7 @@
 -- What the steps of a run that is logged say to the plan that they carry out.
-use Rattle.std.specs.Prelude.{◌≡◌, ℕ, true, List, codes, Option, None, Result, Ok, Err}
-use Rattle.rcce_io.specs.Files.{FilesView, NamedFile}
+use Rattle.std.specs.Prelude.{◌≡◌, ℕ, true, List, codes, None, Result, Ok, Err}
+use Rattle.rcce_io.specs.Files.{FilesView}
 use Rattle.scc_mesh.specs.Scenes.{ChipView}
-use Rattle.script_reader.specs.Reading.{parse_script}
 use Rattle.script_reader.specs.Script.{Script}
 use Rattle.outcomes.specs.Coming.{ByTest, Comes, IsMeant}
 use Rattle.outcomes.specs.Complaints.{complaint_outcome}
@@ -13,23 +12,13 @@ use Rattle.outcomes.specs.Statuses.{is_quiet}
 use Rattle.outcomes.specs.declared.complaint.Complaint.{Complaint}
 use Rattle.outcomes.specs.declared.status.Status.{Status}
 use Rattle.log_run.specs.Sizes.{has_room_for_all}
-use Rattle.audit_program.specs.History.{HasLogged, ScriptIn}
+use Rattle.audit_program.specs.History.{HasLogged}
 use Rattle.audit_program.specs.declared.logged.Logged.{Logged}
-use Rattle.audit_program.specs.Program.{Command, command_plan, log_ran, run_plan, script_plan}
+use Rattle.audit_program.specs.Program.{log_ran, run_plan}
 
 -- a call ended with an outcome that its plan comes to, of which this is also true
 abbrev pub Ends : (Outcome → Type 0) → Result Plan (List ℕ) → FilesView → FilesView → Sinks → Sinks → Status → Type 0
 Ends also plan files files_after before after s = (o : Outcome) × IsMeant (codes "rcceaudit") plan files files_after o × Delivers o before after s × also o
-
--- the plan of a command comes to what the run of its script comes to
-pub record Leads (told : Option (List NamedFile)) (command : Command) (before after : FilesView) (script : Script) : Type 0 where
-  pub goes : (o : Outcome) → Comes (codes "rcceaudit") (run_plan command.script script) after after o → Comes (codes "rcceaudit") (command_plan command) before after o
-  pub asked : ScriptIn told command script
-
--- what the reading of its script says to it
-abbrev pub Loads : Option (List NamedFile) → Command → FilesView → FilesView → Result Script Complaint → Type 0
-Loads told command before after (Ok script) = Leads told command before after script
-Loads told command before after (Err why) = Comes (codes "rcceaudit") (command_plan command) before after (complaint_outcome (codes "rcceaudit") why)
 
 -- what a run comes to
 abbrev pub logged_ran : Logged → Ran
@@ -46,8 +35,3 @@ pub record HasRan (file : List ℕ) (script : Script) (chip : ChipView) (before 
   pub comes : (files : FilesView) → Comes (codes "rcceaudit") (run_plan file script) files files outcome
   pub delivers : Delivers outcome before after s
   pub shows : ByTest (is_quiet outcome.status) (chip ≡ None) ((outcome ≡ run_outcome (log_ran script)) × HasLogged script chip)
-
--- what the reading of a script's bytes says to its plan
-abbrev pub LoadsBytes : Command → List ℕ → Result Script Complaint → Type 0
-LoadsBytes command bytes (Ok script) = parse_script bytes command.nue ≡ Ok script
-LoadsBytes command bytes (Err why) = (files : FilesView) → Comes (codes "rcceaudit") (script_plan command bytes) files files (complaint_outcome (codes "rcceaudit") why)

@@ -1,12 +1,14 @@
 -- What `rcceaudit` does on its words (this project's profile).
-use Rattle.std.specs.Prelude.{ℕ, true, false, ◌&&◌, not, if◌then◌else◌, List, [], ◌∷◌, codes, decimal, map, Option, Some, None, option_map, Result, Ok, Err}
+use Rattle.std.specs.Prelude.{ℕ, true, false, if◌then◌else◌, List, [], ◌∷◌, codes, decimal, map, Option, Some, None, Result, Ok, Err}
 use Rattle.std.specs.List.{range_with_len}
 use Rattle.std.specs.Str.{bytes_eq}
-use Rattle.outcomes.specs.Numbers.{is_option, ue_count_of}
+use Rattle.outcomes.specs.Numbers.{is_option}
 use Rattle.outcomes.specs.Outcomes.{Ran}
 use Rattle.outcomes.specs.Plans.{Plan, Program}
 use Rattle.outcomes.specs.Plans.Plan.{Runs, Refuses, Reads}
 use Rattle.rcce_io.specs.Sending.{joined}
+use Rattle.rcce_words.specs.ScriptFiles.{script_plan}
+use Rattle.rcce_words.specs.ScriptWords.{Command, plan_of, script_command}
 use Rattle.rcce_audit.specs.declared.faults.LogFault.{LogFault}
 use Rattle.rcce_audit.specs.declared.verdicts.Verdict.{Verdict}
 use Rattle.rcce_audit.specs.declared.verdicts.Verdict.TheVariants as verdict
@@ -16,9 +18,6 @@ use Rattle.rcce_audit.specs.Kinds.{fault_name}
 use Rattle.rcce_audit.specs.Logs.{LogView, most_log_bytes}
 use Rattle.rcce_audit.specs.Texts.{IsFileLog, log_text}
 use Rattle.rcce_audit.specs.Verdicts.{IsVerdict}
-use Rattle.script_reader.specs.declared.fault.ReadFault.{ReadFault}
-use Rattle.script_reader.specs.Faults.{kind_name}
-use Rattle.script_reader.specs.Reading.{most_script_bytes, parse_script}
 use Rattle.script_reader.specs.Script.{Script, rules_of}
 use Rattle.script_plain.specs.Meaning.{plain_ends}
 use Rattle.script_plain.specs.Ends.{all_finished}
@@ -56,17 +55,10 @@ abbrev pub file_named : List (List ℕ) → Option (List ℕ)
 file_named (file ∷ []) = if is_option file then None else Some file
 file_named _ = None
 
--- the words `-log -nue N SCRIPT`: a number of ranks, and the name of a script's file
-pub record Command : Type 0 where
-  pub nue : ℕ
-  pub script : List ℕ
-
 -- the words `-log -nue N SCRIPT`, and no others
 abbrev pub command_of : List (List ℕ) → Option Command
-command_of (log ∷ option ∷ number ∷ script ∷ []) =
-    if bytes_eq log (codes "-log") && (bytes_eq option (codes "-nue") && not (is_option script))
-    then option_map (λ nue. record { nue = nue; script = script }) (ue_count_of number) else None
-command_of _ = None
+command_of [] = None
+command_of (log ∷ words) = if bytes_eq log (codes "-log") then script_command words else None
 
 -- the log of a script's run: the calls that the plain meaning does for each rank, with their bytes and in order
 abbrev pub script_log : Script → LogView
@@ -80,28 +72,14 @@ log_ran script = record { finished = all_finished (plain_ends script); out = log
 abbrev pub run_plan : List ℕ → Script → Plan
 run_plan file script = if has_room_for_all script then Runs (log_ran script) else Refuses file 0 (codes "TooLong")
 
--- a script that was read runs, and its first fault refuses its file
-abbrev pub parsed_plan : List ℕ → Result Script ReadFault → Plan
-parsed_plan file (Err fault) = Refuses file fault.line (kind_name fault.kind)
-parsed_plan file (Ok script) = run_plan file script
-
--- the bytes of the script's file
-abbrev pub script_plan : Command → List ℕ → Plan
-script_plan command bytes = parsed_plan command.script (parse_script bytes command.nue)
-
--- the script's file has at most 4 MiB
+-- the script's file
 abbrev pub command_plan : Command → Plan
-command_plan command = Reads command.script most_script_bytes (script_plan command)
-
--- words that name no log: refused, or a run
-abbrev pub run_words_plan : Option Command → Result Plan (List ℕ)
-run_words_plan None = Err (codes "words refused")
-run_words_plan (Some command) = Ok (command_plan command)
+command_plan command = script_plan (run_plan command.script) command.script command.nue
 
 -- the words: a log is judged, or a run is logged
 abbrev pub named_plan : (LogView → Verdict) → Option (List ℕ) → Option Command → Result Plan (List ℕ)
 named_plan judge (Some file) command = Ok (file_plan judge file)
-named_plan judge None command = run_words_plan command
+named_plan judge None command = plan_of command_plan command
 
 -- the words: a log is judged, a run is logged, or they are refused
 abbrev pub words_plan : (LogView → Verdict) → List (List ℕ) → Result Plan (List ℕ)

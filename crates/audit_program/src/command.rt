@@ -1,18 +1,12 @@
 //! The words after the program's name.
 
-ghost use Rattle.std.specs.Prelude.{◌≡◌, map, string_bytes};
+ghost use Rattle.std.specs.Prelude.{◌≡◌, ◌≤◌, IfSome, map, option_map, string_bytes};
 ghost use Rattle.std.specs.Option.{option_copied};
-ghost use Rattle.audit_program.specs.Job.{IsJob};
+ghost use Rattle.rcce_words.specs.ScriptWords.{job_command};
 ghost use Rattle.audit_program.specs.Program.{command_of, file_named};
 
-use outcomes::{is_option, ue_count};
-
-/// A run whose log the words ask for: how many ranks it has, and the script's file.
-#[derive(Clone, Copy)]
-pub struct Job<'a> {
-    pub nue: u8,
-    pub script: &'a str,
-}
+use outcomes::is_option;
+use rcce_words::{ScriptJob, parse_script_words};
 
 /// The file that the words name, if they are one word that is no option.
 pub fn file_named(words: &[String]) -> Option<&str>
@@ -24,19 +18,14 @@ pub fn file_named(words: &[String]) -> Option<&str>
     }
 }
 
-/// The run that the words ask for, if they are `-log -nue N SCRIPT`. No memory is taken.
-pub fn job_of(words: &[String]) -> Option<Job<'_>>
-    ensures { IsJob (command_of (map string_bytes words.now)) result }
+/// The run whose log the words ask for, if they are `-log -nue N SCRIPT`. No memory is taken.
+pub fn job_of(words: &[String]) -> Option<ScriptJob<'_>>
+    ensures gives { option_map job_command result ≡ command_of (map string_bytes words.now) }
+    ensures some { IfSome result (λ job. 1 ≤ job.nue) }
+    ensures most { IfSome result (λ job. job.nue ≤ 48) }
 {
-    let [log, option, count, script] = words else {
-        return None;
-    };
-    if log.as_str() != "-log" || option.as_str() != "-nue" || is_option(script.as_str()) {
-        return None;
+    match words {
+        [log, script @ ..] if log.as_str() == "-log" => parse_script_words(script),
+        _ => None,
     }
-    let nue = ue_count(count.as_str())?;
-    Some(Job {
-        nue,
-        script: script.as_str(),
-    })
 }

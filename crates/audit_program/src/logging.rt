@@ -6,19 +6,19 @@ ghost use Rattle.outcomes.specs.Delivery.{sinks};
 ghost use Rattle.log_run.specs.LogRuns.{AreLegalCalls};
 ghost use Rattle.log_run.specs.Sizes.{has_room_for_all};
 ghost use Rattle.audit_program.specs.History.{RunTells, WordsTell, setup_by};
-ghost use Rattle.audit_program.specs.Job.{job_command};
-ghost use Rattle.audit_program.specs.Loading.{Ends, HasRan, Launches, Loads, LoadsBytes};
-ghost use Rattle.audit_program.specs.Program.{command_of, run_words_plan};
+ghost use Rattle.audit_program.specs.Loading.{Ends, HasRan, Launches};
+ghost use Rattle.audit_program.specs.Program.{command_of, command_plan};
+ghost use Rattle.rcce_words.specs.ScriptWords.{job_command, plan_of};
 
-use crate::command::{Job, job_of};
+use crate::command::job_of;
 use crate::logged::Logged;
 use log_run::{has_room, run_script};
-use outcomes::{Complaint, Status, deliver, read_file};
+use outcomes::{Complaint, Status, deliver};
 use rcce_io::{Files, Sink};
-use rcce_words::default_hosts;
+use rcce_words::{ScriptJob, default_hosts, read_script_file};
 use scc_base::{Layout, Setup};
 use scc_mesh::Chip;
-use script_reader::{MOST_SCRIPT_BYTES, ReadStop, Scripts, read_script};
+use script_reader::Scripts;
 use std::alloc::Global;
 
 /// Runs what the words ask for, and writes its log.
@@ -32,7 +32,7 @@ pub fn log_words<F: Files, O: Sink, E: Sink>(
 ) -> Status
     requires blank { chip.old ≡ None }
     ensures ends { Ends (WordsTell (F.seen files.old).told (command_of (map string_bytes words.now)) chip.new)
-        (run_words_plan (command_of (map string_bytes words.now))) (F.seen files.old) (F.seen files.new)
+        (plan_of command_plan (command_of (map string_bytes words.now))) (F.seen files.old) (F.seen files.new)
         (sinks (O.seen out.old) (E.seen err.old)) (sinks (O.seen out.new) (E.seen err.new)) result }
     ensures legal { IsOpen chip.new → AreLegalCalls chip.new }
 {
@@ -48,7 +48,7 @@ pub fn log_words<F: Files, O: Sink, E: Sink>(
 // Runs the script of a job, and writes its log.
 fn log_job<F: Files, O: Sink, E: Sink>(
     alloc: Global,
-    job: Job<'_>,
+    job: ScriptJob<'_>,
     files: &mut F,
     out: &mut O,
     err: &mut E,
@@ -58,42 +58,13 @@ fn log_job<F: Files, O: Sink, E: Sink>(
     requires some { 1 ≤ job.nue }
     requires most { job.nue ≤ 48 }
     ensures ends { Ends (RunTells (F.seen files.old).told (job_command job.entry) chip.new)
-        (run_words_plan (Some (job_command job.entry))) (F.seen files.old) (F.seen files.new)
+        (plan_of command_plan (Some (job_command job.entry))) (F.seen files.old) (F.seen files.new)
         (sinks (O.seen out.old) (E.seen err.old)) (sinks (O.seen out.new) (E.seen err.new)) result }
     ensures legal { IsOpen chip.new → AreLegalCalls chip.new }
 {
-    match load(alloc, files, job) {
+    match read_script_file(alloc, files, job.script, job.nue) {
         Ok(scripts) => log_script(alloc, &scripts, job.script, out, err, chip),
         Err(complaint) => deliver::<Logged<'_>, O, E>("rcceaudit", &Err(complaint), out, err),
-    }
-}
-
-// Reads the script's file, and goes on with its bytes.
-fn load<'a, F: Files>(alloc: Global, files: &mut F, job: Job<'a>) -> Result<Scripts, Complaint<'a>>
-    requires some { 1 ≤ job.nue }
-    requires most { job.nue ≤ 48 }
-    ensures { Loads (F.seen files.old).told (job_command job.entry) (F.seen files.old) (F.seen files.new) result }
-{
-    match read_file(alloc, files, job.script, MOST_SCRIPT_BYTES) {
-        Ok(bytes) => load_bytes(alloc, job, bytes.as_slice()),
-        Err(complaint) => Err(complaint),
-    }
-}
-
-// Reads the script.
-fn load_bytes<'a>(alloc: Global, job: Job<'a>, bytes: &[u8]) -> Result<Scripts, Complaint<'a>>
-    requires some { 1 ≤ job.nue }
-    requires most { job.nue ≤ 48 }
-    ensures { LoadsBytes (job_command job.entry) bytes.now result }
-{
-    match read_script(alloc, bytes, job.nue) {
-        Ok(scripts) => Ok(scripts),
-        Err(ReadStop::Fault(fault)) => Err(Complaint::Refused {
-            file: job.script,
-            line: fault.line,
-            kind: fault.kind.name(),
-        }),
-        Err(ReadStop::Memory) => Err(Complaint::Memory),
     }
 }
 

@@ -3,19 +3,12 @@
 
 use audit_program::rcceaudit;
 use rcce_io::{HostFiles, StdSink};
+use rcce_words::arguments;
 use scc_mesh::Chip;
-use std::env;
 use std::process::ExitCode;
 
 fn main(rt: HostRuntime) -> ExitCode {
-    // Arguments that cannot be read as text are taken for no words at all.
-    let words = match env::args(&rt) {
-        Ok(args) => args
-            .skip(1)
-            .collect(rt.alloc())
-            .unwrap_or(Vec::new(rt.alloc())),
-        Err(_) => Vec::new(rt.alloc()),
-    };
+    let words = arguments(&rt);
     let mut files = HostFiles::new(rt);
     let mut out = StdSink::out(&rt);
     let mut err = StdSink::err(&rt);

@@ -1,6 +1,5 @@
 pub mod ChipLemmas
 pub mod LoadLemmas
-pub mod PlanLemmas
 pub mod ReportLemmas
 pub mod RunLemmas
 pub mod SentLemmas

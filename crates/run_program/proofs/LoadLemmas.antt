@@ -7,13 +7,14 @@ use Rattle.outcomes.specs.Outcomes.{Outcome, file_refused, no_memory, words_refu
 use Rattle.outcomes.specs.Plans.{Plan}
 use Rattle.outcomes.specs.Plans.Plan.{Runs, Reads}
 use Rattle.outcomes.specs.declared.complaint.Complaint.{Complaint}
-use Rattle.script_reader.specs.Reading.{most_script_bytes, parse_script}
+use Rattle.script_reader.specs.Reading.{parse_script}
 use Rattle.script_reader.specs.declared.fault.ReadFault.{ReadFault}
 use Rattle.script_reader.specs.Script.{Script}
 use Rattle.script_gen.specs.Scripts.{gen_script_of}
 use Rattle.script_gen.specs.Texts.{gen_text}
 use Rattle.rcce_words.specs.FaultTexts.{fault_text, word_at}
 use Rattle.rcce_words.specs.HostFile.{default_hosts, host_kind_name, parse_hosts}
+use Rattle.rcce_words.specs.ScriptFiles.{LeadsTo, ScriptIn}
 use Rattle.rcce_words.specs.declared.command.Job.{Job}
 use Rattle.rcce_words.specs.declared.command.Work.{Work}
 use Rattle.rcce_words.specs.declared.command.Work.TheVariants as works
@@ -22,12 +23,11 @@ use Rattle.rcce_words.specs.declared.host_file.HostFault.{HostFault}
 use Rattle.run_program.specs.Asking.{AreHosts, AsksFor, IsScript, hosts_asked, seed_of, setup_by}
 use Rattle.run_program.specs.History.{Asked}
 use Rattle.run_program.specs.Loading.{AsksBehind, AsksListed, AsksMade, AsksOn, LoadsBy, LoadsPlan, LoadsWords, asked_by}
-use Rattle.run_program.specs.Program.{file_plan, hosts_plan, listed_plan, made_plan, plan_behind, script_plan, work_plan}
+use Rattle.run_program.specs.Program.{file_plan, hosts_plan, listed_plan, made_plan, plan_behind, run_plan, work_plan}
 use Rattle.run_program.specs.Reports.{made_ran, ran_by}
 use Rattle.run_program.specs.Runs.{IsMadeOf}
 use Rattle.run_program.specs.declared.loaded.Loaded.{Loaded}
 use Rattle.scc_base.specs.Setups.{SetupView}
-use Rattle.run_program.proofs.PlanLemmas.{comes_parsed}
 
 abbrev said : Script → Result Script ReadFault
 said script = Ok script
@@ -40,16 +40,15 @@ loads_read file limit next asks before between after bytes (Ok loaded) reads lea
 loads_read file limit next asks before between after bytes (Err why) reads came = reads (codes "rccerun") next after _ came
 
 -- a script that was read, and its setup
-pub loads_script : (file : List ℕ) (told : Option (List NamedFile)) (job : Job) (hosts bytes : List ℕ) (files : FilesView) (script : Script) (loaded : Loaded)
-    → parse_script bytes job.nue ≡ Ok script → loaded.script ≡ script → loaded.setup ≡ setup_by job hosts script → loaded.seed ≡ None → length bytes ≤ most_script_bytes → Holds told file bytes
-    → LoadsPlan (script_plan file job.nue bytes) (AsksOn file told job hosts) files files (Ok loaded)
-loads_script file told job hosts bytes files script loaded gives same setup none few holds =
-    let is : parse_script bytes job.nue ≡ Ok loaded.script = gives ∙ ap Ok (sym same) in
-    record {
-      goes = λ o came. comes_parsed (codes "rccerun") file _ (Ok loaded.script) files o is
-          (subst (λ (seed : Option ℕ). Comes (codes "rccerun") (Runs (ran_by loaded.script seed)) files files o) none came);
-      asked = record { script = (bytes, few, holds, is); setup = setup ∙ ap (setup_by job hosts) (sym same); seed = none };
-    }
+pub loads_script : (file : List ℕ) (job : Job) (hosts : List ℕ) (before after : FilesView) (script : Script) (loaded : Loaded)
+    → LeadsTo file job.nue before after script → loaded.script ≡ script → loaded.setup ≡ setup_by job hosts script → loaded.seed ≡ None
+    → LoadsPlan (file_plan file job.nue) (AsksOn file before.told job hosts) before after (Ok loaded)
+loads_script file job hosts before after script loaded leads same setup none = record {
+  goes = λ o came. leads.goes (codes "rccerun") run_plan after o
+      (subst (λ (x : Script). Comes (codes "rccerun") (run_plan x) after after o) same
+      (subst (λ (seed : Option ℕ). Comes (codes "rccerun") (Runs (ran_by loaded.script seed)) after after o) none came));
+  asked = record { script = subst (λ (x : Script). ScriptIn file before.told job.nue x) (sym same) leads.stands; setup = setup ∙ ap (setup_by job hosts) (sym same); seed = none };
+}
 
 -- the script that is read in the text of a number is the one of this number
 pub is_made : (nue seed : ℕ) (text : List ℕ) (script : Script) → text ≡ gen_text nue seed → parse_script (gen_text nue seed) nue ≡ Ok (gen_script_of nue seed) → parse_script text nue ≡ Ok script → script ≡ gen_script_of nue seed

@@ -5,7 +5,6 @@ use Rattle.scc_base.specs.Setups.{SetupView}
 use Rattle.scc_base.specs.declared.layouts.Layout.{Layout}
 use Rattle.scc_base.specs.declared.layouts.Layout.TheVariants.{LineFlags, BitFlags}
 use Rattle.scc_mesh.specs.Scenes.{ChipView}
-use Rattle.script_reader.specs.Reading.{most_script_bytes, parse_script}
 use Rattle.script_reader.specs.Script.{Script, rules_of}
 use Rattle.script_gen.specs.Scripts.{gen_script_of}
 use Rattle.outcomes.specs.Coming.{ByTest, Holds}
@@ -13,6 +12,7 @@ use Rattle.outcomes.specs.Outcomes.{Outcome, Ran, run_outcome}
 use Rattle.outcomes.specs.Statuses.{is_quiet}
 use Rattle.rcce_words.specs.FaultTexts.{word_at}
 use Rattle.rcce_words.specs.HostFile.{default_hosts, parse_hosts}
+use Rattle.rcce_words.specs.ScriptFiles.{ScriptIn}
 use Rattle.rcce_words.specs.declared.command.Job.{Job}
 use Rattle.rcce_words.specs.declared.command.Work.{Work}
 use Rattle.rcce_words.specs.declared.command.Work.TheVariants as work
@@ -31,10 +31,6 @@ setup_by job hosts script = record { nue = job.nue; layout = layout_by job.bits;
 -- these hosts stand in the file, where files are told
 abbrev pub HostsIn : List ℕ → Option (List NamedFile) → ℕ → List ℕ → Type 0
 HostsIn file told nue hosts = (bytes : List ℕ) × (length bytes ≤ 65536) × Holds told file bytes × (parse_hosts bytes nue ≡ Ok hosts)
-
--- this script stands in the file, where files are told
-abbrev pub ScriptIn : List ℕ → Option (List NamedFile) → ℕ → Script → Type 0
-ScriptIn file told nue script = (bytes : List ℕ) × (length bytes ≤ most_script_bytes) × Holds told file bytes × (parse_script bytes nue ≡ Ok script)
 
 -- the hosts that words ask for: rank r on core r, or those of the host file
 abbrev pub AreHosts : List (List ℕ) → Option (List NamedFile) → ℕ → Option ℕ → List ℕ → Type 0

@@ -2,36 +2,25 @@
 use Rattle.std.specs.Prelude.{◌≡◌, ◌⊎◌, ℕ, List, codes, Option, Some, None, Result, Ok, Err}
 use Rattle.rcce_io.specs.Files.{FilesView, NamedFile}
 use Rattle.scc_mesh.specs.Scenes.{ChipView}
-use Rattle.script_reader.specs.declared.fault.ReadFault.{ReadFault}
-use Rattle.script_reader.specs.declared.fault.ReadStop.{ReadStop}
-use Rattle.script_reader.specs.declared.fault.ReadStop.TheVariants as stop
-use Rattle.script_reader.specs.Faults.{kind_name}
 use Rattle.script_gen.specs.Scripts.{gen_script_of}
 use Rattle.outcomes.specs.Coming.{ByTest, Comes, IsMeant}
 use Rattle.outcomes.specs.Complaints.{complaint_outcome}
 use Rattle.outcomes.specs.Delivery.{Delivers, Sinks}
-use Rattle.outcomes.specs.Outcomes.{Outcome, file_refused, no_memory, run_outcome}
+use Rattle.outcomes.specs.Outcomes.{Outcome, no_memory, run_outcome}
 use Rattle.outcomes.specs.Plans.{Plan}
 use Rattle.outcomes.specs.Plans.Plan.{Runs}
 use Rattle.outcomes.specs.Statuses.{is_quiet}
 use Rattle.outcomes.specs.declared.complaint.Complaint.{Complaint}
 use Rattle.outcomes.specs.declared.status.Status.{Status}
 use Rattle.rcce_words.specs.HostFile.{default_hosts}
+use Rattle.rcce_words.specs.ScriptFiles.{ScriptIn}
 use Rattle.rcce_words.specs.declared.command.Job.{Job}
 use Rattle.rcce_words.specs.declared.command.WordFault.{WordFault}
-use Rattle.run_program.specs.Asking.{AreHosts, HostsIn, ScriptIn, WordsAskFor, asked_ran, setup_by}
+use Rattle.run_program.specs.Asking.{AreHosts, HostsIn, WordsAskFor, asked_ran, setup_by}
 use Rattle.run_program.specs.History.{Asked, HasRun}
 use Rattle.run_program.specs.Program.{words_plan}
 use Rattle.run_program.specs.Reports.{Shown}
 use Rattle.run_program.specs.declared.loaded.Loaded.{Loaded}
-
--- a script that is refused, and a reading that stopped
-abbrev pub fault_outcome : List ℕ → List ℕ → ReadFault → Outcome
-fault_outcome program file fault = file_refused program file fault.line (kind_name fault.kind)
-
-abbrev pub stop_outcome : List ℕ → List ℕ → ReadStop → Outcome
-stop_outcome program file (stop.Fault fault) = fault_outcome program file fault
-stop_outcome program file stop.Memory = no_memory program
 
 -- the run that was loaded
 abbrev pub asked_by : Loaded → Asked

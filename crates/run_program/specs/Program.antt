@@ -1,8 +1,5 @@
 -- What `rccerun` does on its words (this project's profile).
 use Rattle.std.specs.Prelude.{ℕ, List, codes, Option, Some, None, Result, Ok, Err}
-use Rattle.script_reader.specs.declared.fault.ReadFault.{ReadFault}
-use Rattle.script_reader.specs.Faults.{kind_name}
-use Rattle.script_reader.specs.Reading.{most_script_bytes, parse_script}
 use Rattle.script_reader.specs.Script.{Script}
 use Rattle.script_gen.specs.Scripts.{gen_script_of}
 use Rattle.outcomes.specs.Plans.{Plan, Program}
@@ -10,6 +7,7 @@ use Rattle.outcomes.specs.Plans.Plan.{Runs, Refuses, Reads}
 use Rattle.rcce_words.specs.CommandLine.{parse_command}
 use Rattle.rcce_words.specs.FaultTexts.{fault_text, word_at}
 use Rattle.rcce_words.specs.HostFile.{host_kind_name, parse_hosts}
+use Rattle.rcce_words.specs.ScriptFiles.{script_plan}
 use Rattle.rcce_words.specs.declared.command.Job.{Job}
 use Rattle.rcce_words.specs.declared.command.Work.{Work}
 use Rattle.rcce_words.specs.declared.command.Work.TheVariants as work
@@ -17,18 +15,13 @@ use Rattle.rcce_words.specs.declared.command.WordFault.{WordFault}
 use Rattle.rcce_words.specs.declared.host_file.HostFault.{HostFault}
 use Rattle.run_program.specs.Reports.{made_ran, run_ran}
 
--- a script that was read runs to its plain end, and its first fault refuses its file
-abbrev pub parsed_plan : List ℕ → Result Script ReadFault → Plan
-parsed_plan file (Err fault) = Refuses file fault.line (kind_name fault.kind)
-parsed_plan file (Ok script) = Runs (run_ran script)
+-- a script runs to its plain end
+abbrev pub run_plan : Script → Plan
+run_plan script = Runs (run_ran script)
 
--- the bytes of a script's file
-abbrev pub script_plan : List ℕ → ℕ → List ℕ → Plan
-script_plan file nue bytes = parsed_plan file (parse_script bytes nue)
-
--- the script's file has at most 4 MiB
+-- a script's file
 abbrev pub file_plan : List ℕ → ℕ → Plan
-file_plan file nue = Reads file most_script_bytes (script_plan file nue)
+file_plan file nue = script_plan run_plan file nue
 
 -- cores that were read lead on, and the first fault of the host file refuses it
 abbrev pub listed_plan : List ℕ → Plan → Result (List ℕ) HostFault → Plan

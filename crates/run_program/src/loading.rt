@@ -1,10 +1,9 @@
 //! From words to a run that can begin: the words, the host file, the script's file or the number that it is made of, and its
 //! grammar.
 
-ghost use Rattle.std.specs.Prelude.{◌≡◌, ◌≤◌, map, string_bytes, length, List, ℕ, Option};
-ghost use Rattle.rcce_io.specs.Files.{FilesView, NamedFile};
+ghost use Rattle.std.specs.Prelude.{◌≡◌, ◌≤◌, map, string_bytes, length, List, ℕ};
+ghost use Rattle.rcce_io.specs.Files.{FilesView};
 ghost use Rattle.scc_base.specs.Setups.{AreApart};
-ghost use Rattle.script_reader.specs.Reading.{most_script_bytes};
 ghost use Rattle.outcomes.specs.Coming.{Holds};
 ghost use Rattle.outcomes.specs.Complaints.{complaint_outcome};
 ghost use Rattle.outcomes.specs.Outcomes.{file_refused};
@@ -13,18 +12,19 @@ ghost use Rattle.rcce_words.specs.CommandLine.{IsSeedInRange, parse_command};
 ghost use Rattle.rcce_words.specs.HostFile.{host_kind_name};
 ghost use Rattle.run_program.specs.Asking.{AsksFor, layout_by, setup_by};
 ghost use Rattle.script_gen.specs.Texts.{gen_text};
-ghost use Rattle.run_program.specs.Loading.{AsksBehind, AsksListed, AsksMade, AsksOn, LoadsBy, LoadsPlan, LoadsWords, fault_outcome, stop_outcome};
-ghost use Rattle.run_program.specs.Program.{file_plan, hosts_plan, made_plan, plan_behind, script_plan, work_plan};
+ghost use Rattle.run_program.specs.Loading.{AsksBehind, AsksListed, AsksMade, AsksOn, LoadsBy, LoadsPlan, LoadsWords};
+ghost use Rattle.run_program.specs.Program.{file_plan, hosts_plan, made_plan, plan_behind, work_plan};
 
 use crate::loaded::Loaded;
 use outcomes::{Complaint, read_file};
 use rcce_io::Files;
 use rcce_words::{
-    HostFault, Job, Work, complaint, default_hosts, parse_words, read_hosts, word_at,
+    HostFault, Job, Work, complaint, default_hosts, parse_words, read_hosts, read_script_file,
+    word_at,
 };
 use scc_base::{CoreId, Layout};
 use script_gen::{gen_script, generated_scripts_are_read};
-use script_reader::{MOST_SCRIPT_BYTES, ReadFault, ReadStop, Scripts, read_script};
+use script_reader::{ReadStop, Scripts, read_script};
 use std::alloc::Global;
 
 /// The longest host file, in bytes.
@@ -151,7 +151,7 @@ fn load_listed<'a, F: Files>(
     }
 }
 
-// Reads the script's file, and goes on with its bytes.
+// Reads the script's file.
 fn load_script<'a, F: Files>(
     alloc: Global,
     files: &mut F,
@@ -164,30 +164,9 @@ fn load_script<'a, F: Files>(
     requires apart { AreApart job.nue hosts }
     ensures { LoadsPlan (file_plan script.now job.nue) (AsksOn script.now (F.seen files.old).told job hosts) (F.seen files.old) (F.seen files.new) result }
 {
-    match read_file(alloc, files, script, MOST_SCRIPT_BYTES) {
-        Ok(bytes) => load_bytes(alloc, job, script, bytes.as_slice(), hosts),
-        Err(complaint) => Err(complaint),
-    }
-}
-
-// Reads the script.
-fn load_bytes<'a>(
-    alloc: Global,
-    job: Job,
-    file: &'a str,
-    bytes: &[u8],
-    hosts: [CoreId; 48],
-) -> Result<Loaded, Complaint<'a>>
-    requires some { 1 ≤ job.nue }
-    requires most { job.nue ≤ 48 }
-    requires apart { AreApart job.nue hosts }
-    requires within { length bytes.now ≤ most_script_bytes }
-    ensures { (files : FilesView) (told : Option (List NamedFile)) → Holds told file.now bytes.now
-        → LoadsPlan (script_plan file.now job.nue bytes.now) (AsksOn file.now told job hosts) files files result }
-{
-    match read_script(alloc, bytes, job.nue) {
+    match read_script_file(alloc, files, script, job.nue) {
         Ok(script) => Ok(with_setup(job, script, hosts, None)),
-        Err(stop) => Err(stopped(file, stop)),
+        Err(complaint) => Err(complaint),
     }
 }
 
@@ -215,26 +194,6 @@ fn layout_of(bits: bool) -> Layout
         Layout::bits()
     } else {
         Layout::lines()
-    }
-}
-
-// Why the reading of a script stopped.
-fn stopped(file: &str, stop: ReadStop) -> Complaint<'_>
-    ensures { (program : List ℕ) → complaint_outcome program result ≡ stop_outcome program file.now stop }
-{
-    match stop {
-        ReadStop::Fault(fault) => refused(file, fault),
-        ReadStop::Memory => Complaint::Memory,
-    }
-}
-
-fn refused(file: &str, fault: ReadFault) -> Complaint<'_>
-    ensures { (program : List ℕ) → complaint_outcome program result ≡ fault_outcome program file.now fault }
-{
-    Complaint::Refused {
-        file,
-        line: fault.line,
-        kind: fault.kind.name(),
     }
 }
 

@@ -7,12 +7,12 @@ use Rattle.audit_program.proofs.logging.log_words.Goals as goal
 
 pub returns-in-Some : goal.returns-in-Some
 returns-in-Some g c = record {
-  ends = ends_words (command_of (map string_bytes c.args.words.now)) c.in-Some.job _ _ _ _ _ _ c.in-Some.ensures c.log_job.ensures.ends;
+  ends = ends_words (command_of (map string_bytes c.args.words.now)) c.in-Some.job _ _ _ _ _ _ c.in-Some.ensures.gives c.log_job.ensures.ends;
   legal = c.log_job.ensures.legal;
 }
 
 pub returns-in-None : goal.returns-in-None
 returns-in-None g c = record {
-  ends = ends_refused (command_of (map string_bytes c.args.words.now)) (g.F.Files.seen c.args.files.now) _ _ _ _ _ c.in-None.ensures (refl, c.words-complaint.ensures (codes "rcceaudit")) c.deliver.ensures c.requires.blank;
+  ends = ends_refused (command_of (map string_bytes c.args.words.now)) (g.F.Files.seen c.args.files.now) _ _ _ _ _ c.in-None.ensures.gives (refl, c.words-complaint.ensures (codes "rcceaudit")) c.deliver.ensures c.requires.blank;
   legal = λ opened. absurd (false≢true (sym (ap is_open c.requires.blank) ∙ opened));
 }
