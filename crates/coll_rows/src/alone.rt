@@ -37,22 +37,26 @@ fn member(alloc: Global, more: More, nue: u8) -> Result<Member<Never>, Fail>
     Ok(Member::new(alloc, Never, jobs))
 }
 
+// Whether an alltoall of one rank begins, copies its own piece, and is at its end.
+fn one_ends(alloc: Global) -> Result<bool, Fail> {
+    let mut port = chip(alloc, 1)?;
+    let mut rank = member(alloc, More::Alltoall, 1)?;
+    let moves = rank.turn(&mut port) == Turn::Moved && rank.turn(&mut port) == Turn::Moved;
+    Ok(moves && rank.turn(&mut port) == Turn::Done && rank.right == 1)
+}
+
+// Whether a gather of two begins, copies the own piece, begins the message of rank 1, and waits for it.
+fn first_waits(alloc: Global) -> Result<bool, Fail> {
+    let mut port = chip(alloc, 2)?;
+    let mut rank = member(alloc, More::Gather, 2)?;
+    let moves = rank.turn(&mut port) == Turn::Moved
+        && rank.turn(&mut port) == Turn::Moved
+        && rank.turn(&mut port) == Turn::Moved;
+    Ok(moves && matches!(rank.turn(&mut port), Turn::Waiting(_)) && rank.right == 0)
+}
+
 #[test]
 fn a_rank_of_one_ends_and_a_rank_of_two_waits(rt: HostRuntime) -> Result<(), Fail> {
-    let mut port = chip(rt.alloc(), 1)?;
-    let mut alone = member(rt.alloc(), More::Alltoall, 1)?;
-    // The call begins, copies the own piece, and is at its end.
-    assert!(rt; alone.turn(&mut port) == Turn::Moved);
-    assert!(rt; alone.turn(&mut port) == Turn::Moved);
-    assert!(rt; alone.turn(&mut port) == Turn::Done);
-    assert!(rt; alone.right == 1);
-    let mut port = chip(rt.alloc(), 2)?;
-    let mut first = member(rt.alloc(), More::Gather, 2)?;
-    // The call begins, copies the own piece, begins the message of rank 1, and waits for it.
-    assert!(rt; first.turn(&mut port) == Turn::Moved);
-    assert!(rt; first.turn(&mut port) == Turn::Moved);
-    assert!(rt; first.turn(&mut port) == Turn::Moved);
-    assert!(rt; matches!(first.turn(&mut port), Turn::Waiting(_)));
-    assert!(rt; first.right == 0);
+    assert!(rt; one_ends(rt.alloc())? && first_waits(rt.alloc())?);
     Ok(())
 }

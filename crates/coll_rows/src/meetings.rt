@@ -37,14 +37,17 @@ fn jobs_of(alloc: Global, more: More, len: u32, rank: u8, nue: u8) -> Result<Vec
     Ok(jobs)
 }
 
-// Gives the next rank of a team these calls to make.
-fn join_with<V: Evict + Drop>(
+// Gives the next rank of a team a call to make twice.
+fn join_next<V: Fresh>(
     alloc: Global,
     team: &mut Team<Member<V>>,
-    evict: V,
-    jobs: Vec<Job>,
+    more: More,
+    len: u32,
+    rank: u8,
+    nue: u8,
 ) -> Result<(), Fail> {
-    team.join(Member::new(alloc, evict, jobs))
+    let jobs = jobs_of(alloc, more, len, rank, nue)?;
+    team.join(Member::new(alloc, V::fresh(), jobs))
 }
 
 // Some ranks, which make a call twice each.
@@ -57,8 +60,7 @@ fn met<V: Fresh>(
 ) -> Result<Team<Member<V>>, Fail> {
     let mut team = Team::new(alloc, opened(alloc, nue, layout, CommRule::Absent)?);
     for rank in 0..nue {
-        let jobs = jobs_of(alloc, more, len, rank, nue)?;
-        join_with(alloc, &mut team, V::fresh(), jobs)?;
+        join_next(alloc, &mut team, more, len, rank, nue)?;
     }
     Ok(team)
 }

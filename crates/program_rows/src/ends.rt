@@ -70,20 +70,26 @@ fn is_last(failing: u64, made: u64) -> bool {
     failing == 0 || failing == made
 }
 
-/// Whether no call was made behind one that fails, and none that reads a file where the words are refused.
-fn stops(ended: &Ended, failing: [u64; 3]) -> bool {
-    is_last(failing[0], ended.reads)
-        && is_last(failing[1], ended.out.writes_made())
-        && is_last(failing[2], ended.err.writes_made())
-        && (ended.status != Words || ended.reads == 0)
+impl Ended {
+    /// Whether no call was made behind one that fails, and none that reads a file where the words are refused.
+    fn stops(&self, failing: [u64; 3]) -> bool {
+        is_last(failing[0], self.reads)
+            && is_last(failing[1], self.out.writes_made())
+            && is_last(failing[2], self.err.writes_made())
+            && (self.status != Words || self.reads == 0)
+    }
+
+    /// Whether this was written.
+    fn wrote(&self, out: &str, err: &str) -> bool {
+        self.out.bytes() == out.as_bytes() && self.err.bytes() == err.as_bytes()
+    }
 }
 
 fn expect<R: Abort>(rt: &R, alloc: Global, rows: &[Row]) -> Result<(), Fail> {
     for (words, failing, status, out, err) in rows {
         let ended = run(alloc, words, *failing)?;
-        assert!(rt; ended.out.bytes() == out.as_bytes());
-        assert!(rt; ended.err.bytes() == err.as_bytes());
-        assert!(rt; ended.status == *status && stops(&ended, *failing));
+        assert!(rt; ended.wrote(out, err));
+        assert!(rt; ended.status == *status && ended.stops(*failing));
     }
     Ok(())
 }

@@ -4,14 +4,18 @@ ghost use Rattle.std.specs.Prelude.{◌≡◌, ◌<◌, ◌≤◌, ℕ, List, []
 ghost use Rattle.scc_base.specs.declared.events.Event.{Event};
 ghost use Rattle.scc_proto.specs.Ports.{Did};
 ghost use Rattle.scc_mesh.specs.Scenes.{IsNew, about_in};
+ghost use Rattle.script_reader.specs.Script.{rules_of};
 ghost use Rattle.ue_rows.specs.AwayPlayers.{IsAway};
 
-use crate::scripts::{End, Told, chip_with, runner_of, script_of, setup_for, told_of};
+use crate::scripts::{
+    End, Fresh, Runner, Told, chip_with, runner_of, script_of, setup_for, told_of,
+};
 use chip_teams::Player;
 use line_cache::Never;
-use scc_base::{Layout, Rank};
+use scc_base::{Layout, Rank, Setup};
 use scc_mesh::{Chip, Token, Words};
 use scc_proto::Port;
+use script_reader::Scripts;
 use std::alloc::Global;
 use std::test::Fail;
 use std::thread;
@@ -129,8 +133,51 @@ fn both_after<M: Player + Drop + Send, R: Threads + Sync>(
     Ok(ranks)
 }
 
+// The two ranks of a chip with this setup after so many rounds.
+fn both_on_chip<M: Player + Drop + Send, R: Threads + Sync>(
+    rt: &R,
+    alloc: Global,
+    setup: Setup,
+    one: M,
+    other: M,
+    count: usize,
+) -> Result<Vec<Apart<M>>, Fail>
+    requires ranks { 2 ≤ setup.nue }
+    requires one { M.stands one setup 0 [] }
+    requires other { M.stands other setup 1 [] }
+{
+    let mut chip = chip_with(alloc, setup)?;
+    both_after(rt, alloc, &mut chip, one, other, count)
+}
+
+// The two ranks of a script after so many rounds.
+fn two_after<'s, V: Fresh + Send, R: Threads + Sync>(
+    rt: &R,
+    alloc: Global,
+    scripts: &'s Scripts,
+    setup: Setup,
+    count: usize,
+) -> Result<Vec<Apart<Runner<'s, V>>>, Fail>
+    requires two { setup.nue ≡ 2 }
+    requires ranks { setup.nue ≡ scripts.now.nue }
+    requires communicators { setup.comms ≡ rules_of scripts.now.items }
+{
+    let one = runner_of::<V>(alloc, scripts, &setup, 0)?;
+    let other = runner_of::<V>(alloc, scripts, &setup, 1)?;
+    both_on_chip(rt, alloc, setup, one, other, count)
+}
+
+// What is told of each of these ranks.
+fn all_told<V: Fresh>(alloc: Global, ranks: &[Apart<Runner<'_, V>>]) -> Result<Vec<Told>, Fail> {
+    let mut all = Vec::new(alloc);
+    for rank in ranks {
+        all.push(told_of(alloc, &rank.player)?)?;
+    }
+    Ok(all)
+}
+
 // What is told of the two ranks of a script after so many rounds.
-fn told_apart<R: Threads + Sync>(
+fn told_apart<V: Fresh + Send, R: Threads + Sync>(
     rt: &R,
     alloc: Global,
     text: &[u8],
@@ -139,15 +186,8 @@ fn told_apart<R: Threads + Sync>(
 ) -> Result<Vec<Told>, Fail> {
     let scripts = script_of(alloc, text, 2)?;
     let setup = setup_for(&scripts, layout)?;
-    let one = runner_of::<Never>(alloc, &scripts, &setup, 0)?;
-    let other = runner_of::<Never>(alloc, &scripts, &setup, 1)?;
-    let mut chip = chip_with(alloc, setup)?;
-    let ranks = both_after(rt, alloc, &mut chip, one, other, count)?;
-    let mut all = Vec::new(alloc);
-    for rank in ranks.iter() {
-        all.push(told_of(alloc, &rank.player)?)?;
-    }
-    Ok(all)
+    let ranks = two_after::<V, R>(rt, alloc, &scripts, setup, count)?;
+    all_told(alloc, ranks.as_slice())
 }
 
 // Whether a row of bytes is this long, and as `fill` makes it from 0 on.
@@ -170,7 +210,7 @@ fn arrives<R: Threads + Sync>(
     len: u16,
 ) -> Result<bool, Fail> {
     let len = len as usize;
-    let told = told_apart(rt, alloc, text, layout, 2 * (len / 32) + 60)?;
+    let told = told_apart::<Never, R>(rt, alloc, text, layout, 2 * (len / 32) + 60)?;
     Ok(match told.as_slice() {
         [first, second] => {
             first.end == End::Finished

@@ -1,4 +1,4 @@
-use Rattle.coll_rows.proofs.meetings.join_with.Goals as goal
+use Rattle.coll_rows.proofs.meetings.join_next.Goals as goal
 
 pub join-requires : goal.join-requires
 join-requires g c = record { stands = c.new.ensures.ready c.args.team.now.about c.args.team.now.size }
