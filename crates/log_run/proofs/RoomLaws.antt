@@ -11,6 +11,7 @@ use Rattle.scc_base.specs.declared.calls.Call.{Call}
 use Rattle.scc_base.specs.declared.calls.Call.TheVariants as call
 use Rattle.scc_proto.proofs.Tests.{both_first, both_second}
 use Rattle.call_tap.specs.Planned.{bytes_planned, has_room_for}
+use Rattle.call_tap.proofs.PlannedLaws.{planned_append}
 use Rattle.script_plain.specs.declared.prims.Source.TheVariants as source
 use Rattle.script_reader.specs.Script.{Script}
 use Rattle.script_plain.specs.CallLists.{called, calls_from, calls_of}
@@ -78,10 +79,6 @@ calls_front l (x ∷ prims) prim here =
 pub nothing_left : (l : Lengths) (prims : List Prim) → slice_get prims 0 ≡ None → calls_from l prims ≡ []
 nothing_left l [] none = refl
 nothing_left l (x ∷ prims) none = absurd (cc (none))
-
-planned_append : (one other : List Call) → bytes_planned (one ++ other) ≡ bytes_planned one + bytes_planned other
-planned_append [] other = omega arith
-planned_append (call ∷ one) other = let a = planned_append one other in omega (arith, a)
 
 -- calls and bytes counted so far, with those that are left, are those of the program
 pub record AreCounted (planned : List Call) (calls bytes : ℕ) (left : List Call) : Type 0 where

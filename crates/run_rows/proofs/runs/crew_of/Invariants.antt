@@ -1,4 +1,4 @@
-use Rattle.run_rows.proofs.CrewLemmas.{AreFresh}
+use Rattle.rcce_run.specs.UeRuns.{AreFresh}
 use Rattle.run_rows.proofs.runs.crew_of.Given as goal
 
 abbrev pub invariant-loop-number : goal.invariant-loop-number
