@@ -162,6 +162,25 @@ fn note<V: Evict + Drop>(alloc: Global, end: RunEnd, crew: &[Crew<'_, V>]) -> Re
     })
 }
 
+/// A run of a script on a new chip with this setup.
+fn run_of<V: Evict + Drop + Send, E: Evictors<V>, G: Gate + Sync, R: Threads + Sync>(
+    rt: &R,
+    alloc: Global,
+    scripts: &Scripts,
+    setup: &Setup,
+    evictors: &E,
+    mode: Mode,
+    gate: &G,
+) -> Result<Came, Fail>
+    requires ranks { setup.now.nue ≡ scripts.now.nue }
+    requires communicators { setup.now.comms ≡ rules_of scripts.now.items }
+{
+    let mut chip = opened(alloc, setup)?;
+    let mut crew = crew_of(alloc, scripts, setup, evictors)?;
+    let end = run(rt, &mut chip, crew.as_mut_slice(), mode, gate);
+    note(alloc, end, crew.as_slice())
+}
+
 /// A run of a row's script.
 pub(crate) fn come<V: Evict + Drop + Send, E: Evictors<V>, G: Gate + Sync, R: Threads + Sync>(
     rt: &R,
@@ -177,10 +196,7 @@ pub(crate) fn come<V: Evict + Drop + Send, E: Evictors<V>, G: Gate + Sync, R: Th
     }
     let scripts = read_script(alloc, row.script, row.nue)?;
     let setup = setup_of(&scripts, layout).ok_or("a setup")?;
-    let mut chip = opened(alloc, &setup)?;
-    let mut crew = crew_of(alloc, &scripts, &setup, evictors)?;
-    let end = run(rt, &mut chip, crew.as_mut_slice(), mode, gate);
-    note(alloc, end, crew.as_slice())
+    run_of(rt, alloc, &scripts, &setup, evictors, mode, gate)
 }
 
 /// Whether a run came to all that its row says.

@@ -1,6 +1,6 @@
 //! Whole scripts over a chip with one seat: each rank's unit of execution takes turns until none of them moves.
 
-ghost use Rattle.std.specs.Prelude.{◌≡◌, ◌<◌, ◌≤◌, [], IfOk};
+ghost use Rattle.std.specs.Prelude.{◌≡◌, ◌+◌, ◌<◌, ◌≤◌, [], IfOk};
 ghost use Rattle.scc_mesh.specs.Scenes.{IsNew, about_in};
 ghost use Rattle.script_reader.specs.Script.{rules_of};
 ghost use Rattle.rcce_ue.specs.Standing.{Tied};
@@ -154,6 +154,23 @@ pub(crate) fn runner_of<'s, V: Fresh>(
     Ok(Runner { ue, moved: 0 })
 }
 
+// Gives the next rank of a team its part of a script.
+fn join_next<'s, V: Fresh>(
+    alloc: Global,
+    team: &mut Team<Runner<'s, V>>,
+    scripts: &'s Scripts,
+    setup: &Setup,
+    number: u8,
+) -> Result<(), Fail>
+    requires within { number < setup.now.nue }
+    requires ranks { setup.now.nue ≡ scripts.now.nue }
+    requires communicators { setup.now.comms ≡ rules_of scripts.now.items }
+    requires next { team.old ≡ record { about = setup.now; size = number } }
+    ensures joined { IfOk result (λ done. team.new ≡ record { about = setup.now; size = number + 1 }) }
+{
+    team.join(runner_of(alloc, scripts, setup, number)?)
+}
+
 // The ranks of a script on a chip that was just opened.
 fn team_of<'s, V: Fresh>(
     alloc: Global,
@@ -161,10 +178,9 @@ fn team_of<'s, V: Fresh>(
     layout: Layout,
 ) -> Result<Team<Runner<'s, V>>, Fail> {
     let setup = setup_for(scripts, layout)?;
-    let chip = chip_with(alloc, setup.copy())?;
-    let mut team = Team::new(alloc, chip);
+    let mut team = Team::new(alloc, chip_with(alloc, setup.copy())?);
     for number in 0..scripts.nue() {
-        team.join(runner_of(alloc, scripts, &setup, number)?)?;
+        join_next(alloc, &mut team, scripts, &setup, number)?;
     }
     Ok(team)
 }

@@ -2,11 +2,11 @@ use Rattle.std.proofs.Common.{List, sym, subst}
 use Rattle.rcce_ue.specs.Ues.{UeView}
 use Rattle.rcce_run.specs.UeRuns.{IsFreshCrew}
 use Rattle.rcce_run.specs.declared.members.Member.{Member}
-use Rattle.run_rows.proofs.runs.come.Goals as goal
+use Rattle.run_rows.proofs.runs.run_of.Goals as goal
 
 pub run-end-requires-clause-fresh : goal.run-end-requires-clause-fresh
 run-end-requires-clause-fresh g c =
-    let script = c.in_ok-scripts.scripts in
+    let script = c.args.scripts.now in
     let chip = c.in_ok-chip.chip in
     λ lifetimes outlive. (
       script,
