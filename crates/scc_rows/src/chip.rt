@@ -1,9 +1,9 @@
 //! A chip with its ports.
 
-ghost use Rattle.scc_rows.specs.Rests.{IsWithout};
+ghost use Rattle.scc_rows.specs.Rests.{IsAtRest, IsWithout};
 
 use crate::fixtures::{
-    acquire, counted, free, give_back, heap_word, new_pair, spread_pair, store, take,
+    Pair, acquire, counted, free, give_back, heap_word, new_pair, spread_pair, store, take,
 };
 use scc_base::{CoreId, Place, Rank};
 use scc_proto::Port;
@@ -25,33 +25,56 @@ fn every_word_is_zero_after_open(rt: HostRuntime) -> Result<(), Fail> {
     Ok(())
 }
 
+// Whether a word is 0 for a rank until another stores it, and the word beside it changes nothing.
+fn sees_the_store<P: Port, Q: Port>(port: &mut P, other: &mut Q) -> bool
+    requires rests { IsAtRest (P.sight port.old) }
+    requires other_rests { IsAtRest (Q.sight other.old) }
+{
+    let place = heap_word(port, Rank::of(1), 255, 3);
+    let early = port.load(place);
+    store(other, Rank::of(1), 255, 3, u64::MAX);
+    let seen = port.load(place);
+    store(other, Rank::of(1), 255, 2, 5);
+    let late = port.load(place);
+    let own = other.load(place);
+    early == 0 && seen == u64::MAX && late == u64::MAX && own == u64::MAX
+}
+
 #[test]
 fn a_store_is_seen_by_another_ranks_load(rt: HostRuntime) -> Result<(), Fail> {
     let mut chip = new_pair(rt.alloc())?;
-    let mut ports = spread_pair(&mut chip);
-    let place = heap_word(&ports.first, Rank::of(1), 255, 3);
-    let early = ports.first.load(place);
-    store(&mut ports.second, Rank::of(1), 255, 3, u64::MAX);
-    let seen = ports.first.load(place);
-    store(&mut ports.second, Rank::of(1), 255, 2, 5);
-    let late = ports.first.load(place);
-    assert!(rt; early == 0 && seen == u64::MAX && late == u64::MAX);
-    assert!(rt; ports.second.load(place) == u64::MAX);
+    let Pair {
+        mut first,
+        mut second,
+    } = spread_pair(&mut chip);
+    assert!(rt; sees_the_store(&mut first, &mut second));
     Ok(())
+}
+
+// Whether a register is taken by the first of two ranks alone, and by the other once it is freed.
+fn takes_once<P: Port, Q: Port>(port: &mut P, other: &mut Q, core: CoreId) -> bool
+    requires without { IsWithout (P.sight port.old) core }
+    requires other_without { IsWithout (Q.sight other.old) core }
+{
+    let first = take(port, core);
+    let second = take(other, core);
+    if !first || second {
+        return false;
+    }
+    free(port, core);
+    let again = take(other, core);
+    let late = take(port, core);
+    again && !late
 }
 
 #[test]
 fn a_register_is_taken_once_until_it_is_freed(rt: HostRuntime) -> Result<(), Fail> {
     let mut chip = new_pair(rt.alloc())?;
-    let mut ports = spread_pair(&mut chip);
-    let core = CoreId::of(47);
-    let first = take(&mut ports.first, core);
-    let second = take(&mut ports.second, core);
-    assert!(rt; first && !second);
-    free(&mut ports.first, core);
-    let again = take(&mut ports.second, core);
-    let late = take(&mut ports.first, core);
-    assert!(rt; again && !late);
+    let Pair {
+        mut first,
+        mut second,
+    } = spread_pair(&mut chip);
+    assert!(rt; takes_once(&mut first, &mut second, CoreId::of(47)));
     Ok(())
 }
 
@@ -69,19 +92,29 @@ fn passes<P: Port>(port: &mut P, core: CoreId) -> bool
     }
 }
 
+// Whether a register that a rank locked is the other's only after its release.
+fn passes_after_release<P: Port, Q: Port>(port: &mut P, other: &mut Q, core: CoreId) -> bool
+    requires without { IsWithout (P.sight port.old) core }
+    requires other_without { IsWithout (Q.sight other.old) core }
+{
+    let Some(held) = acquire(port, core) else {
+        return false;
+    };
+    let early = passes(other, core);
+    let again = passes(other, core);
+    give_back(port, held);
+    let late = passes(other, core);
+    let first = passes(port, core);
+    !early && !again && late && first
+}
+
 #[test]
 fn a_lock_is_another_ranks_only_after_its_release(rt: HostRuntime) -> Result<(), Fail> {
     let mut chip = new_pair(rt.alloc())?;
-    let mut ports = spread_pair(&mut chip);
-    let core = CoreId::of(3);
-    let Some(held) = acquire(&mut ports.first, core) else {
-        return Err("a register that is free".into());
-    };
-    let early = passes(&mut ports.second, core);
-    let again = passes(&mut ports.second, core);
-    give_back(&mut ports.first, held);
-    let late = passes(&mut ports.second, core);
-    let first = passes(&mut ports.first, core);
-    assert!(rt; !early && !again && late && first);
+    let Pair {
+        mut first,
+        mut second,
+    } = spread_pair(&mut chip);
+    assert!(rt; passes_after_release(&mut first, &mut second, CoreId::of(3)));
     Ok(())
 }

@@ -4,7 +4,8 @@ ghost use Rattle.std.specs.Prelude.{◌≡◌, None};
 ghost use Rattle.scc_rows.specs.Rests.{IsAtRest};
 
 use crate::fixtures::{
-    Watched, buffer, counted, flush, get, heap_word, new_pair, put, read, spread_pair, store, write,
+    Pair, Watched, buffer, counted, flush, get, heap_word, new_pair, put, read, spread_pair, store,
+    write,
 };
 use line_cache::{Always, Evict, Never};
 use put_get::{Core, RangeFault};
@@ -98,35 +99,55 @@ fn a_get_of_more_lines_than_the_buffer_has_makes_no_event(rt: HostRuntime) -> Re
     Ok(())
 }
 
+// Whether lines of rank 0 that one rank puts are what the other then gets.
+fn gets_what_was_put<P: Port, Q: Port>(port: &mut P, other: &mut Q, at: Buf) -> bool
+    requires rests { IsAtRest (P.sight port.old) }
+    requires other_rests { IsAtRest (Q.sight other.old) }
+{
+    let mut core = Core::new(Never);
+    let sent = put(&mut core, other, Rank::of(0), at, SENT).is_ok();
+    let mut core = Core::new(Never);
+    let mut lines = [[9; 4]; 3];
+    let got = get(&mut core, port, Rank::of(0), at, &mut lines).is_ok();
+    sent && got && are(&lines, FOUND)
+}
+
 #[test]
 fn a_put_is_seen_by_another_ranks_get(rt: HostRuntime) -> Result<(), Fail> {
     let mut chip = new_pair(rt.alloc())?;
-    let mut ports = spread_pair(&mut chip);
-    let at = buffer(&rt, 240, 3);
-    let mut core = Core::new(Never);
-    let sent = put(&mut core, &mut ports.second, Rank::of(0), at, SENT).is_ok();
-    let mut core = Core::new(Never);
-    let mut lines = [[9; 4]; 3];
-    let got = get(&mut core, &mut ports.first, Rank::of(0), at, &mut lines).is_ok();
-    assert!(rt; sent && got && are(&lines, FOUND));
-    assert!(rt; ports.first.loads() == 12 && ports.second.loads() == 0);
+    let Pair {
+        mut first,
+        mut second,
+    } = spread_pair(&mut chip);
+    let seen = gets_what_was_put(&mut first, &mut second, buffer(&rt, 240, 3));
+    assert!(rt; seen && first.loads() == 12 && second.loads() == 0);
     Ok(())
+}
+
+// Whether a line that a rank has read stays old after another rank's put, until `cl1invmb`.
+fn stays_old<P: Port, Q: Port>(port: &mut CountingPort<P>, other: &mut Q, at: Buf) -> bool
+    requires rests { IsAtRest (P.sight port.old.port) }
+    requires other_rests { IsAtRest (Q.sight other.old) }
+{
+    let place = Line::new(CoreId::of(0), 225).word(0);
+    let mut reader = Core::new(Never);
+    let mut writer = Core::new(Never);
+    let early = reads(&mut reader, port, place, 0, 4);
+    let sent = put(&mut writer, other, Rank::of(0), at, SEVEN).is_ok();
+    let held = reads(&mut reader, port, place, 0, 4);
+    reader.cl1invmb();
+    let fresh = reads(&mut reader, port, place, 7, 8);
+    early && sent && held && fresh
 }
 
 #[test]
 fn a_held_line_stays_old_until_cl1invmb(rt: HostRuntime) -> Result<(), Fail> {
     let mut chip = new_pair(rt.alloc())?;
-    let mut ports = spread_pair(&mut chip);
-    let at = buffer(&rt, 225, 1);
-    let place = Line::new(CoreId::of(0), 225).word(0);
-    let mut reader = Core::new(Never);
-    let mut writer = Core::new(Never);
-    let early = reads(&mut reader, &mut ports.first, place, 0, 4);
-    let sent = put(&mut writer, &mut ports.second, Rank::of(0), at, SEVEN).is_ok();
-    let held = reads(&mut reader, &mut ports.first, place, 0, 4);
-    reader.cl1invmb();
-    let fresh = reads(&mut reader, &mut ports.first, place, 7, 8);
-    assert!(rt; early && sent && held && fresh);
+    let Pair {
+        mut first,
+        mut second,
+    } = spread_pair(&mut chip);
+    assert!(rt; stays_old(&mut first, &mut second, buffer(&rt, 225, 1)));
     Ok(())
 }
 
@@ -168,63 +189,96 @@ fn the_evictor_is_not_asked_where_the_line_is_held(rt: HostRuntime) -> Result<()
     Ok(())
 }
 
+// Whether another rank loads a written word once the next line is written, and that line's once it is flushed.
+fn stores_when_next_is_written<P: Port, Q: Port>(port: &mut P, other: &mut Q) -> bool
+    requires rests { IsAtRest (P.sight port.old) }
+    requires other_rests { IsAtRest (Q.sight other.old) }
+{
+    let mut core = Core::new(Never);
+    let first = heap_word(other, Rank::of(0), 225, 1);
+    let second = heap_word(other, Rank::of(0), 226, 2);
+    write(&mut core, port, Rank::of(0), 225, 1, 7);
+    let early = other.load(first);
+    write(&mut core, port, Rank::of(0), 226, 2, 8);
+    let stored = other.load(first);
+    let held = other.load(second);
+    flush(&mut core, port);
+    let flushed = other.load(second);
+    early == 0 && stored == 7 && held == 0 && flushed == 8
+}
+
 #[test]
 fn a_written_word_is_stored_when_another_line_is_written(rt: HostRuntime) -> Result<(), Fail> {
     let mut chip = new_pair(rt.alloc())?;
-    let mut ports = spread_pair(&mut chip);
-    let mut core = Core::new(Never);
-    let first = heap_word(&ports.second, Rank::of(0), 225, 1);
-    let second = heap_word(&ports.second, Rank::of(0), 226, 2);
-    write(&mut core, &mut ports.first, Rank::of(0), 225, 1, 7);
-    let early = ports.second.load(first);
-    write(&mut core, &mut ports.first, Rank::of(0), 226, 2, 8);
-    let stored = ports.second.load(first);
-    let held = ports.second.load(second);
-    flush(&mut core, &mut ports.first);
-    let flushed = ports.second.load(second);
-    assert!(rt; early == 0 && stored == 7 && held == 0 && flushed == 8 && ports.first.loads() == 0);
+    let Pair {
+        mut first,
+        mut second,
+    } = spread_pair(&mut chip);
+    let stored = stores_when_next_is_written(&mut first, &mut second);
+    assert!(rt; stored && first.loads() == 0);
     Ok(())
+}
+
+// The word that another rank stored between flushes of a core of which only the second has something to store.
+fn flushes_beside<P: Port, Q: Port>(port: &mut P, other: &mut Q) -> u64
+    requires rests { IsAtRest (P.sight port.old) }
+    requires other_rests { IsAtRest (Q.sight other.old) }
+{
+    let mut core = Core::new(Never);
+    let place = heap_word(other, Rank::of(0), 225, 0);
+    flush(&mut core, port);
+    write(&mut core, port, Rank::of(0), 225, 0, 7);
+    flush(&mut core, port);
+    store(other, Rank::of(0), 225, 0, 9);
+    flush(&mut core, port);
+    other.load(place)
 }
 
 #[test]
 fn a_flush_of_nothing_stores_nothing(rt: HostRuntime) -> Result<(), Fail> {
     let mut chip = new_pair(rt.alloc())?;
-    let mut ports = spread_pair(&mut chip);
-    let mut core = Core::new(Never);
-    let place = heap_word(&ports.second, Rank::of(0), 225, 0);
-    flush(&mut core, &mut ports.first);
-    write(&mut core, &mut ports.first, Rank::of(0), 225, 0, 7);
-    flush(&mut core, &mut ports.first);
-    store(&mut ports.second, Rank::of(0), 225, 0, 9);
-    flush(&mut core, &mut ports.first);
-    assert!(rt; ports.second.load(place) == 9 && ports.first.loads() == 0);
+    let Pair {
+        mut first,
+        mut second,
+    } = spread_pair(&mut chip);
+    let word = flushes_beside(&mut first, &mut second);
+    assert!(rt; word == 9 && first.loads() == 0);
     Ok(())
+}
+
+// Whether a put and a get of three lines of a buffer of two change nothing: a get of two then finds what another rank
+// stored, and what the core held is gone.
+fn refusals_change_nothing<P: Port, Q: Port>(
+    port: &mut CountingPort<P>,
+    other: &mut Q,
+    at: Buf,
+) -> bool
+    requires rests { IsAtRest (P.sight port.old.port) }
+    requires other_rests { IsAtRest (Q.sight other.old) }
+{
+    let mut core = Core::new(Never);
+    let place = heap_word(port, Rank::of(1), 250, 0);
+    let early = reads(&mut core, port, place, 0, 4);
+    let put_three = put(&mut core, port, Rank::of(1), at, SEVENS);
+    store(other, Rank::of(1), 250, 0, 5);
+    let mut lines = [[9; 4]; 3];
+    let get_three = get(&mut core, port, Rank::of(1), at, &mut lines);
+    let kept = are(&lines, NINES);
+    let held = reads(&mut core, port, place, 0, 4);
+    let got = get(&mut core, port, Rank::of(1), at, &mut lines[..2]).is_ok();
+    let filled = is_filled(&lines);
+    let refused = is_refused(put_three) && is_refused(get_three);
+    early && refused && kept && held && got && filled
 }
 
 #[test]
 fn a_refused_put_and_get_change_nothing(rt: HostRuntime) -> Result<(), Fail> {
     let mut chip = new_pair(rt.alloc())?;
-    let mut ports = spread_pair(&mut chip);
-    let mut core = Core::new(Never);
-    let at = buffer(&rt, 250, 2);
-    let place = heap_word(&ports.first, Rank::of(1), 250, 0);
-    let early = reads(&mut core, &mut ports.first, place, 0, 4);
-    let put_three = put(&mut core, &mut ports.first, Rank::of(1), at, SEVENS);
-    store(&mut ports.second, Rank::of(1), 250, 0, 5);
-    let mut lines = [[9; 4]; 3];
-    let get_three = get(&mut core, &mut ports.first, Rank::of(1), at, &mut lines);
-    let kept = are(&lines, NINES);
-    let held = reads(&mut core, &mut ports.first, place, 0, 4);
-    let got = get(
-        &mut core,
-        &mut ports.first,
-        Rank::of(1),
-        at,
-        &mut lines[..2],
-    )
-    .is_ok();
-    let filled = is_filled(&lines);
-    let refused = is_refused(put_three) && is_refused(get_three);
-    assert!(rt; early && refused && kept && held && got && filled && ports.first.loads() == 12);
+    let Pair {
+        mut first,
+        mut second,
+    } = spread_pair(&mut chip);
+    let kept = refusals_change_nothing(&mut first, &mut second, buffer(&rt, 250, 2));
+    assert!(rt; kept && first.loads() == 12);
     Ok(())
 }
