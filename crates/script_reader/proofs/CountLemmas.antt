@@ -3,7 +3,9 @@ use Rattle.std.proofs.Common.{◌≡◌, ℕ, List, [], ◌∷◌, arith, get_or
 use Rattle.script_reader.specs.declared.fault.FaultKind.{FaultKind}
 use Rattle.script_reader.specs.declared.fault.FaultKind.TheVariants as kind
 use Rattle.script_reader.specs.declared.said.Said.{Said}
-use Rattle.script_reader.specs.Said.{allreduce_said, allreduce_words, apply_said, apply_words, bcast_said, bcast_words, fill_said, fill_words, post_said, post_words, recv_said, recv_words, reduce_said, reduce_words, send_said, send_words}
+use Rattle.script_reader.specs.declared.version.Version.{Version}
+use Rattle.script_reader.specs.declared.version.Version.TheVariants as version
+use Rattle.script_reader.specs.Said.{allreduce_said, allreduce_words, apply_said, apply_words, bcast_said, bcast_words, fill_said, fill_words, hex_print_said, post_said, post_words, print_said, recv_said, recv_words, reduce_said, reduce_words, send_said, send_words, split_said, typed_print_said, world_split_said}
 
 pub reduce-is : {A : Type 0} (words : List A) (bytes : A → List ℕ) (none : A) (r : Result Said FaultKind) → r ≡ reduce_words (bytes (get_or words 0 none)) (bytes (get_or words 1 none)) (bytes (get_or words 2 none)) (bytes (get_or words 3 none)) (bytes (get_or words 4 none)) (bytes (get_or words 5 none)) → length words ≡ 6 → r ≡ reduce_said (map bytes words)
 reduce-is [] bytes none r is long = absurd (omega (arith, long))
@@ -126,3 +128,48 @@ post-other [] bytes other = refl
 post-other (a ∷ []) bytes other = refl
 post-other (a ∷ b ∷ []) bytes other = absurd (other refl)
 post-other (a ∷ b ∷ c ∷ words) bytes other = refl
+
+pub print-one : {A : Type 0} (words : List A) (bytes : A → List ℕ) (none : A) (r : Result Said FaultKind) → r ≡ hex_print_said (bytes (get_or words 0 none)) → length words ≡ 1 → r ≡ print_said (map bytes words)
+print-one [] bytes none r is long = absurd (omega (arith, long))
+print-one (a ∷ []) bytes none r is long = is
+print-one (a ∷ b ∷ words) bytes none r is long = absurd (omega (arith, long))
+
+pub print-two : {A : Type 0} (words : List A) (bytes : A → List ℕ) (none : A) (r : Result Said FaultKind) → r ≡ typed_print_said (bytes (get_or words 0 none)) (bytes (get_or words 1 none)) → length words ≡ 2 → r ≡ print_said (map bytes words)
+print-two [] bytes none r is long = absurd (omega (arith, long))
+print-two (a ∷ []) bytes none r is long = absurd (omega (arith, long))
+print-two (a ∷ b ∷ []) bytes none r is long = is
+print-two (a ∷ b ∷ c ∷ words) bytes none r is long = absurd (omega (arith, long))
+
+pub print-other : {A : Type 0} (words : List A) (bytes : A → List ℕ) → (length words ≡ 1 → ⊥) → (length words ≡ 2 → ⊥) → Err kind.WrongCount ≡ print_said (map bytes words)
+print-other [] bytes one two = refl
+print-other (a ∷ []) bytes one two = absurd (one refl)
+print-other (a ∷ b ∷ []) bytes one two = absurd (two refl)
+print-other (a ∷ b ∷ c ∷ words) bytes one two = refl
+
+pub split-three : {A : Type 0} (by : Version) (words : List A) (bytes : A → List ℕ) (none : A) (r : Result Said FaultKind) → r ≡ world_split_said (bytes (get_or words 0 none)) (bytes (get_or words 1 none)) (bytes (get_or words 2 none)) → length words ≡ 3 → r ≡ split_said by (map bytes words)
+split-three version.One [] bytes none r is long = absurd (omega (arith, long))
+split-three version.One (a ∷ []) bytes none r is long = absurd (omega (arith, long))
+split-three version.One (a ∷ b ∷ []) bytes none r is long = absurd (omega (arith, long))
+split-three version.One (a ∷ b ∷ c ∷ []) bytes none r is long = is
+split-three version.One (a ∷ b ∷ c ∷ d ∷ words) bytes none r is long = absurd (omega (arith, long))
+split-three version.Two [] bytes none r is long = absurd (omega (arith, long))
+split-three version.Two (a ∷ []) bytes none r is long = absurd (omega (arith, long))
+split-three version.Two (a ∷ b ∷ []) bytes none r is long = absurd (omega (arith, long))
+split-three version.Two (a ∷ b ∷ c ∷ []) bytes none r is long = is
+split-three version.Two (a ∷ b ∷ c ∷ d ∷ words) bytes none r is long = absurd (omega (arith, long))
+
+pub split-other : {A : Type 0} (by : Version) (words : List A) (bytes : A → List ℕ) → (length words ≡ 3 → ⊥) → (length words ≡ 5 → ⊥) → Err kind.WrongCount ≡ split_said by (map bytes words)
+split-other version.One [] bytes three five = refl
+split-other version.One (a ∷ []) bytes three five = refl
+split-other version.One (a ∷ b ∷ []) bytes three five = refl
+split-other version.One (a ∷ b ∷ c ∷ []) bytes three five = absurd (three refl)
+split-other version.One (a ∷ b ∷ c ∷ d ∷ []) bytes three five = refl
+split-other version.One (a ∷ b ∷ c ∷ d ∷ e ∷ []) bytes three five = absurd (five refl)
+split-other version.One (a ∷ b ∷ c ∷ d ∷ e ∷ f ∷ words) bytes three five = refl
+split-other version.Two [] bytes three five = refl
+split-other version.Two (a ∷ []) bytes three five = refl
+split-other version.Two (a ∷ b ∷ []) bytes three five = refl
+split-other version.Two (a ∷ b ∷ c ∷ []) bytes three five = absurd (three refl)
+split-other version.Two (a ∷ b ∷ c ∷ d ∷ []) bytes three five = refl
+split-other version.Two (a ∷ b ∷ c ∷ d ∷ e ∷ []) bytes three five = absurd (five refl)
+split-other version.Two (a ∷ b ∷ c ∷ d ∷ e ∷ f ∷ words) bytes three five = refl

@@ -2,12 +2,12 @@
 
 ghost use Rattle.std.specs.Prelude.{◌≡◌, ◌<◌, ◌≤◌, ◌^◌, IfOk, OnOk, length, map};
 ghost use Rattle.script_reader.specs.Faults.{Gives, LineGives, stop_of};
-ghost use Rattle.script_reader.specs.Reading.{at_end, is_number, parse_script, read_all_lines, read_file, read_line, read_lines, read_words, says_two, version_of};
+ghost use Rattle.script_reader.specs.Reading.{is_number, parse_script, read_all_lines, read_file, read_line, read_lines, read_words, says_two, version_of};
 ghost use Rattle.script_reader.specs.Tally.{IsUpTo};
 ghost use Rattle.script_reader.specs.Checks.{last_comm};
 ghost use Rattle.script_reader.specs.Settled.{HasCommsTo, SplitsWorldAlone};
 ghost use Rattle.script_reader.specs.declared.version.Version.TheVariants.{One};
-ghost use Rattle.script_reader.specs.Words.{line_count, lines_of};
+ghost use Rattle.script_reader.specs.Words.{lines_of};
 
 use crate::fault::{FaultKind, LineStop, ReadFault, ReadStop};
 use crate::reader::Reader;
@@ -121,22 +121,6 @@ fn read_lines(alloc: Global, reader: &mut Reader, lines: &[&[u8]]) -> Result<(),
     Ok(())
 }
 
-/// The script that was read, where no repeat is open at the end of the lines.
-fn at_end(reader: Reader, lines: &[&[u8]]) -> Result<Scripts, ReadStop>
-    requires few { length lines.now < 4194306 }
-    requires counted { length reader.items < 2 ^ 32 }
-    ensures gives { Gives (λ script. script) result (at_end (line_count (map (λ line. line.now) lines.now)) reader) }
-    ensures low { IfOk result (HasCommsTo (last_comm reader.version)) }
-{
-    if !reader.is_closed() {
-        return Err(ReadStop::Fault(ReadFault {
-            line: line_count(lines) as u32 + 1,
-            kind: FaultKind::UnclosedRepeat,
-        }));
-    }
-    Ok(reader.finish())
-}
-
 /// The script that a file says in a version of the language, or its first fault with its line and kind.
 fn read_all_lines(
     alloc: Global,
@@ -152,19 +136,13 @@ fn read_all_lines(
 {
     let mut reader = Reader::new(alloc, version, nue)?;
     read_lines(alloc, &mut reader, lines)?;
-    at_end(reader, lines)
-}
-
-/// The script that a file says in the version that it names.
-fn read_versioned(alloc: Global, lines: &[&[u8]], nue: u8) -> Result<Scripts, ReadStop>
-    requires few { length lines.now < 4194306 }
-    requires some { 1 ≤ nue }
-    requires most { nue ≤ 48 }
-    ensures gives { Gives (λ script. script) result (read_all_lines (version_of (map (λ line. line.now) lines.now)) (map (λ line. line.now) lines.now) nue) }
-    ensures low { IfOk result (HasCommsTo (last_comm (version_of (map (λ line. line.now) lines.now)))) }
-{
-    let version = version_of(alloc, lines)?;
-    read_all_lines(alloc, version, lines, nue)
+    if !reader.is_closed() {
+        return Err(ReadStop::Fault(ReadFault {
+            line: line_count(lines) as u32 + 1,
+            kind: FaultKind::UnclosedRepeat,
+        }));
+    }
+    Ok(reader.finish())
 }
 
 /// The script that a file says, or its first fault with its line and kind.
@@ -181,7 +159,8 @@ pub(crate) fn read_file(alloc: Global, bytes: &[u8], nue: u8) -> Result<Scripts,
         }));
     }
     let lines = lines(alloc, bytes)?;
-    read_versioned(alloc, lines.as_slice(), nue)
+    let version = version_of(alloc, lines.as_slice())?;
+    read_all_lines(alloc, version, lines.as_slice(), nue)
 }
 
 /// Reads a script for a number of ranks.

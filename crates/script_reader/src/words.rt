@@ -298,22 +298,14 @@ fn push_value(bytes: &mut Vec<u8>, ty: Ty, word: &[u8]) -> Result<(), LineStop>
     }
 }
 
-/// Puts the bytes of the values that words stand for behind others.
-fn push_values(bytes: &mut Vec<u8>, ty: Ty, words: &[&[u8]]) -> Result<(), LineStop>
-    ensures { LineGives (λ _. bytes.new.items) result (values_said ty bytes.old.items (map (λ word. word.now) words.now)) }
-{
-    for word in words {
-        push_value(bytes, ty, word)?;
-    }
-    Ok(())
-}
-
 /// Words as values of a type.
 pub(crate) fn values_said(alloc: Global, ty: Ty, words: &[&[u8]]) -> Result<Bytes, LineStop>
     ensures { LineGives (λ bytes. bytes) result (values_said ty [] (map (λ word. word.now) words.now)) }
 {
     let mut bytes = Vec::new(alloc);
-    push_values(&mut bytes, ty, words)?;
+    for word in words {
+        push_value(&mut bytes, ty, word)?;
+    }
     Ok(Bytes::from_vec(bytes))
 }
 

@@ -1,5 +1,4 @@
 use Rattle.std.proofs.Common.{◌∙◌, ap, subst}
-use Rattle.std.specs.Prelude.{IfOk}
 use Rattle.script_reader.specs.declared.version.Version.{Version}
 use Rattle.script_reader.specs.Checks.{last_comm}
 use Rattle.script_reader.specs.Progress.{Progress}
@@ -10,4 +9,4 @@ use Rattle.script_reader.proofs.reading.read_all_lines.Goals as goal
 pub returns-clause-low : goal.returns-clause-low
 returns-clause-low c =
     let same = c.in_ok-read_lines.ensures.version ∙ ap (λ (p : Progress). p.version) c.in_ok-reader.ensures in
-    subst (λ (version : Version). IfOk c.at_end.result (HasCommsTo (last_comm version))) same c.at_end.ensures.low
+    subst (λ (version : Version). HasCommsTo (last_comm version) c.finish.result) same c.finish.ensures.low

@@ -5,8 +5,8 @@ use Rattle.std.proofs.lemmas.List.Sums.{count_by-le-length}
 use Rattle.script_reader.proofs.reading.read_file.Goals as goal
 
 -- a file has at most one line more than bytes
-pub read_versioned-requires-clause-few : goal.read_versioned-requires-clause-few
-read_versioned-requires-clause-few c =
+pub read_all_lines-requires-clause-few : goal.read_all_lines-requires-clause-few
+read_all_lines-requires-clause-few c =
     let lines = c.in_ok-lines.lines.items in
     let same = sym (length-map lines (λ line. line.now)) ∙ ap length c.in_ok-lines.ensures ∙ length-slice_split (λ b. b == 10) c.args.bytes.now in
     omega (arith, same, c.as_slice.ensures.value, count_by-le-length (λ b. b == 10) c.args.bytes.now, c.if-bytes-gt-MOST_SCRIPT_BYTES.false)
