@@ -2,6 +2,7 @@ pub mod AcceptanceLemmas
 pub mod BareLemmas
 pub mod CheckLemmas
 pub mod ClosedLemmas
+pub mod CountLemmas
 pub mod DecimalLemmas
 pub mod EndLemmas
 pub mod RankLemmas

@@ -18,7 +18,7 @@ const MOST_BYTES: u64 = 65_536;
 const MOST_POSTED: u64 = 3_584;
 
 /// A check that holds where it holds for at least one rank of the section.
-#[derive(Clone, Copy, PartialEq, Eq)]
+#[derive(Clone, Copy)]
 pub enum RankCheck {
     RootRange,
     SelfMessage,

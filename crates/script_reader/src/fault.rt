@@ -66,14 +66,14 @@ pub struct ReadFault {
 }
 
 /// Why a reading stops: the file has a fault, or no memory is left.
-#[derive(Clone, Copy, Debug, PartialEq, Eq)]
+#[derive(Clone, Copy, Debug)]
 pub enum ReadStop {
     Fault(ReadFault),
     Memory,
 }
 
 /// Why a reading stops inside a line.
-#[derive(Clone, Copy, Debug, PartialEq, Eq)]
+#[derive(Clone, Copy)]
 pub(crate) enum LineStop {
     Kind(FaultKind),
     Memory,

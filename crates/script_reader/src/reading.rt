@@ -15,7 +15,7 @@ use crate::said::said_of;
 use crate::script::Scripts;
 use crate::taking::take;
 use crate::version::Version;
-use crate::words::{is_text, line_count, lines, number, words};
+use crate::words::{is_text, is_word, line_count, lines, number, words};
 use std::alloc::{AllocError, Global};
 
 /// The most bytes of a script's file: 4 MiB.
@@ -35,7 +35,7 @@ fn says_two(words: &[&[u8]]) -> bool
     ensures { result ≡ says_two (map (λ word. word.now) words.now) }
 {
     match words {
-        [first, second] => *first == b"rcce".as_slice() && is_number(number(second), 2),
+        [first, second] => is_word(first, b"rcce") && is_number(number(second), 2),
         _ => false,
     }
 }

@@ -14,7 +14,7 @@ use crate::said_locals::{
 };
 use crate::script::Form;
 use crate::version::Version;
-use crate::words::{Parts, number_said, range_said};
+use crate::words::{Parts, is_word, number_said, range_said};
 use groups::{Op, Ty};
 use std::alloc::Global;
 
@@ -137,17 +137,17 @@ pub(crate) enum Collective {
 }
 
 /// A line of one word.
-fn alone(said: Said, words: &[&[u8]]) -> Result<Said, LineStop>
-    ensures { LineGives (λ said. said) result (alone said (map (λ word. word.now) words.now)) }
+fn alone(said: Said, words: &[&[u8]]) -> Result<Said, FaultKind>
+    ensures { result ≡ alone said (map (λ word. word.now) words.now) }
 {
     match words {
         [] => Ok(said),
-        _ => Err(LineStop::Kind(FaultKind::WrongCount)),
+        _ => Err(FaultKind::WrongCount),
     }
 }
 
-fn span_said(first: &[u8], last: &[u8]) -> Result<Said, LineStop>
-    ensures { LineGives (λ said. said) result (span_said first.now last.now) }
+fn span_said(first: &[u8], last: &[u8]) -> Result<Said, FaultKind>
+    ensures { result ≡ span_said first.now last.now }
 {
     let first = number_said(first)?;
     let last = number_said(last)?;
@@ -161,8 +161,8 @@ fn dash_of(word: &[u8]) -> usize
     word.iter().position(|b| *b == b'-').unwrap_or(word.len())
 }
 
-fn ranks_said(word: &[u8]) -> Result<Said, LineStop>
-    ensures { LineGives (λ said. said) result (ranks_said word.now) }
+fn ranks_said(word: &[u8]) -> Result<Said, FaultKind>
+    ensures { result ≡ ranks_said word.now }
 {
     let dash = dash_of(word);
     if dash >= word.len() {
@@ -171,75 +171,82 @@ fn ranks_said(word: &[u8]) -> Result<Said, LineStop>
     span_said(&word[..dash], &word[dash + 1..])
 }
 
-fn ue_said(words: &[&[u8]]) -> Result<Said, LineStop>
-    ensures { LineGives (λ said. said) result (ue_said (map (λ word. word.now) words.now)) }
+fn ue_said(words: &[&[u8]]) -> Result<Said, FaultKind>
+    ensures { result ≡ ue_said (map (λ word. word.now) words.now) }
 {
     match words {
         [ranks] => ranks_said(ranks),
-        _ => Err(LineStop::Kind(FaultKind::WrongCount)),
+        _ => Err(FaultKind::WrongCount),
     }
 }
 
-fn repeat_said(words: &[&[u8]]) -> Result<Said, LineStop>
-    ensures { LineGives (λ said. said) result (repeat_said (map (λ word. word.now) words.now)) }
+fn repeat_said(words: &[&[u8]]) -> Result<Said, FaultKind>
+    ensures { result ≡ repeat_said (map (λ word. word.now) words.now) }
 {
     match words {
         [times] => {
             let times = range_said(times, 1, 100_000)?;
             Ok(Said::Repeat { times })
         }
-        _ => Err(LineStop::Kind(FaultKind::WrongCount)),
+        _ => Err(FaultKind::WrongCount),
     }
 }
 
-fn rcce_said(version: Version, words: &[&[u8]]) -> Result<Said, LineStop>
-    ensures { LineGives (λ said. said) result (rcce_said version (map (λ word. word.now) words.now)) }
+fn rcce_said(version: Version, words: &[&[u8]]) -> Result<Said, FaultKind>
+    ensures { result ≡ rcce_said version (map (λ word. word.now) words.now) }
 {
     match words {
         [number] => {
             range_said(number, version.number(), version.number())?;
             Ok(Said::Version)
         }
-        _ => Err(LineStop::Kind(FaultKind::WrongCount)),
+        _ => Err(FaultKind::WrongCount),
     }
 }
 
-fn section_said(first: &[u8], words: &[&[u8]]) -> Result<Said, LineStop>
-    ensures { LineGives (λ said. said) result (section_said first.now (map (λ word. word.now) words.now)) }
+fn section_said(first: &[u8], words: &[&[u8]]) -> Result<Said, FaultKind>
+    ensures { result ≡ section_said first.now (map (λ word. word.now) words.now) }
 {
-    if first == b"all".as_slice() {
+    if is_word(first, b"all") {
         alone(Said::Section(Section::All), words)
-    } else if first == b"even".as_slice() {
+    } else if is_word(first, b"even") {
         alone(Said::Section(Section::Even), words)
-    } else if first == b"odd".as_slice() {
+    } else if is_word(first, b"odd") {
         alone(Said::Section(Section::Odd), words)
-    } else if first == b"ue".as_slice() {
+    } else if is_word(first, b"ue") {
         ue_said(words)
-    } else if first == b"repeat".as_slice() {
+    } else if is_word(first, b"repeat") {
         repeat_said(words)
-    } else if first == b"end".as_slice() {
+    } else if is_word(first, b"end") {
         alone(Said::End, words)
     } else {
-        Err(LineStop::Kind(FaultKind::UnknownStatement))
+        Err(FaultKind::UnknownStatement)
     }
 }
 
-fn group_said(version: Version, first: &[u8], words: &[&[u8]]) -> Result<Said, LineStop>
-    ensures { LineGives (λ said. said) result (group_said version first.now (map (λ word. word.now) words.now)) }
+fn group_said(version: Version, first: &[u8], words: &[&[u8]]) -> Result<Said, FaultKind>
+    ensures { result ≡ group_said version first.now (map (λ word. word.now) words.now) }
 {
-    if first == b"barrier".as_slice() {
+    if is_word(first, b"barrier") {
         barrier_said(words)
-    } else if first == b"split".as_slice() {
+    } else if is_word(first, b"split") {
         split_said(version, words)
-    } else if first == b"bcast".as_slice() {
+    } else if is_word(first, b"bcast") {
         bcast_said(words)
-    } else if first == b"reduce".as_slice() {
+    } else if is_word(first, b"reduce") {
         reduce_said(words)
-    } else if first == b"allreduce".as_slice() {
+    } else if is_word(first, b"allreduce") {
         allreduce_said(words)
     } else {
         section_said(first, words)
     }
+}
+
+/// What a line says that takes no memory, for a reading that can stop for want of it.
+fn widened(said: Result<Said, FaultKind>) -> Result<Said, LineStop>
+    ensures { LineGives (λ said. said) result said }
+{
+    Ok(said?)
 }
 
 fn register_said(
@@ -250,22 +257,22 @@ fn register_said(
 ) -> Result<Said, LineStop>
     ensures { LineGives (λ said. said) result (register_said version first.now (map (λ word. word.now) words.now)) }
 {
-    if first == b"bytes".as_slice() {
+    if is_word(first, b"bytes") {
         bytes_said(alloc, words)
-    } else if first == b"ints".as_slice() {
+    } else if is_word(first, b"ints") {
         numbers_said(alloc, Ty::Int, words)
-    } else if first == b"longs".as_slice() {
+    } else if is_word(first, b"longs") {
         numbers_said(alloc, Ty::Long, words)
-    } else if first == b"fill".as_slice() {
-        fill_said(words)
-    } else if first == b"rank".as_slice() {
-        rank_of_said(words)
-    } else if first == b"apply".as_slice() {
-        apply_said(words)
-    } else if first == b"print".as_slice() {
-        print_said(words)
+    } else if is_word(first, b"fill") {
+        widened(fill_said(words))
+    } else if is_word(first, b"rank") {
+        widened(rank_of_said(words))
+    } else if is_word(first, b"apply") {
+        widened(apply_said(words))
+    } else if is_word(first, b"print") {
+        widened(print_said(words))
     } else {
-        group_said(version, first, words)
+        widened(group_said(version, first, words))
     }
 }
 
@@ -279,14 +286,14 @@ pub(crate) fn said_of(
 ) -> Result<Said, LineStop>
     ensures { LineGives (λ said. said) result (said_of version opening first.now (map (λ word. word.now) words.now)) }
 {
-    if first == b"send".as_slice() {
-        send_said(words)
-    } else if first == b"post".as_slice() {
-        post_said(words)
-    } else if first == b"recv".as_slice() {
-        recv_said(words)
-    } else if opening && first == b"rcce".as_slice() {
-        rcce_said(version, words)
+    if is_word(first, b"send") {
+        widened(send_said(words))
+    } else if is_word(first, b"post") {
+        widened(post_said(words))
+    } else if is_word(first, b"recv") {
+        widened(recv_said(words))
+    } else if opening && is_word(first, b"rcce") {
+        widened(rcce_said(version, words))
     } else {
         register_said(alloc, version, first, words)
     }

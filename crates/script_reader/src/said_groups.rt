@@ -1,18 +1,17 @@
 //! What a line says of the groups of a communicator.
 
 ghost use Rattle.std.specs.Prelude.{◌≡◌, map};
-ghost use Rattle.script_reader.specs.Faults.{LineGives};
 ghost use Rattle.script_reader.specs.Said.{allreduce_words, reduce_words, bcast_words, allreduce_said, barrier_said, bcast_said, parent_split_said, reduce_said, split_said, world_split_said};
 
-use crate::fault::{FaultKind, LineStop};
+use crate::fault::FaultKind;
 use crate::said::{Collective, Said};
 use crate::version::Version;
 use crate::words::{
     colour_said, name_said, number_said, of_said, operation_said, parts_said, type_said,
 };
 
-pub(crate) fn barrier_said(words: &[&[u8]]) -> Result<Said, LineStop>
-    ensures { LineGives (λ said. said) result (barrier_said (map (λ word. word.now) words.now)) }
+pub(crate) fn barrier_said(words: &[&[u8]]) -> Result<Said, FaultKind>
+    ensures { result ≡ barrier_said (map (λ word. word.now) words.now) }
 {
     match words {
         [] => Ok(Said::Collective(Collective::Barrier { comm: 0 })),
@@ -20,12 +19,12 @@ pub(crate) fn barrier_said(words: &[&[u8]]) -> Result<Said, LineStop>
             let comm = number_said(comm)?;
             Ok(Said::Collective(Collective::Barrier { comm }))
         }
-        _ => Err(LineStop::Kind(FaultKind::WrongCount)),
+        _ => Err(FaultKind::WrongCount),
     }
 }
 
-fn world_split_said(comm: &[u8], how: &[u8], parts: &[u8]) -> Result<Said, LineStop>
-    ensures { LineGives (λ said. said) result (world_split_said comm.now how.now parts.now) }
+fn world_split_said(comm: &[u8], how: &[u8], parts: &[u8]) -> Result<Said, FaultKind>
+    ensures { result ≡ world_split_said comm.now how.now parts.now }
 {
     let colour = colour_said(how)?;
     let comm = number_said(comm)?;
@@ -44,8 +43,8 @@ fn parent_split_said(
     parent: &[u8],
     how: &[u8],
     parts: &[u8],
-) -> Result<Said, LineStop>
-    ensures { LineGives (λ said. said) result (parent_split_said comm.now of.now parent.now how.now parts.now) }
+) -> Result<Said, FaultKind>
+    ensures { result ≡ parent_split_said comm.now of.now parent.now how.now parts.now }
 {
     of_said(of)?;
     let colour = colour_said(how)?;
@@ -60,21 +59,21 @@ fn parent_split_said(
     }))
 }
 
-pub(crate) fn split_said(version: Version, words: &[&[u8]]) -> Result<Said, LineStop>
-    ensures { LineGives (λ said. said) result (split_said version (map (λ word. word.now) words.now)) }
+pub(crate) fn split_said(version: Version, words: &[&[u8]]) -> Result<Said, FaultKind>
+    ensures { result ≡ split_said version (map (λ word. word.now) words.now) }
 {
     match words {
         [comm, how, parts] => world_split_said(comm, how, parts),
         [comm, of, parent, how, parts] => match version {
-            Version::One => Err(LineStop::Kind(FaultKind::WrongCount)),
+            Version::One => Err(FaultKind::WrongCount),
             Version::Two => parent_split_said(comm, of, parent, how, parts),
         },
-        _ => Err(LineStop::Kind(FaultKind::WrongCount)),
+        _ => Err(FaultKind::WrongCount),
     }
 }
 
-fn bcast_words(comm: &[u8], root: &[u8], name: &[u8], len: &[u8]) -> Result<Said, LineStop>
-    ensures { LineGives (λ said. said) result (bcast_words comm.now root.now name.now len.now) }
+fn bcast_words(comm: &[u8], root: &[u8], name: &[u8], len: &[u8]) -> Result<Said, FaultKind>
+    ensures { result ≡ bcast_words comm.now root.now name.now len.now }
 {
     let comm = number_said(comm)?;
     let root = number_said(root)?;
@@ -88,12 +87,12 @@ fn bcast_words(comm: &[u8], root: &[u8], name: &[u8], len: &[u8]) -> Result<Said
     }))
 }
 
-pub(crate) fn bcast_said(words: &[&[u8]]) -> Result<Said, LineStop>
-    ensures { LineGives (λ said. said) result (bcast_said (map (λ word. word.now) words.now)) }
+pub(crate) fn bcast_said(words: &[&[u8]]) -> Result<Said, FaultKind>
+    ensures { result ≡ bcast_said (map (λ word. word.now) words.now) }
 {
     match words {
         [comm, root, name, len] => bcast_words(comm, root, name, len),
-        _ => Err(LineStop::Kind(FaultKind::WrongCount)),
+        _ => Err(FaultKind::WrongCount),
     }
 }
 
@@ -104,8 +103,8 @@ fn reduce_words(
     ty: &[u8],
     dst: &[u8],
     src: &[u8],
-) -> Result<Said, LineStop>
-    ensures { LineGives (λ said. said) result (reduce_words comm.now root.now op.now ty.now dst.now src.now) }
+) -> Result<Said, FaultKind>
+    ensures { result ≡ reduce_words comm.now root.now op.now ty.now dst.now src.now }
 {
     let op = operation_said(op)?;
     let ty = type_said(ty)?;
@@ -123,12 +122,12 @@ fn reduce_words(
     }))
 }
 
-pub(crate) fn reduce_said(words: &[&[u8]]) -> Result<Said, LineStop>
-    ensures { LineGives (λ said. said) result (reduce_said (map (λ word. word.now) words.now)) }
+pub(crate) fn reduce_said(words: &[&[u8]]) -> Result<Said, FaultKind>
+    ensures { result ≡ reduce_said (map (λ word. word.now) words.now) }
 {
     match words {
         [comm, root, op, ty, dst, src] => reduce_words(comm, root, op, ty, dst, src),
-        _ => Err(LineStop::Kind(FaultKind::WrongCount)),
+        _ => Err(FaultKind::WrongCount),
     }
 }
 
@@ -138,8 +137,8 @@ fn allreduce_words(
     ty: &[u8],
     dst: &[u8],
     src: &[u8],
-) -> Result<Said, LineStop>
-    ensures { LineGives (λ said. said) result (allreduce_words comm.now op.now ty.now dst.now src.now) }
+) -> Result<Said, FaultKind>
+    ensures { result ≡ allreduce_words comm.now op.now ty.now dst.now src.now }
 {
     let op = operation_said(op)?;
     let ty = type_said(ty)?;
@@ -155,11 +154,11 @@ fn allreduce_words(
     }))
 }
 
-pub(crate) fn allreduce_said(words: &[&[u8]]) -> Result<Said, LineStop>
-    ensures { LineGives (λ said. said) result (allreduce_said (map (λ word. word.now) words.now)) }
+pub(crate) fn allreduce_said(words: &[&[u8]]) -> Result<Said, FaultKind>
+    ensures { result ≡ allreduce_said (map (λ word. word.now) words.now) }
 {
     match words {
         [comm, op, ty, dst, src] => allreduce_words(comm, op, ty, dst, src),
-        _ => Err(LineStop::Kind(FaultKind::WrongCount)),
+        _ => Err(FaultKind::WrongCount),
     }
 }

@@ -1,6 +1,6 @@
 //! What a line says that names registers or another rank.
 
-ghost use Rattle.std.specs.Prelude.{◌≡◌, map};
+ghost use Rattle.std.specs.Prelude.{◌≡◌, [], ◌∷◌, map};
 ghost use Rattle.script_reader.specs.Faults.{LineGives};
 ghost use Rattle.script_reader.specs.Said.{post_words, send_words, hex_print_said, typed_print_said, values_named, recv_words, apply_words, fill_words, apply_said, bytes_said, fill_said, numbers_said, post_said, print_said, rank_of_said, recv_said, send_said};
 
@@ -13,15 +13,19 @@ use crate::words::{
 use groups::Ty;
 use std::alloc::Global;
 
+fn bytes_words(alloc: Global, name: &[u8], hex: &[u8]) -> Result<Said, LineStop>
+    ensures { LineGives (λ said. said) result (bytes_said (name.now ∷ hex.now ∷ [])) }
+{
+    let bytes = hex_said(alloc, hex)?;
+    let name = name_said(name)?;
+    Ok(Said::Local(Local::Bytes { name, bytes }))
+}
+
 pub(crate) fn bytes_said(alloc: Global, words: &[&[u8]]) -> Result<Said, LineStop>
     ensures { LineGives (λ said. said) result (bytes_said (map (λ word. word.now) words.now)) }
 {
     match words {
-        [name, hex] => {
-            let bytes = hex_said(alloc, hex)?;
-            let name = name_said(name)?;
-            Ok(Said::Local(Local::Bytes { name, bytes }))
-        }
+        [name, hex] => bytes_words(alloc, name, hex),
         _ => Err(LineStop::Kind(FaultKind::WrongCount)),
     }
 }
@@ -48,8 +52,8 @@ pub(crate) fn numbers_said(alloc: Global, ty: Ty, words: &[&[u8]]) -> Result<Sai
     }
 }
 
-fn fill_words(name: &[u8], len: &[u8], start: &[u8]) -> Result<Said, LineStop>
-    ensures { LineGives (λ said. said) result (fill_words name.now len.now start.now) }
+fn fill_words(name: &[u8], len: &[u8], start: &[u8]) -> Result<Said, FaultKind>
+    ensures { result ≡ fill_words name.now len.now start.now }
 {
     let len = number_said(len)?;
     let start = range_said(start, 0, 65_535)?;
@@ -57,30 +61,34 @@ fn fill_words(name: &[u8], len: &[u8], start: &[u8]) -> Result<Said, LineStop>
     Ok(Said::Local(Local::Fill { name, len, start }))
 }
 
-pub(crate) fn fill_said(words: &[&[u8]]) -> Result<Said, LineStop>
-    ensures { LineGives (λ said. said) result (fill_said (map (λ word. word.now) words.now)) }
+pub(crate) fn fill_said(words: &[&[u8]]) -> Result<Said, FaultKind>
+    ensures { result ≡ fill_said (map (λ word. word.now) words.now) }
 {
     match words {
         [name, len, start] => fill_words(name, len, start),
-        _ => Err(LineStop::Kind(FaultKind::WrongCount)),
+        _ => Err(FaultKind::WrongCount),
     }
 }
 
-pub(crate) fn rank_of_said(words: &[&[u8]]) -> Result<Said, LineStop>
-    ensures { LineGives (λ said. said) result (rank_of_said (map (λ word. word.now) words.now)) }
+fn rank_of_words(name: &[u8], ty: &[u8]) -> Result<Said, FaultKind>
+    ensures { result ≡ rank_of_said (name.now ∷ ty.now ∷ []) }
+{
+    let ty = type_said(ty)?;
+    let name = name_said(name)?;
+    Ok(Said::Local(Local::RankOf { name, ty }))
+}
+
+pub(crate) fn rank_of_said(words: &[&[u8]]) -> Result<Said, FaultKind>
+    ensures { result ≡ rank_of_said (map (λ word. word.now) words.now) }
 {
     match words {
-        [name, ty] => {
-            let ty = type_said(ty)?;
-            let name = name_said(name)?;
-            Ok(Said::Local(Local::RankOf { name, ty }))
-        }
-        _ => Err(LineStop::Kind(FaultKind::WrongCount)),
+        [name, ty] => rank_of_words(name, ty),
+        _ => Err(FaultKind::WrongCount),
     }
 }
 
-fn apply_words(op: &[u8], ty: &[u8], dst: &[u8], src: &[u8]) -> Result<Said, LineStop>
-    ensures { LineGives (λ said. said) result (apply_words op.now ty.now dst.now src.now) }
+fn apply_words(op: &[u8], ty: &[u8], dst: &[u8], src: &[u8]) -> Result<Said, FaultKind>
+    ensures { result ≡ apply_words op.now ty.now dst.now src.now }
 {
     let op = operation_said(op)?;
     let ty = type_said(ty)?;
@@ -89,25 +97,25 @@ fn apply_words(op: &[u8], ty: &[u8], dst: &[u8], src: &[u8]) -> Result<Said, Lin
     Ok(Said::Local(Local::Apply { op, ty, dst, src }))
 }
 
-pub(crate) fn apply_said(words: &[&[u8]]) -> Result<Said, LineStop>
-    ensures { LineGives (λ said. said) result (apply_said (map (λ word. word.now) words.now)) }
+pub(crate) fn apply_said(words: &[&[u8]]) -> Result<Said, FaultKind>
+    ensures { result ≡ apply_said (map (λ word. word.now) words.now) }
 {
     match words {
         [op, ty, dst, src] => apply_words(op, ty, dst, src),
-        _ => Err(LineStop::Kind(FaultKind::WrongCount)),
+        _ => Err(FaultKind::WrongCount),
     }
 }
 
-fn hex_print_said(name: &[u8]) -> Result<Said, LineStop>
-    ensures { LineGives (λ said. said) result (hex_print_said name.now) }
+fn hex_print_said(name: &[u8]) -> Result<Said, FaultKind>
+    ensures { result ≡ hex_print_said name.now }
 {
     let name = name_said(name)?;
     let form = Form::Hex;
     Ok(Said::Local(Local::Print { name, form }))
 }
 
-fn typed_print_said(ty: &[u8], name: &[u8]) -> Result<Said, LineStop>
-    ensures { LineGives (λ said. said) result (typed_print_said ty.now name.now) }
+fn typed_print_said(ty: &[u8], name: &[u8]) -> Result<Said, FaultKind>
+    ensures { result ≡ typed_print_said ty.now name.now }
 {
     let ty = type_said(ty)?;
     let name = name_said(name)?;
@@ -115,52 +123,52 @@ fn typed_print_said(ty: &[u8], name: &[u8]) -> Result<Said, LineStop>
     Ok(Said::Local(Local::Print { name, form }))
 }
 
-pub(crate) fn print_said(words: &[&[u8]]) -> Result<Said, LineStop>
-    ensures { LineGives (λ said. said) result (print_said (map (λ word. word.now) words.now)) }
+pub(crate) fn print_said(words: &[&[u8]]) -> Result<Said, FaultKind>
+    ensures { result ≡ print_said (map (λ word. word.now) words.now) }
 {
     match words {
         [name] => hex_print_said(name),
         [ty, name] => typed_print_said(ty, name),
-        _ => Err(LineStop::Kind(FaultKind::WrongCount)),
+        _ => Err(FaultKind::WrongCount),
     }
 }
 
-fn send_words(peer: &[u8], name: &[u8]) -> Result<Said, LineStop>
-    ensures { LineGives (λ said. said) result (send_words peer.now name.now) }
+fn send_words(peer: &[u8], name: &[u8]) -> Result<Said, FaultKind>
+    ensures { result ≡ send_words peer.now name.now }
 {
     let peer = peer_said(peer)?;
     let name = name_said(name)?;
     Ok(Said::Message(Message::Send { peer, name }))
 }
 
-pub(crate) fn send_said(words: &[&[u8]]) -> Result<Said, LineStop>
-    ensures { LineGives (λ said. said) result (send_said (map (λ word. word.now) words.now)) }
+pub(crate) fn send_said(words: &[&[u8]]) -> Result<Said, FaultKind>
+    ensures { result ≡ send_said (map (λ word. word.now) words.now) }
 {
     match words {
         [peer, name] => send_words(peer, name),
-        _ => Err(LineStop::Kind(FaultKind::WrongCount)),
+        _ => Err(FaultKind::WrongCount),
     }
 }
 
-fn post_words(peer: &[u8], name: &[u8]) -> Result<Said, LineStop>
-    ensures { LineGives (λ said. said) result (post_words peer.now name.now) }
+fn post_words(peer: &[u8], name: &[u8]) -> Result<Said, FaultKind>
+    ensures { result ≡ post_words peer.now name.now }
 {
     let peer = peer_said(peer)?;
     let name = name_said(name)?;
     Ok(Said::Message(Message::Post { peer, name }))
 }
 
-pub(crate) fn post_said(words: &[&[u8]]) -> Result<Said, LineStop>
-    ensures { LineGives (λ said. said) result (post_said (map (λ word. word.now) words.now)) }
+pub(crate) fn post_said(words: &[&[u8]]) -> Result<Said, FaultKind>
+    ensures { result ≡ post_said (map (λ word. word.now) words.now) }
 {
     match words {
         [peer, name] => post_words(peer, name),
-        _ => Err(LineStop::Kind(FaultKind::WrongCount)),
+        _ => Err(FaultKind::WrongCount),
     }
 }
 
-fn recv_words(peer: &[u8], name: &[u8], len: &[u8]) -> Result<Said, LineStop>
-    ensures { LineGives (λ said. said) result (recv_words peer.now name.now len.now) }
+fn recv_words(peer: &[u8], name: &[u8], len: &[u8]) -> Result<Said, FaultKind>
+    ensures { result ≡ recv_words peer.now name.now len.now }
 {
     let peer = peer_said(peer)?;
     let len = number_said(len)?;
@@ -168,11 +176,11 @@ fn recv_words(peer: &[u8], name: &[u8], len: &[u8]) -> Result<Said, LineStop>
     Ok(Said::Message(Message::Recv { peer, name, len }))
 }
 
-pub(crate) fn recv_said(words: &[&[u8]]) -> Result<Said, LineStop>
-    ensures { LineGives (λ said. said) result (recv_said (map (λ word. word.now) words.now)) }
+pub(crate) fn recv_said(words: &[&[u8]]) -> Result<Said, FaultKind>
+    ensures { result ≡ recv_said (map (λ word. word.now) words.now) }
 {
     match words {
         [peer, name, len] => recv_words(peer, name, len),
-        _ => Err(LineStop::Kind(FaultKind::WrongCount)),
+        _ => Err(FaultKind::WrongCount),
     }
 }

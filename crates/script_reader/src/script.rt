@@ -77,7 +77,7 @@ impl Peer {
 }
 
 /// How a register is printed.
-#[derive(Clone, Copy, PartialEq, Eq)]
+#[derive(Clone, Copy)]
 pub enum Form {
     Hex,
     /// As values of this type.

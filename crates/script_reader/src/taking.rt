@@ -1,6 +1,6 @@
 //! What a line adds to the lines before it.
 
-ghost use Rattle.std.specs.Prelude.{◌≡◌, ◌<◌, ◌≤◌, IfOk, length, OnOk};
+ghost use Rattle.std.specs.Prelude.{◌≡◌, ◌<◌, ◌≤◌, IfOk, MatchResult, length, OnOk};
 ghost use Rattle.script_reader.specs.Faults.{LineGives};
 ghost use Rattle.script_reader.specs.Progress.{after, after_group, after_local, after_message, after_section, peer_in, rank_said, rule_said, small};
 ghost use Rattle.script_reader.specs.Tally.{IsParted, IsUpTo, IsWithin};
@@ -60,8 +60,8 @@ fn rule_said(colour: Colour, parent: u8, parts: Parts) -> CommRule
 }
 
 /// A section line from one rank to another.
-fn take_span(reader: &mut Reader, first: u32, last: u32) -> Result<(), LineStop>
-    ensures gives { LineGives (λ _. reader.new) result (after_section reader.old (Span first last)) }
+fn take_span(reader: &mut Reader, first: u32, last: u32) -> Result<(), FaultKind>
+    ensures gives { MatchResult result (λ _. after_section reader.old (Span first last) ≡ Ok reader.new) (λ kind. after_section reader.old (Span first last) ≡ Err kind) }
     ensures names { OnOk result (reader.new.names ≡ reader.old.names) }
     ensures items { OnOk result (reader.new.items ≡ reader.old.items) }
     ensures version { OnOk result (reader.new.version ≡ reader.old.version) }
@@ -69,21 +69,21 @@ fn take_span(reader: &mut Reader, first: u32, last: u32) -> Result<(), LineStop>
     let first = rank_said(reader.nue(), first)?;
     let last = rank_said(reader.nue(), last)?;
     if last.number() < first.number() {
-        return Err(LineStop::Kind(FaultKind::RankRange));
+        return Err(FaultKind::RankRange);
     }
-    Ok(reader.open_section(Who::Span(first, last))?)
+    reader.open_section(Who::Span(first, last))
 }
 
-fn take_section(reader: &mut Reader, section: Section) -> Result<(), LineStop>
-    ensures gives { LineGives (λ _. reader.new) result (after_section reader.old section) }
+fn take_section(reader: &mut Reader, section: Section) -> Result<(), FaultKind>
+    ensures gives { MatchResult result (λ _. after_section reader.old section ≡ Ok reader.new) (λ kind. after_section reader.old section ≡ Err kind) }
     ensures names { OnOk result (reader.new.names ≡ reader.old.names) }
     ensures items { OnOk result (reader.new.items ≡ reader.old.items) }
     ensures version { OnOk result (reader.new.version ≡ reader.old.version) }
 {
     match section {
-        Section::All => Ok(reader.open_section(Who::All)?),
-        Section::Even => Ok(reader.open_section(Who::Even)?),
-        Section::Odd => Ok(reader.open_section(Who::Odd)?),
+        Section::All => reader.open_section(Who::All),
+        Section::Even => reader.open_section(Who::Even),
+        Section::Odd => reader.open_section(Who::Odd),
         Section::Span { first, last } => take_span(reader, first, last),
     }
 }
@@ -297,7 +297,7 @@ pub(crate) fn take(reader: &mut Reader, line: u32, said: Said) -> Result<(), Lin
 {
     match said {
         Said::Version => Ok(()),
-        Said::Section(section) => take_section(reader, section),
+        Said::Section(section) => Ok(take_section(reader, section)?),
         Said::Local(local) => take_local(reader, line, local),
         Said::Message(message) => take_message(reader, line, message),
         Said::Collective(group) => take_group(reader, line, group),

@@ -1,7 +1,7 @@
 //! The versions of the script language.
 
 /// A version of the language. Version 2 has sixteen communicators, and splits of other communicators than the world.
-#[derive(Clone, Copy, PartialEq, Eq)]
+#[derive(Clone, Copy)]
 pub enum Version {
     One,
     Two,

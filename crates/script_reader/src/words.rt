@@ -2,6 +2,7 @@
 
 ghost use Rattle.std.specs.Prelude.{◌≡◌, ◌+◌, ◌≤◌, length, map, IfOk, IfSome, OnOk, [], ◌++◌};
 ghost use Rattle.std.specs.List.{list_all};
+ghost use Rattle.std.specs.Str.{bytes_eq};
 ghost use Rattle.script_reader.specs.Faults.{LineGives};
 ghost use Rattle.script_reader.specs.Said.{colour_said, hex_said, name_said, number_said, of_said, operation_said, peer_said, range_said, type_said, value_behind, values_said};
 ghost use Rattle.script_reader.specs.Words.{bytes_above, bytes_below, decimal_of, greatest, is_blank, is_name, is_name_byte, is_text, is_text_byte, line_count, lines_of, number_of, uncommented, words_of};
@@ -177,13 +178,20 @@ pub(crate) fn parts_said(word: &[u8]) -> Result<Parts, FaultKind>
     Ok(Parts::new(count as u8))
 }
 
+/// Whether a word is this one.
+pub(crate) fn is_word(word: &[u8], wanted: &[u8]) -> bool
+    ensures { result ≡ bytes_eq word.now wanted.now }
+{
+    word == wanted
+}
+
 /// A word as a type.
 pub(crate) fn type_said(word: &[u8]) -> Result<Ty, FaultKind>
     ensures { result ≡ type_said word.now }
 {
-    if word == b"int".as_slice() {
+    if is_word(word, b"int") {
         Ok(Ty::Int)
-    } else if word == b"long".as_slice() {
+    } else if is_word(word, b"long") {
         Ok(Ty::Long)
     } else {
         Err(FaultKind::UnknownStatement)
@@ -194,13 +202,13 @@ pub(crate) fn type_said(word: &[u8]) -> Result<Ty, FaultKind>
 pub(crate) fn operation_said(word: &[u8]) -> Result<Op, FaultKind>
     ensures { result ≡ operation_said word.now }
 {
-    if word == b"sum".as_slice() {
+    if is_word(word, b"sum") {
         Ok(Op::Sum)
-    } else if word == b"min".as_slice() {
+    } else if is_word(word, b"min") {
         Ok(Op::Min)
-    } else if word == b"max".as_slice() {
+    } else if is_word(word, b"max") {
         Ok(Op::Max)
-    } else if word == b"prod".as_slice() {
+    } else if is_word(word, b"prod") {
         Ok(Op::Prod)
     } else {
         Err(FaultKind::UnknownStatement)
@@ -211,9 +219,9 @@ pub(crate) fn operation_said(word: &[u8]) -> Result<Op, FaultKind>
 pub(crate) fn colour_said(word: &[u8]) -> Result<Colour, FaultKind>
     ensures { result ≡ colour_said word.now }
 {
-    if word == b"mod".as_slice() {
+    if is_word(word, b"mod") {
         Ok(Colour::Mod)
-    } else if word == b"div".as_slice() {
+    } else if is_word(word, b"div") {
         Ok(Colour::Div)
     } else {
         Err(FaultKind::UnknownStatement)
@@ -224,7 +232,7 @@ pub(crate) fn colour_said(word: &[u8]) -> Result<Colour, FaultKind>
 pub(crate) fn of_said(word: &[u8]) -> Result<bool, FaultKind>
     ensures { result ≡ of_said word.now }
 {
-    if word == b"of".as_slice() {
+    if is_word(word, b"of") {
         Ok(true)
     } else {
         Err(FaultKind::UnknownStatement)
@@ -333,7 +341,7 @@ pub(crate) fn name_said(word: &[u8]) -> Result<Name, FaultKind>
 pub(crate) fn hex_said(alloc: Global, word: &[u8]) -> Result<Bytes, LineStop>
     ensures { LineGives (λ bytes. bytes) result (hex_said word.now) }
 {
-    if word == b"-".as_slice() {
+    if is_word(word, b"-") {
         return Ok(Bytes::from_vec(Vec::new(alloc)));
     }
     match hex::decode(alloc, word) {
