@@ -1,5 +1,5 @@
 -- What the machine of a rank holds has room for what comes, and comes to what the rank comes to.
-use Rattle.std.proofs.Common.{◌≡◌, ℕ, ◌+◌, ◌≤◌, true, List, [], length, drop, replicate, Option, Some, refl, sym, ap, ◌∙◌, arith}
+use Rattle.std.proofs.Common.{◌≡◌, ℕ, true, List, [], length, drop, Option, Some, refl, ap, arith}
 use Rattle.script_plain.specs.declared.machines.Held.{Held}
 use Rattle.script_plain.specs.declared.prims.Action.{Action}
 use Rattle.script_plain.specs.declared.prims.Action.TheVariants as action
@@ -10,9 +10,9 @@ use Rattle.script_plain.specs.Local.{Local, local_next, next_by_act, next_by_pri
 use Rattle.script_plain.specs.Moves.{length_in, went}
 use Rattle.script_plain.specs.Next.{Next, is_going}
 use Rattle.script_plain.specs.Next.Next.{Ends, Goes, Posts, Sends, Recvs, Bars}
-use Rattle.script_plain.specs.Program.{Act, Prim}
+use Rattle.script_plain.specs.Program.{Prim}
 use Rattle.script_plain.specs.Program.Act.{Set, Apply, Print, Begin, Accept, Finish}
-use Rattle.script_plain.specs.Rooms.{AreWithin, IsWithin, Rooms}
+use Rattle.script_plain.specs.Rooms.{AreWithin}
 use Rattle.script_plain.specs.Walk.{WalkView, act_meant, content_of}
 use Rattle.script_plain.proofs.RoomLaws.{after, fits_next, length_index, put_fits}
 

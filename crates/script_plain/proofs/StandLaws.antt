@@ -16,7 +16,7 @@ use Rattle.script_plain.specs.Moves.{length_in}
 use Rattle.script_plain.specs.Next.{Next, call_of, is_going}
 use Rattle.script_plain.specs.Next.Next.{Ends, Goes, Posts, Sends, Recvs, Bars}
 use Rattle.script_plain.specs.Step.{all_at_barrier, by_rank, next_at, past_if, same_head, slot_at, step_of}
-use Rattle.script_plain.proofs.CodeLaws.{IsFetch, fetches}
+use Rattle.script_plain.proofs.CodeLaws.{fetches}
 use Rattle.script_plain.proofs.RunLaws.{there}
 use Rattle.script_plain.proofs.StepLaws as steps
 use Rattle.script_plain.proofs.UeLaws.{same_long}
@@ -255,16 +255,11 @@ module _ (keys : ℕ → ℕ → ℕ) (ues : List Local) (slots : List (Option P
   pub delivers : decision keys ues slots i ≡ step.Matches j → IsDelivery ues slots i j
   delivers is = stands_at keys ues slots i (step.Matches j) is
 
-  -- the two ranks of a message that is delivered are there
+  -- a rank that sends is there
   pub sender_there : decision keys ues slots i ≡ step.Matches j → i < length ues
   sender_there is =
       let d = delivers is in
       cell_within ues slots i (Sends j d.head d.bytes d.after) d.stands (λ e. cc)
-
-  pub receiver_there : decision keys ues slots i ≡ step.Matches j → j < length ues
-  receiver_there is =
-      let d = delivers is in
-      cell_within ues slots j (Recvs i d.asked d.take d.refuse) d.meets (λ e. cc)
 
   pub sender_stands : (u : Local) → decision keys ues slots i ≡ step.Matches j → slice_get ues i ≡ Some u → IsAtSend (local_next u)
   sender_stands u is here =

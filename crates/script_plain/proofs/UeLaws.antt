@@ -1,25 +1,21 @@
 -- What a rank holds keeps its lengths, whatever stands next; and what its machine comes to is what the step of a run says.
-use Rattle.std.proofs.Common.{◌≡◌, ◌≢◌, ℕ, ◌<◌, ◌==◌, ◌&&◌, Bool, true, false, cond, List, [], get_or, length, set, slice_get, Option, Some, None, refl, sym, ap, ◌∙◌, subst, ⊎_elim}
+use Rattle.std.proofs.Common.{◌≡◌, ℕ, ◌==◌, ◌&&◌, true, List, [], length, slice_get, Option, Some, refl, sym, ap, ◌∙◌}
 use Rattle.std.specs.Option.{option_map_or}
 use Rattle.std.proofs.lemmas.Bool.{eqb-true}
-use Rattle.std.proofs.lemmas.List.{get_or-set_other}
-use Rattle.std.proofs.lemmas.Option.{get_or_from_slice_get, same_Some, slice_get_within}
+use Rattle.std.proofs.lemmas.Option.{same_Some}
 use Rattle.scc_base.specs.Heads.{MessageHead}
-use Rattle.scc_base.specs.declared.calls.Call.{Call}
-use Rattle.scc_base.specs.declared.calls.Call.TheVariants as call
 use Rattle.script_plain.specs.declared.posts.OnItsWay.{OnItsWay}
 use Rattle.script_plain.specs.declared.posts.Posted.{Posted}
 use Rattle.script_plain.specs.declared.steps.Step.TheVariants as step
-use Rattle.script_plain.specs.Code.{HasLength, HasPosted, HasRefused, HasSent, HasTaken, IsAtPost, IsAtReceive, IsAtSend, call_decision, config, decision, match_decision}
+use Rattle.script_plain.specs.Code.{HasLength, HasPosted, HasRefused, HasSent, HasTaken, IsAtPost, IsAtReceive, IsAtSend, config, decision}
 use Rattle.script_plain.specs.Kept.{Fits, FitsNext}
 use Rattle.script_plain.specs.Local.{Local, local_next}
 use Rattle.script_plain.specs.Machine.{on_its_way}
 use Rattle.script_plain.specs.Moves.{bytes_out, is_passable, is_receiving, length_in, passed, post_of, refused, taken, went}
-use Rattle.script_plain.specs.Next.{Next, call_of, is_at_barrier, is_going, past_barrier}
+use Rattle.script_plain.specs.Next.{Next, is_at_barrier, is_going, past_barrier}
 use Rattle.script_plain.specs.Next.Next.{Ends, Goes, Posts, Sends, Recvs, Bars}
-use Rattle.script_plain.specs.Step.{next_at, same_head, slot_at}
+use Rattle.script_plain.specs.Step.{same_head, slot_at}
 use Rattle.script_plain.proofs.CodeLaws.{fetches}
-use Rattle.script_plain.proofs.RunLaws.{there}
 use Rattle.script_plain.proofs.StepLaws.{both_true}
 
 module _ (had : ℕ → Option ℕ) where

@@ -50,10 +50,9 @@ struct Buffers {
 }
 
 impl<'s> Model for Machine<'s> {
-    ghost use Rattle.script_plain.specs.Holds.{local_with, rooms_with};
     ghost use Rattle.script_plain.specs.Lengths.{lengths_of};
     ghost use Rattle.script_plain.specs.Machine.{MachineView};
-    ghost use Rattle.script_plain.specs.Rooms.{AreWithin};
+    ghost use Rattle.script_plain.specs.Rooms.{AreWithin, local_by, rooms_by};
 
     ghost Value = { MachineView };
 
@@ -61,10 +60,11 @@ impl<'s> Model for Machine<'s> {
       script = m.walk.script;
       setup = m.walk.setup;
       rank = m.walk.rank;
-      local = local_with m.held m.walk m.state;
+      local = local_by m.held.registers m.held.folded m.held.taken m.walk m.held.prints m.state;
     } };
 
-    ghost invariant = { λ m. AreWithin (rooms_with m.held) (lengths_of (local_with m.held m.walk m.state)) m.walk.left };
+    ghost invariant = { λ m.
+        AreWithin (rooms_by m.held.registers m.held.folded m.held.taken m.held.spare m.held.prints) (lengths_of (local_by m.held.registers m.held.folded m.held.taken m.walk m.held.prints m.state)) m.walk.left };
 }
 
 impl<'s> Machine<'s> {
@@ -216,14 +216,7 @@ impl<'s> Machine<'s> {
                 head: self.asked_head(*head, *sized),
             }),
             Action::Bar { comm } => Some(Call::Bar { comm: *comm }),
-            Action::Set { .. }
-            | Action::Apply { .. }
-            | Action::Print { .. }
-            | Action::Begin { .. }
-            | Action::Fold { .. }
-            | Action::Accept { .. }
-            | Action::Finish { .. }
-            | Action::Pass => None,
+            _ => None,
         }
     }
 
@@ -445,7 +438,11 @@ impl Held {
         ensures { IfOk result (λ h. h ≡ empty (rooms_of needs.now)) }
     {
         let registers = Registers::new(alloc, needs.registers.as_slice())?;
-        let Buffers { folded, taken, spare } = Buffers::new(alloc, needs)?;
+        let Buffers {
+            folded,
+            taken,
+            spare,
+        } = Buffers::new(alloc, needs)?;
         let prints = Prints::new(alloc, needs.items, needs.printed)?;
         Ok(Held {
             registers,

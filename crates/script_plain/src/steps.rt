@@ -118,10 +118,7 @@ fn start<'s>(
 {
     let mut ues = Vec::new(alloc);
     for number in 0..scripts.nue() {
-        let Some(rank) = Rank::new(number) else {
-            unreachable!()
-        };
-        ues.push(Ue::new(alloc, scripts, setup, rank)?)?;
+        ues.push(Ue::new(alloc, scripts, setup, Rank::of(number))?)?;
     }
     Ok(ues)
 }

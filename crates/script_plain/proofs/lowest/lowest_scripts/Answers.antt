@@ -1,4 +1,4 @@
-use Rattle.std.proofs.Common.{◌≡◌, ◌∙◌, ℕ, List, Option, None, ap, length, replicate, sum_by}
+use Rattle.std.proofs.Common.{◌≡◌, ◌∙◌, List, Option, None, ap, length, replicate, sum_by}
 use Rattle.scc_base.specs.Communicators.{key_of}
 use Rattle.scc_base.specs.declared.communicators.CommRule.{CommRule}
 use Rattle.script_plain.specs.Code.{config}

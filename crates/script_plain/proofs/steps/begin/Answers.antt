@@ -1,4 +1,4 @@
-use Rattle.std.proofs.Common.{◌≡◌, ◌∙◌, ℕ, suc, Option, None, ap, length, replicate, sym}
+use Rattle.std.proofs.Common.{◌∙◌, ℕ, suc, None, ap, length, replicate, sym}
 use Rattle.std.proofs.lemmas.List.{length-replicate}
 use Rattle.std.proofs.lemmas.List.FromFn.{length-map-range_with_len}
 use Rattle.script_reader.specs.Script.{first_split}
