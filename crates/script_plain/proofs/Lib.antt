@@ -24,8 +24,10 @@ pub mod LengthLemmas
 pub mod CallableLaws
 pub mod LengthPaths
 pub mod RoomLaws
+pub mod HoldLaws
 pub mod CallListLaws
 pub mod UeLaws
+pub mod StandLaws
 pub mod LengthPrograms
 pub mod LengthLaws
 pub mod CollectiveFits

@@ -18,7 +18,7 @@ pub and_of : (a b : Bool) → a ≡ true → b ≡ true → (a && b) ≡ true
 and_of true b one two = two
 and_of false b one two = absurd (cc)
 
-not_true : (a : Bool) → not a ≡ true → a ≡ false
+pub not_true : (a : Bool) → not a ≡ true → a ≡ false
 not_true true is = absurd (cc)
 not_true false is = refl
 

@@ -1,25 +1,21 @@
 -- What a rank holds keeps its lengths, whatever stands next; and what its machine comes to is what the step of a run says.
-use Rattle.std.proofs.Common.{◌≡◌, ◌≢◌, ℕ, ◌<◌, ◌==◌, ◌&&◌, Bool, true, false, cond, List, [], get_or, length, set, slice_get, Option, Some, None, refl, sym, ap, ◌∙◌, subst, ⊎_elim}
+use Rattle.std.proofs.Common.{◌≡◌, ℕ, ◌==◌, ◌&&◌, true, List, [], length, slice_get, Option, Some, refl, sym, ap, ◌∙◌}
 use Rattle.std.specs.Option.{option_map_or}
 use Rattle.std.proofs.lemmas.Bool.{eqb-true}
-use Rattle.std.proofs.lemmas.List.{get_or-set_other}
-use Rattle.std.proofs.lemmas.Option.{get_or_from_slice_get, same_Some, slice_get_within}
+use Rattle.std.proofs.lemmas.Option.{same_Some}
 use Rattle.scc_base.specs.Heads.{MessageHead}
-use Rattle.scc_base.specs.declared.calls.Call.{Call}
-use Rattle.scc_base.specs.declared.calls.Call.TheVariants as call
 use Rattle.script_plain.specs.declared.posts.OnItsWay.{OnItsWay}
 use Rattle.script_plain.specs.declared.posts.Posted.{Posted}
 use Rattle.script_plain.specs.declared.steps.Step.TheVariants as step
-use Rattle.script_plain.specs.Code.{HasLength, HasPosted, HasRefused, HasSent, HasTaken, IsAtPost, IsAtReceive, IsAtSend, call_decision, config, decision, match_decision}
+use Rattle.script_plain.specs.Code.{HasLength, HasPosted, HasRefused, HasSent, HasTaken, IsAtPost, IsAtReceive, IsAtSend, config, decision}
 use Rattle.script_plain.specs.Kept.{Fits, FitsNext}
 use Rattle.script_plain.specs.Local.{Local, local_next}
 use Rattle.script_plain.specs.Machine.{on_its_way}
 use Rattle.script_plain.specs.Moves.{bytes_out, is_passable, is_receiving, length_in, passed, post_of, refused, taken, went}
-use Rattle.script_plain.specs.Next.{Next, call_of, is_at_barrier, is_going, past_barrier}
+use Rattle.script_plain.specs.Next.{Next, is_at_barrier, is_going, past_barrier}
 use Rattle.script_plain.specs.Next.Next.{Ends, Goes, Posts, Sends, Recvs, Bars}
-use Rattle.script_plain.specs.Step.{next_at, same_head, slot_at}
+use Rattle.script_plain.specs.Step.{same_head, slot_at}
 use Rattle.script_plain.proofs.CodeLaws.{fetches}
-use Rattle.script_plain.proofs.RunLaws.{there}
 use Rattle.script_plain.proofs.StepLaws.{both_true}
 
 module _ (had : ℕ → Option ℕ) where
@@ -180,71 +176,8 @@ pub same_long : (sent asked : MessageHead) → same_head sent asked ≡ true →
 same_long sent asked same =
     eqb-true sent.len asked.len (both_true ((sent.kind == asked.kind) && (sent.comm == asked.comm)) (sent.len == asked.len) same).1
 
--- a receive with this call asks for that many bytes
-asked_long : (n : Next Local) (from : ℕ) (asked : MessageHead) → call_of n ≡ Some (call.Recv from asked) → length_in n ≡ asked.len
-asked_long Ends from asked is = absurd (cc)
-asked_long (Goes after) from asked is = absurd (cc)
-asked_long (Posts message after) from asked is = absurd (cc)
-asked_long (Sends to head bytes after) from asked is = absurd (cc)
-asked_long (Recvs other head take refuse) from asked is = let heads : head ≡ asked = cc in ap (λ (h : MessageHead). h.len) heads
-asked_long (Bars comm after) from asked is = absurd (cc)
-
--- a send that is matched: its receiver stands at a receive of the same head
-pub record IsMeeting (i j : ℕ) (head : MessageHead) (to : ℕ) (met : Option Call) : Type 0 where
-  pub from : ℕ
-  pub asked : MessageHead
-  pub target : to ≡ j
-  pub stands : met ≡ Some (call.Recv from asked)
-  pub same : same_head head asked ≡ true
-
-module _ (i j : ℕ) where
-  met_by : (to : ℕ) (head : MessageHead) (from : ℕ) (asked : MessageHead) (b : Bool) → ((from == i) && same_head head asked) ≡ b → cond b (step.Matches to) step.Stays ≡ step.Matches j → IsMeeting i j head to (Some (call.Recv from asked))
-  met_by to head from asked true tested is =
-      record { from = from; asked = asked; target = cc; stands = refl; same = (both_true (from == i) (same_head head asked) tested).1 }
-  met_by to head from asked false tested is = absurd (cc)
-
-  met : (to : ℕ) (head : MessageHead) (slot : Option Posted) (standing : Option Call) → match_decision i to head slot standing ≡ step.Matches j → IsMeeting i j head to standing
-  met to head (Some earlier) standing is = absurd (cc)
-  met to head None None is = absurd (cc)
-  met to head None (Some (call.Post other sent)) is = absurd (cc)
-  met to head None (Some (call.Send other sent)) is = absurd (cc)
-  met to head None (Some (call.Recv from asked)) is = met_by to head from asked ((from == i) && same_head head asked) refl is
-  met to head None (Some (call.Bar comm)) is = absurd (cc)
-
 module _ (keys : ℕ → ℕ → ℕ) (ues : List Local) (slots : List (Option Posted)) (i j : ℕ) where
-  -- the receiver of a message that is delivered asks for as many bytes
-  long_by : (n m : Next Local) (bytes : List ℕ) → next_at local_next (config ues slots) j ≡ m → cond (is_going n) step.Goes (call_decision keys ues slots i (call_of n)) ≡ step.Matches j → HasLength n bytes
-      → (length bytes ≡ length_in m) × (n ≢ m) × (m ≢ Ends)
-  long_by Ends m bytes stands is long = absurd long
-  long_by (Goes after) m bytes stands is long = absurd long
-  long_by (Posts message after) m bytes stands is long = absurd long
-  long_by (Sends to head sent after) m bytes stands is long =
-      let meeting = met i j to head (slot_at (config ues slots) i) (call_of (next_at local_next (config ues slots) to)) is in
-      let call_is : call_of m ≡ Some (call.Recv meeting.from meeting.asked) =
-      ap call_of (sym stands ∙ ap (next_at local_next (config ues slots)) (sym meeting.target)) ∙ meeting.stands in (
-        long ∙ same_long head meeting.asked meeting.same ∙ sym (asked_long m meeting.from meeting.asked call_is),
-        (λ same. let e = ap call_of same ∙ call_is in absurd (cc)),
-        (λ ends. let e = ap call_of (sym ends) ∙ call_is in absurd (cc)),
-      )
-  long_by (Recvs from head take refuse) m bytes stands is long = absurd long
-  long_by (Bars comm after) m bytes stands is long = absurd long
-
-  pub delivered_long : (u after v : Local) (bytes : List ℕ) → decision keys ues slots i ≡ step.Matches j → slice_get ues i ≡ Some u → HasLength (local_next u) bytes
-      → v ≡ get_or (set ues i after) j v → length bytes ≡ length_in (local_next v)
-  delivered_long u after v bytes is here long read =
-      let n : next_at local_next (config ues slots) i ≡ local_next u = ap (λ (o : Option Local). option_map_or local_next o Ends) here in
-      let now : cond (is_going (local_next u)) step.Goes (call_decision keys ues slots i (call_of (local_next u))) ≡ step.Matches j =
-      subst (λ (x : Next Local). cond (is_going x) step.Goes (call_decision keys ues slots i (call_of x)) ≡ step.Matches j) n is in
-      let facts = long_by (local_next u) (next_at local_next (config ues slots) j) bytes refl now long in
-      let apart : j ≢ i = λ same. facts.1 (sym n ∙ ap (next_at local_next (config ues slots)) (sym same)) in
-      ⊎_elim
-      (λ (ends : next_at local_next (config ues slots) j ≡ Ends). absurd (facts.2 ends))
-      (λ (found : (w : Local) × (slice_get ues j ≡ Some w) × (local_next w ≡ next_at local_next (config ues slots) j)).
-      (let same : v ≡ found.0 = read ∙ get_or-set_other ues i j after v apart ∙ get_or_from_slice_get ues j found.0 v found.1 in
-      facts.0 ∙ ap length_in (sym found.2) ∙ ap (λ (x : Local). length_in (local_next x)) (sym same)))
-      (there local_next (slice_get ues j) (next_at local_next (config ues slots) j) refl)
-
-  -- and so does one that takes a message from a slot
+  -- a rank that takes a message from a slot asks for as many bytes
   pub fetched_long : (u : Local) (message : Posted) → decision keys ues slots i ≡ step.Takes j → slice_get ues i ≡ Some u → slot_at (config ues slots) j ≡ Some message → length message.bytes ≡ message.head.len
       → length message.bytes ≡ length_in (local_next u)
   fetched_long u message is here slot even =
@@ -252,13 +185,3 @@ module _ (keys : ℕ → ℕ → ℕ) (ues : List Local) (slots : List (Option P
       let stands : local_next u ≡ Recvs j fetch.asked fetch.take fetch.refuse = sym (ap (λ (o : Option Local). option_map_or local_next o Ends) here) ∙ fetch.stands in
       let same : fetch.message ≡ message = same_Some fetch.message message (sym fetch.slot ∙ slot) in
       even ∙ ap (λ (m : Posted). m.head.len) (sym same) ∙ same_long fetch.message.head fetch.asked fetch.same ∙ sym (ap length_in stands)
-
-  -- a rank that sends is there
-  pub sender_there : decision keys ues slots i ≡ step.Matches j → i < length ues
-  sender_there is =
-      ⊎_elim
-      (λ (ends : next_at local_next (config ues slots) i ≡ Ends).
-      (let stays : decision keys ues slots i ≡ step.Stays = ap (λ (x : Next Local). cond (is_going x) step.Goes (call_decision keys ues slots i (call_of x))) ends in
-      absurd (cc)))
-      (λ (found : (u : Local) × (slice_get ues i ≡ Some u) × (local_next u ≡ next_at local_next (config ues slots) i)). slice_get_within ues i found.0 found.1)
-      (there local_next (slice_get ues i) (next_at local_next (config ues slots) i) refl)

@@ -17,6 +17,7 @@ pub mod Lengths
 pub mod Machine
 pub mod Depths
 pub mod Rooms
+pub mod Holds
 pub mod Kept
 pub mod Printed
 pub mod Ready

@@ -11,7 +11,7 @@ ghost use Rattle.script_plain.specs.Step.{lowest_step, run_on};
 use crate::barriers::setup_of;
 use crate::ends::{End, end_all};
 use crate::posts::Left;
-use crate::steps::{empty_slots, start, step_at};
+use crate::steps::{Ranks, begin, step_at};
 use crate::ues::Ue;
 use scc_base::{Rank, Setup};
 use script_reader::Scripts;
@@ -23,9 +23,16 @@ pub fn lowest_run(alloc: Global, scripts: &Scripts) -> Result<End, AllocError>
     ensures still { plain_step (keys_of scripts.now) (plain_end scripts.now) ≡ None }
     ensures ranks { IfOk result (λ end. length end ≡ scripts.now.nue) }
 {
+    lowest_scripts(alloc, scripts)
+}
+
+/// The end to which the steps of scripts come, the lowest owner first.
+fn lowest_scripts(alloc: Global, scripts: &Scripts) -> Result<End, AllocError>
+    ensures end { IfOk result (λ end. end ≡ plain_ends scripts.now) }
+    ensures ranks { IfOk result (λ end. length end ≡ scripts.now.nue) }
+{
     let setup = setup_of(scripts);
-    let mut ues = start(alloc, scripts, &setup)?;
-    let mut slots = empty_slots(alloc, scripts.nue() as usize)?;
+    let Ranks { mut ues, mut slots } = begin(alloc, scripts, &setup)?;
     let end = lowest_to_end(alloc, &setup, &mut ues, &mut slots)?;
     Ok(end)
 }

@@ -12,7 +12,7 @@ use crate::ends::UeEnd;
 use crate::posts::OnItsWay;
 use crate::prims::{Action, Primitive, Source, Standing};
 use crate::prints::{PrintedItem, Prints};
-use crate::reckoning::{Reckoned, reckon};
+use crate::reckoning::{Needs, Reckoned, reckon};
 use crate::rooms::{Registers, Room};
 use crate::walk::Walk;
 use scc_base::{Call, Head, PostHead, Rank, Setup};
@@ -26,12 +26,27 @@ use std::marker::Model;
 #[derive(Drop)]
 pub struct Machine<'s> {
     walk: Walk<'s>,
+    held: Held,
+    state: Standing,
+}
+
+/// What a rank holds: its registers, the two work buffers of collective calls, and what it printed; and a room for the copy
+/// of a register that is applied to one.
+#[derive(Drop)]
+struct Held {
     registers: Registers,
     folded: Room,
     taken: Room,
     spare: Room,
     prints: Prints,
-    state: Standing,
+}
+
+/// Three empty rooms of a rank.
+#[derive(Drop)]
+struct Buffers {
+    folded: Room,
+    taken: Room,
+    spare: Room,
 }
 
 impl<'s> Model for Machine<'s> {
@@ -45,11 +60,11 @@ impl<'s> Model for Machine<'s> {
       script = m.walk.script;
       setup = m.walk.setup;
       rank = m.walk.rank;
-      local = local_by m.registers m.folded m.taken m.walk m.prints m.state;
+      local = local_by m.held.registers m.held.folded m.held.taken m.walk m.held.prints m.state;
     } };
 
     ghost invariant = { λ m.
-        AreWithin (rooms_by m.registers m.folded m.taken m.spare m.prints) (lengths_of (local_by m.registers m.folded m.taken m.walk m.prints m.state)) m.walk.left };
+        AreWithin (rooms_by m.held.registers m.held.folded m.held.taken m.held.spare m.held.prints) (lengths_of (local_by m.held.registers m.held.folded m.held.taken m.walk m.held.prints m.state)) m.walk.left };
 }
 
 impl<'s> Machine<'s> {
@@ -58,8 +73,11 @@ impl<'s> Machine<'s> {
     ghost use Rattle.scc_base.specs.Heads.{plain_head};
     ghost use Rattle.script_reader.specs.Script.{rules_of};
     ghost use Rattle.script_plain.specs.Local.{asked_head, end_of, local_next, local_start, next_prim, register_at, source_bytes, stopped_at};
+    ghost use Rattle.script_plain.specs.Holds.{empty, local_with};
     ghost use Rattle.script_plain.specs.Machine.{on_its_way};
     ghost use Rattle.script_plain.specs.Matches.{line_of};
+    ghost use Rattle.script_plain.specs.Rooms.{AreWithin, nothing_held, rooms_of};
+    ghost use Rattle.script_plain.specs.declared.prims.Standing.TheVariants as standing;
     ghost use Rattle.script_plain.specs.Moves.{bytes_out, is_passable, is_receiving, is_stopped, length_in, line_out, passed, post_of, refused, taken, went};
     ghost use Rattle.script_plain.specs.Next.{call_of, is_going};
     ghost use Rattle.script_plain.specs.Walk.{IsShort, prim_meant};
@@ -78,14 +96,20 @@ impl<'s> Machine<'s> {
         ensures { IfOk result (λ m. m ≡ record { script = scripts.now; setup = setup; rank = rank; local = local_start scripts.now rank }) }
     {
         let trial = Walk::new(alloc, scripts, setup, rank)?;
-        let Reckoned { needs: need, walk } = reckon(alloc, scripts.registers(), trial)?;
+        let reckoned = reckon(alloc, scripts.registers(), trial)?;
+        Machine::at_start(alloc, reckoned)
+    }
+
+    /// The machine of a walk that was reckoned, before its first statement.
+    fn at_start(alloc: Global, reckoned: Reckoned<'s>) -> Result<Machine<'s>, AllocError>
+        requires { AreWithin (rooms_of reckoned.needs) (nothing_held (length reckoned.needs.registers.items)) reckoned.walk.left }
+        ensures { IfOk result (λ m. m ≡ record { script = reckoned.entry.walk.script; setup = reckoned.entry.walk.setup; rank = reckoned.entry.walk.rank; local = local_with (empty (rooms_of reckoned.entry.needs)) reckoned.entry.walk standing.Running }) }
+    {
+        let Reckoned { needs, walk } = reckoned;
+        let held = Held::new(alloc, &needs)?;
         Ok(Machine {
             walk,
-            registers: Registers::new(alloc, need.registers.as_slice())?,
-            folded: Room::new(alloc, need.accumulator)?,
-            taken: Room::new(alloc, need.received)?,
-            spare: Room::new(alloc, need.spare)?,
-            prints: Prints::new(alloc, need.items, need.printed)?,
+            held,
             state: Standing::Running,
         })
     }
@@ -113,7 +137,7 @@ impl<'s> Machine<'s> {
         ensures same { result ≡ length (register_at self.now.local reg) }
         ensures within { result ≤ 65536 }
     {
-        self.registers.bytes(reg).len() as u32
+        self.held.registers.bytes(reg).len() as u32
     }
 
     /// The bytes that a send takes.
@@ -122,8 +146,8 @@ impl<'s> Machine<'s> {
         ensures within { length (source_bytes self.now.local source) ≤ 65536 }
     {
         match source {
-            Source::Own { reg } => self.registers.bytes(reg),
-            Source::Accumulator => self.folded.bytes(),
+            Source::Own { reg } => self.held.registers.bytes(reg),
+            Source::Accumulator => self.held.folded.bytes(),
         }
     }
 
@@ -192,14 +216,7 @@ impl<'s> Machine<'s> {
                 head: self.asked_head(*head, *sized),
             }),
             Action::Bar { comm } => Some(Call::Bar { comm: *comm }),
-            Action::Set { .. }
-            | Action::Apply { .. }
-            | Action::Print { .. }
-            | Action::Begin { .. }
-            | Action::Fold { .. }
-            | Action::Accept { .. }
-            | Action::Finish { .. }
-            | Action::Pass => None,
+            _ => None,
         }
     }
 
@@ -227,7 +244,7 @@ impl<'s> Machine<'s> {
                     action: Action::Post { reg, .. },
                     ..
                 },
-            ) => self.registers.bytes(reg),
+            ) => self.held.registers.bytes(reg),
             _ => &[],
         }
     }
@@ -297,26 +314,7 @@ impl<'s> Machine<'s> {
             unreachable!()
         };
         self.walk.advance();
-        match prim.action {
-            Action::Set { reg, content } => self.registers.set(reg, &content),
-            Action::Apply { op, ty, dst, src } => {
-                self.spare.write(self.registers.bytes(src));
-                self.registers.fold(op, ty, dst, self.spare.bytes());
-            }
-            Action::Print { reg, form } => {
-                self.prints.print(reg, form, self.registers.bytes(reg));
-            }
-            Action::Begin { reg } => self.folded.write(self.registers.bytes(reg)),
-            Action::Fold { op, ty } => self.folded.fold(op, ty, self.taken.bytes()),
-            Action::Accept { reg } => self.registers.write(reg, self.taken.bytes()),
-            Action::Finish { reg } => self.registers.write(reg, self.folded.bytes()),
-            Action::Pass => {}
-            Action::Send { .. }
-            | Action::Post { .. }
-            | Action::Recv { .. }
-            | Action::Gather { .. }
-            | Action::Bar { .. } => unreachable!(),
-        }
+        self.held.work(&prim.action);
     }
 
     /// Goes past the send, the post or the barrier that stands next.
@@ -338,8 +336,8 @@ impl<'s> Machine<'s> {
         };
         self.walk.advance();
         match prim.action {
-            Action::Recv { reg, .. } => self.registers.write(reg, bytes),
-            Action::Gather { .. } => self.taken.write(bytes),
+            Action::Recv { reg, .. } => self.held.registers.write(reg, bytes),
+            Action::Gather { .. } => self.held.taken.write(bytes),
             _ => unreachable!(),
         }
     }
@@ -411,14 +409,14 @@ impl<'s> Machine<'s> {
         ensures ends { self.new ≡ record self.old { local = record self.old.local { left = []; printed = [] } } }
     {
         self.walk.finish();
-        std::mem::replace(&mut self.prints, Prints::none(alloc))
+        std::mem::replace(&mut self.held.prints, Prints::none(alloc))
     }
 
     /// How many items the rank has printed.
     pub fn items(&self) -> usize
         ensures { result ≡ length self.now.local.printed }
     {
-        self.prints.len()
+        self.held.prints.len()
     }
 
     /// An item that the rank printed, in the order of printing.
@@ -426,7 +424,77 @@ impl<'s> Machine<'s> {
         requires { i < length self.now.local.printed }
         ensures { slice_get self.now.local.printed i ≡ Some result }
     {
-        self.prints.item(i)
+        self.held.prints.item(i)
+    }
+}
+
+impl Held {
+    ghost use Rattle.std.specs.Prelude.{◌≡◌, IfOk};
+    ghost use Rattle.script_plain.specs.Holds.{HasRoomFor, empty, worked};
+    ghost use Rattle.script_plain.specs.Rooms.{rooms_of};
+
+    /// Nothing yet, in the rooms that are needed.
+    fn new(alloc: Global, needs: &Needs) -> Result<Held, AllocError>
+        ensures { IfOk result (λ h. h ≡ empty (rooms_of needs.now)) }
+    {
+        let registers = Registers::new(alloc, needs.registers.as_slice())?;
+        let Buffers {
+            folded,
+            taken,
+            spare,
+        } = Buffers::new(alloc, needs)?;
+        let prints = Prints::new(alloc, needs.items, needs.printed)?;
+        Ok(Held {
+            registers,
+            folded,
+            taken,
+            spare,
+            prints,
+        })
+    }
+
+    /// Does what a statement of the rank alone does to what it holds; other statements do nothing to it.
+    fn work(&mut self, action: &Action)
+        requires { HasRoomFor action.now self.old }
+        ensures { self.new ≡ worked action.now self.old }
+    {
+        match *action {
+            Action::Set { reg, content } => self.registers.set(reg, &content),
+            Action::Apply { op, ty, dst, src } => {
+                self.spare.write(self.registers.bytes(src));
+                self.registers.fold(op, ty, dst, self.spare.bytes());
+            }
+            Action::Print { reg, form } => {
+                self.prints.print(reg, form, self.registers.bytes(reg));
+            }
+            Action::Begin { reg } => self.folded.write(self.registers.bytes(reg)),
+            Action::Fold { op, ty } => self.folded.fold(op, ty, self.taken.bytes()),
+            Action::Accept { reg } => self.registers.write(reg, self.taken.bytes()),
+            Action::Finish { reg } => self.registers.write(reg, self.folded.bytes()),
+            Action::Send { .. }
+            | Action::Post { .. }
+            | Action::Recv { .. }
+            | Action::Gather { .. }
+            | Action::Bar { .. }
+            | Action::Pass => {}
+        }
+    }
+}
+
+impl Buffers {
+    ghost use Rattle.std.specs.Prelude.{◌≡◌, [], IfOk};
+
+    fn new(alloc: Global, needs: &Needs) -> Result<Buffers, AllocError>
+        ensures { IfOk result (λ b. b ≡ record { folded = record { bytes = []; room = needs.now.accumulator }; taken = record { bytes = []; room = needs.now.received }; spare = record { bytes = []; room = needs.now.spare } }) }
+    {
+        let folded = Room::new(alloc, needs.accumulator)?;
+        let taken = Room::new(alloc, needs.received)?;
+        let spare = Room::new(alloc, needs.spare)?;
+        Ok(Buffers {
+            folded,
+            taken,
+            spare,
+        })
     }
 }
 

@@ -9,7 +9,7 @@ ghost use Rattle.script_plain.specs.declared.steps.Step.TheVariants as variant;
 
 use crate::barriers::setup_of;
 use crate::posts::Left;
-use crate::steps::{Step, call_at, decide, empty_slots, start, take_step};
+use crate::steps::{Ranks, Step, begin, call_at, decide, take_step};
 use crate::ues::Ue;
 use scc_base::{Call, Head, Rank, Setup};
 use script_reader::Scripts;
@@ -92,8 +92,7 @@ pub fn plain_matches(alloc: Global, scripts: &Scripts) -> Result<Matches, AllocE
     ensures { IfOk result (λ matches. matches ≡ plain_matches scripts.now) }
 {
     let setup = setup_of(scripts);
-    let mut ues = start(alloc, scripts, &setup)?;
-    let mut slots = empty_slots(alloc, scripts.nue() as usize)?;
+    let Ranks { mut ues, mut slots } = begin(alloc, scripts, &setup)?;
     let matches = match_on(alloc, &setup, &mut ues, &mut slots)?;
     Ok(matches)
 }

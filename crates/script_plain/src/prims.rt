@@ -26,7 +26,7 @@ pub enum Content<'s> {
 }
 
 /// What a send takes its bytes from.
-#[derive(Clone, Copy, PartialEq, Eq)]
+#[derive(Clone, Copy)]
 pub enum Source {
     Own { reg: u8 },
     Accumulator,
@@ -124,7 +124,7 @@ pub struct Collective {
 }
 
 /// What a statement does to the repeats.
-#[derive(Clone, Copy, PartialEq, Eq)]
+#[derive(Clone, Copy)]
 pub enum Nesting {
     /// It opens one.
     Opens(u32),

@@ -4,7 +4,7 @@ ghost use Rattle.std.specs.Prelude.{◌≡◌, ◌≢◌, ◌<◌, None, Some, t
 ghost use Rattle.scc_base.specs.Setups.{setup_key};
 ghost use Rattle.script_plain.specs.Barriers.{AreMet};
 ghost use Rattle.script_plain.specs.Collectives.{CollectivesHold};
-ghost use Rattle.script_plain.specs.Code.{GoesOn, IsRun, StepsAt, Sweeps, barrier_decision, call_at, config, decision, fetch_decision, match_decision, post_decision, receive_decision};
+ghost use Rattle.script_plain.specs.Code.{GoesOn, IsRun, StepsAt, Sweeps, barrier_decision, call_at, call_decision, config, decision, fetch_decision, match_decision, post_decision, receive_decision};
 ghost use Rattle.script_reader.specs.Script.{rules_of};
 ghost use Rattle.script_plain.specs.Local.{cost_of, local_next};
 ghost use Rattle.script_plain.specs.Meaning.{keys_of, locals_of, plain_end, plain_ends, plain_step, start_of};
@@ -53,9 +53,16 @@ pub fn plain_run(alloc: Global, scripts: &Scripts) -> Result<End, AllocError>
     ensures collectives { CollectivesHold scripts.now (plain_end scripts.now) }
 {
     scripts.acceptance_law();
+    run_scripts(alloc, scripts)
+}
+
+/// The end to which the steps of scripts come.
+fn run_scripts(alloc: Global, scripts: &Scripts) -> Result<End, AllocError>
+    ensures end { IfOk result (λ end. end ≡ plain_ends scripts.now) }
+    ensures ranks { IfOk result (λ end. length end ≡ scripts.now.nue) }
+{
     let setup = setup_of(scripts);
-    let mut ues = start(alloc, scripts, &setup)?;
-    let mut slots = empty_slots(alloc, scripts.nue() as usize)?;
+    let Ranks { mut ues, mut slots } = begin(alloc, scripts, &setup)?;
     let end = run_to_end(alloc, &setup, &mut ues, &mut slots)?;
     Ok(end)
 }
@@ -75,8 +82,32 @@ fn run_to_end(
     Ok(end)
 }
 
+/// The ranks of a run, and the slot of each.
+#[derive(Drop)]
+pub(crate) struct Ranks<'s> {
+    pub ues: Vec<Ue<'s>>,
+    pub slots: Vec<Option<Left>>,
+}
+
+/// The ranks at the start, each with an empty slot.
+pub(crate) fn begin<'s>(
+    alloc: Global,
+    scripts: &'s Scripts,
+    setup: &'s Setup,
+) -> Result<Ranks<'s>, AllocError>
+    requires ranks { setup.now.nue ≡ scripts.now.nue }
+    requires communicators { setup.now.comms ≡ rules_of scripts.now.items }
+    ensures run { IfOk result (λ r. IsRun setup.now r.ues.items r.slots.items) }
+    ensures cells { IfOk result (λ r. r.ues.items ≡ locals_of (start_of scripts.now)) }
+    ensures slots { IfOk result (λ r. r.slots.items ≡ replicate scripts.now.nue None) }
+{
+    let ues = start(alloc, scripts, setup)?;
+    let slots = empty_slots(alloc, scripts.nue() as usize)?;
+    Ok(Ranks { ues, slots })
+}
+
 /// The ranks at the start.
-pub(crate) fn start<'s>(
+fn start<'s>(
     alloc: Global,
     scripts: &'s Scripts,
     setup: &'s Setup,
@@ -87,16 +118,13 @@ pub(crate) fn start<'s>(
 {
     let mut ues = Vec::new(alloc);
     for number in 0..scripts.nue() {
-        let Some(rank) = Rank::new(number) else {
-            unreachable!()
-        };
-        ues.push(Ue::new(alloc, scripts, setup, rank)?)?;
+        ues.push(Ue::new(alloc, scripts, setup, Rank::of(number))?)?;
     }
     Ok(ues)
 }
 
 /// This many empty slots.
-pub(crate) fn empty_slots(alloc: Global, count: usize) -> Result<Vec<Option<Left>>, AllocError>
+fn empty_slots(alloc: Global, count: usize) -> Result<Vec<Option<Left>>, AllocError>
     ensures { IfOk result (λ slots. slots.items ≡ replicate count None) }
 {
     let mut slots = Vec::new(alloc);
@@ -202,10 +230,7 @@ pub(crate) fn take_step(
             ues[i].go();
             Ok(())
         }
-        Step::Posts => {
-            slots[i] = Some(ues[i].post(alloc)?);
-            Ok(())
-        }
+        Step::Posts => leave(alloc, setup, ues, slots, i),
         Step::Matches { to } => deliver(alloc, setup, ues, slots, i, to.number() as usize),
         Step::Takes { from } => {
             take(setup, ues, slots, i, from.number() as usize);
@@ -220,6 +245,22 @@ pub(crate) fn take_step(
             Ok(())
         }
     }
+}
+
+/// Puts the message that a rank posts into its slot.
+fn leave(
+    alloc: Global,
+    setup: &Setup,
+    ues: &mut [Ue],
+    slots: &mut [Option<Left>],
+    i: usize,
+) -> Result<(), AllocError>
+    requires slot { i < length slots.old }
+    requires step { decision (setup_key setup.now) ues.old slots.old i ≡ variant.Posts }
+    ensures { OnOk result (StepsAt (setup_key setup.now) true i (config ues.old slots.old) (config ues.new slots.new)) }
+{
+    slots[i] = Some(ues[i].post(alloc)?);
+    Ok(())
 }
 
 /// Brings the message of a rank to the rank that receives it.
@@ -256,11 +297,27 @@ pub(crate) fn decide(setup: &Setup, ues: &[Ue], slots: &[Option<Left>], rank: Ra
     requires run { IsRun setup.now ues.now slots.now }
     ensures { result ≡ decision (setup_key setup.now) ues.now slots.now rank }
 {
-    let ue = &ues[rank.number() as usize];
+    let i = rank.number() as usize;
+    let ue = &ues[i];
     if ue.is_going() {
         return Step::Goes;
     }
-    match &ue.call() {
+    decide_at(setup, ues, slots, rank, &ue.call())
+}
+
+/// The step of a rank that stands at this call, or at none.
+fn decide_at(
+    setup: &Setup,
+    ues: &[Ue],
+    slots: &[Option<Left>],
+    rank: Rank,
+    call: &Option<Call>,
+) -> Step
+    requires rank { rank < setup.now.nue }
+    requires run { IsRun setup.now ues.now slots.now }
+    ensures { result ≡ call_decision (setup_key setup.now) ues.now slots.now rank call.now }
+{
+    match call {
         None => Step::Stays,
         Some(Call::Post { .. }) => post_of(slots, rank),
         Some(Call::Send { to, head }) => match_of(ues, slots, rank, *to, *head),

@@ -1,28 +1,21 @@
-use Rattle.std.proofs.Common.{◌≡◌, ◌∙◌, ℕ, suc, List, Option, None, ap, length, replicate, sum_by, sym}
-use Rattle.std.proofs.lemmas.List.{length-replicate}
-use Rattle.std.proofs.lemmas.List.FromFn.{length-map-range_with_len}
+use Rattle.std.proofs.Common.{◌≡◌, ◌∙◌, List, Option, None, ap, length, replicate, sum_by}
 use Rattle.scc_base.specs.Communicators.{key_of}
 use Rattle.scc_base.specs.declared.communicators.CommRule.{CommRule}
-use Rattle.script_reader.specs.Script.{first_split}
 use Rattle.script_plain.specs.Code.{config}
 use Rattle.script_plain.specs.Local.{Local, cost_of, local_next}
 use Rattle.script_plain.specs.Matches.{line_of, matches_on}
 use Rattle.script_plain.specs.Meaning.{keys_of, locals_of, start_of}
 use Rattle.script_plain.specs.declared.posts.Posted.{Posted}
 use Rattle.script_plain.proofs.MatchLaws.{seen_matches}
-use Rattle.script_plain.proofs.PlainLaws.{length-start_of}
 use Rattle.script_plain.proofs.matches.plain_matches.Goals as goal
 
 pub match_on-requires : goal.match_on-requires
 match_on-requires c =
-    let script = c.args.scripts.now in
-    let many : length c.in_ok-ues.ues.items ≡ script.nue = ap length c.in_ok-ues.ensures ∙ length-start_of script in
     record {
       run = record {
-        ranks = ap length c.deref_mut.ensures.value ∙ many ∙ sym c.setup_of-setup.ensures.ranks;
-        slotted =
-            ap length (c.deref_mut-2.ensures.value ∙ c.in_ok-slots.ensures) ∙ length-replicate c.nue.result None ∙ c.nue.ensures.same ∙ sym c.setup_of-setup.ensures.ranks;
-        sixteen = ap length c.setup_of-setup.ensures.communicators ∙ ap suc (length-map-range_with_len (first_split script.items) 1 15);
+        ranks = ap length c.deref_mut.ensures.value ∙ c.in_ok-ues.ensures.run.ranks;
+        slotted = ap length c.deref_mut-2.ensures.value ∙ c.in_ok-ues.ensures.run.slotted;
+        sixteen = c.in_ok-ues.ensures.run.sixteen;
       };
     }
 
@@ -30,10 +23,9 @@ pub returns : goal.returns
 returns c =
     let script = c.args.scripts.now in
     let start = locals_of (start_of script) in
-    let slots : c.deref_mut-2.result.now ≡ replicate script.nue None =
-    c.deref_mut-2.ensures.value ∙ c.in_ok-slots.ensures ∙ ap (λ (n : ℕ). replicate n None) c.nue.ensures.same in
+    let slots : c.deref_mut-2.result.now ≡ replicate script.nue None = c.deref_mut-2.ensures.value ∙ c.in_ok-ues.ensures.slots in
     c.in_ok-matches.ensures
     ∙ ap (λ (comms : List CommRule). matches_on (key_of comms) local_next line_of (sum_by cost_of c.deref_mut.result.now) (config c.deref_mut.result.now c.deref_mut-2.result.now)) c.setup_of-setup.ensures.communicators
-    ∙ ap (λ (us : List Local). matches_on (keys_of script) local_next line_of (sum_by cost_of us) (config us c.deref_mut-2.result.now)) (c.deref_mut.ensures.value ∙ c.in_ok-ues.ensures)
+    ∙ ap (λ (us : List Local). matches_on (keys_of script) local_next line_of (sum_by cost_of us) (config us c.deref_mut-2.result.now)) (c.deref_mut.ensures.value ∙ c.in_ok-ues.ensures.cells)
     ∙ ap (λ (ss : List (Option Posted)). matches_on (keys_of script) local_next line_of (sum_by cost_of start) (config start ss)) slots
     ∙ seen_matches script

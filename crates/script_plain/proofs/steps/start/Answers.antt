@@ -6,7 +6,7 @@ use Rattle.script_plain.proofs.steps.start.Goals as goal
 
 pub loop-number-preserved : goal.loop-number-preserved
 loop-number-preserved c =
-    start_more c.args.scripts.now c.loop-number.number c.in-Some.rank c.loop-number.ues.items c.push.new.self.items c.in_ok-new.field-0 c.loop-number.invariant c.in-Some.ensures.gives.1
+    start_more c.args.scripts.now c.loop-number.number c.of.result c.loop-number.ues.items c.push.new.self.items c.in_ok-new.field-0 c.loop-number.invariant c.of.ensures.gives
     c.in_ok-new.ensures c.in_ok-push.ensures.items
 
 pub returns : goal.returns
