@@ -4,7 +4,7 @@ ghost use Rattle.rcce_io.specs.Sending.{Sends, joined};
 use crate::{Put, Sink, TextSource};
 
 /// A sink did not take a text whole.
-#[derive(Clone, Copy)]
+#[derive(Clone, Copy, PartialEq, Eq)]
 pub struct WriteFault;
 
 /// Writes the bytes until all are taken or a write fails.
