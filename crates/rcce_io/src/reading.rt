@@ -8,7 +8,7 @@ use std::alloc::{AllocError, Global};
 const BLOCK: usize = 4096;
 
 /// Why a file was not read.
-#[derive(Clone, Copy, PartialEq, Eq)]
+#[derive(Clone, Copy, Debug, PartialEq, Eq)]
 pub enum ReadEnd {
     Absent,
     Failed,
