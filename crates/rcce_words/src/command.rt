@@ -34,7 +34,7 @@ pub struct Job {
 }
 
 /// Why the words are refused. Words are numbered from 0.
-#[derive(Clone, Copy, Debug, PartialEq, Eq)]
+#[derive(Clone, Copy, PartialEq, Eq)]
 pub enum WordFault {
     /// There is no `-nue`.
     NoNue,

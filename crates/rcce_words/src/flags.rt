@@ -4,7 +4,7 @@ ghost use Rattle.std.specs.Prelude.{◌≡◌};
 ghost use Rattle.rcce_words.specs.CommandLine.{flag_of, takes_value};
 
 /// An option, by what it sets.
-#[derive(Clone, Copy, PartialEq, Eq)]
+#[derive(Clone, Copy)]
 pub(crate) enum Flag {
     /// The number of units of execution.
     Nue,

@@ -14,7 +14,7 @@ use script_reader::{is_text, number, uncommented};
 const MOST_BYTES: usize = 65_536;
 
 /// What is wrong in a host file. In a line the checks go in this order.
-#[derive(Clone, Copy, Debug, PartialEq, Eq)]
+#[derive(Clone, Copy, PartialEq, Eq)]
 pub enum HostKind {
     /// The file is longer than 65,536 bytes.
     TooLong,
@@ -44,7 +44,7 @@ impl HostKind {
 }
 
 /// The first fault of a host file. Lines count from 1; line 0 stands for the file as a whole.
-#[derive(Clone, Copy, Debug, PartialEq, Eq)]
+#[derive(Clone, Copy, PartialEq, Eq)]
 pub struct HostFault {
     pub line: u32,
     pub kind: HostKind,
