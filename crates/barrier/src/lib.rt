@@ -10,6 +10,8 @@ mod parities;
 mod stages;
 
 pub use barriers::{BarStop, barrier};
-pub use laws::{bar_bound_law, begins_law, ends_law, goes_on_law};
+pub use laws::{
+    bar_bound_law, begins_law, done_law, ends_law, goes_on_law, other_port_law, start_law,
+};
 pub use ops::BarOp;
 pub use parities::Parity;

@@ -48,10 +48,6 @@ putting_none s c core line src e may =
       out = e;
     }
 
--- before a line is written the buffer is empty, so that nothing is stored
-pub may_write : (s : Sight) (c : Private) → c.out ≡ None → MayMakeAll s.seat (record_in s) (stores_of c.out)
-may_write s c e = subst (λ (o : Option Out). MayMakeAll s.seat (record_in s) (stores_of o)) (sym e) tt
-
 pub may_differ : (c : Private) (line : LineAt) → c.out ≡ None → handed_out c.out line ≡ c.out
 may_differ c line e = subst (λ (o : Option Out). handed_out o line ≡ o) (sym e) refl
 
@@ -123,11 +119,6 @@ putting_next s c core line src i ws t d u e v f h is p w fl =
       out = ap (λ (x : Private). x.out) fl.is;
     } in
     subst (λ k. Putting s c core line src k v f) next q
-
--- all lines were written
-pub putting_all : (s : Sight) (c : Private) (core line : ℕ) (src : List (List ℕ)) (i : ℕ) (t : Sight) (d : Private) → length src ≤ i
-    → Putting s c core line src i t d → Puts s c core line src t d
-putting_all s c core line src i t d h p = subst (λ xs. Puts s c core line xs t d) (take_all i src h) p.puts
 
 -- one more line was read
 reads-push : (s : Sight) (c : Private) (core line : ℕ) (xs : List (List ℕ)) (ws : List ℕ) (t : Sight) (d : Private) (u : Sight) (e : Private)

@@ -5,7 +5,7 @@ use Rattle.std.specs.Prelude.{◌==◌, slice_get, Some, ◌⊎◌}
 use Rattle.std.proofs.lemmas.Bool.{cases_order}
 use Rattle.std.proofs.lemmas.Bool.Decides.{nat_tests}
 use Rattle.std.proofs.Math.Logic.{⊎_elim}
-use Rattle.scc_base.specs.Groups.{count_below, list_below, is_with, place_in, size_in, members_in, root_in}
+use Rattle.scc_base.specs.Groups.{count_below, is_with, place_in, size_in, members_in, root_in}
 use Rattle.scc_base.proofs.Counts.{count_less, count_none, count_found, list_length, list_has, lowest_within, lowest_passes, lowest_least}
 
 -- a rank is with itself, and ranks with equal keys are with the same ranks
@@ -28,9 +28,6 @@ place_below nue key r h = count_less (is_with key r) r nue (with_self key r) h
 -- the size is that of each member
 pub size_same : (nue : ℕ) (key : ℕ → ℕ) (r q : ℕ) → key r ≡ key q → size_in nue key r ≡ size_in nue key q
 size_same nue key r q h = ap (λ (test : ℕ → Bool). count_below test nue) (with_same key r q h)
-
-pub members_same : (nue : ℕ) (key : ℕ → ℕ) (r q : ℕ) → key r ≡ key q → members_in nue key r ≡ members_in nue key q
-members_same nue key r q h = ap (λ (test : ℕ → Bool). list_below test nue) (with_same key r q h)
 
 -- members are in rank order
 pub place_above : (key : ℕ → ℕ) (r q : ℕ) → key r ≡ key q → r < q → place_in key r < place_in key q

@@ -1,6 +1,6 @@
 -- Calls with their bytes, and the messages that they move.
-use Rattle.std.specs.Prelude.{◌≡◌, ℕ, ◌<◌, List, length}
-use Rattle.scc_base.specs.Heads.{MessageHead, IsHead, IsPostHead}
+use Rattle.std.specs.Prelude.{◌≡◌, ℕ, List, length}
+use Rattle.scc_base.specs.Heads.{MessageHead}
 use Rattle.scc_base.specs.declared.calls.Call.{Call}
 use Rattle.scc_base.specs.declared.calls.Call.TheVariants as call
 
@@ -36,11 +36,3 @@ HasItsBytes (Send to head bytes) = length bytes ≡ head.len
 HasItsBytes (Recv from head bytes) = length bytes ≡ head.len
 HasItsBytes (Post to head bytes) = length bytes ≡ head.len
 HasItsBytes (Bar comm) = Unit {0}
-
--- a call that a program can make: between ranks of the chip, with a head of its kind, in one of sixteen
--- communicators
-abbrev pub IsCall : DataCall → Type 0
-IsCall (Send to head bytes) = (to < 48) × IsHead head
-IsCall (Recv from head bytes) = (from < 48) × IsHead head
-IsCall (Post to head bytes) = (to < 48) × IsPostHead head
-IsCall (Bar comm) = comm < 16

@@ -15,7 +15,7 @@ use Rattle.scc_proto.specs.Views.{View}
 use Rattle.scc_proto.specs.Pairs.{Resting, Offering, Awaiting, Receiving, pair_of, IsTaken, IsReady, HasArrived, sending_side, side_of_post, taking_side, pending}
 use Rattle.scc_proto.specs.Singles.{IsConsistent, IsPosted, is_free}
 use Rattle.scc_proto.specs.Passed.{in_hand, is_received, passed_open, passed_calls, slot_by, slot_of}
-use Rattle.scc_proto.specs.Agreement.{RecordsAgree, PairsAgree, SendersAgree, GroupsAgree, CallsAgree}
+use Rattle.scc_proto.specs.Agreement.{RecordsAgree, PairsAgree, SendersAgree, GroupsAgree}
 use Rattle.scc_proto.specs.Legality.{Grows, ByNothing}
 use Rattle.scc_proto.proofs.Growth.{grows_by_post, grows_by_take, grows_by_pair}
 use Rattle.scc_proto.proofs.MoveFacts.{IsViewStep}
@@ -27,7 +27,6 @@ use Rattle.scc_proto.proofs.BarrierFacts.{bar_at}
 use Rattle.scc_proto.proofs.BarrierMoves.{is_barrier_move, bar_kept}
 use Rattle.scc_proto.proofs.GroupLaw.{put_here, put_there}
 use Rattle.scc_proto.proofs.BarrierCalls.{barrier_calls}
-use Rattle.scc_proto.proofs.LegalLaws.{legal_grown}
 use Rattle.scc_proto.proofs.Tests.{both_first, both_second, same_by_eqb, peers_are, peers_swap}
 use Rattle.scc_proto.proofs.QuietMoves.{open_free, received_at, sent_at_rank, gathers_alike, passed_stays, slot_stays, passed_now, slot_now, sent_now, quiet, slot_at_rank, draft_header-passed, draft_chunk-passed, read_chunk-passed, lower_sent-passed, look_ready-passed, look_ready-slot, no_post_beside, offering_sends, IsPostOf, offering_posts, one_more, test_same, test_apart, not_received}
 
@@ -561,10 +560,3 @@ calls_grow s me view records move setup step consistent pairs senders groups =
     (λ (barrier : is_barrier_move move ≡ true). barrier_calls s me view records move setup step consistent groups barrier)
     (λ (other : is_barrier_move move ≡ false). message_calls s me view records move setup step consistent pairs senders other)
     (true_or_false (is_barrier_move move))
-
--- and so they stay legal
-pub calls_kept : (s : SetupView) (me : ℕ) (view : View) (records : ℕ → Record) (move : Move) → IsSetup s → IsViewStep s me view (records me) move → RecordsAgree s records → PairsAgree s view records → SendersAgree s view records → GroupsAgree s view records
-    → CallsAgree s records → CallsAgree s (put records me (after (chunk_of s) move (records me)))
-calls_kept s me view records move setup step consistent pairs senders groups legal =
-    legal_grown s.nue (setup_key s) (passed_calls s records) (passed_calls s (put records me (after (chunk_of s) move (records me)))) (slot_of s records) (slot_of s (put records me (after (chunk_of s) move (records me)))) legal
-    (calls_grow s me view records move setup step consistent pairs senders groups)

@@ -68,10 +68,6 @@ pub may_left : (seat : Seat) (rec : Record) (a b : List Event) → MayMakeAll se
 may_left seat rec [] b may = may
 may_left seat rec (e ∷ a) b may = may_left seat (record_next seat rec e) a b may.1
 
-pub made_may : (seat : Seat) (rec : Record) (es : List Event) → WereMade seat rec es → MayMakeAll seat rec es
-made_may seat rec [] made = tt
-made_may seat rec (e ∷ es) made = (made.0.permitted, made_may seat (record_next seat rec e) es made.1)
-
 -- no call was made
 pub did_nothing : (old : Sight) → Did old [] old
 did_nothing old = record { continues = λ i. record old { events = sym (append-nil old.events) i }; made = tt }

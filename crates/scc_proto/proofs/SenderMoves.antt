@@ -65,10 +65,6 @@ drafts_chunk_rests to k v (Between i m) t = absurd (cc)
 drafts_chunk_rests to k v (Taking i m c) t = absurd (cc)
 drafts_chunk_rests to k v (Barrier comm seen released) t = absurd (cc)
 
-is_none_none : (post : Option OnItsWay) → is_none post ≡ true → post ≡ None
-is_none_none None t = refl
-is_none_none (Some post) t = absurd (cc)
-
 pub header_drafted : (size : ℕ) (to f g k v : ℕ) (st : Stage) (post : Option OnItsWay) (h c h' c' : ℕ → ℕ) (calls : List DataCall) (t : TakingSide) (n : Option Notes) (b : List Message)
     → (is_none post && drafts_header st) ≡ true
     → Phase size (from_sender to f g st post h c calls t n b) → Phase size (from_sender to f g (draft_header k v st) post h' c' calls t n b)

@@ -58,9 +58,6 @@ answered_none (Some post) = refl
 looked_sent_alone : (size : ℕ) (rec : Record) (p : ℕ → Bool) → after size (LookSent p) rec ≡ after size (LookReady none_set) (after size (LookSent p) rec)
 looked_sent_alone size rec p = λ i. record (after size (LookSent p) rec) { stage = sym (seen_none rec.stage) i; post = sym (answered_none rec.post) i }
 
-looked_ready_alone : (size : ℕ) (rec : Record) (q : ℕ → Bool) → after size (LookReady q) rec ≡ after size (LookReady q) (after size (LookSent none_set) rec)
-looked_ready_alone size rec q = refl
-
 -- ---- line flags
 
 -- the line of a flag that fills one: its other words are idle

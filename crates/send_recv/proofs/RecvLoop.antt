@@ -87,9 +87,6 @@ pub aimed : (layout : Layout) (spot : Option Spot) (aim : Aim) → aim_at layout
 aimed layout None aim e = absurd (cc)
 aimed layout (Some at) aim e = record { at = at; is = refl; aim_is = cc }
 
-some_spot : (a b : Spot) → Some a ≡ Some b → a ≡ b
-some_spot a b e = cc
-
 -- no register is held between two parts, so rows go on from one to the other
 pub row_on : (aim : Aim) (a b : List Event) → changing_after false a ≡ false → vain_tries aim (a ++ b) ≡ vain_from aim false (vain_tries aim a) b
 row_on aim a b freed = vain-append aim false 0 a b ∙ ap (λ (c : Bool). vain_from aim c (vain_tries aim a) b) freed

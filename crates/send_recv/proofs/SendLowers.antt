@@ -1,5 +1,5 @@
 -- The turn of a send that lowers `ready`: the chunk is through, and after the last one the message is sent.
-use Rattle.std.proofs.Common.{◌≡◌, ◌≢◌, inr, ℕ, suc, ◌+◌, ◌-◌, ◌*◌, ◌<◌, ◌≤◌, Bool, true, false, ◌==◌, if◌then◌else◌, List, [], ◌∷◌, ◌++◌, Option, Some, None, option_map, length, take, refl, sym, ◌∙◌, ap, subst, arith}
+use Rattle.std.proofs.Common.{◌≡◌, ◌≢◌, inr, ℕ, suc, ◌+◌, ◌-◌, ◌*◌, ◌<◌, Bool, true, false, ◌==◌, if◌then◌else◌, List, [], ◌∷◌, ◌++◌, Option, Some, None, option_map, length, take, refl, sym, ◌∙◌, ap, subst, arith}
 use Rattle.scc_base.specs.Calls.{Send, Post}
 use Rattle.scc_base.specs.Layouts.{chunk_size}
 use Rattle.scc_base.specs.Setups.{IsSetup}
@@ -58,10 +58,6 @@ may_lower_turn s c op slot bytes valid r lower =
     let at = at_stage s.seat (record_in s) c op slot bytes Lower r lower in
     let may = may_lower s.seat (record_in s) op bytes at.3 in
     may_lower_ready s c op.to valid r.peers r.hands at.2 may.1 may.0
-
-pub chunk_below : (layout : Layout) (len chunk : ℕ) → len ≤ 65536 → chunk < chunk_count (chunk_size layout) len → chunk < 255
-chunk_below LineFlags len chunk within below = omega (arith, within, below)
-chunk_below BitFlags len chunk within below = omega (arith, within, below)
 
 -- ---- the record after it
 

@@ -1,8 +1,7 @@
 -- The turns of a slot: it looks whether its message was taken, or lowers the flag that said so.
 use Rattle.std.proofs.Common.{◌≡◌, inl, inr, ℕ, Bool, true, false, ◌==◌, ◌&&◌, if◌then◌else◌, List, [], Option, Some, None, IfSome, option_map, refl, sym, ◌∙◌, ap, subst, arith}
-use Rattle.std.specs.List.{list_all}
 use Rattle.scc_base.specs.Calls.{DataCall}
-use Rattle.scc_base.specs.Places.{WordAt, LineAt, flag_word, line_of_word}
+use Rattle.scc_base.specs.Places.{WordAt, flag_word, line_of_word}
 use Rattle.scc_base.specs.Layouts.{ready_at}
 use Rattle.scc_base.specs.Setups.{IsSetup}
 use Rattle.scc_base.specs.declared.events.Event.{Event}
@@ -12,7 +11,6 @@ use Rattle.scc_base.specs.declared.events.Turn.{Turn}
 use Rattle.scc_base.specs.declared.events.Turn.TheVariants.{Moved, Waiting, Done}
 use Rattle.scc_base.specs.declared.layouts.Layout.{Layout}
 use Rattle.scc_base.specs.declared.layouts.Layout.TheVariants.{LineFlags, BitFlags}
-use Rattle.scc_proto.specs.Resting.{is_resting}
 use Rattle.scc_proto.specs.Stages.{Stage, Idle, Drafting, Sending, Between, Taking, Barrier, OnItsWay, Record}
 use Rattle.scc_proto.specs.Moves.{look_ready, lower_ready, calls_sent, post_answered}
 use Rattle.scc_proto.specs.Permission.{may_go_on, is_answered_by}
@@ -168,9 +166,6 @@ look_means true slot spot to full unseen =
     let behind : slot_left_by slot.to true ≡ 1 = ap (λ (o : Option ℕ). slot_left_by o true) full in
     (omega (arith, before, behind), inr refl)
 look_means false slot spot to full unseen = refl
-
-look_rests : (found : Bool) (at : Spot) (line : LineAt) (words : List ℕ) (spot : Spot) → moved_or_waits found at ≡ Waiting spot → list_all is_resting (loads_of line words) ≡ true
-look_rests found at line words spot e = refl
 
 pub never_done : {P : Type 0} (found : Bool) (spot : Spot) → moved_or_waits found spot ≡ Done → P
 never_done true spot e = absurd (cc)

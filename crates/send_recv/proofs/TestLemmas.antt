@@ -1,5 +1,5 @@
 -- A receive that goes on after its first turns: what it comes to, from its start on.
-use Rattle.std.proofs.Common.{◌≡◌, ℕ, ◌+◌, ◌*◌, ◌≤◌, Bool, true, false, List, [], ◌++◌, Option, Some, None, Result, Ok, Err, IsErr, IsErrAnd, length, refl, sym, ◌∙◌, ap, subst, arith, slice_index}
+use Rattle.std.proofs.Common.{◌≡◌, ℕ, ◌+◌, ◌*◌, ◌≤◌, Bool, false, List, [], ◌++◌, Option, Some, None, Result, Ok, Err, IsErr, IsErrAnd, length, refl, sym, ◌∙◌, ap, subst, arith, slice_index}
 use Rattle.scc_base.specs.Heads.{MessageHead}
 use Rattle.scc_base.specs.declared.events.Event.{Event}
 use Rattle.scc_base.specs.declared.events.Spot.{Spot}
@@ -9,16 +9,15 @@ use Rattle.scc_proto.proofs.PortLaws.{did_nothing, did_both, seat_kept}
 use Rattle.put_get.specs.Cores.{Private}
 use Rattle.put_get.specs.Transfers.{load_count}
 use Rattle.put_get.proofs.WorkLemmas.{load_count-append}
-use Rattle.sync_flags.specs.Tries.{Aim, spot_of, tries_at, vain_from, vain_tries, all_vain, Tried}
-use Rattle.sync_flags.proofs.RowLemmas.{some_aim, waited, went_on}
+use Rattle.sync_flags.specs.Tries.{Aim, tries_at, vain_from, vain_tries, Tried}
+use Rattle.sync_flags.proofs.RowLemmas.{went_on}
 use Rattle.send_recv.specs.declared.answers.RecvTurn.{RecvTurn}
 use Rattle.send_recv.specs.declared.answers.RecvTurn.TheVariants as turn
 use Rattle.send_recv.specs.declared.calls.RecvStop.{RecvStop}
 use Rattle.send_recv.specs.declared.calls.RecvStop.TheVariants.{Stalled, Mismatch}
 use Rattle.send_recv.specs.Ops.{RecvAt, new_receive}
-use Rattle.send_recv.specs.Turns.{IsOneTry}
 use Rattle.send_recv.specs.Receiving.{RecvStands, RecvTurned, IsRecvSpot, recv_spot, recv_waits, lines_left, filled_to}
-use Rattle.send_recv.specs.Calling.{sent_aim, HasNotStalled, Received, RecvStalled, RecvDiffers, RecvStops, FoundFirst, FoundUnset, TestEnds}
+use Rattle.send_recv.specs.Calling.{sent_aim, HasNotStalled, Received, RecvStalled, RecvDiffers, RecvStops, FoundFirst, TestEnds}
 use Rattle.scc_base.specs.Layouts.{sent_at}
 use Rattle.send_recv.specs.Steps.{own_core, flag_spot}
 use Rattle.send_recv.specs.Tries.{aim_of, aim_at}
@@ -144,23 +143,6 @@ pub found_first : {s m t : Sight} {c b : Private} {op cur : RecvAt} {bytes mid :
 found_first {s} {m} {t} {op = op} {answer = answer} start v goes later did =
     let w = went_on (subst (λ (o : Option Spot). Tried (aim_at s.seat.setup.layout (recv_spot s.seat op)) v.events o) goes v.tried) (sent_aim s.seat op) (at_start s.seat op start) in
     record { first = v.events; rest = later; did = did_both s v.events m later t v.did did; one = w.0; found = w.1 }
-
-pub found_unset : {s m : Sight} {c b : Private} {op cur : RecvAt} {bytes mid : List ℕ} {spot : Spot} → op ≡ new_receive op.from op.head → RecvStands m b cur mid → RecvTurned (receiving s c op bytes) (receiving m b cur mid) (turn.Waiting spot)
-    → FoundUnset (sent_aim s.seat op) (receiving s c op bytes) (with_bytes m b mid)
-found_unset {s} {m} {op = op} {spot = spot} start st v =
-    let w = waited v.tried in
-    let aim : w.at ≡ sent_aim s.seat op = some_aim w.at (sent_aim s.seat op) (sym w.is ∙ at_start s.seat op start) in
-    record {
-      events = v.events;
-      did = v.did;
-      one = subst (λ (a : Aim). tries_at a v.events ≡ 1) aim w.one;
-      unset = subst (λ (a : Aim). all_vain a false v.events ≡ true) aim w.vain;
-      nothing = v.rests spot refl;
-      only = subst (λ (x : Spot). IsOneTry (aim_of s.seat.setup.layout x) v.events) (w.spot_is ∙ ap spot_of aim) v.only;
-      unchanged = v.means.1;
-      at_rest = v.means.2;
-      empty = st.empty;
-    }
 
 -- ---- the test as a whole
 

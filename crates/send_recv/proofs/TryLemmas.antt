@@ -10,7 +10,6 @@ use Rattle.scc_proto.specs.Ports.{Seat}
 use Rattle.put_get.specs.Accesses.{loads_of}
 use Rattle.put_get.specs.Cores.{Private, Fills}
 use Rattle.put_get.proofs.FillLemmas.{fills_held}
-use Rattle.put_get.specs.Transfers.{load_count}
 use Rattle.sync_flags.specs.Tries.{tries_at, all_vain, spot_of, Tried, Vain, Fruitful}
 use Rattle.sync_flags.proofs.RowLemmas.{flag_tried}
 use Rattle.send_recv.specs.declared.stages.RecvStage.{RecvStage}
@@ -85,6 +84,3 @@ ready_word BitFlags j = omega arith
 -- a line that came into an empty cache stands there, unless lines were evicted
 pub look_held : (c d : Private) (line : LineAt) (words : List ℕ) → Fills (record c { lines = [] }) line words d → LastHeld (loads_of line words) c.evictions d
 look_held c d line words fills = Last [] line words [] refl refl (λ same. fills_held fills refl same)
-
-pub four_loads : (line : LineAt) (words : List ℕ) → load_count (loads_of line words) ≡ 4
-four_loads line words = refl

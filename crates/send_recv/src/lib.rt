@@ -18,7 +18,7 @@ mod stages;
 pub use answers::RecvTurn;
 pub use calls::{RecvStop, recv, recv_test};
 pub use deliveries::{SendStop, send};
-pub use laws::{begins_law, ends_law, stalls_law, turns_law};
+pub use laws::{begins_law, done_law, ends_law, other_port_law, stalls_law, start_law, turns_law};
 pub use receives::RecvOp;
 pub use sends::SendOp;
 pub use slots::Slot;

@@ -1,0 +1,9 @@
+use Rattle.std.proofs.Common.{rules}
+use Rattle.send_recv.proofs.receives.RecvOp.lower_sent.Goals as goal
+
+-- Answered by name, so that a body which turns this is refused at once, with no search for what else might be written.
+pub returns-then-lines_in-eq0-clause-changes : goal.returns-then-lines_in-eq0-clause-changes
+returns-then-lines_in-eq0-clause-changes c = search rules
+
+pub returns-clause-changes : goal.returns-clause-changes
+returns-clause-changes c = search rules
