@@ -29,31 +29,7 @@ pub(crate) enum End {
     Done,
     NothingSent,
     Stalled { spot: Spot, polls: u32 },
-    OtherHead,
-}
-
-// The head of the message that was sent, where a receive met another one than its own.
-fn sent_of(stop: &RecvStop) -> Option<Head> {
-    match stop {
-        RecvStop::Stalled {
-            op: _,
-            spot: _,
-            polls: _,
-        } => None,
-        RecvStop::Mismatch { sent, asked: _ } => Some(*sent),
-    }
-}
-
-// The head that was asked for there.
-fn asked_of(stop: &RecvStop) -> Option<Head> {
-    match stop {
-        RecvStop::Stalled {
-            op: _,
-            spot: _,
-            polls: _,
-        } => None,
-        RecvStop::Mismatch { sent: _, asked } => Some(*asked),
-    }
+    OtherHead { sent: Head, asked: Head },
 }
 
 /// A call that is to come, with the bytes that it is handed.
@@ -76,10 +52,8 @@ pub(crate) struct Caller {
     receiving: Option<RecvOp>,
     // The calls to come, the next one last.
     calls: Vec<Call>,
-    // What the last call came to, and where it met another head than its own, both.
+    // What the last call came to.
     pub end: Option<End>,
-    pub met: Option<Head>,
-    pub asked: Option<Head>,
 }
 
 impl Caller {
@@ -106,8 +80,6 @@ impl Caller {
             receiving: None,
             calls,
             end: None,
-            met: None,
-            asked: None,
         }
     }
 
@@ -145,19 +117,15 @@ impl Caller {
             Ok(()) => {
                 self.end = Some(End::Done);
             }
-            Err(stop) => {
-                self.met = sent_of(&stop);
-                self.asked = asked_of(&stop);
-                match stop {
-                    RecvStop::Stalled { op, spot, polls } => {
-                        self.receiving = Some(op);
-                        self.end = Some(End::Stalled { spot, polls });
-                    }
-                    RecvStop::Mismatch { sent: _, asked: _ } => {
-                        self.end = Some(End::OtherHead);
-                    }
+            Err(stop) => match stop {
+                RecvStop::Stalled { op, spot, polls } => {
+                    self.receiving = Some(op);
+                    self.end = Some(End::Stalled { spot, polls });
                 }
-            }
+                RecvStop::Mismatch { sent, asked } => {
+                    self.end = Some(End::OtherHead { sent, asked });
+                }
+            },
         }
     }
 
@@ -219,19 +187,15 @@ impl Caller {
             Ok(false) => {
                 self.end = Some(End::NothingSent);
             }
-            Err(stop) => {
-                self.met = sent_of(&stop);
-                self.asked = asked_of(&stop);
-                match stop {
-                    RecvStop::Stalled { op, spot, polls } => {
-                        self.receiving = Some(op);
-                        self.end = Some(End::Stalled { spot, polls });
-                    }
-                    RecvStop::Mismatch { sent: _, asked: _ } => {
-                        self.end = Some(End::OtherHead);
-                    }
+            Err(stop) => match stop {
+                RecvStop::Stalled { op, spot, polls } => {
+                    self.receiving = Some(op);
+                    self.end = Some(End::Stalled { spot, polls });
                 }
-            }
+                RecvStop::Mismatch { sent, asked } => {
+                    self.end = Some(End::OtherHead { sent, asked });
+                }
+            },
         }
     }
 }

@@ -51,6 +51,11 @@ pub(crate) fn post_head_of(bytes: &[u8]) -> Option<PostHead>
     PostHead::plain(bytes.len() as u32)
 }
 
+// One where these are the bytes that were to be found, and none elsewhere.
+fn arrivals(bytes: &[u8], wanted: &[u8]) -> u32 {
+    (bytes == wanted) as u32
+}
+
 /// A rank that has messages with one other, one after the other.
 #[derive(Drop)]
 pub(crate) struct Talker<V: Evict + Drop> {
@@ -67,9 +72,9 @@ pub(crate) struct Talker<V: Evict + Drop> {
     tasks: Vec<Task>,
     // How many messages were received with the bytes that were to be found.
     pub arrived: u32,
-    // The head that a receive met in place of its own, and its own.
+    // The head that a receive met in place of its own, and how many bytes it asked for.
     met: Option<Head>,
-    asked: Option<Head>,
+    asked: usize,
 }
 
 impl<V: Evict + Drop> Talker<V> {
@@ -98,7 +103,7 @@ impl<V: Evict + Drop> Talker<V> {
             tasks,
             arrived: 0,
             met: None,
-            asked: None,
+            asked: 0,
         }
     }
 
@@ -164,13 +169,14 @@ impl<V: Evict + Drop> Talker<V> {
     {
         match op.turn(&mut self.core, port, &mut self.bytes) {
             RecvTurn::Done => {
-                let arrived = self.bytes == self.wanted;
-                self.arrived = self.arrived.saturating_add(arrived as u32);
+                self.arrived = self
+                    .arrived
+                    .saturating_add(arrivals(&self.bytes, &self.wanted));
                 Turn::Moved
             }
             RecvTurn::Mismatch(sent) => {
                 self.met = Some(sent);
-                self.asked = head_of(&self.bytes);
+                self.asked = self.bytes.len();
                 Turn::Moved
             }
             RecvTurn::Moved => {
@@ -353,13 +359,19 @@ const SEND_FORTY: &[(Deed, usize)] = &[(Deed::Send, 40)];
 
 const RECEIVE_MORE: &[(Deed, usize)] = &[(Deed::Receive, 41), (Deed::Receive, 40)];
 
+// Whether a receive of rank 1 met a head of 40 bytes where it asked for 41.
+fn met_forty(team: &Team<Talker<Never>>) -> bool {
+    match team.player(1) {
+        Some(receiver) => receiver.met == Head::plain(40) && receiver.asked == 41,
+        None => false,
+    }
+}
+
 // Whether a receive of another length meets the head that was sent, and leaves the message to the next receive.
 fn other_length_is_met(alloc: Global, layout: Layout) -> Result<bool, Fail> {
     let mut team = talking(alloc, layout, (Never, Never), SEND_FORTY, RECEIVE_MORE)?;
     let ends = team.rounds(&[0, 1], 100) > 0;
-    let met = team.player(1).is_some_and(|receiver| receiver.met == Head::plain(40)
-        && receiver.asked == Head::plain(41));
-    Ok(ends && met && arrived_in(&team) == 1)
+    Ok(ends && met_forty(&team) && arrived_in(&team) == 1)
 }
 
 const LONG_AND_SHORT: &[(Deed, usize)] = &[(Deed::Post, 3_584), (Deed::Post, 7)];
