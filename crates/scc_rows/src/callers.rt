@@ -1,7 +1,13 @@
 //! Ranks that make whole calls on a chip with one seat, one call a turn.
 
+ghost use Rattle.std.specs.Prelude.{◌≡◌, ℕ, true, [], IfOk};
+ghost use Rattle.scc_base.specs.Setups.{SetupView};
+ghost use Rattle.scc_proto.specs.Words.{are_peers};
+ghost use Rattle.chip_teams.specs.Teams.{sight_alone};
+ghost use Rattle.scc_rows.specs.Talkers.{IsTalking};
+
 use crate::fixtures::pair_in;
-use crate::messages::{bytes_from, head_of, post_head_of};
+use crate::messages::{bytes_from, head_of, post_head_of, team_of_two};
 use chip_teams::{Player, Team};
 use line_cache::Never;
 use put_get::Core;
@@ -255,6 +261,15 @@ fn calls_of(alloc: Global, deeds: &[(Deed, usize)]) -> Result<Vec<Call>, Fail> {
     Ok(calls)
 }
 
+// A rank that makes these calls with its peer.
+fn rank_with_calls(alloc: Global, peer: Rank, deeds: &[(Deed, usize)]) -> Result<Caller, Fail>
+    ensures ready { IfOk result (λ m. (s : SetupView) (r : ℕ) → are_peers s r peer ≡ true
+        → IsTalking (sight_alone s r []) m.core m.slot m.peer m.bytes.items m.sending m.receiving) }
+{
+    let calls = calls_of(alloc, deeds)?;
+    Ok(Caller::new(alloc, peer, calls))
+}
+
 /// A pair of ranks, on cores 0 and 1, of which rank 0 makes the first calls and rank 1 the others.
 pub(crate) fn calling(
     alloc: Global,
@@ -262,9 +277,8 @@ pub(crate) fn calling(
     first: &[(Deed, usize)],
     second: &[(Deed, usize)],
 ) -> Result<Team<Caller>, Fail> {
+    let first = rank_with_calls(alloc, Rank::of(1), first)?;
+    let second = rank_with_calls(alloc, Rank::of(0), second)?;
     let chip = pair_in(alloc, layout)?;
-    let mut team = Team::new(alloc, chip);
-    team.join(Caller::new(alloc, Rank::of(1), calls_of(alloc, first)?))?;
-    team.join(Caller::new(alloc, Rank::of(0), calls_of(alloc, second)?))?;
-    Ok(team)
+    team_of_two(alloc, chip, first, second)
 }

@@ -263,13 +263,18 @@ const POSTED: &[(Deed, usize)] = &[
     (Deed::Test, 3_584),
 ];
 
+// Whether a message of so many bytes that was posted arrives by this call.
+fn posted_arrives(alloc: Global, layout: Layout, deed: Deed, len: usize) -> Result<bool, Fail> {
+    let mut team = calling_once(alloc, layout, Deed::Post, deed, len)?;
+    let _ = team.turn(0);
+    Ok(arrives(&mut team, 1))
+}
+
 #[test]
 fn a_posted_message_is_received_and_tested(rt: HostRuntime) -> Result<(), Fail> {
     for layout in LAYOUTS {
         for (deed, len) in POSTED {
-            let mut team = calling_once(rt.alloc(), *layout, Deed::Post, *deed, *len)?;
-            let _ = team.turn(0);
-            assert!(rt; arrives(&mut team, 1));
+            assert!(rt; posted_arrives(rt.alloc(), *layout, *deed, *len)?);
         }
     }
     Ok(())
