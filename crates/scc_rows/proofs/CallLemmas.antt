@@ -27,7 +27,7 @@ module _ {s t : Sight} {peer : ℕ} (peers : are_peers s.seat.setup s.seat.rank 
       → IsTalking t d after peer bytes (Some now) get
   send_stalled r = record { peers = peers_kept peer r.events r.did peers; at = r.stands }
 
-  pub received_whole : {c d : Private} {op : RecvAt} {slot : SlotAt} {bytes after any : List ℕ} {polls : ℕ} → RecvStands s c op bytes → SlotStands s.seat (record_in s) slot
+  pub received_whole : {c d : Private} {op : RecvAt} {slot : SlotAt} {bytes before after any : List ℕ} {polls : ℕ} → RecvStands s c op before → SlotStands s.seat (record_in s) slot
       → Received (receiving s c op bytes) polls (with_bytes t d after) → IsTalking t d slot peer any None None
   received_whole st slot r = record { peers = peers_kept peer r.events r.did peers; at = free_after_receive st.hands slot r }
 
@@ -35,10 +35,16 @@ module _ {s t : Sight} {peer : ℕ} (peers : are_peers s.seat.setup s.seat.rank 
       → RecvStalled (receiving s c op bytes) polls (receiving t d now after) spot → IsTalking t d slot peer after None (Some now)
   receive_stalled slot r = record { peers = peers_kept peer r.events r.did peers; at = (r.stands, slot_after r.events r.did r.post slot) }
 
-  pub receive_differs_whole : {c d : Private} {op : RecvAt} {slot : SlotAt} {bytes after any : List ℕ} {polls : ℕ} {sent asked : MessageHead} → RecvStands s c op bytes
+  pub receive_differs_whole : {c d : Private} {op : RecvAt} {slot : SlotAt} {bytes before after any : List ℕ} {polls : ℕ} {sent asked : MessageHead} → RecvStands s c op before
       → SlotStands s.seat (record_in s) slot → RecvDiffers (receiving s c op bytes) polls (with_bytes t d after) sent asked → IsTalking t d slot peer any None None
   receive_differs_whole st slot r = record { peers = peers_kept peer r.events r.did peers; at = free_after_other_head st.hands slot r }
 
 module _ {s t : Sight} {c d : Private} {slot : SlotAt} {peer : ℕ} {old any : List ℕ} (talk : IsTalking s c slot peer old None None) where
   pub found_nothing : {aim : Aim} {op : RecvAt} {bytes after : List ℕ} → FoundUnset aim (receiving s c op bytes) (with_bytes t d after) → IsTalking t d slot peer any None None
   found_nothing r = record { peers = peers_kept peer r.events r.did talk.peers; at = free_after_test talk.at r }
+
+  pub test_received : {op : RecvAt} {bytes after : List ℕ} {polls : ℕ} → Received (receiving s c op bytes) polls (with_bytes t d after) → IsTalking t d slot peer any None None
+  test_received r = record { peers = peers_kept peer r.events r.did talk.peers; at = free_after_receive talk.at.hands talk.at.slot_stands r }
+
+  pub test_differs : {op : RecvAt} {bytes after : List ℕ} {polls : ℕ} {sent asked : MessageHead} → RecvDiffers (receiving s c op bytes) polls (with_bytes t d after) sent asked → IsTalking t d slot peer any None None
+  test_differs r = record { peers = peers_kept peer r.events r.did talk.peers; at = free_after_other_head talk.at.hands talk.at.slot_stands r }

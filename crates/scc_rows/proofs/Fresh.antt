@@ -11,7 +11,7 @@ use Rattle.scc_proto.specs.Ports.{Sight, record_in}
 use Rattle.scc_proto.proofs.PortLaws.{record_of-nil}
 use Rattle.scc_mesh.specs.SeatViews.{View, list_or_none, without}
 use Rattle.scc_mesh.specs.AwayRanks.{Ticket}
-use Rattle.scc_mesh.specs.Scenes.{ChipView, about_in, home_in, events_in, with_home, sight_in, sight_away}
+use Rattle.scc_mesh.specs.Scenes.{ChipView, about_in, home_in, events_in, with_home, sight_away}
 use Rattle.scc_mesh.proofs.ViewLemmas.{known_there}
 use Rattle.scc_rows.specs.Rests.{IsNewPair, IsAtRest, IsWithout}
 
@@ -22,9 +22,6 @@ none_rests s valid two none = record {
   two = two;
   idle = ap (λ (es : List Event). (record_of s.seat.setup s.seat.rank es).stage) none ∙ ap (λ (x : Record). x.stage) (record_of-nil s.seat.setup s.seat.rank);
 }
-
-pub home_rests : (chip : ChipView) (r hold : ℕ) → IsNewPair chip → IsAtRest (sight_in chip r hold)
-home_rests chip r hold pair = none_rests (sight_in chip r hold) pair.valid pair.two (pair.new.empty r)
 
 pub away_rests : (chip : ChipView) (s : SetupView) (ticket : Ticket) → IsNewPair chip → s ≡ about_in chip → ticket.events ≡ [] → IsAtRest (sight_away s ticket)
 away_rests chip s ticket pair about none = none_rests (sight_away s ticket)

@@ -12,7 +12,7 @@ ghost use Rattle.scc_proto.specs.Agreement.{Agrees};
 ghost use Rattle.scc_mesh.specs.Keeping.{IsStoredAt};
 ghost use Rattle.scc_mesh.specs.Scenes.{IsOpen, IsWhole, IsHomeBelow, about_in, table_in, events_in, records_in};
 
-use crate::fixtures::{counted, new_pair, world_of};
+use crate::fixtures::{new_pair, world_of};
 use scc_base::{CoreId, Layout, Place, Rank};
 use scc_mesh::{Chip, SeatPort, Token, Words};
 use scc_proto::Port;
@@ -28,20 +28,6 @@ fn a_blank_chip_opens(rt: HostRuntime) -> Result<(), Fail> {
     let setup = world_of(48, Layout::lines()).ok_or("a setup")?;
     chip.open(rt.alloc(), setup)?;
     assert!(rt; chip.is_open() && chip.setup().nue() == 48);
-    Ok(())
-}
-
-#[test]
-fn all_words_are_zero_at_the_start(rt: HostRuntime) -> Result<(), Fail> {
-    let mut chip = new_pair(rt.alloc())?;
-    let mut sum = 0;
-    let mut port = counted(&mut chip, Rank::of(0));
-    for core in 0..48 {
-        for line in 0..=255 {
-            sum |= port.load(Place::new(CoreId::of(core), line, 3));
-        }
-    }
-    assert!(rt; sum == 0);
     Ok(())
 }
 
@@ -185,15 +171,20 @@ fn step_apart<R: Threads + Sync>(rt: &R, chip: &mut Chip)
     chip.agrees();
 }
 
+// Whether a rank sees what both stored.
+fn sees_both<P: Port>(port: &mut P) -> bool {
+    let first = port.load(Place::new(CoreId::of(0), 240, 0));
+    let second = port.load(Place::new(CoreId::of(1), 240, 0));
+    first == 7 && second == 8
+}
+
 #[test]
 fn two_ranks_step_in_threads_of_their_own(rt: HostRuntime) -> Result<(), Fail> {
     let mut chip = opened_pair(rt.alloc())?;
     step_apart(&rt, &mut chip);
     let _nue = chip.setup().nue();
     let mut port = chip.port(Rank::of(0));
-    let first = port.load(Place::new(CoreId::of(0), 240, 0));
-    let second = port.load(Place::new(CoreId::of(1), 240, 0));
-    assert!(rt; first == 7 && second == 8);
+    assert!(rt; sees_both(&mut port));
     Ok(())
 }
 

@@ -1,7 +1,13 @@
 //! Ranks that make whole calls on a chip with one seat, one call a turn.
 
+ghost use Rattle.std.specs.Prelude.{◌≡◌, ℕ, true, [], IfOk};
+ghost use Rattle.scc_base.specs.Setups.{SetupView};
+ghost use Rattle.scc_proto.specs.Words.{are_peers};
+ghost use Rattle.chip_teams.specs.Teams.{sight_alone};
+ghost use Rattle.scc_rows.specs.Talkers.{IsTalking};
+
 use crate::fixtures::pair_in;
-use crate::messages::{bytes_from, head_of, post_head_of};
+use crate::messages::{bytes_from, head_of, post_head_of, team_of_two};
 use chip_teams::{Player, Team};
 use line_cache::Never;
 use put_get::Core;
@@ -29,31 +35,7 @@ pub(crate) enum End {
     Done,
     NothingSent,
     Stalled { spot: Spot, polls: u32 },
-    OtherHead,
-}
-
-// The head of the message that was sent, where a receive met another one than its own.
-fn sent_of(stop: &RecvStop) -> Option<Head> {
-    match stop {
-        RecvStop::Stalled {
-            op: _,
-            spot: _,
-            polls: _,
-        } => None,
-        RecvStop::Mismatch { sent, asked: _ } => Some(*sent),
-    }
-}
-
-// The head that was asked for there.
-fn asked_of(stop: &RecvStop) -> Option<Head> {
-    match stop {
-        RecvStop::Stalled {
-            op: _,
-            spot: _,
-            polls: _,
-        } => None,
-        RecvStop::Mismatch { sent: _, asked } => Some(*asked),
-    }
+    OtherHead { sent: Head, asked: Head },
 }
 
 /// A call that is to come, with the bytes that it is handed.
@@ -76,10 +58,8 @@ pub(crate) struct Caller {
     receiving: Option<RecvOp>,
     // The calls to come, the next one last.
     calls: Vec<Call>,
-    // What the last call came to, and where it met another head than its own, both.
+    // What the last call came to.
     pub end: Option<End>,
-    pub met: Option<Head>,
-    pub asked: Option<Head>,
 }
 
 impl Caller {
@@ -106,8 +86,6 @@ impl Caller {
             receiving: None,
             calls,
             end: None,
-            met: None,
-            asked: None,
         }
     }
 
@@ -145,19 +123,15 @@ impl Caller {
             Ok(()) => {
                 self.end = Some(End::Done);
             }
-            Err(stop) => {
-                self.met = sent_of(&stop);
-                self.asked = asked_of(&stop);
-                match stop {
-                    RecvStop::Stalled { op, spot, polls } => {
-                        self.receiving = Some(op);
-                        self.end = Some(End::Stalled { spot, polls });
-                    }
-                    RecvStop::Mismatch { sent: _, asked: _ } => {
-                        self.end = Some(End::OtherHead);
-                    }
+            Err(stop) => match stop {
+                RecvStop::Stalled { op, spot, polls } => {
+                    self.receiving = Some(op);
+                    self.end = Some(End::Stalled { spot, polls });
                 }
-            }
+                RecvStop::Mismatch { sent, asked } => {
+                    self.end = Some(End::OtherHead { sent, asked });
+                }
+            },
         }
     }
 
@@ -219,19 +193,15 @@ impl Caller {
             Ok(false) => {
                 self.end = Some(End::NothingSent);
             }
-            Err(stop) => {
-                self.met = sent_of(&stop);
-                self.asked = asked_of(&stop);
-                match stop {
-                    RecvStop::Stalled { op, spot, polls } => {
-                        self.receiving = Some(op);
-                        self.end = Some(End::Stalled { spot, polls });
-                    }
-                    RecvStop::Mismatch { sent: _, asked: _ } => {
-                        self.end = Some(End::OtherHead);
-                    }
+            Err(stop) => match stop {
+                RecvStop::Stalled { op, spot, polls } => {
+                    self.receiving = Some(op);
+                    self.end = Some(End::Stalled { spot, polls });
                 }
-            }
+                RecvStop::Mismatch { sent, asked } => {
+                    self.end = Some(End::OtherHead { sent, asked });
+                }
+            },
         }
     }
 }
@@ -291,6 +261,15 @@ fn calls_of(alloc: Global, deeds: &[(Deed, usize)]) -> Result<Vec<Call>, Fail> {
     Ok(calls)
 }
 
+// A rank that makes these calls with its peer.
+fn rank_with_calls(alloc: Global, peer: Rank, deeds: &[(Deed, usize)]) -> Result<Caller, Fail>
+    ensures ready { IfOk result (λ m. (s : SetupView) (r : ℕ) → are_peers s r peer ≡ true
+        → IsTalking (sight_alone s r []) m.core m.slot m.peer m.bytes.items m.sending m.receiving) }
+{
+    let calls = calls_of(alloc, deeds)?;
+    Ok(Caller::new(alloc, peer, calls))
+}
+
 /// A pair of ranks, on cores 0 and 1, of which rank 0 makes the first calls and rank 1 the others.
 pub(crate) fn calling(
     alloc: Global,
@@ -298,9 +277,8 @@ pub(crate) fn calling(
     first: &[(Deed, usize)],
     second: &[(Deed, usize)],
 ) -> Result<Team<Caller>, Fail> {
+    let first = rank_with_calls(alloc, Rank::of(1), first)?;
+    let second = rank_with_calls(alloc, Rank::of(0), second)?;
     let chip = pair_in(alloc, layout)?;
-    let mut team = Team::new(alloc, chip);
-    team.join(Caller::new(alloc, Rank::of(1), calls_of(alloc, first)?))?;
-    team.join(Caller::new(alloc, Rank::of(0), calls_of(alloc, second)?))?;
-    Ok(team)
+    team_of_two(alloc, chip, first, second)
 }

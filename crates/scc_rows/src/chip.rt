@@ -2,17 +2,13 @@
 
 ghost use Rattle.scc_rows.specs.Rests.{IsAtRest, IsWithout};
 
-use crate::fixtures::{
-    Pair, acquire, counted, free, give_back, heap_word, new_pair, spread_pair, store, take,
-};
+use crate::fixtures::{Meeting, acquire, free, give_back, holds, store, take};
 use scc_base::{CoreId, Place, Rank};
-use scc_proto::Port;
+use scc_proto::{CountingPort, Port};
 use std::test::Fail;
 
-#[test]
-fn every_word_is_zero_after_open(rt: HostRuntime) -> Result<(), Fail> {
-    let mut chip = new_pair(rt.alloc())?;
-    let mut port = counted(&mut chip, Rank::of(0));
+// The bits that are 1 in any word of the chip.
+fn bits_of_all_words<P: Port>(port: &mut P) -> u64 {
     let mut found = 0;
     for core in 0..48 {
         for line in 0..=255 {
@@ -21,7 +17,21 @@ fn every_word_is_zero_after_open(rt: HostRuntime) -> Result<(), Fail> {
             }
         }
     }
-    assert!(rt; found == 0 && port.loads() == 49_152);
+    found
+}
+
+/// A rank loads every word.
+struct AllLoads;
+
+impl Meeting for AllLoads {
+    fn holds<P: Port, Q: Port>(first: &mut CountingPort<P>, _second: &mut CountingPort<Q>) -> bool {
+        bits_of_all_words(first) == 0 && first.loads() == 49_152
+    }
+}
+
+#[test]
+fn every_word_is_zero_after_open(rt: HostRuntime) -> Result<(), Fail> {
+    assert!(rt; holds::<AllLoads>(rt.alloc())?);
     Ok(())
 }
 
@@ -30,7 +40,7 @@ fn sees_the_store<P: Port, Q: Port>(port: &mut P, other: &mut Q) -> bool
     requires rests { IsAtRest (P.sight port.old) }
     requires other_rests { IsAtRest (Q.sight other.old) }
 {
-    let place = heap_word(port, Rank::of(1), 255, 3);
+    let place = Place::new(CoreId::of(1), 255, 3);
     let early = port.load(place);
     store(other, Rank::of(1), 255, 3, u64::MAX);
     let seen = port.load(place);
@@ -40,14 +50,18 @@ fn sees_the_store<P: Port, Q: Port>(port: &mut P, other: &mut Q) -> bool
     early == 0 && seen == u64::MAX && late == u64::MAX && own == u64::MAX
 }
 
+/// A rank stores words, and the other loads one of them.
+struct StoreAndLoad;
+
+impl Meeting for StoreAndLoad {
+    fn holds<P: Port, Q: Port>(first: &mut CountingPort<P>, second: &mut CountingPort<Q>) -> bool {
+        sees_the_store(first, second)
+    }
+}
+
 #[test]
 fn a_store_is_seen_by_another_ranks_load(rt: HostRuntime) -> Result<(), Fail> {
-    let mut chip = new_pair(rt.alloc())?;
-    let Pair {
-        mut first,
-        mut second,
-    } = spread_pair(&mut chip);
-    assert!(rt; sees_the_store(&mut first, &mut second));
+    assert!(rt; holds::<StoreAndLoad>(rt.alloc())?);
     Ok(())
 }
 
@@ -67,14 +81,18 @@ fn takes_once<P: Port, Q: Port>(port: &mut P, other: &mut Q, core: CoreId) -> bo
     again && !late
 }
 
+/// Two ranks take one register.
+struct TwoTakes;
+
+impl Meeting for TwoTakes {
+    fn holds<P: Port, Q: Port>(first: &mut CountingPort<P>, second: &mut CountingPort<Q>) -> bool {
+        takes_once(first, second, CoreId::of(47))
+    }
+}
+
 #[test]
 fn a_register_is_taken_once_until_it_is_freed(rt: HostRuntime) -> Result<(), Fail> {
-    let mut chip = new_pair(rt.alloc())?;
-    let Pair {
-        mut first,
-        mut second,
-    } = spread_pair(&mut chip);
-    assert!(rt; takes_once(&mut first, &mut second, CoreId::of(47)));
+    assert!(rt; holds::<TwoTakes>(rt.alloc())?);
     Ok(())
 }
 
@@ -108,13 +126,17 @@ fn passes_after_release<P: Port, Q: Port>(port: &mut P, other: &mut Q, core: Cor
     !early && !again && late && first
 }
 
+/// Two ranks lock one register.
+struct TwoLocks;
+
+impl Meeting for TwoLocks {
+    fn holds<P: Port, Q: Port>(first: &mut CountingPort<P>, second: &mut CountingPort<Q>) -> bool {
+        passes_after_release(first, second, CoreId::of(3))
+    }
+}
+
 #[test]
 fn a_lock_is_another_ranks_only_after_its_release(rt: HostRuntime) -> Result<(), Fail> {
-    let mut chip = new_pair(rt.alloc())?;
-    let Pair {
-        mut first,
-        mut second,
-    } = spread_pair(&mut chip);
-    assert!(rt; passes_after_release(&mut first, &mut second, CoreId::of(3)));
+    assert!(rt; holds::<TwoLocks>(rt.alloc())?);
     Ok(())
 }

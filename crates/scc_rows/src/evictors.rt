@@ -2,10 +2,10 @@
 
 ghost use Rattle.std.specs.Prelude.{◌≡◌, [], None, if◌then◌else◌};
 
-use crate::fixtures::{counted, new_pair};
+use crate::fixtures::{Meeting, holds};
 use line_cache::Evict;
 use put_get::{Core, RangeFault};
-use scc_base::{CoreId, Place, Rank};
+use scc_base::{CoreId, Place};
 use scc_proto::{CountingPort, Port};
 use std::test::Fail;
 
@@ -48,19 +48,24 @@ fn loads_for<V: Evict, P: Port>(core: &mut Core<V>, port: &mut CountingPort<P>, 
     port.loads().saturating_sub(before)
 }
 
+/// A rank reads three lines, of which the middle one leaves its cache, and reads them again.
+struct MiddleLine;
+
+impl Meeting for MiddleLine {
+    fn holds<P: Port, Q: Port>(first: &mut CountingPort<P>, _second: &mut CountingPort<Q>) -> bool {
+        let mut core = Core::new(MiddleOnce { done: false });
+        loads_for(&mut core, first, 225) == 4
+            && loads_for(&mut core, first, 226) == 4
+            && loads_for(&mut core, first, 227) == 4
+            && loads_for(&mut core, first, 225) == 0
+            && loads_for(&mut core, first, 227) == 0
+            && loads_for(&mut core, first, 226) == 4
+            && loads_for(&mut core, first, 226) == 0
+    }
+}
+
 #[test]
 fn the_named_entry_leaves_and_no_other(rt: HostRuntime) -> Result<(), Fail> {
-    let mut chip = new_pair(rt.alloc())?;
-    let mut port = counted(&mut chip, Rank::of(0));
-    let mut core = Core::new(MiddleOnce { done: false });
-    assert!(rt;
-        loads_for(&mut core, &mut port, 225) == 4
-            && loads_for(&mut core, &mut port, 226) == 4
-            && loads_for(&mut core, &mut port, 227) == 4
-            && loads_for(&mut core, &mut port, 225) == 0
-            && loads_for(&mut core, &mut port, 227) == 0
-            && loads_for(&mut core, &mut port, 226) == 4
-            && loads_for(&mut core, &mut port, 226) == 0
-    );
+    assert!(rt; holds::<MiddleLine>(rt.alloc())?);
     Ok(())
 }

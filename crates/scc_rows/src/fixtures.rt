@@ -2,13 +2,13 @@
 
 ghost use Rattle.std.specs.Prelude.{◌≡◌, ◌<◌, ◌≤◌, ℕ, true, false, None, IfOk, IfSome, IfNone};
 ghost use Rattle.scc_base.specs.Setups.{host_of};
-ghost use Rattle.scc_mesh.specs.Scenes.{sight_in, sight_away};
+ghost use Rattle.scc_mesh.specs.Scenes.{sight_away};
 ghost use Rattle.scc_rows.specs.Rests.{IsNewPair, IsAtRest, IsFresh, AwaitsHeap, IsWithout, Holds};
 
 use line_cache::Evict;
 use put_get::{Core, RangeFault};
 use scc_base::{Buf, CommRule, CoreId, Layout, Place, Rank, Setup};
-use scc_mesh::{Chip, OnePort, SeatPort};
+use scc_mesh::{Chip, SeatPort};
 use scc_proto::{CountingPort, Port};
 use std::alloc::Global;
 use std::cell::Cell;
@@ -60,27 +60,19 @@ pub(crate) fn buffer<R: Abort>(rt: &R, first: u8, lines: u8) -> Buf {
     Buf::new(first, lines).expect(rt, "a buffer")
 }
 
-/// The port of one rank, with its loads counted.
-pub(crate) fn counted(chip: &mut Chip, r: Rank) -> CountingPort<OnePort<'_>>
-    requires pair { IsNewPair chip.old }
-    requires below { r < 2 }
-    ensures rests { IsAtRest (sight_in result.port.chip.now result.port.rank result.port.chip.ghost_name) }
-    ensures fresh { IsFresh (sight_in result.port.chip.now result.port.rank result.port.chip.ghost_name) r }
-{
-    CountingPort::new(chip.port(r))
-}
-
 /// The ports of both ranks, with their loads counted.
 #[derive(Drop)]
-pub(crate) struct Pair<'w> {
-    pub first: CountingPort<SeatPort<'w>>,
-    pub second: CountingPort<SeatPort<'w>>,
+struct Pair<'w> {
+    first: CountingPort<SeatPort<'w>>,
+    second: CountingPort<SeatPort<'w>>,
 }
 
-pub(crate) fn spread_pair(chip: &mut Chip) -> Pair<'_>
+fn spread_pair(chip: &mut Chip) -> Pair<'_>
     requires pair { IsNewPair chip.old }
     ensures first_rests { IsAtRest (sight_away result.first.port.about result.first.port.ticket) }
     ensures second_rests { IsAtRest (sight_away result.second.port.about result.second.port.ticket) }
+    ensures first_fresh { IsFresh (sight_away result.first.port.about result.first.port.ticket) 0 }
+    ensures second_fresh { IsFresh (sight_away result.second.port.about result.second.port.ticket) 1 }
     ensures first_without { (core : ℕ) → IsWithout (sight_away result.first.port.about result.first.port.ticket) core }
     ensures second_without { (core : ℕ) → IsWithout (sight_away result.second.port.about result.second.port.ticket) core }
 {
@@ -91,6 +83,42 @@ pub(crate) fn spread_pair(chip: &mut Chip) -> Pair<'_>
         first: CountingPort::new(words.port(first)),
         second: CountingPort::new(words.port(second)),
     }
+}
+
+/// What the two ranks of a new chip do, with no message and no barrier under way before it.
+pub(crate) trait Meeting {
+    ghost use Rattle.std.specs.Prelude.{ℕ};
+    ghost use Rattle.scc_rows.specs.Rests.{IsAtRest, IsFresh, IsWithout};
+
+    /// Whether it goes as it is named.
+    fn holds<P: Port, Q: Port>(first: &mut CountingPort<P>, second: &mut CountingPort<Q>) -> bool
+        requires first_rests { IsAtRest (P.sight first.old.port) }
+        requires second_rests { IsAtRest (Q.sight second.old.port) }
+        requires first_fresh { IsFresh (P.sight first.old.port) 0 }
+        requires second_fresh { IsFresh (Q.sight second.old.port) 1 }
+        requires first_without { (core : ℕ) → IsWithout (P.sight first.old.port) core }
+        requires second_without { (core : ℕ) → IsWithout (Q.sight second.old.port) core };
+}
+
+fn holds_on<M: Meeting>(chip: &mut Chip) -> bool
+    requires pair { IsNewPair chip.old }
+{
+    let Pair {
+        mut first,
+        mut second,
+    } = spread_pair(chip);
+    M::holds(&mut first, &mut second)
+}
+
+/// Whether a meeting at a chip of two ranks that was just opened goes as it is named.
+pub(crate) fn holds_in<M: Meeting>(alloc: Global, layout: Layout) -> Result<bool, Fail> {
+    let mut chip = pair_in(alloc, layout)?;
+    Ok(holds_on::<M>(&mut chip))
+}
+
+/// The same with line flags.
+pub(crate) fn holds<M: Meeting>(alloc: Global) -> Result<bool, Fail> {
+    holds_in::<M>(alloc, Layout::LineFlags)
 }
 
 /// Puts lines, by a rank with no message and no barrier under way.

@@ -4,12 +4,11 @@ ghost use Rattle.std.specs.Prelude.{◌≡◌, ◌<◌, ◌≤◌, None};
 ghost use Rattle.scc_rows.specs.Rests.{IsAtRest};
 ghost use Rattle.scc_rows.specs.Writers.{MayTake};
 
-use crate::fixtures::{Pair, free, pair_in, spread_pair, take};
+use crate::fixtures::{Meeting, free, holds, holds_in, take};
 use line_cache::{Evict, Never};
 use put_get::Core;
 use scc_base::{Buf, CoreId, Layout, Place, Rank, Spot, Stalled};
-use scc_proto::Port;
-use std::alloc::Global;
+use scc_proto::{CountingPort, Port};
 use std::test::Fail;
 use sync_flags::{Flag, flag_read, flag_write, wait_until};
 
@@ -75,42 +74,63 @@ fn is_seen<P: Port, Q: Port>(first: &mut P, second: &mut Q, flag: Flag, bit: u8)
         && !late
 }
 
-// Whether a flag goes from one rank of a new chip to the other.
-fn goes_over(alloc: Global, flag: Flag, bit: u8) -> Result<bool, Fail>
-    requires heap { 225 ≤ flag.line }
-{
-    let mut chip = pair_in(alloc, Layout::bits())?;
-    let Pair {
-        mut first,
-        mut second,
-    } = spread_pair(&mut chip);
-    Ok(is_seen(&mut first, &mut second, flag, bit))
+/// A flag that is a word goes from one rank to the other.
+struct WordFlag;
+
+impl Meeting for WordFlag {
+    fn holds<P: Port, Q: Port>(first: &mut CountingPort<P>, second: &mut CountingPort<Q>) -> bool {
+        let Some(buffer) = Buf::new(230, 1) else {
+            return false;
+        };
+        is_seen(first, second, Flag::line(&buffer), 0)
+    }
+}
+
+/// A flag that is a bit goes from one rank to the other.
+struct BitFlag;
+
+impl Meeting for BitFlag {
+    fn holds<P: Port, Q: Port>(first: &mut CountingPort<P>, second: &mut CountingPort<Q>) -> bool {
+        let Some(buffer) = Buf::new(230, 1) else {
+            return false;
+        };
+        is_seen(first, second, Flag::bit(&buffer, 63), 63)
+    }
 }
 
 #[test]
 fn a_flag_goes_from_one_rank_to_the_other(rt: HostRuntime) -> Result<(), Fail> {
-    let buffer = Buf::new(230, 1).expect(&rt, "a line");
-    assert!(rt; goes_over(rt.alloc(), Flag::line(&buffer), 0)?);
-    assert!(rt; goes_over(rt.alloc(), Flag::bit(&buffer, 63), 63)?);
+    assert!(rt; holds_in::<WordFlag>(rt.alloc(), Layout::BitFlags)?);
+    assert!(rt; holds_in::<BitFlag>(rt.alloc(), Layout::BitFlags)?);
     Ok(())
+}
+
+/// A rank writes a bit twice, while the other holds the register and after its release, and reads it.
+struct HeldRegister;
+
+impl Meeting for HeldRegister {
+    fn holds<P: Port, Q: Port>(first: &mut CountingPort<P>, second: &mut CountingPort<Q>) -> bool {
+        let Some(buffer) = Buf::new(255, 1) else {
+            return false;
+        };
+        let flag = Flag::bit(&buffer, 5);
+        let (root, register) = (Rank::of(0), CoreId::of(0));
+        if !take(first, register) {
+            return false;
+        }
+        let mut core = Core::new(Never);
+        let stalled = write(&mut core, second, root, flag, true, 3);
+        free(first, register);
+        let written = write(&mut core, second, root, flag, true, 3);
+        let set = read(&mut core, second, root, flag);
+        // A look at the line each, and none where the register was held.
+        let looked = second.loads() == 8;
+        stalls(stalled, Spot::Register { core: register }, 3) && written.is_ok() && set && looked
+    }
 }
 
 #[test]
 fn a_bit_stalls_at_a_register_that_another_rank_holds(rt: HostRuntime) -> Result<(), Fail> {
-    let buffer = Buf::new(255, 1).expect(&rt, "a line");
-    let flag = Flag::bit(&buffer, 5);
-    let mut chip = pair_in(rt.alloc(), Layout::lines())?;
-    let mut ports = spread_pair(&mut chip);
-    let (root, register) = (Rank::of(0), CoreId::of(0));
-    let mut core = Core::new(Never);
-    let taken = take(&mut ports.first, register);
-    assert!(rt; taken);
-    let stalled = write(&mut core, &mut ports.second, root, flag, true, 3);
-    free(&mut ports.first, register);
-    let written = write(&mut core, &mut ports.second, root, flag, true, 3);
-    let set = read(&mut core, &mut ports.second, root, flag);
-    assert!(rt; stalls(stalled, Spot::Register { core: register }, 3));
-    // A look at the line each, and none where the register was held.
-    assert!(rt; written.is_ok() && set && ports.second.loads() == 8);
+    assert!(rt; holds::<HeldRegister>(rt.alloc())?);
     Ok(())
 }

@@ -1,7 +1,7 @@
 //! A port that keeps its events in a list.
 
-ghost use Rattle.std.specs.Prelude.{◌≡◌, ◌<◌, ◌≤◌, true, []};
-ghost use Rattle.scc_rows.specs.Quiet.{are_quiet};
+ghost use Rattle.std.specs.Prelude.{◌≡◌, ◌<◌, ◌≤◌, true, [], ◌∷◌, ◌++◌};
+ghost use Rattle.scc_rows.specs.Quiet.{are_quiet, is_quiet};
 
 use crate::fixtures::world_of;
 use scc_base::{Buf, CoreId, Event, Layout, Place, Rank, Setup};
@@ -27,6 +27,16 @@ fn index_of(p: Place) -> usize
     usize::from(p.line() - Buf::FIRST) * 4 + usize::from(p.word())
 }
 
+// Keeps one more event. It ends the test where memory is short.
+fn keep<R: Abort>(rt: &R, events: &mut Vec<Event>, event: Event)
+    requires events { are_quiet events.old.items ≡ true }
+    requires event { is_quiet event.access event.place ≡ true }
+    ensures kept { events.new.items ≡ events.old.items ++ event ∷ [] }
+    ensures quiet { are_quiet events.new.items ≡ true }
+{
+    events.push(event).expect(rt, "memory");
+}
+
 impl<R: Abort> Port for ListedPort<'_, R> {
     ghost use base.Stored.{gnil};
 
@@ -47,35 +57,29 @@ impl<R: Abort> Port for ListedPort<'_, R> {
     }
 
     fn load(&mut self, p: Place) -> u64 {
-        assert!(self.rt; p.line() >= Buf::FIRST, "a heap line");
+        assert!(self.rt; p.line() >= Buf::FIRST);
         let value = self.words[index_of(p)];
-        self.events
-            .push(Event::load(p, value))
-            .expect(self.rt, "memory");
+        keep(self.rt, &mut self.events, Event::load(p, value));
         value
     }
 
     fn store(&mut self, p: Place, v: u64) {
-        assert!(self.rt; p.line() >= Buf::FIRST, "a heap line");
+        assert!(self.rt; p.line() >= Buf::FIRST);
         self.words[index_of(p)] = v;
-        self.events
-            .push(Event::store(p, v))
-            .expect(self.rt, "memory");
+        keep(self.rt, &mut self.events, Event::store(p, v));
     }
 
     fn take(&mut self, c: CoreId) -> bool {
         let core = usize::from(c.number());
         let taken = !self.taken[core];
         self.taken[core] = true;
-        self.events
-            .push(Event::take(c, taken))
-            .expect(self.rt, "memory");
+        keep(self.rt, &mut self.events, Event::take(c, taken));
         taken
     }
 
     fn free(&mut self, c: CoreId) {
         self.taken[usize::from(c.number())] = false;
-        self.events.push(Event::free(c)).expect(self.rt, "memory");
+        keep(self.rt, &mut self.events, Event::free(c));
     }
 }
 

@@ -3,7 +3,8 @@
 ghost use Rattle.std.specs.Prelude.{◌≡◌, [], IfOk};
 ghost use Rattle.scc_proto.specs.Lone.{lone_sight};
 
-use scc_base::{CommRule, CoreId, Layout, Line, Place, Rank, Setup};
+use crate::fixtures::world_of;
+use scc_base::{CoreId, Layout, Line, Place, Rank};
 use scc_proto::examples::store_then_load;
 use scc_proto::{CountingPort, LonePort, Port};
 use std::alloc::Global;
@@ -12,9 +13,7 @@ use std::test::Fail;
 fn chip(alloc: Global) -> Result<LonePort, Fail>
     ensures { IfOk result (λ port. port.events ≡ []) }
 {
-    let mut comms = [CommRule::Absent; 16];
-    comms[0] = CommRule::World;
-    let setup = Setup::new(1, Layout::bits(), [CoreId::of(7); 48], comms).ok_or("a setup")?;
+    let setup = world_of(1, Layout::BitFlags).ok_or("a setup")?;
     Ok(LonePort::new(alloc, setup, Rank::of(0))?)
 }
 
@@ -35,19 +34,34 @@ fn taken<P: Port>(port: &mut P) -> bool
     port.take(CoreId::of(31))
 }
 
+// Whether a word has what was stored, and the word beside it has nothing.
+fn keeps<P: Port>(port: &mut P) -> bool
+    requires fresh { (P.sight port.old).events ≡ [] }
+{
+    let stored = kept(port, 7);
+    let line = Line::new(CoreId::of(0), 240);
+    stored == 7 && port.load(line.word(2)) == 0 && port.load(line.word(1)) == 7
+}
+
 #[test]
 fn a_word_has_what_was_stored(rt: HostRuntime) -> Result<(), Fail> {
     let mut port = chip(rt.alloc())?;
-    assert!(rt; kept(&mut port, 7) == 7);
-    let line = Line::new(CoreId::of(7), 240);
-    assert!(rt; port.load(line.word(2)) == 0 && port.load(line.word(1)) == 7);
+    assert!(rt; keeps(&mut port));
     Ok(())
+}
+
+// Whether the one load of a word is counted.
+fn counts<P: Port + Drop>(port: P) -> bool
+    requires fresh { (P.sight port).events ≡ [] }
+{
+    let mut port = CountingPort::new(port);
+    kept(&mut port, 9) == 9 && port.loads() == 1
 }
 
 #[test]
 fn loads_are_counted(rt: HostRuntime) -> Result<(), Fail> {
-    let mut port = CountingPort::new(chip(rt.alloc())?);
-    assert!(rt; kept(&mut port, 9) == 9 && port.loads() == 1);
+    let port = chip(rt.alloc())?;
+    assert!(rt; counts(port));
     Ok(())
 }
 

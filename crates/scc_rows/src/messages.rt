@@ -1,13 +1,19 @@
 //! Messages between the two ranks of a chip with one seat.
 
-ghost use Rattle.std.specs.Prelude.{◌≡◌, ◌≤◌, length, SomeIff};
+ghost use Rattle.std.specs.Prelude.{◌≡◌, ◌≤◌, ℕ, true, [], length, IfOk, SomeIff};
 ghost use Rattle.scc_base.specs.Heads.{plain_head};
+ghost use Rattle.scc_base.specs.Setups.{SetupView};
+ghost use Rattle.scc_proto.specs.Words.{are_peers};
+ghost use Rattle.scc_mesh.specs.Scenes.{IsNew, about_in};
+ghost use Rattle.chip_teams.specs.Teams.{sight_alone};
+ghost use Rattle.scc_rows.specs.Talkers.{IsTalking};
 
 use crate::fixtures::LAYOUTS;
 use chip_teams::{Player, Team, opened};
 use line_cache::{Always, Evict, Never};
 use put_get::Core;
 use scc_base::{CommRule, Head, Layout, PostHead, Rank, Turn};
+use scc_mesh::Chip;
 use scc_proto::Port;
 use send_recv::{RecvOp, RecvTurn, SendOp, Slot};
 use std::alloc::Global;
@@ -51,6 +57,11 @@ pub(crate) fn post_head_of(bytes: &[u8]) -> Option<PostHead>
     PostHead::plain(bytes.len() as u32)
 }
 
+// One where these are the bytes that were to be found, and none elsewhere.
+fn arrivals(bytes: &[u8], wanted: &[u8]) -> u32 {
+    (bytes == wanted) as u32
+}
+
 /// A rank that has messages with one other, one after the other.
 #[derive(Drop)]
 pub(crate) struct Talker<V: Evict + Drop> {
@@ -67,9 +78,9 @@ pub(crate) struct Talker<V: Evict + Drop> {
     tasks: Vec<Task>,
     // How many messages were received with the bytes that were to be found.
     pub arrived: u32,
-    // The head that a receive met in place of its own, and its own.
+    // The head that a receive met in place of its own, and how many bytes it asked for.
     met: Option<Head>,
-    asked: Option<Head>,
+    asked: usize,
 }
 
 impl<V: Evict + Drop> Talker<V> {
@@ -98,7 +109,7 @@ impl<V: Evict + Drop> Talker<V> {
             tasks,
             arrived: 0,
             met: None,
-            asked: None,
+            asked: 0,
         }
     }
 
@@ -164,13 +175,14 @@ impl<V: Evict + Drop> Talker<V> {
     {
         match op.turn(&mut self.core, port, &mut self.bytes) {
             RecvTurn::Done => {
-                let arrived = self.bytes == self.wanted;
-                self.arrived = self.arrived.saturating_add(arrived as u32);
+                self.arrived = self
+                    .arrived
+                    .saturating_add(arrivals(&self.bytes, &self.wanted));
                 Turn::Moved
             }
             RecvTurn::Mismatch(sent) => {
                 self.met = Some(sent);
-                self.asked = head_of(&self.bytes);
+                self.asked = self.bytes.len();
                 Turn::Moved
             }
             RecvTurn::Moved => {
@@ -237,6 +249,38 @@ pub(crate) fn tasks_of(alloc: Global, deeds: &[(Deed, usize)]) -> Result<Vec<Tas
     Ok(tasks)
 }
 
+// A team of two ranks, on a chip that was just opened.
+pub(crate) fn team_of_two<M: Player + Drop>(
+    alloc: Global,
+    chip: Chip,
+    first: M,
+    second: M,
+) -> Result<Team<M>, Fail>
+    requires new { IsNew (about_in chip) chip }
+    requires two { (about_in chip).nue ≡ 2 }
+    requires first { (s : SetupView) (r : ℕ) → are_peers s r 1 ≡ true → M.stands first s r [] }
+    requires second { (s : SetupView) (r : ℕ) → are_peers s r 0 ≡ true → M.stands second s r [] }
+{
+    let mut team = Team::new(alloc, chip);
+    team.join(first)?;
+    team.join(second)?;
+    Ok(team)
+}
+
+// A rank that does these deeds with its peer.
+fn rank_with_tasks<V: Evict + Drop>(
+    alloc: Global,
+    peer: Rank,
+    evict: V,
+    deeds: &[(Deed, usize)],
+) -> Result<Talker<V>, Fail>
+    ensures ready { IfOk result (λ t. (s : SetupView) (r : ℕ) → are_peers s r peer ≡ true
+        → IsTalking (sight_alone s r []) t.core t.slot t.peer t.bytes.items t.sending t.receiving) }
+{
+    let tasks = tasks_of(alloc, deeds)?;
+    Ok(Talker::new(alloc, peer, evict, tasks))
+}
+
 // A pair of ranks of which rank 0 does the first deeds and rank 1 the others.
 fn talking<V: Evict + Drop>(
     alloc: Global,
@@ -245,14 +289,10 @@ fn talking<V: Evict + Drop>(
     first: &[(Deed, usize)],
     second: &[(Deed, usize)],
 ) -> Result<Team<Talker<V>>, Fail> {
+    let first = rank_with_tasks(alloc, Rank::of(1), evictors.0, first)?;
+    let second = rank_with_tasks(alloc, Rank::of(0), evictors.1, second)?;
     let chip = opened(alloc, 2, layout, CommRule::Absent)?;
-    if chip.setup().nue() != 2 {
-        return Err("a chip of two ranks".into());
-    }
-    let mut team = Team::new(alloc, chip);
-    team.join(Talker::new(alloc, Rank::of(1), evictors.0, tasks_of(alloc, first)?))?;
-    team.join(Talker::new(alloc, Rank::of(0), evictors.1, tasks_of(alloc, second)?))?;
-    Ok(team)
+    team_of_two(alloc, chip, first, second)
 }
 
 // How many messages of rank 1 arrived as they were to.
@@ -260,7 +300,8 @@ fn arrived_in<V: Evict + Drop>(team: &Team<Talker<V>>) -> u32 {
     team.player(1).map_or(0, |talker| talker.arrived)
 }
 
-// Rank 0 does the first deeds and rank 1 the others, in turn, until all are done. How many messages arrived.
+// Rank 0 does the first deeds and rank 1 the others, in turn, until all are done. How many messages arrived, and 0 where
+// there is no end.
 fn exchanged<V: Evict + Drop>(
     alloc: Global,
     layout: Layout,
@@ -269,10 +310,8 @@ fn exchanged<V: Evict + Drop>(
     second: &[(Deed, usize)],
 ) -> Result<u32, Fail> {
     let mut team = talking(alloc, layout, evictors, first, second)?;
-    if team.rounds(&[0, 1], 6_000) == 0 {
-        return Err("an exchange that ends".into());
-    }
-    Ok(arrived_in(&team))
+    let ends = team.rounds(&[0, 1], 6_000) > 0;
+    Ok(if ends { arrived_in(&team) } else { 0 })
 }
 
 /// No byte, one byte, one chunk and one byte more, in the chunks of either layout, and the longest message.
@@ -353,13 +392,19 @@ const SEND_FORTY: &[(Deed, usize)] = &[(Deed::Send, 40)];
 
 const RECEIVE_MORE: &[(Deed, usize)] = &[(Deed::Receive, 41), (Deed::Receive, 40)];
 
+// Whether a receive of rank 1 met a head of 40 bytes where it asked for 41.
+fn met_forty(team: &Team<Talker<Never>>) -> bool {
+    match team.player(1) {
+        Some(receiver) => receiver.met == Head::plain(40) && receiver.asked == 41,
+        None => false,
+    }
+}
+
 // Whether a receive of another length meets the head that was sent, and leaves the message to the next receive.
 fn other_length_is_met(alloc: Global, layout: Layout) -> Result<bool, Fail> {
     let mut team = talking(alloc, layout, (Never, Never), SEND_FORTY, RECEIVE_MORE)?;
     let ends = team.rounds(&[0, 1], 100) > 0;
-    let met = team.player(1).is_some_and(|receiver| receiver.met == Head::plain(40)
-        && receiver.asked == Head::plain(41));
-    Ok(ends && met && arrived_in(&team) == 1)
+    Ok(ends && met_forty(&team) && arrived_in(&team) == 1)
 }
 
 const LONG_AND_SHORT: &[(Deed, usize)] = &[(Deed::Post, 3_584), (Deed::Post, 7)];

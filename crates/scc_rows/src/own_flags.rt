@@ -22,6 +22,26 @@ fn write<R: Abort>(core: &mut Core<Never>, port: &mut ListedPort<'_, R>, f: Flag
     flag_write(core, port, Rank::of(0), f, set, 1).expect(rt, "a word is always written");
 }
 
+// Whether a flag that was written is seen, with so many events when it was written, and when it was seen.
+fn is_seen<R: Abort>(
+    core: &mut Core<Never>,
+    port: &mut ListedPort<'_, R>,
+    f: Flag,
+    set: bool,
+    written: usize,
+    seen: usize,
+) -> bool
+    requires empty { core.old.out ≡ None }
+    requires word { f.bit ≡ None }
+    requires heap { 225 ≤ f.line }
+    ensures { core.new.out ≡ None }
+{
+    write(core, port, f, set);
+    let one_more = port.events.len() == written;
+    let is_seen = wait_until(core, port, f, set, 1).is_ok();
+    one_more && is_seen && port.events.len() == seen
+}
+
 fn write_bit<R: Abort>(
     core: &mut Core<Never>,
     port: &mut ListedPort<'_, R>,
@@ -64,13 +84,8 @@ fn a_heap_flag_is_written_and_waited_for(rt: HostRuntime) {
     let mut heap = Heap::new();
     let buffer = flag_alloc(&mut heap).expect(&rt, "a line");
     let flag = Flag::line(&buffer);
-    write(&mut core, &mut port, flag, true);
-    assert!(rt; port.events.len() == 1);
-    let seen = wait_until(&mut core, &mut port, flag, true, 1).is_ok();
-    assert!(rt; seen && port.events.len() == 5);
-    write(&mut core, &mut port, flag, false);
-    let seen = wait_until(&mut core, &mut port, flag, false, 1).is_ok();
-    assert!(rt; seen && port.events.len() == 10);
+    assert!(rt; is_seen(&mut core, &mut port, flag, true, 1, 5));
+    assert!(rt; is_seen(&mut core, &mut port, flag, false, 6, 10));
     assert!(rt; heap.is_out(buffer));
     flag_free(&mut heap, buffer);
     assert!(rt; !heap.is_out(buffer));

@@ -3,10 +3,7 @@
 ghost use Rattle.std.specs.Prelude.{◌≡◌, None};
 ghost use Rattle.scc_rows.specs.Rests.{IsAtRest};
 
-use crate::fixtures::{
-    Pair, Watched, buffer, counted, flush, get, heap_word, new_pair, put, read, spread_pair, store,
-    write,
-};
+use crate::fixtures::{Meeting, Watched, flush, get, holds, put, read, store, write};
 use line_cache::{Always, Evict, Never};
 use put_get::{Core, RangeFault};
 use scc_base::{Buf, CoreId, Line, Place, Rank};
@@ -35,11 +32,6 @@ fn are(lines: &[[u64; 4]], wanted: &[[u64; 4]]) -> bool {
     lines == wanted
 }
 
-// Whether a get of two lines filled the first two of three.
-fn is_filled(lines: &[[u64; 4]; 3]) -> bool {
-    are(lines, FIVE)
-}
-
 // Whether three lines of a buffer of two were refused.
 fn is_refused(answer: Result<(), RangeFault>) -> bool {
     answer == Err(RangeFault { asked: 3, len: 2 })
@@ -66,7 +58,6 @@ fn reads<P: Port, V: Evict>(
 // that it had dropped.
 fn gets_zeros<P: Port, V: Evict + Drop>(
     port: &mut CountingPort<P>,
-    at: Buf,
     inner: V,
     loads: u64,
     questions: u64,
@@ -74,6 +65,9 @@ fn gets_zeros<P: Port, V: Evict + Drop>(
 ) -> bool
     requires rests { IsAtRest (P.sight port.old.port) }
 {
+    let Some(at) = Buf::new(225, 2) else {
+        return false;
+    };
     let asked = Cell::new(0);
     let dropped = Cell::new(0);
     let mut core = Core::new(Watched {
@@ -87,23 +81,35 @@ fn gets_zeros<P: Port, V: Evict + Drop>(
     got && are(&lines, ZEROS) && counted
 }
 
+/// A rank gets three lines of a buffer of two.
+struct LongGet;
+
+impl Meeting for LongGet {
+    fn holds<P: Port, Q: Port>(first: &mut CountingPort<P>, _second: &mut CountingPort<Q>) -> bool {
+        let Some(at) = Buf::new(225, 2) else {
+            return false;
+        };
+        let mut core = Core::new(Never);
+        let mut lines = [[9; 4]; 3];
+        let answer = get(&mut core, first, Rank::of(1), at, &mut lines);
+        is_refused(answer) && are(&lines, NINES) && first.loads() == 0
+    }
+}
+
 #[test]
 fn a_get_of_more_lines_than_the_buffer_has_makes_no_event(rt: HostRuntime) -> Result<(), Fail> {
-    let mut chip = new_pair(rt.alloc())?;
-    let mut port = counted(&mut chip, Rank::of(0));
-    let mut core = Core::new(Never);
-    let at = buffer(&rt, 225, 2);
-    let mut lines = [[9; 4]; 3];
-    let answer = get(&mut core, &mut port, Rank::of(1), at, &mut lines);
-    assert!(rt; is_refused(answer) && are(&lines, NINES) && port.loads() == 0);
+    assert!(rt; holds::<LongGet>(rt.alloc())?);
     Ok(())
 }
 
 // Whether lines of rank 0 that one rank puts are what the other then gets.
-fn gets_what_was_put<P: Port, Q: Port>(port: &mut P, other: &mut Q, at: Buf) -> bool
+fn gets_what_was_put<P: Port, Q: Port>(port: &mut P, other: &mut Q) -> bool
     requires rests { IsAtRest (P.sight port.old) }
     requires other_rests { IsAtRest (Q.sight other.old) }
 {
+    let Some(at) = Buf::new(240, 3) else {
+        return false;
+    };
     let mut core = Core::new(Never);
     let sent = put(&mut core, other, Rank::of(0), at, SENT).is_ok();
     let mut core = Core::new(Never);
@@ -112,80 +118,101 @@ fn gets_what_was_put<P: Port, Q: Port>(port: &mut P, other: &mut Q, at: Buf) -> 
     sent && got && are(&lines, FOUND)
 }
 
+/// One rank puts lines, and the other gets them.
+struct PutAndGet;
+
+impl Meeting for PutAndGet {
+    fn holds<P: Port, Q: Port>(first: &mut CountingPort<P>, second: &mut CountingPort<Q>) -> bool {
+        gets_what_was_put(first, second) && first.loads() == 12 && second.loads() == 0
+    }
+}
+
 #[test]
 fn a_put_is_seen_by_another_ranks_get(rt: HostRuntime) -> Result<(), Fail> {
-    let mut chip = new_pair(rt.alloc())?;
-    let Pair {
-        mut first,
-        mut second,
-    } = spread_pair(&mut chip);
-    let seen = gets_what_was_put(&mut first, &mut second, buffer(&rt, 240, 3));
-    assert!(rt; seen && first.loads() == 12 && second.loads() == 0);
+    assert!(rt; holds::<PutAndGet>(rt.alloc())?);
     Ok(())
 }
 
-// Whether a line that a rank has read stays old after another rank's put, until `cl1invmb`.
-fn stays_old<P: Port, Q: Port>(port: &mut CountingPort<P>, other: &mut Q, at: Buf) -> bool
-    requires rests { IsAtRest (P.sight port.old.port) }
-    requires other_rests { IsAtRest (Q.sight other.old) }
-{
-    let place = Line::new(CoreId::of(0), 225).word(0);
-    let mut reader = Core::new(Never);
-    let mut writer = Core::new(Never);
-    let early = reads(&mut reader, port, place, 0, 4);
-    let sent = put(&mut writer, other, Rank::of(0), at, SEVEN).is_ok();
-    let held = reads(&mut reader, port, place, 0, 4);
-    reader.cl1invmb();
-    let fresh = reads(&mut reader, port, place, 7, 8);
-    early && sent && held && fresh
+/// A rank reads a word, before and after the other's put, and once more after `cl1invmb`.
+struct HeldLine;
+
+impl Meeting for HeldLine {
+    fn holds<P: Port, Q: Port>(first: &mut CountingPort<P>, second: &mut CountingPort<Q>) -> bool {
+        let Some(at) = Buf::new(225, 1) else {
+            return false;
+        };
+        let place = Line::new(CoreId::of(0), 225).word(0);
+        let mut reader = Core::new(Never);
+        let mut writer = Core::new(Never);
+        let early = reads(&mut reader, first, place, 0, 4);
+        let sent = put(&mut writer, second, Rank::of(0), at, SEVEN).is_ok();
+        let held = reads(&mut reader, first, place, 0, 4);
+        reader.cl1invmb();
+        let fresh = reads(&mut reader, first, place, 7, 8);
+        early && sent && held && fresh
+    }
 }
 
 #[test]
 fn a_held_line_stays_old_until_cl1invmb(rt: HostRuntime) -> Result<(), Fail> {
-    let mut chip = new_pair(rt.alloc())?;
-    let Pair {
-        mut first,
-        mut second,
-    } = spread_pair(&mut chip);
-    assert!(rt; stays_old(&mut first, &mut second, buffer(&rt, 225, 1)));
+    assert!(rt; holds::<HeldLine>(rt.alloc())?);
     Ok(())
+}
+
+/// A rank gets two lines, and no line leaves its cache.
+struct GetWithoutEvictions;
+
+impl Meeting for GetWithoutEvictions {
+    fn holds<P: Port, Q: Port>(first: &mut CountingPort<P>, _second: &mut CountingPort<Q>) -> bool {
+        gets_zeros(first, Never, 8, 2, 0)
+    }
 }
 
 #[test]
 fn a_get_loads_each_line_once_where_none_is_dropped(rt: HostRuntime) -> Result<(), Fail> {
-    let mut chip = new_pair(rt.alloc())?;
-    let mut port = counted(&mut chip, Rank::of(0));
-    let at = buffer(&rt, 225, 2);
-    assert!(rt; gets_zeros(&mut port, at, Never, 8, 2, 0));
+    assert!(rt; holds::<GetWithoutEvictions>(rt.alloc())?);
     Ok(())
+}
+
+/// A rank gets two lines, and each leaves its cache at once.
+struct GetWithEvictions;
+
+impl Meeting for GetWithEvictions {
+    fn holds<P: Port, Q: Port>(first: &mut CountingPort<P>, _second: &mut CountingPort<Q>) -> bool {
+        gets_zeros(first, Always::new(), 32, 8, 8)
+    }
 }
 
 #[test]
 fn a_get_loads_each_line_for_each_word_where_all_are_dropped(rt: HostRuntime) -> Result<(), Fail> {
-    let mut chip = new_pair(rt.alloc())?;
-    let mut port = counted(&mut chip, Rank::of(0));
-    let at = buffer(&rt, 225, 2);
-    assert!(rt; gets_zeros(&mut port, at, Always::new(), 32, 8, 8));
+    assert!(rt; holds::<GetWithEvictions>(rt.alloc())?);
     Ok(())
+}
+
+/// A rank reads a word, one beside it, and one of another line.
+struct ThreeReads;
+
+impl Meeting for ThreeReads {
+    fn holds<P: Port, Q: Port>(first: &mut CountingPort<P>, _second: &mut CountingPort<Q>) -> bool {
+        let asked = Cell::new(0);
+        let dropped = Cell::new(0);
+        let mut core = Core::new(Watched {
+            inner: Never,
+            asked: &asked,
+            dropped: &dropped,
+        });
+        let line = Line::new(CoreId::of(1), 230);
+        let filled = reads(&mut core, first, line.word(0), 0, 4) && asked.get() == 1;
+        let held = reads(&mut core, first, line.word(3), 0, 4) && asked.get() == 1;
+        let other = Line::new(CoreId::of(1), 231).word(0);
+        let again = reads(&mut core, first, other, 0, 8) && asked.get() == 2;
+        filled && held && again
+    }
 }
 
 #[test]
 fn the_evictor_is_not_asked_where_the_line_is_held(rt: HostRuntime) -> Result<(), Fail> {
-    let mut chip = new_pair(rt.alloc())?;
-    let mut port = counted(&mut chip, Rank::of(0));
-    let asked = Cell::new(0);
-    let dropped = Cell::new(0);
-    let mut core = Core::new(Watched {
-        inner: Never,
-        asked: &asked,
-        dropped: &dropped,
-    });
-    let place = heap_word(&port, Rank::of(1), 230, 0);
-    assert!(rt; reads(&mut core, &mut port, place, 0, 4) && asked.get() == 1);
-    let beside = heap_word(&port, Rank::of(1), 230, 3);
-    assert!(rt; reads(&mut core, &mut port, beside, 0, 4) && asked.get() == 1);
-    let other = heap_word(&port, Rank::of(1), 231, 0);
-    assert!(rt; reads(&mut core, &mut port, other, 0, 8) && asked.get() == 2);
+    assert!(rt; holds::<ThreeReads>(rt.alloc())?);
     Ok(())
 }
 
@@ -195,8 +222,8 @@ fn stores_when_next_is_written<P: Port, Q: Port>(port: &mut P, other: &mut Q) ->
     requires other_rests { IsAtRest (Q.sight other.old) }
 {
     let mut core = Core::new(Never);
-    let first = heap_word(other, Rank::of(0), 225, 1);
-    let second = heap_word(other, Rank::of(0), 226, 2);
+    let first = Place::new(CoreId::of(0), 225, 1);
+    let second = Place::new(CoreId::of(0), 226, 2);
     write(&mut core, port, Rank::of(0), 225, 1, 7);
     let early = other.load(first);
     write(&mut core, port, Rank::of(0), 226, 2, 8);
@@ -207,15 +234,18 @@ fn stores_when_next_is_written<P: Port, Q: Port>(port: &mut P, other: &mut Q) ->
     early == 0 && stored == 7 && held == 0 && flushed == 8
 }
 
+/// A rank writes words of two lines and flushes, and the other loads them on the way.
+struct TwoWrites;
+
+impl Meeting for TwoWrites {
+    fn holds<P: Port, Q: Port>(first: &mut CountingPort<P>, second: &mut CountingPort<Q>) -> bool {
+        stores_when_next_is_written(first, second) && first.loads() == 0
+    }
+}
+
 #[test]
 fn a_written_word_is_stored_when_another_line_is_written(rt: HostRuntime) -> Result<(), Fail> {
-    let mut chip = new_pair(rt.alloc())?;
-    let Pair {
-        mut first,
-        mut second,
-    } = spread_pair(&mut chip);
-    let stored = stores_when_next_is_written(&mut first, &mut second);
-    assert!(rt; stored && first.loads() == 0);
+    assert!(rt; holds::<TwoWrites>(rt.alloc())?);
     Ok(())
 }
 
@@ -225,60 +255,80 @@ fn flushes_beside<P: Port, Q: Port>(port: &mut P, other: &mut Q) -> u64
     requires other_rests { IsAtRest (Q.sight other.old) }
 {
     let mut core = Core::new(Never);
-    let place = heap_word(other, Rank::of(0), 225, 0);
     flush(&mut core, port);
     write(&mut core, port, Rank::of(0), 225, 0, 7);
     flush(&mut core, port);
     store(other, Rank::of(0), 225, 0, 9);
     flush(&mut core, port);
-    other.load(place)
+    other.load(Place::new(CoreId::of(0), 225, 0))
+}
+
+/// A rank flushes with and without something to store, and the other stores the same word before the last time.
+struct ThreeFlushes;
+
+impl Meeting for ThreeFlushes {
+    fn holds<P: Port, Q: Port>(first: &mut CountingPort<P>, second: &mut CountingPort<Q>) -> bool {
+        flushes_beside(first, second) == 9 && first.loads() == 0
+    }
 }
 
 #[test]
 fn a_flush_of_nothing_stores_nothing(rt: HostRuntime) -> Result<(), Fail> {
-    let mut chip = new_pair(rt.alloc())?;
-    let Pair {
-        mut first,
-        mut second,
-    } = spread_pair(&mut chip);
-    let word = flushes_beside(&mut first, &mut second);
-    assert!(rt; word == 9 && first.loads() == 0);
+    assert!(rt; holds::<ThreeFlushes>(rt.alloc())?);
     Ok(())
 }
 
-// Whether a put and a get of three lines of a buffer of two change nothing: a get of two then finds what another rank
-// stored, and what the core held is gone.
-fn refusals_change_nothing<P: Port, Q: Port>(
-    port: &mut CountingPort<P>,
+// Whether a put and a get of three lines of a buffer of two are refused, while another rank stores a word of it.
+fn are_refused<P: Port, Q: Port, V: Evict>(
+    core: &mut Core<V>,
+    port: &mut P,
     other: &mut Q,
     at: Buf,
 ) -> bool
-    requires rests { IsAtRest (P.sight port.old.port) }
+    requires rests { IsAtRest (P.sight port.old) }
     requires other_rests { IsAtRest (Q.sight other.old) }
+    requires empty { core.old.out ≡ None }
+    ensures rests { IsAtRest (P.sight port.new) }
+    ensures empty { core.new.out ≡ None }
 {
-    let mut core = Core::new(Never);
-    let place = heap_word(port, Rank::of(1), 250, 0);
-    let early = reads(&mut core, port, place, 0, 4);
-    let put_three = put(&mut core, port, Rank::of(1), at, SEVENS);
+    let put_three = put(core, port, Rank::of(1), at, SEVENS);
     store(other, Rank::of(1), 250, 0, 5);
     let mut lines = [[9; 4]; 3];
-    let get_three = get(&mut core, port, Rank::of(1), at, &mut lines);
-    let kept = are(&lines, NINES);
-    let held = reads(&mut core, port, place, 0, 4);
-    let got = get(&mut core, port, Rank::of(1), at, &mut lines[..2]).is_ok();
-    let filled = is_filled(&lines);
-    let refused = is_refused(put_three) && is_refused(get_three);
-    early && refused && kept && held && got && filled
+    let get_three = get(core, port, Rank::of(1), at, &mut lines);
+    is_refused(put_three) && is_refused(get_three) && are(&lines, NINES)
+}
+
+// Whether a get of two lines fills the first two of three with what another rank stored.
+fn gets_the_store<P: Port, V: Evict>(core: &mut Core<V>, port: &mut P, at: Buf) -> bool
+    requires rests { IsAtRest (P.sight port.old) }
+    requires empty { core.old.out ≡ None }
+{
+    let mut lines = [[9; 4]; 3];
+    let got = get(core, port, Rank::of(1), at, &mut lines[..2]).is_ok();
+    got && are(&lines, FIVE)
+}
+
+/// A rank reads a word, puts and gets more lines than the buffer has while the other stores the word, reads it again,
+/// which is held still, and gets the buffer.
+struct Refusals;
+
+impl Meeting for Refusals {
+    fn holds<P: Port, Q: Port>(first: &mut CountingPort<P>, second: &mut CountingPort<Q>) -> bool {
+        let Some(at) = Buf::new(250, 2) else {
+            return false;
+        };
+        let mut core = Core::new(Never);
+        let place = Place::new(CoreId::of(1), 250, 0);
+        let early = reads(&mut core, first, place, 0, 4);
+        let refused = are_refused(&mut core, first, second, at);
+        let held = reads(&mut core, first, place, 0, 4);
+        let filled = gets_the_store(&mut core, first, at);
+        early && refused && held && filled && first.loads() == 12
+    }
 }
 
 #[test]
 fn a_refused_put_and_get_change_nothing(rt: HostRuntime) -> Result<(), Fail> {
-    let mut chip = new_pair(rt.alloc())?;
-    let Pair {
-        mut first,
-        mut second,
-    } = spread_pair(&mut chip);
-    let kept = refusals_change_nothing(&mut first, &mut second, buffer(&rt, 250, 2));
-    assert!(rt; kept && first.loads() == 12);
+    assert!(rt; holds::<Refusals>(rt.alloc())?);
     Ok(())
 }

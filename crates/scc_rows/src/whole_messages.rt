@@ -5,12 +5,12 @@ ghost use Rattle.scc_proto.specs.Words.{are_peers};
 ghost use Rattle.send_recv.specs.Calling.{IsBetweenMessages};
 
 use crate::callers::{Caller, Deed, End, POLLS, calling};
-use crate::fixtures::{LAYOUTS, counted, pair_in};
+use crate::fixtures::{LAYOUTS, Meeting, holds_in};
 use chip_teams::Team;
 use line_cache::{Evict, Never};
 use put_get::Core;
 use scc_base::{CoreId, Head, Layout, Place, PostHead, Rank, Spot};
-use scc_proto::Port;
+use scc_proto::{CountingPort, Port};
 use send_recv::{RecvOp, RecvStop, SendOp, SendStop, Slot, recv, recv_test, send};
 use std::alloc::Global;
 use std::test::Fail;
@@ -132,50 +132,72 @@ fn is_unanswered(answer: Result<(), SendStop>, layout: Layout, tries: u32) -> bo
     }
 }
 
-#[tactic(auto, using(crate::proofs::MessageLemmas::fresh_free, crate::proofs::MessageLemmas::second_peers))]
+/// Rank 1 receives, and nothing was sent.
+struct ReceiveOfNothing;
+
+impl Meeting for ReceiveOfNothing {
+    #[tactic(auto, using(crate::proofs::MessageLemmas::fresh_free, crate::proofs::MessageLemmas::second_peers))]
+    fn holds<P: Port, Q: Port>(_first: &mut CountingPort<P>, second: &mut CountingPort<Q>) -> bool {
+        let mut core = Core::new(Never);
+        let slot = Slot::new();
+        let mut got = [7; 4];
+        let answer = receive(&mut core, second, &slot, &mut got, 3);
+        is_stalled(answer, sent_spot(), 3) && second.loads() == 12 && is_kept(&got)
+    }
+}
+
 #[test]
 fn a_receive_of_nothing_stalls_after_its_polls(rt: HostRuntime) -> Result<(), Fail> {
     for layout in LAYOUTS {
-        let mut chip = pair_in(rt.alloc(), *layout)?;
-        let mut port = counted(&mut chip, Rank::of(1));
-        let mut core = Core::new(Never);
-        let slot = Slot::new();
-        let mut got = [7; 4];
-        let answer = receive(&mut core, &mut port, &slot, &mut got, 3);
-        assert!(rt; is_stalled(answer, sent_spot(), 3) && port.loads() == 12 && is_kept(&got));
+        assert!(rt; holds_in::<ReceiveOfNothing>(rt.alloc(), *layout)?);
     }
     Ok(())
 }
 
-#[tactic(auto, using(crate::proofs::MessageLemmas::fresh_free, crate::proofs::MessageLemmas::second_peers))]
+/// Rank 1 tests, and nothing was sent.
+struct TestOfNothing;
+
+impl Meeting for TestOfNothing {
+    #[tactic(auto, using(crate::proofs::MessageLemmas::fresh_free, crate::proofs::MessageLemmas::second_peers))]
+    fn holds<P: Port, Q: Port>(_first: &mut CountingPort<P>, second: &mut CountingPort<Q>) -> bool {
+        let mut core = Core::new(Never);
+        let slot = Slot::new();
+        let mut got = [7; 4];
+        let answer = receive_if_sent(&mut core, second, &slot, &mut got, 3);
+        is_nothing(answer) && second.loads() == 4 && is_kept(&got)
+    }
+}
+
 #[test]
 fn a_test_of_nothing_makes_one_look(rt: HostRuntime) -> Result<(), Fail> {
     for layout in LAYOUTS {
-        let mut chip = pair_in(rt.alloc(), *layout)?;
-        let mut port = counted(&mut chip, Rank::of(1));
-        let mut core = Core::new(Never);
-        let slot = Slot::new();
-        let mut got = [7; 4];
-        let answer = receive_if_sent(&mut core, &mut port, &slot, &mut got, 3);
-        assert!(rt; is_nothing(answer) && port.loads() == 4 && is_kept(&got));
+        assert!(rt; holds_in::<TestOfNothing>(rt.alloc(), *layout)?);
     }
     Ok(())
 }
 
-#[tactic(auto, using(crate::proofs::MessageLemmas::fresh_free, crate::proofs::MessageLemmas::first_peers, crate::proofs::MessageLemmas::still_peers))]
+/// Rank 0 posts twice, and nothing is received.
+struct TwoPosts;
+
+impl Meeting for TwoPosts {
+    #[tactic(auto, using(crate::proofs::MessageLemmas::fresh_free, crate::proofs::MessageLemmas::first_peers, crate::proofs::MessageLemmas::still_peers))]
+    fn holds<P: Port, Q: Port>(first: &mut CountingPort<P>, _second: &mut CountingPort<Q>) -> bool {
+        let layout = first.setup().layout();
+        let mut core = Core::new(Never);
+        let mut slot = Slot::new();
+        let Ok(()) = post(&mut core, first, &mut slot, &[1, 2], 2) else {
+            return false;
+        };
+        let held = slot.holds() == Some(Rank::of(1));
+        let answer = post(&mut core, first, &mut slot, &[3, 4], 2);
+        held && is_unanswered(answer, layout, 2)
+    }
+}
+
 #[test]
 fn a_second_post_waits_for_the_first(rt: HostRuntime) -> Result<(), Fail> {
     for layout in LAYOUTS {
-        let mut chip = pair_in(rt.alloc(), *layout)?;
-        let mut port = counted(&mut chip, Rank::of(0));
-        let mut core = Core::new(Never);
-        let mut slot = Slot::new();
-        let Ok(()) = post(&mut core, &mut port, &mut slot, &[1, 2], 2) else {
-            return Err("a first post".into());
-        };
-        let held = slot.holds() == Some(Rank::of(1));
-        let answer = post(&mut core, &mut port, &mut slot, &[3, 4], 2);
-        assert!(rt; held && is_unanswered(answer, *layout, 2));
+        assert!(rt; holds_in::<TwoPosts>(rt.alloc(), *layout)?);
     }
     Ok(())
 }
@@ -220,12 +242,6 @@ fn arrives(team: &mut Team<Caller>, at: usize) -> bool {
     done && sender.bytes == receiver.bytes
 }
 
-// Whether the receiver met a head of 8 bytes where it asked for one of 4.
-fn met_eight_for_four(team: &Team<Caller>) -> bool {
-    team.player(1).is_some_and(|caller| caller.met == Head::plain(8)
-        && caller.asked == Head::plain(4))
-}
-
 #[test]
 fn a_receive_that_stalled_goes_on(rt: HostRuntime) -> Result<(), Fail> {
     for layout in LAYOUTS {
@@ -247,26 +263,36 @@ const POSTED: &[(Deed, usize)] = &[
     (Deed::Test, 3_584),
 ];
 
+// Whether a message of so many bytes that was posted arrives by this call.
+fn posted_arrives(alloc: Global, layout: Layout, deed: Deed, len: usize) -> Result<bool, Fail> {
+    let mut team = calling_once(alloc, layout, Deed::Post, deed, len)?;
+    let _ = team.turn(0);
+    Ok(arrives(&mut team, 1))
+}
+
 #[test]
 fn a_posted_message_is_received_and_tested(rt: HostRuntime) -> Result<(), Fail> {
     for layout in LAYOUTS {
         for (deed, len) in POSTED {
-            let mut team = calling_once(rt.alloc(), *layout, Deed::Post, *deed, *len)?;
-            let _ = team.turn(0);
-            assert!(rt; arrives(&mut team, 1));
+            assert!(rt; posted_arrives(rt.alloc(), *layout, *deed, *len)?);
         }
     }
     Ok(())
+}
+
+// Whether the receiver's next call is told of a head of 8 bytes where it asked for one of 4.
+fn tells_eight_for_four(team: &mut Team<Caller>) -> bool {
+    let (Some(sent), Some(asked)) = (Head::plain(8), Head::plain(4)) else {
+        return false;
+    };
+    comes_to(team, 1, End::OtherHead { sent, asked })
 }
 
 // Whether a call of 4 bytes is told that 8 were posted, and a call of 8 bytes then receives them.
 fn other_length_is_told(alloc: Global, layout: Layout, deed: Deed) -> Result<bool, Fail> {
     let mut team = calling(alloc, layout, &[(Deed::Post, 8)], &[(deed, 4), (deed, 8)])?;
     let _ = team.turn(0);
-    let other = comes_to(&mut team, 1, End::OtherHead);
-    let told = met_eight_for_four(&team);
-    let arrived = arrives(&mut team, 1);
-    Ok(other && told && arrived)
+    Ok(tells_eight_for_four(&mut team) && arrives(&mut team, 1))
 }
 
 #[test]

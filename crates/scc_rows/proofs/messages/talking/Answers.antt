@@ -1,21 +1,10 @@
-use Rattle.std.proofs.Common.{rules, ◌≡◌, ◌+◌, ap, ◌∙◌}
-use Rattle.scc_mesh.specs.Scenes.{about_in}
-use Rattle.chip_teams.specs.Teams.{TeamView}
-use Rattle.scc_rows.proofs.TalkLemmas.{first_of_two, second_of_two}
+use Rattle.std.proofs.Common.{◌≡◌, ℕ, true, subst, sym}
+use Rattle.scc_base.specs.Setups.{SetupView}
+use Rattle.scc_proto.specs.Words.{are_peers}
 use Rattle.scc_rows.proofs.messages.talking.Goals as goal
 
-pub join-requires : goal.join-requires
-join-requires g c =
-    let nue : (about_in c.in_ok-chip.chip).nue ≡ 2 = search rules in
-    let begun = c.new-team.ensures.starts in
-    record { stands = c.new.ensures.ready c.new-team.result.about c.new-team.result.size (first_of_two c.new-team.result.about (ap (λ (t : TeamView). t.about.nue) begun ∙ nue) (ap (λ (t : TeamView). t.size) begun) c.of.ensures.gives) }
+pub team_of_two-requires-clause-first : goal.team_of_two-requires-clause-first
+team_of_two-requires-clause-first g c = λ s r peers. c.in_ok-first.ensures.ready s r (subst (λ (j : ℕ). are_peers s r j ≡ true) (sym c.of.ensures.gives) peers)
 
-pub join-requires-2 : goal.join-requires-2
-join-requires-2 g c =
-    let nue : (about_in c.in_ok-chip.chip).nue ≡ 2 = search rules in
-    let begun = c.new-team.ensures.starts in
-    let joined = c.in_ok-join.ensures.joined in
-    record {
-      stands = c.new-2.ensures.ready c.join.new.self.about c.join.new.self.size (second_of_two c.join.new.self.about (ap (λ (t : TeamView). t.about.nue) joined ∙ (ap (λ (t : TeamView). t.about.nue) begun ∙ nue))
-          (ap (λ (t : TeamView). t.size) joined ∙ ap (λ (t : TeamView). t.size + 1) begun) c.of-2.ensures.gives);
-    }
+pub team_of_two-requires-clause-second : goal.team_of_two-requires-clause-second
+team_of_two-requires-clause-second g c = λ s r peers. c.in_ok-second.ensures.ready s r (subst (λ (j : ℕ). are_peers s r j ≡ true) (sym c.of-2.ensures.gives) peers)

@@ -1,18 +1,11 @@
-use Rattle.std.proofs.Common.{◌≡◌, true, ap}
+use Rattle.std.proofs.Common.{ap}
 use Rattle.scc_base.specs.declared.events.Event.{Event}
-use Rattle.scc_rows.specs.Quiet.{are_quiet, is_quiet}
-use Rattle.scc_rows.proofs.QuietLemmas.{quiet_pushed, quiet_sound}
+use Rattle.scc_rows.specs.Quiet.{is_quiet}
+use Rattle.scc_rows.proofs.QuietLemmas.{quiet_sound}
 use Rattle.scc_rows.proofs.listed_ports.ListedPortPort.free.Goals as goal
 
-pub invariant_of-self : goal.invariant_of-self
-invariant_of-self g c = record {
-  quiet = quiet_pushed c.args.self.now.events.items c.push.new.self.items _ c.free.result c.push.ensures.items c.args.self.now.quiet
-      (ap (λ (e : Event). is_quiet e.access e.place) c.free.ensures.gives);
-}
+pub keep-requires-clause-event : goal.keep-requires-clause-event
+keep-requires-clause-event g c = ap (λ (e : Event). is_quiet e.access e.place) c.free.ensures.gives
 
 pub returns-clause-sound : goal.returns-clause-sound
-returns-clause-sound g c =
-    let quiet : are_quiet c.push.new.self.items ≡ true
-    = quiet_pushed c.args.self.now.events.items c.push.new.self.items _ c.free.result c.push.ensures.items c.args.self.now.quiet
-    (ap (λ (e : Event). is_quiet e.access e.place) c.free.ensures.gives) in
-    quiet_sound _ quiet
+returns-clause-sound g c = quiet_sound _ c.keep.ensures.quiet

@@ -1,7 +1,0 @@
-use Rattle.std.proofs.Common.{ap}
-use Rattle.put_get.specs.Cores.{Private}
-use Rattle.scc_rows.proofs.MessageLemmas.{fresh_free}
-use Rattle.scc_rows.proofs.whole_messages.a_receive_of_nothing_stalls_after_its_polls.Goals as goal
-
-pub receive-answer-requires-clause-free : goal.receive-answer-requires-clause-free
-receive-answer-requires-clause-free g c = fresh_free c.counted-port.ensures.fresh (ap (λ (x : Private). x.out) c.new-core.ensures) c.new-slot.ensures.empty
