@@ -2,18 +2,14 @@
 #![tactic(auto)]
 
 #[cfg(test)]
-mod audit;
+mod bounds;
 #[cfg(test)]
-mod check;
-#[cfg(test)]
-mod coll;
+mod cases;
 #[cfg(test)]
 mod faults;
 #[cfg(test)]
-mod launches;
+mod lines;
 #[cfg(test)]
-mod mesh;
-#[cfg(test)]
-mod runs;
+mod programs;
 #[cfg(test)]
 mod together;

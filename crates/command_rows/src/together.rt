@@ -1,14 +1,17 @@
 //! What no clause says: without `-serial` the ranks run in threads of their own.
 
-use crate::launches::{FOUR_BYTES, words_of};
+use crate::cases::{NOWHERE, comes};
+use crate::faults::FOUR_ARRIVE;
+use crate::programs::Program;
 use outcomes::Status;
-use rcce_io::{MemFiles, MemSink};
+use rcce_io::{Files, Sink};
 use rcce_run::Gate;
 use run_program::rccerun;
 use scc_base::Rank;
 use scc_mesh::Chip;
+use std::alloc::{AllocError, Global};
 use std::sync::atomic::{AtomicBool, Ordering};
-use std::test::Fail;
+use std::thread::Threads;
 
 /// How often a rank looks for the other one at most.
 const LOOKS: u32 = 50_000_000;
@@ -22,6 +25,14 @@ struct Meeting {
 }
 
 impl Meeting {
+    fn new() -> Meeting {
+        Meeting {
+            zero_came: AtomicBool::new(false),
+            one_came: AtomicBool::new(false),
+            missed: AtomicBool::new(false),
+        }
+    }
+
     fn wait_for(&self, other: &AtomicBool) {
         for _ in 0..LOOKS {
             if other.load(Ordering::SeqCst) {
@@ -29,6 +40,13 @@ impl Meeting {
             }
         }
         self.missed.store(true, Ordering::SeqCst);
+    }
+
+    /// Whether both came, and neither waited in vain.
+    fn was_held(&self) -> bool {
+        self.zero_came.load(Ordering::SeqCst)
+            && self.one_came.load(Ordering::SeqCst)
+            && !self.missed.load(Ordering::SeqCst)
     }
 }
 
@@ -44,35 +62,33 @@ impl Gate for Meeting {
     }
 }
 
+/// `rccerun`, whose ranks meet here.
+impl Program for Meeting {
+    fn run<R: Threads + Sync, F: Files, O: Sink, E: Sink>(
+        &self,
+        rt: &R,
+        alloc: Global,
+        words: &[String],
+        files: &mut F,
+        out: &mut O,
+        err: &mut E,
+    ) -> Status {
+        let mut chip = Chip::blank();
+        rccerun(rt, alloc, words, files, out, err, &mut chip, self)
+    }
+}
+
 #[test]
-fn two_ranks_wait_for_each_other_at_the_gate(rt: HostRuntime) -> Result<(), Fail> {
-    let alloc = rt.alloc();
-    let words = words_of(alloc, &["-nue", "2", "a.rcce"])?;
-    let mut files = MemFiles::new(alloc);
-    files.add("a.rcce", FOUR_BYTES)?;
-    let mut out = MemSink::new(alloc, 64, 64)?;
-    let mut err = MemSink::new(alloc, 64, 64)?;
-    let mut chip = Chip::blank();
-    let gate = Meeting {
-        zero_came: AtomicBool::new(false),
-        one_came: AtomicBool::new(false),
-        missed: AtomicBool::new(false),
-    };
-    let status = rccerun(
+fn two_ranks_wait_for_each_other_at_the_gate(rt: HostRuntime) -> Result<(), AllocError> {
+    let gate = Meeting::new();
+    let arrive = comes(
         &rt,
-        alloc,
-        words.as_slice(),
-        &mut files,
-        &mut out,
-        &mut err,
-        &mut chip,
+        rt.alloc(),
         &gate,
-    );
-    assert!(rt; gate.zero_came.load(Ordering::SeqCst));
-    assert!(rt; gate.one_came.load(Ordering::SeqCst));
-    assert!(rt; !gate.missed.load(Ordering::SeqCst));
-    assert!(rt; out.bytes() == b"ue 1 y 01020304\n".as_slice());
-    assert!(rt; err.bytes() == b"".as_slice());
-    assert!(rt; status == Status::Finished);
+        &FOUR_ARRIVE.given,
+        NOWHERE,
+        &FOUR_ARRIVE.wanted,
+    )?;
+    assert!(rt; arrive && gate.was_held());
     Ok(())
 }

@@ -6,7 +6,6 @@ use outcomes::{Complaint, Status, number_in, ue_count};
 use rcce_io::{MemFiles, MemSink};
 use std::alloc::{AllocError, Global};
 use std::process::Abort;
-use std::test::Fail;
 
 /// A run of the program: its words, the call of each kind that fails, how it ends, and what it writes.
 ///
@@ -46,16 +45,30 @@ fn words_of(alloc: Global, texts: &[&str]) -> Result<Vec<String>, AllocError> {
     Ok(words)
 }
 
-/// Runs the program. A write takes at most two bytes.
+/// A sink of which a write takes at most two bytes.
+fn sink(alloc: Global, failing: u64) -> Result<MemSink, AllocError> {
+    let mut sink = MemSink::new(alloc, 64, 2)?;
+    sink.fail_at(failing);
+    Ok(sink)
+}
+
+/// Runs the program.
 fn run(alloc: Global, texts: &[&str], failing: [u64; 3]) -> Result<Ended, AllocError> {
     let words = words_of(alloc, texts)?;
     let mut files = three_files(alloc)?;
-    let mut out = MemSink::new(alloc, 64, 2)?;
-    let mut err = MemSink::new(alloc, 64, 2)?;
     files.fail_at(failing[0]);
-    out.fail_at(failing[1]);
-    err.fail_at(failing[2]);
-    let status = line_count(alloc, words.as_slice(), &mut files, &mut out, &mut err);
+    run_on(alloc, words.as_slice(), &mut files, failing)
+}
+
+fn run_on(
+    alloc: Global,
+    words: &[String],
+    files: &mut MemFiles,
+    failing: [u64; 3],
+) -> Result<Ended, AllocError> {
+    let mut out = sink(alloc, failing[1])?;
+    let mut err = sink(alloc, failing[2])?;
+    let status = line_count(alloc, words, files, &mut out, &mut err);
     let reads = files.calls_made();
     Ok(Ended {
         status,
@@ -79,17 +92,18 @@ impl Ended {
             && (self.status != Words || self.reads == 0)
     }
 
-    /// Whether this was written.
-    fn wrote(&self, out: &str, err: &str) -> bool {
-        self.out.bytes() == out.as_bytes() && self.err.bytes() == err.as_bytes()
+    /// Whether it ended so, and this was written.
+    fn is(&self, status: Status, out: &str, err: &str) -> bool {
+        self.status == status
+            && self.out.bytes() == out.as_bytes()
+            && self.err.bytes() == err.as_bytes()
     }
 }
 
-fn expect<R: Abort>(rt: &R, alloc: Global, rows: &[Row]) -> Result<(), Fail> {
+fn expect<R: Abort>(rt: &R, alloc: Global, rows: &[Row]) -> Result<(), AllocError> {
     for (words, failing, status, out, err) in rows {
         let ended = run(alloc, words, *failing)?;
-        assert!(rt; ended.wrote(out, err));
-        assert!(rt; ended.status == *status && ended.stops(*failing));
+        assert!(rt; ended.is(*status, out, err) && ended.stops(*failing));
     }
     Ok(())
 }
@@ -97,7 +111,7 @@ fn expect<R: Abort>(rt: &R, alloc: Global, rows: &[Row]) -> Result<(), Fail> {
 const COUNTED: &[Row] = &[(&["a"], [0, 0, 0], Finished, "2\n", "")];
 
 #[test]
-fn lines_are_counted(rt: HostRuntime) -> Result<(), Fail> {
+fn lines_are_counted(rt: HostRuntime) -> Result<(), AllocError> {
     assert!(rt; Finished.number() == 0);
     expect(&rt, rt.alloc(), COUNTED)
 }
@@ -109,14 +123,14 @@ const REFUSED: &[Row] = &[
 ];
 
 #[test]
-fn words_are_refused_before_a_file_is_asked_for(rt: HostRuntime) -> Result<(), Fail> {
+fn words_are_refused_before_a_file_is_asked_for(rt: HostRuntime) -> Result<(), AllocError> {
     expect(&rt, rt.alloc(), REFUSED)
 }
 
 const ABSENT: &[Row] = &[(&["b"], [0, 0, 0], Files, "", "lines: b: absent\n")];
 
 #[test]
-fn an_absent_file(rt: HostRuntime) -> Result<(), Fail> {
+fn an_absent_file(rt: HostRuntime) -> Result<(), AllocError> {
     expect(&rt, rt.alloc(), ABSENT)
 }
 
@@ -127,7 +141,7 @@ const READ_FAULTS: &[Row] = &[
 ];
 
 #[test]
-fn nothing_is_read_behind_a_read_fault(rt: HostRuntime) -> Result<(), Fail> {
+fn nothing_is_read_behind_a_read_fault(rt: HostRuntime) -> Result<(), AllocError> {
     expect(&rt, rt.alloc(), READ_FAULTS)
 }
 
@@ -137,7 +151,7 @@ const FAILED_WRITES: &[Row] = &[
 ];
 
 #[test]
-fn nothing_is_written_behind_a_failed_write(rt: HostRuntime) -> Result<(), Fail> {
+fn nothing_is_written_behind_a_failed_write(rt: HostRuntime) -> Result<(), AllocError> {
     expect(&rt, rt.alloc(), FAILED_WRITES)
 }
 
@@ -153,7 +167,7 @@ const LONG: &[Row] = &[
 ];
 
 #[test]
-fn a_longer_file_is_refused(rt: HostRuntime) -> Result<(), Fail> {
+fn a_longer_file_is_refused(rt: HostRuntime) -> Result<(), AllocError> {
     expect(&rt, rt.alloc(), LONG)
 }
 
@@ -190,14 +204,27 @@ const COMPLAINTS: &[(Complaint<'static>, Status, &str)] = &[
     ),
 ];
 
-#[test]
-fn each_complaint_has_one_line(rt: HostRuntime) -> Result<(), Fail> {
-    for (complaint, status, text) in COMPLAINTS {
-        let mut sink = MemSink::new(rt.alloc(), 64, 64)?;
-        assert!(rt; complaint.write("rccerun", &mut sink) == Ok(()));
-        assert!(rt; sink.bytes() == text.as_bytes() && complaint.status() == *status);
+/// Whether a complaint writes this line.
+fn writes(alloc: Global, complaint: &Complaint, text: &str) -> Result<bool, AllocError> {
+    let mut sink = MemSink::new(alloc, 64, 64)?;
+    let written = complaint.write("rccerun", &mut sink).is_ok();
+    Ok(written && sink.bytes() == text.as_bytes())
+}
+
+fn expect_lines<R: Abort>(
+    rt: &R,
+    alloc: Global,
+    rows: &[(Complaint<'_>, Status, &str)],
+) -> Result<(), AllocError> {
+    for (complaint, status, text) in rows {
+        assert!(rt; writes(alloc, complaint, text)? && complaint.status() == *status);
     }
     Ok(())
+}
+
+#[test]
+fn each_complaint_has_one_line(rt: HostRuntime) -> Result<(), AllocError> {
+    expect_lines(&rt, rt.alloc(), COMPLAINTS)
 }
 
 const COUNTS: &[(&str, Option<u8>)] = &[
@@ -221,16 +248,20 @@ const NUMBERS: &[(&str, u32, u32, Option<u32>)] = &[
     ("1025", 0, 1_024, None),
 ];
 
-fn holds<R: Abort>(rt: &R, is: bool, word: &str) {
-    assert!(rt; is, "{word}");
+fn expect_counts<R: Abort>(rt: &R, rows: &[(&str, Option<u8>)]) {
+    for (word, count) in rows {
+        assert!(rt; ue_count(word) == *count);
+    }
+}
+
+fn expect_numbers<R: Abort>(rt: &R, rows: &[(&str, u32, u32, Option<u32>)]) {
+    for (word, least, most, number) in rows {
+        assert!(rt; number_in(word, *least, *most) == *number);
+    }
 }
 
 #[test]
 fn numbers_have_one_to_ten_digits(rt: HostRuntime) {
-    for (word, count) in COUNTS {
-        holds(&rt, ue_count(word) == *count, word);
-    }
-    for (word, least, most, number) in NUMBERS {
-        holds(&rt, number_in(word, *least, *most) == *number, word);
-    }
+    expect_counts(&rt, COUNTS);
+    expect_numbers(&rt, NUMBERS);
 }

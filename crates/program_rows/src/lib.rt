@@ -1,12 +1,10 @@
-//! Tests of what surrounds a run: files and sinks, words, ends of programs, and logs of calls. There is no other code.
+//! Tests of what surrounds a run: files and sinks, words, ends of programs, and taps. There is no other code.
 #![tactic(auto)]
 
 #[cfg(test)]
 mod ends;
 #[cfg(test)]
 mod line_count;
-#[cfg(test)]
-mod logs;
 #[cfg(test)]
 mod outside;
 #[cfg(test)]

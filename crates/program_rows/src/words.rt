@@ -1,11 +1,8 @@
 //! What no run of the launcher shows of its words and of the host file: the seeds, the layout, and which cores the hosts are.
 
-ghost use Rattle.std.specs.Prelude.{◌<◌};
-
 use rcce_words::{HostFault, HostKind, Job, Work, parse_words, read_hosts};
-use scc_base::CoreId;
 use std::alloc::{AllocError, Global};
-use std::test::Fail;
+use std::process::Abort;
 
 /// The words of a line, between its blanks.
 fn words_of(alloc: Global, line: &str) -> Result<Vec<String>, AllocError> {
@@ -18,71 +15,102 @@ fn words_of(alloc: Global, line: &str) -> Result<Vec<String>, AllocError> {
     Ok(words)
 }
 
-#[test]
-fn what_the_words_ask_for(rt: HostRuntime) -> Result<(), Fail> {
-    let plain = Job {
-        nue: 2,
-        hosts: None,
-        evict: None,
-        serial: None,
-        bits: false,
-        work: Work::Script(2),
-    };
-    let all = Job {
-        hosts: Some(4),
-        evict: Some(4_294_967_295),
-        serial: Some(0),
-        bits: true,
-        work: Work::Script(9),
-        ..plain
-    };
-    let table = [
-        ("-nue 2 s.rcce", plain),
-        ("-bits -nue 2 -f -gen -evict 4294967295 -serial 00 s", all),
-    ];
-    for (line, job) in table {
-        let words = words_of(rt.alloc(), line)?;
-        assert!(rt; parse_words(words.as_slice()) == Ok(job), "{line}");
+/// Lines of words, and what they ask for.
+const JOBS: &[(&str, Job)] = &[
+    (
+        "-nue 2 s.rcce",
+        Job {
+            nue: 2,
+            hosts: None,
+            evict: None,
+            serial: None,
+            bits: false,
+            work: Work::Script(2),
+        },
+    ),
+    (
+        "-bits -nue 2 -f -gen -evict 4294967295 -serial 00 s",
+        Job {
+            nue: 2,
+            hosts: Some(4),
+            evict: Some(4_294_967_295),
+            serial: Some(0),
+            bits: true,
+            work: Work::Script(9),
+        },
+    ),
+];
+
+fn expect_jobs<R: Abort>(rt: &R, alloc: Global, rows: &[(&str, Job)]) -> Result<(), AllocError> {
+    for (line, job) in rows {
+        let words = words_of(alloc, line)?;
+        assert!(rt; parse_words(words.as_slice()) == Ok(*job));
     }
     Ok(())
 }
 
-/// Two cores, and the first one again from there on.
-fn two(first: u8, second: u8) -> [CoreId; 48]
-    requires first { first < 48 }
-    requires second { second < 48 }
-{
-    let mut hosts = [CoreId::of(first); 48];
-    hosts[1] = CoreId::of(second);
-    hosts
+#[test]
+fn what_the_words_ask_for(rt: HostRuntime) -> Result<(), AllocError> {
+    expect_jobs(&rt, rt.alloc(), JOBS)
 }
 
-#[test]
-fn host_files(rt: HostRuntime) {
-    let table: [(&[u8], [CoreId; 48]); 6] = [
-        (b"5\nrck07\n", two(5, 7)),
-        (b"5\nrck07", two(5, 7)),
-        (b"\t 5 \r\n\n # none \xff\n0000000047#\x00", two(5, 47)),
-        (b"0\n1\n2\n3\n", two(0, 1)),
-        (b"rck0\nrck0000000001\n", two(0, 1)),
-        (b"\n\n7\n\n6\n\n", two(7, 6)),
-    ];
-    for (bytes, hosts) in table {
-        assert!(rt; read_hosts(bytes, 2) == Ok(hosts));
+/// Host files for two ranks, and their cores.
+const HOSTS: &[(&[u8], u8, u8)] = &[
+    (b"5\nrck07\n", 5, 7),
+    (b"5\nrck07", 5, 7),
+    (b"\t 5 \r\n\n # none \xff\n0000000047#\x00", 5, 47),
+    (b"0\n1\n2\n3\n", 0, 1),
+    (b"rck0\nrck0000000001\n", 0, 1),
+    (b"\n\n7\n\n6\n\n", 7, 6),
+];
+
+/// Whether a host file gives two ranks these cores, and the first one again from there on.
+fn are_hosts(bytes: &[u8], first: u8, second: u8) -> bool {
+    match read_hosts(bytes, 2) {
+        Ok(hosts) => {
+            let mut two = [hosts[0]; 48];
+            two[1] = hosts[1];
+            hosts[0].number() == first && hosts[1].number() == second && hosts == two
+        }
+        Err(_) => false,
+    }
+}
+
+fn expect_hosts<R: Abort>(rt: &R, rows: &[(&[u8], u8, u8)]) {
+    for (bytes, first, second) in rows {
+        assert!(rt; are_hosts(bytes, *first, *second));
     }
 }
 
 #[test]
-fn the_longest_host_file(rt: HostRuntime) {
-    let fault = HostFault {
-        line: 65_537,
-        kind: HostKind::TooFew,
-    };
-    assert!(rt; read_hosts(&[b'\n'; 65_536], 1) == Err(fault));
-    let fault = HostFault {
-        line: 0,
-        kind: HostKind::TooLong,
-    };
-    assert!(rt; read_hosts(&[b'\xff'; 65_537], 2) == Err(fault));
-    assert!(rt; fault.kind.name() == "TooLong");
+fn host_files(rt: HostRuntime) {
+    expect_hosts(&rt, HOSTS);
+}
+
+/// The fault of a host file for one rank that is one byte over and over.
+fn fault_of(alloc: Global, byte: u8, len: usize) -> Result<Option<HostFault>, AllocError> {
+    let bytes = vec![in alloc; byte; len]?;
+    Ok(read_hosts(&bytes, 1).err())
+}
+
+const TOO_FEW: HostFault = HostFault {
+    line: 65_537,
+    kind: HostKind::TooFew,
+};
+
+const TOO_LONG: HostFault = HostFault {
+    line: 0,
+    kind: HostKind::TooLong,
+};
+
+fn expect_faults<R: Abort>(rt: &R, alloc: Global) -> Result<(), AllocError> {
+    assert!(rt; fault_of(alloc, b'\n', 65_536)? == Some(TOO_FEW));
+    assert!(rt; fault_of(alloc, b'\xff', 65_537)? == Some(TOO_LONG));
+    assert!(rt; TOO_LONG.kind.name() == "TooLong");
+    Ok(())
+}
+
+#[test]
+fn the_longest_host_file(rt: HostRuntime) -> Result<(), AllocError> {
+    expect_faults(&rt, rt.alloc())
 }

@@ -1,0 +1,115 @@
+//! What no clause says of the lines of a run: that a plain run has the same, and the texts of ends at the largest numbers.
+
+use crate::cases::{Given, NOWHERE, run};
+use crate::programs::{Launcher, Program};
+use outcomes::Status;
+use rcce_io::{MemSink, Sink};
+use run_program::{write_end, write_printed, write_unfinished};
+use scc_base::{Call, Head, Kind, PostHead, Rank};
+use script_plain::{UeEnd, plain_run};
+use script_reader::{Scripts, read_script};
+use std::alloc::{AllocError, Global};
+use std::process::Abort;
+use std::test::Fail;
+use std::thread::Threads;
+
+/// A script of four ranks, of which some print and some do not finish.
+const SCRIPT: &[u8] =
+    b"all\nrank x int\nprint x\nallreduce 0 sum int y x\nprint int y\nue 1\nsend 0 x\nue 2\nrecv 1 z 4\n";
+
+/// The same script in its file.
+const GIVEN: &Given = &Given {
+    words: &["-nue", "4", "s"],
+    hosts: b"",
+    script: SCRIPT,
+};
+
+/// Whether the lines of a script's plain run could be written.
+fn writes_plain<O: Sink, E: Sink>(
+    alloc: Global,
+    scripts: &Scripts,
+    out: &mut O,
+    err: &mut E,
+) -> Result<bool, AllocError> {
+    let end = plain_run(alloc, scripts)?;
+    Ok(write_printed(out, scripts, &end).is_ok() && write_unfinished(err, scripts, &end).is_ok())
+}
+
+/// Whether the lines of a script's plain run are these.
+fn are_plain(
+    alloc: Global,
+    scripts: &Scripts,
+    out_bytes: &[u8],
+    err_bytes: &[u8],
+) -> Result<bool, AllocError> {
+    let mut out = MemSink::new(alloc, 4096, 4096)?;
+    let mut err = MemSink::new(alloc, 4096, 4096)?;
+    let wrote = writes_plain(alloc, scripts, &mut out, &mut err)?;
+    Ok(wrote && out.bytes() == out_bytes && err.bytes() == err_bytes)
+}
+
+/// Whether a run over the chip does not finish, and has the lines of the plain run.
+fn comes_to_plain<R: Threads + Sync, P: Program>(
+    rt: &R,
+    alloc: Global,
+    program: &P,
+    scripts: &Scripts,
+) -> Result<bool, AllocError> {
+    let ended = run(rt, alloc, program, GIVEN, NOWHERE)?;
+    let plain = are_plain(alloc, scripts, ended.out.bytes(), ended.err.bytes())?;
+    Ok(plain && ended.status == Status::Stuck)
+}
+
+#[test]
+fn the_plain_run_has_the_same_lines(rt: HostRuntime) -> Result<(), Fail> {
+    let scripts = read_script(rt.alloc(), SCRIPT, 4)?;
+    assert!(rt; comes_to_plain(&rt, rt.alloc(), &Launcher, &scripts)?);
+    Ok(())
+}
+
+/// Whether this is the line of rank 12 where it waits at a call.
+fn has_line(alloc: Global, line: u32, call: Call, text: &[u8]) -> Result<bool, AllocError> {
+    let mut sink = MemSink::new(alloc, 64, 64)?;
+    let end = UeEnd::Waits { line, call };
+    Ok(write_end(&mut sink, Rank::of(12), &end).is_ok() && sink.bytes() == text)
+}
+
+/// Rank 12 waits at a call of this line for rank 47, with the greatest length, and at a barrier.
+fn expect_lines<R: Abort>(
+    rt: &R,
+    alloc: Global,
+    head: Head,
+    post: PostHead,
+) -> Result<(), AllocError> {
+    let to = Rank::of(47);
+    let send = Call::Send { to, head };
+    assert!(rt;
+        has_line(
+            alloc,
+            7,
+            send,
+            b"ue 12 waits at line 7: send to 47 alldown 3 65536\n"
+        )?
+    );
+    let post = Call::Post { to, head: post };
+    assert!(rt;
+        has_line(
+            alloc,
+            100_000,
+            post,
+            b"ue 12 waits at line 100000: post to 47 plain 0 3584\n"
+        )?
+    );
+    let barrier = Call::Bar { comm: 15 };
+    assert!(rt; has_line(alloc, 1, barrier, b"ue 12 waits at line 1: barrier 15\n")?);
+    Ok(())
+}
+
+/// The lines of ends at the largest numbers.
+#[test]
+fn each_kind_of_call_has_a_text(rt: HostRuntime) -> Result<(), Fail> {
+    let head = Head::new(Kind::AllDown, 3, 65_536).ok_or("head")?;
+    let post = PostHead::plain(3_584).ok_or("post")?;
+    expect_lines(&rt, rt.alloc(), head, post)?;
+    Ok(())
+}
