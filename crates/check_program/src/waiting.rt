@@ -6,7 +6,6 @@ ghost use Rattle.scc_base.specs.Setups.{setup_key};
 ghost use Rattle.script_plain.specs.Ends.{ended_at};
 ghost use Rattle.script_plain.specs.HeldUp.{ended_at_barrier};
 ghost use Rattle.script_plain.specs.Meaning.{keys_of, plain_ends};
-ghost use Rattle.script_reader.specs.Script.{rules_of};
 ghost use Rattle.check_program.specs.Waiting.{is_waiting, lowest_absent, waits_by_call, waits_for};
 
 use scc_base::{Call, Rank, Setup};

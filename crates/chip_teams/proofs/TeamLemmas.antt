@@ -1,43 +1,15 @@
 -- How a team goes on by a turn of one rank.
-use Rattle.std.proofs.Common.{◌≡◌, ◌≢◌, ℕ, ◌<◌, ◌≤◌, List, [], ◌∷◌, ◌++◌, length, slice_set, slice_index_or, sym, ◌∙◌, ap, subst, length-append, arith}
-use Rattle.std.proofs.lemmas.List.{length-set, get_or-set_same, get_or-set_other, get_or_append_left}
-use Rattle.std.proofs.Math.Seq.{get_or-append_seam}
+use Rattle.std.proofs.Common.{◌≡◌, ◌≢◌, ℕ, ◌<◌, ◌≤◌, List, length, slice_set, slice_index_or, sym, ◌∙◌, ap, subst, arith}
+use Rattle.std.proofs.lemmas.List.{length-set, get_or-set_same, get_or-set_other}
 use Rattle.scc_base.specs.Setups.{SetupView}
 use Rattle.scc_base.specs.declared.events.Event.{Event}
 use Rattle.scc_proto.proofs.Tests.{same_or_other}
-use Rattle.scc_mesh.specs.Scenes.{ChipView, IsNew, about_in, events_in}
+use Rattle.scc_mesh.specs.Scenes.{ChipView, about_in, events_in}
 use Rattle.scc_mesh.specs.Turns.{AfterTurn}
 use Rattle.scc_mesh.proofs.TurnLaws.{turn_leaves}
 use Rattle.chip_teams.specs.Teams.{IsTeam}
 
 -- ---- the team
-
-pub no_player : {A : Type 0} {stands : A → SetupView → ℕ → List Event → Type 0} (chip : ChipView) → IsNew (about_in chip) chip → IsTeam stands chip []
-no_player chip new = record {
-  whole = new.whole;
-  fits = omega arith;
-  each = λ r player lt is. absurd (omega (arith, lt));
-  empty = λ r le. new.empty r;
-}
-
-pub one_player_more : {A : Type 0} {stands : A → SetupView → ℕ → List Event → Type 0} {chip : ChipView} {players : List A} → IsTeam stands chip players → (player : A)
-    → length players < (about_in chip).nue → stands player (about_in chip) (length players) [] → IsTeam stands chip (players ++ player ∷ [])
-one_player_more {A} {stands} {chip} {players} team player room st =
-    let long = length-append players (player ∷ []) in
-    record {
-      whole = team.whole;
-      fits = omega (arith, long, room);
-      each = λ r one lt is. same_or_other (stands one (about_in chip) r (events_in chip r)) r (length players)
-          (λ t q.
-          let last : one ≡ player = is ∙ ap (λ (k : ℕ). slice_index_or (players ++ player ∷ []) k one) q ∙ get_or-append_seam players player [] one in
-          subst (λ (x : A). stands x (about_in chip) r (events_in chip r)) (sym last)
-          (subst (λ (k : ℕ). stands player (about_in chip) k (events_in chip k)) (sym q)
-          (subst (λ (es : List Event). stands player (about_in chip) (length players) es) (sym (team.empty (length players) (omega arith))) st)))
-          (λ t q.
-          let below : r < length players = omega (arith, long, lt, q) in
-          team.each r one below (is ∙ get_or_append_left players (player ∷ []) one r below));
-      empty = λ r le. team.empty r (omega (arith, long, le));
-    }
 
 pub team_goes_on : {A : Type 0} {stands : A → SetupView → ℕ → List Event → Type 0} {chip now : ChipView} {players : List A} → IsTeam stands chip players
     → (i : ℕ) (player : A) → i < length players → AfterTurn (stands player) chip i now → IsTeam stands now (slice_set players i player)

@@ -40,17 +40,6 @@ module _ (f : ℕ → PieceCall) where
   pub root_many : (call : PieceCall) (rank n : ℕ) → rank ≡ 0 → length (rooted rank (ones 1 n) call) ≡ n
   root_many call rank n root = ap (λ (r : ℕ). length (rooted r (ones 1 n) call)) root ∙ ones_many 1 n
 
-pub other_is : (calls : List PieceCall) (call : PieceCall) (rank : ℕ) → 0 < rank → rooted rank calls call ≡ call ∷ []
-other_is calls call zero other = absurd (omega (arith, other))
-other_is calls call (suc r) other = refl
-
-pub first_at : (call : PieceCall) (k : ℕ) → k ≡ 0 → slice_get (call ∷ []) k ≡ Some call
-first_at call k none = ap (slice_get (call ∷ [])) none
-
-pub past_first : (call : PieceCall) (k : ℕ) → 0 < k → slice_get (call ∷ []) k ≡ None
-past_first call zero some = absurd (omega (arith, some))
-past_first call (suc k) some = refl
-
 -- two messages a rank
 module _ (f g : ℕ → PieceCall) where
   abbrev twos : ℕ → ℕ → List PieceCall

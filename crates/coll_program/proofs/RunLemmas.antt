@@ -13,7 +13,7 @@ use Rattle.outcomes.specs.declared.complaint.Complaint.{Complaint}
 use Rattle.coll_program.specs.History.{ChipTells, HasRun}
 use Rattle.coll_program.specs.Jobs.{got_by, setup_of, src_of}
 use Rattle.coll_program.specs.Program.{job_of, no_files, words_plan}
-use Rattle.coll_program.specs.Pieces.{IsReport, dst_at}
+use Rattle.coll_program.specs.Pieces.{dst_at}
 use Rattle.coll_program.specs.Reports.{report_ran}
 use Rattle.coll_program.specs.Runs.{IsTeamOf, Launches, RunsWords}
 use Rattle.coll_program.specs.Texts.{lines_by}
@@ -57,9 +57,6 @@ module _ (job : Job) (chip now : ChipView) (team later : List MemberView) (some 
 
   pub report_is : lines_by job.more job.nue (dst_at later) ≡ lines_by job.more job.nue (got_by job)
   report_is = lines_same job.more job.nue (dst_at later) (got_by job) some got
-
-  pub is_report : IsReport job later
-  is_report = record { some = some; each = ended.count ∙ is.each }
 
   pub has_run : HasRun job now
   has_run = record {

@@ -1,13 +1,10 @@
 -- The ranks of a job and the bytes that they hand in.
-use Rattle.std.proofs.Common.{◌≡◌, ℕ, zero, suc, ◌+◌, ◌<◌, ◌≤◌, List, [], ◌∷◌, ◌++◌, length, map, slice_index_or, refl, sym, ◌∙◌, ap, subst, arith, length-append}
+use Rattle.std.proofs.Common.{◌≡◌, ℕ, ◌+◌, ◌<◌, List, [], ◌∷◌, ◌++◌, length, map, slice_index_or, sym, ◌∙◌, ap, subst, arith, length-append}
 use Rattle.std.specs.List.{range_with_len}
 use Rattle.std.proofs.lemmas.List.{length-map, map-append}
 use Rattle.std.proofs.lemmas.List.FromFn.{length-range_with_len}
 use Rattle.rcce_run.proofs.OrderLaws.{range_more}
 use Rattle.coll_more.specs.Tables.{src_len_of}
-use Rattle.coll_more.specs.declared.kinds.More.{More}
-use Rattle.coll_more.specs.declared.kinds.More.TheVariants.{Gather, Scatter, Allgather, Alltoall}
-use Rattle.coll_more.proofs.GoodLemmas.{whole_within}
 use Rattle.coll_run.specs.Teams.{HasJoined, MemberView}
 use Rattle.coll_run.proofs.JoinLemmas.{each_joined}
 use Rattle.coll_program.specs.Jobs.{byte_at, src_of}
@@ -15,21 +12,6 @@ use Rattle.coll_program.specs.Runs.{AreRanksOf}
 use Rattle.coll_program.specs.declared.command.Job.{Job}
 
 -- ---- what a rank hands in
-
-pub src_fits : (more : More) (rank nue len : ℕ) → nue ≤ 48 → len ≤ 1024 → src_len_of more rank nue len ≤ 65536
-src_fits Gather rank nue len few short = omega (arith, short)
-src_fits Scatter zero nue len few short = whole_within nue len few short
-src_fits Scatter (suc r) nue len few short = omega arith
-src_fits Allgather rank nue len few short = omega (arith, short)
-src_fits Alltoall rank nue len few short = whole_within nue len few short
-
-pub some_len : (more : More) (rank nue len i : ℕ) → i < src_len_of more rank nue len → 1 ≤ len
-some_len Gather rank nue zero i less = absurd (omega (arith, less))
-some_len Scatter zero nue zero i less = absurd (omega (arith, less))
-some_len Scatter (suc r) nue zero i less = absurd (omega (arith, less))
-some_len Allgather rank nue zero i less = absurd (omega (arith, less))
-some_len Alltoall rank nue zero i less = absurd (omega (arith, less))
-some_len more rank nue (suc n) i less = omega arith
 
 -- one byte more
 pub byte_more : (f : ℕ → ℕ) (n b : ℕ) (items later : List ℕ) → items ≡ map f (range_with_len 0 n) → later ≡ items ++ b ∷ [] → b ≡ f n → later ≡ map f (range_with_len 0 (n + 1))
@@ -47,13 +29,6 @@ src_long job rank src count is same =
     ∙ ap (λ (r : ℕ). src_len_of job.more r job.nue job.len) same
 
 -- ---- the ranks of a job
-
-pub no_ranks : (job : Job) (team : List MemberView) → team ≡ [] → AreRanksOf job 0 team
-no_ranks job team none = subst (AreRanksOf job 0) (sym none) (record {
-  each = refl;
-  fresh = record { fresh = λ k d low. absurd (omega (arith, low)); fits = λ k d low. absurd (omega (arith, low)) };
-  src = λ k d low. absurd (omega (arith, low));
-})
 
 pub rank_more : (job : Job) (count rank : ℕ) (team later : List MemberView) (src : List ℕ) → AreRanksOf job count team → HasJoined job.more job.len job.nue team src later → src ≡ src_of job rank → rank ≡ count
     → AreRanksOf job (count + 1) later

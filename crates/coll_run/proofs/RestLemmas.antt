@@ -14,7 +14,7 @@ use Rattle.scc_proto.specs.Passed.{is_received, passed_calls, passed_open, slot_
 use Rattle.scc_proto.specs.Ports.{record_in}
 use Rattle.scc_proto.specs.Records.{chunk_of}
 use Rattle.scc_proto.specs.Stages as stage
-use Rattle.scc_proto.specs.Stages.{Idle, Raised, Record, blank}
+use Rattle.scc_proto.specs.Stages.{Idle, Raised, Record}
 use Rattle.scc_proto.specs.Views.{View, view_of}
 use Rattle.scc_proto.specs.Words.{Memory, are_peers}
 use Rattle.scc_proto.proofs.LegalLaws.{legal_in_some_order}

@@ -6,7 +6,6 @@ use Rattle.scc_base.specs.Heads.{MessageHead}
 use Rattle.scc_base.specs.Setups.{SetupView, members_of, size_of, setup_key}
 use Rattle.scc_base.proofs.GroupFacts.{members_length}
 use Rattle.groups.specs.Collectives.{send_each, fold_each, others_of}
-use Rattle.groups.specs.declared.collectives.Step.{Step}
 use Rattle.groups.specs.declared.collectives.Step.TheVariants.{Begin, Send, Recv, Fold, Finish}
 
 -- an entry of the front, and one behind it
@@ -81,11 +80,7 @@ allreduce_length up down list =
     let sends = sends_length down list in
     omega (arith, all, front, pairs, sends)
 
--- the entries of a reduction at the root
-pub reduce_fold : (h : MessageHead) (list : List ℕ) (k j : ℕ) (x : Step) → k ≡ suc j → slice_get (fold_each h list) j ≡ Some x
-    → slice_get (Begin ∷ fold_each h list ++ Finish ∷ []) k ≡ Some x
-reduce_fold h list k j x e found = rw e (get_front (fold_each h list) (Finish ∷ []) j x found)
-
+-- the last entry of a reduction at the root
 pub reduce_finish : (h : MessageHead) (list : List ℕ) (k : ℕ) → 2 * length list < k → k < length (Begin ∷ fold_each h list ++ Finish ∷ [])
     → slice_get (Begin ∷ fold_each h list ++ Finish ∷ []) k ≡ Some Finish
 reduce_finish h list k low below =
@@ -94,11 +89,6 @@ reduce_finish h list k low below =
     get_behind (Begin ∷ fold_each h list) (Finish ∷ []) k 0 Finish (omega (arith, low, below, all, pairs)) refl
 
 -- the entries of a reduction to all at member 0
-pub allreduce_fold : (up down : MessageHead) (list : List ℕ) (k j : ℕ) (x : Step) → k ≡ suc j → slice_get (fold_each up list) j ≡ Some x
-    → slice_get (Begin ∷ fold_each up list ++ send_each down list ++ Finish ∷ []) k ≡ Some x
-allreduce_fold up down list k j x e found = rw e (get_front (fold_each up list ++ send_each down list) (Finish ∷ []) j x
-    (get_front (fold_each up list) (send_each down list) j x found))
-
 pub allreduce_send : (up down : MessageHead) (list : List ℕ) (k j to : ℕ) → k ≡ 2 * length list + 1 + j → slice_get list j ≡ Some to
     → slice_get (Begin ∷ fold_each up list ++ send_each down list ++ Finish ∷ []) k ≡ Some (Send to down)
 allreduce_send up down list k j to e found =

@@ -1,7 +1,6 @@
 //! The steps of a collective call.
 
 ghost use Rattle.std.specs.Prelude.{◌≡◌, ◌≢◌, ◌+◌, ◌*◌, ◌<◌, ◌≤◌, ℕ, List, length, slice_get};
-ghost use Rattle.scc_base.specs.Heads.{kind_number};
 ghost use Rattle.scc_base.specs.Setups.{members_of, size_of};
 ghost use Rattle.scc_base.specs.Communicators.{rule_of};
 ghost use Rattle.scc_base.specs.declared.communicators.CommRule.TheVariants.{Absent};

@@ -1,7 +1,6 @@
 //! Folding one list of values into another.
 
-ghost use Rattle.std.specs.Prelude.{◌≡◌, ◌↔◌, ℤ, length, IsOk, IfErr, OnOk, OnErr};
-ghost use Rattle.std.specs.Int.{w32, w64};
+ghost use Rattle.std.specs.Prelude.{◌≡◌, ◌↔◌, length, IsOk, IfErr, OnOk, OnErr};
 ghost use Rattle.groups.specs.Folds.{Fits, bytes_in, bytes_of, combine, fold_values, value_of};
 ghost use Rattle.groups.specs.declared.operations.Ty.TheVariants.{Int, Long};
 

@@ -1,5 +1,5 @@
 -- Where a run of UEs whose calls are kept begins.
-use Rattle.std.proofs.Common.{◌≡◌, ℕ, ◌+◌, ◌<◌, ◌≤◌, true, List, [], ◌∷◌, ◌++◌, length, slice_index_or, Option, Some, None, sym, ap, ◌∙◌, subst, arith}
+use Rattle.std.proofs.Common.{◌≡◌, ℕ, ◌+◌, ◌<◌, ◌≤◌, true, List, [], ◌∷◌, ◌++◌, length, slice_index_or, Option, Some, sym, ap, ◌∙◌, subst, arith}
 use Rattle.std.specs.Prelude.{All}
 use Rattle.scc_base.specs.Calls.{DataCall, HasItsBytes}
 use Rattle.scc_base.specs.Setups.{SetupView}
@@ -29,22 +29,22 @@ use Rattle.log_run.proofs.RoomLaws.{each_room}
 pub fresh_is_crew : (script : Script) (chip : ChipView) (crew : List (Logger UeView)) → IsFreshCrew script chip crew → IsCrew logger_tied chip crew
 fresh_is_crew script chip crew fresh = record {
   whole = fresh.whole;
-  each = fresh.each;
+  each = fresh.loggers.count;
   ties = λ k d low.
-      let none : events_in chip k ≡ [] = fresh.empty k (subst (λ (n : ℕ). k < n) fresh.each low) in
+      let none : events_in chip k ≡ [] = fresh.empty k (subst (λ (n : ℕ). k < n) fresh.loggers.count low) in
       record {
         ties = ue_stands (slice_index_or crew k d).worker (about_in chip) k (events_in chip k)
-            (λ sight setup rank events. (fresh.fresh k d low).fresh.tied sight setup rank (events ∙ none));
-        tapped = subst (λ (es : List _). IsTapped (slice_index_or crew k d).tap (about_in chip) k es) (sym none) (fresh.fresh k d low).tapped;
+            (λ sight setup rank events. (fresh.loggers.each k d low).fresh.tied sight setup rank (events ∙ none));
+        tapped = subst (λ (es : List _). IsTapped (slice_index_or crew k d).tap (about_in chip) k es) (sym none) (fresh.loggers.each k d low).tapped;
       };
 }
 
 pub fresh_runs : (script : Script) (chip : ChipView) (crew : List (Logger UeView)) → IsFreshCrew script chip crew → AllRun logger_seen script crew
-fresh_runs script chip crew fresh k d low = ap (λ (m : MachineView). m.script) (fresh.fresh k d low).fresh.machine
+fresh_runs script chip crew fresh k d low = ap (λ (m : MachineView). m.script) (fresh.loggers.each k d low).fresh.machine
 
 pub fresh_some : (script : Script) (chip : ChipView) (crew : List (Logger UeView)) (s : SetupView) → IsFreshCrew script chip crew → s ≡ about_in chip → 1 ≤ s.nue → 0 < length crew
 fresh_some script chip crew s fresh same ranks =
-    let each = fresh.each in
+    let each = fresh.loggers.count in
     let some : 1 ≤ (about_in chip).nue = subst (λ (x : SetupView). 1 ≤ x.nue) same ranks in
     omega (arith, each, some)
 
@@ -54,8 +54,7 @@ fresh_crew script s chip crew read new fresh = record {
   read = read;
   whole = new.whole;
   empty = λ r low. new.empty r;
-  each = fresh.count ∙ ap (λ (x : SetupView). x.nue) (sym new.about);
-  fresh = λ k d low. subst (λ (x : SetupView). IsFresh script x k (slice_index_or crew k d)) (sym new.about) (fresh.each k d low);
+  loggers = subst (λ (x : SetupView). AreFresh script x crew) (sym new.about) fresh;
 }
 
 -- one logger more
@@ -85,9 +84,6 @@ module _ (script view : Script) (same : script ≡ view) (crew : List (Logger Ue
 -- a tap that keeps calls, in its place
 pub kept_there : (place : Option Tap) (tap : Tap) (done : List DataCall) → place ≡ Some tap → KeepsCalls place done → AreKept tap.kept done
 kept_there place tap done is keeps = subst (λ (t : Option Tap). KeepsCalls t done) is keeps
-
-pub never_empty : {P : Type 0} (place : Option Tap) (done : List DataCall) → place ≡ None → KeepsCalls place done → P
-never_empty place done is keeps = absurd (subst (λ (t : Option Tap). KeepsCalls t done) is keeps)
 
 -- a run that is over
 pub over : (script : Script) (s : SetupView) (chip now : ChipView) (crew later : List (Logger UeView)) (end : RunEnd) → s.nue ≡ script.nue → s.layout ≡ LineFlags → has_room_for_all script ≡ true → IsNew s chip → length crew ≡ s.nue

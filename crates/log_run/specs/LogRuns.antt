@@ -29,15 +29,6 @@ pub record IsFresh (script : Script) (s : SetupView) (rank : ℕ) (logger : Logg
   pub fresh : IsFreshUe script s rank logger.worker
   pub tapped : IsTapped logger.tap s rank []
 
--- a chip that is open without events, all its ranks at home, and for each rank, in rank order, such a UE of this script, which
--- was read, with the chip's setup
-pub record IsFreshCrew (script : Script) (chip : ChipView) (crew : List (Logger UeView)) : Type 0 where
-  pub read : settled.IsWhole script.nue script.items
-  pub whole : IsWhole chip
-  pub empty : (r : ℕ) → r < (about_in chip).nue → events_in chip r ≡ []
-  pub each : length crew ≡ (about_in chip).nue
-  pub fresh : (k : ℕ) (d : Logger UeView) → k < length crew → IsFresh script (about_in chip) k (slice_index_or crew k d)
-
 -- what a run sees of the UE, and where it stands
 abbrev pub logger_seen : Logger UeView → WorkerView
 logger_seen logger = ue_seen logger.worker
@@ -93,6 +84,14 @@ pub record HasRun (script : Script) (s : SetupView) (chip : ChipView) : Type 0 w
 pub record AreFresh (script : Script) (setup : SetupView) (crew : List (Logger UeView)) : Type 0 where
   pub count : length crew ≡ setup.nue
   pub each : (rank : ℕ) (d : Logger UeView) → rank < length crew → IsFresh script setup rank (slice_index_or crew rank d)
+
+-- a chip that is open without events, all its ranks at home, and such loggers of this script, which was read, with the chip's
+-- setup
+pub record IsFreshCrew (script : Script) (chip : ChipView) (crew : List (Logger UeView)) : Type 0 where
+  pub read : settled.IsWhole script.nue script.items
+  pub whole : IsWhole chip
+  pub empty : (r : ℕ) → r < (about_in chip).nue → events_in chip r ≡ []
+  pub loggers : AreFresh script (about_in chip) crew
 
 -- and behind it: each tap keeps the calls that the plain meaning did for its rank
 pub record HaveKept (script : Script) (crew : List (Logger UeView)) : Type 0 where

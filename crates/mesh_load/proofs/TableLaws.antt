@@ -6,12 +6,6 @@ part-le : (b : Bool) (v : ℕ) → cond b v 0 ≤ v
 part-le true v = omega arith
 part-le false v = omega arith
 
--- no part is more than the whole
-pub chosen-le : (test : ℕ → Bool) (values : List ℕ) → chosen test values ≤ total values
-chosen-le test [] = omega arith
-chosen-le test (v ∷ values) =
-    omega (arith, part-le (test 0) v, chosen-le (λ place. test (suc place)) values)
-
 pub get_or-le : (values : List ℕ) (i : ℕ) → get_or values i 0 ≤ total values
 get_or-le [] i = omega arith
 get_or-le (v ∷ values) zero = omega arith
@@ -55,13 +49,6 @@ chosen-zeros test (suc n) = by (test 0) (chosen-zeros (λ place. test (suc place
     by : (b : Bool) {r : ℕ} → r ≡ 0 → cond b 0 0 + r ≡ 0
     by true none = omega (arith, none)
     by false none = omega (arith, none)
-
-pub chosen-whole : (test : ℕ → Bool) (values : List ℕ) (n : ℕ) → length values ≤ n → chosen test (take n values) ≡ chosen test values
-chosen-whole test [] zero all = refl
-chosen-whole test [] (suc n) all = refl
-chosen-whole test (x ∷ values) zero all = absurd (omega (arith, all))
-chosen-whole test (x ∷ values) (suc n) all =
-    ap (λ (r : ℕ). cond (test 0) x 0 + r) (chosen-whole (λ place. test (suc place)) values n (omega (arith, all)))
 
 -- what is added to one table as another is read: sums of the one are sums of the other
 pub added : (place : ℕ → ℕ) (values table : List ℕ) (i : ℕ) → i < length values → place i < length table

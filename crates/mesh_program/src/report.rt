@@ -1,10 +1,7 @@
 //! The load of the mesh by a script, and its lines.
 
 ghost use Rattle.std.specs.Prelude.{◌≡◌, length, IfOk};
-ghost use Rattle.mesh_load.specs.Mesh.{Link, carried};
-ghost use Rattle.mesh_load.specs.Tables.{load_on};
 ghost use Rattle.script_plain.specs.Matches.{plain_matches};
-ghost use Rattle.script_plain.specs.Meaning.{plain_ends};
 ghost use Rattle.script_plain.specs.Ends.{all_finished};
 ghost use Rattle.mesh_program.specs.Reports.{IsReportOf};
 

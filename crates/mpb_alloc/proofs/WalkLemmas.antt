@@ -1,8 +1,8 @@
 -- A walk along a list of runs, place by place.
-use Rattle.std.proofs.Common.{◌≡◌, ℕ, suc, ◌+◌, ◌-◌, ◌<◌, ◌≤◌, true, false, ◌==◌, nat_le, nat_lt, List, [], ◌∷◌, ◌++◌, None, Some, length, get_or, take, drop, refl, ap, sym, subst, ◌∙◌, append_assoc, arith, drop-cons, insert, remove, append-nil, length-append}
-use Rattle.std.proofs.Math.Seq.{take-suc, take-append_seam, drop-append_seam}
-use Rattle.std.proofs.lemmas.List.{take_all, drop_all, length-take, length-drop}
-use Rattle.std.proofs.lemmas.Bool.{lt-leb, le-leb, lt-ltb, le-ltb, eq-eqb, ne_eqb, and_from}
+use Rattle.std.proofs.Common.{◌≡◌, ℕ, suc, ◌+◌, ◌-◌, ◌<◌, ◌≤◌, true, false, ◌==◌, nat_le, nat_lt, List, ◌∷◌, ◌++◌, Some, length, get_or, take, drop, refl, ap, sym, subst, ◌∙◌, arith, drop-cons, insert, remove, length-append}
+use Rattle.std.proofs.Math.Seq.{take-append_seam, drop-append_seam}
+use Rattle.std.proofs.lemmas.List.{length-take, length-drop}
+use Rattle.std.proofs.lemmas.Bool.{le-leb, le-ltb, eq-eqb, ne_eqb, and_from}
 use Rattle.mpb_alloc.specs.declared.heap.Run.{Run}
 use Rattle.mpb_alloc.specs.Heaps.{end_of, IsWithin, StandWithin, rest_of, taken_from, joined, given_back, is_run, returned, lowest_fit}
 
@@ -10,32 +10,11 @@ use Rattle.mpb_alloc.specs.Heaps.{end_of, IsWithin, StandWithin, rest_of, taken_
 pub drop_here : (xs : List Run) (i : ℕ) (r : Run) → i < length xs → r ≡ get_or xs i r → drop i xs ≡ r ∷ drop (suc i) xs
 drop_here xs i r h e = drop-cons xs i r h ∙ ap (λ x. x ∷ drop (suc i) xs) (sym e)
 
-pub take_here : (xs : List Run) (i : ℕ) (r : Run) → i < length xs → r ≡ get_or xs i r → take (suc i) xs ≡ take i xs ++ r ∷ []
-take_here xs i r h e = take-suc xs i r h ∙ ap (λ x. take i xs ++ x ∷ []) (sym e)
-
 -- no run before the place fits
 pub record Passed (n at : ℕ) (free : List Run) : Type 0 where
   pub fit : lowest_fit n free ≡ lowest_fit n (drop at free)
   pub taken : taken_from n free ≡ take at free ++ taken_from n (drop at free)
   pub within : StandWithin (drop at free)
-
-pub passed_none : (n : ℕ) (free : List Run) → StandWithin free → Passed n 0 free
-passed_none n free w = record { fit = refl; taken = refl; within = w }
-
-pub passed_one : (n at : ℕ) (free : List Run) (r : Run) → at < length free → r ≡ get_or free at r → Passed n at free
-    → r.lines < n → Passed n (at + 1) free
-passed_one n at free r h e p small =
-    let t : nat_le n r.lines ≡ false = lt-leb n r.lines small in
-    let d = drop_here free at r h e in
-    let k = take_here free at r h e in
-    let next : suc at ≡ at + 1 = omega arith in
-    let w : StandWithin (r ∷ drop (suc at) free) = subst StandWithin d p.within in
-    let q : Passed n (suc at) free = record {
-      fit = p.fit ∙ rw (d, t) refl;
-      taken = p.taken ∙ rw (d, t, k) (sym (append_assoc (take at free) (r ∷ []) (taken_from n (drop (suc at) free))));
-      within = w.1;
-    } in
-    subst (λ i. Passed n i free) next q
 
 -- the run at the place is the lowest that fits
 pub record Fits (n at : ℕ) (free : List Run) (r : Run) : Type 0 where
@@ -50,13 +29,6 @@ fits_here n at free r h e p enough =
     let d = drop_here free at r h e in
     let w : StandWithin (r ∷ drop (suc at) free) = subst StandWithin d p.within in
     record { fit = p.fit ∙ rw (d, t) refl; taken = p.taken ∙ rw (d, t) refl; within = w.0 }
-
--- where the whole list was passed, nothing fits
-pub passed_all : (n at : ℕ) (free : List Run) → length free ≤ at → Passed n at free
-    → (lowest_fit n free ≡ None) × (taken_from n free ≡ free)
-passed_all n at free h p =
-    let d : drop at free ≡ [] = drop_all at free h in
-    (p.fit ∙ rw d refl, p.taken ∙ rw (d, take_all at free h) (append-nil free))
 
 length_front : (i : ℕ) (xs : List Run) → i ≤ length xs → length (take i xs) ≡ i
 length_front i xs h = omega (arith, length-take i xs)
@@ -97,29 +69,6 @@ pub record Giving (first : Run) (initial : List Run) (now : Run) (at : ℕ) (fre
   pub room : length free < 31
   pub bound : at ≤ length free
 
-pub giving_first : (run : Run) (free : List Run) → IsWithin run → StandWithin free → length free < 31 → Giving run free run 0 free
-giving_first run free r w l = record { is = refl; within = w; whole = r; room = l; bound = omega arith }
-
--- the run at the place stays before it
-pub giving_on : (first : Run) (initial : List Run) (run : Run) (at : ℕ) (free : List Run) (other : Run)
-    → Giving first initial run at free → at < length free → other ≡ get_or free at other
-    → other.first ≤ end_of run → end_of other < run.first → Giving first initial run (at + 1) free
-giving_on first initial run at free other g h e a b =
-    let d = drop_here free at other h e in
-    let k = take_here free at other h e in
-    let w : StandWithin (other ∷ drop (suc at) free) = subst StandWithin d g.within in
-    let next : suc at ≡ at + 1 = omega arith in
-    let t : nat_lt (end_of run) other.first ≡ false = le-ltb (end_of run) other.first a in
-    let u : nat_lt (end_of other) run.first ≡ true = lt-ltb (end_of other) run.first b in
-    let q : Giving first initial run (suc at) free = record {
-      is = g.is ∙ rw (d, t, u, k) (sym (append_assoc (take at free) (other ∷ []) (given_back run (drop (suc at) free))));
-      within = w.1;
-      whole = g.whole;
-      room = g.room;
-      bound = omega arith;
-    } in
-    subst (λ i. Giving first initial run i free) next q
-
 -- the run at the place is joined with it
 pub giving_joined : (first : Run) (initial : List Run) (run : Run) (at : ℕ) (free : List Run) (other : Run)
     → Giving first initial run at free → at < length free → other ≡ get_or free at other
@@ -142,34 +91,6 @@ giving_joined first initial run at free other g h e a b =
       bound = omega arith;
     }
 
--- the run goes before the run at the place
-pub given_here : (first : Run) (initial : List Run) (run : Run) (at : ℕ) (free : List Run) (other : Run)
-    → Giving first initial run at free → at < length free → other ≡ get_or free at other
-    → end_of run < other.first → insert free at run ≡ given_back first initial
-given_here first initial run at free other g h e a =
-    let d = drop_here free at other h e in
-    let t : nat_lt (end_of run) other.first ≡ true = lt-ltb (end_of run) other.first a in
-    sym (g.is ∙ rw (d, t) refl)
-
--- or behind all
-pub given_last : (first : Run) (initial : List Run) (run : Run) (at : ℕ) (free : List Run)
-    → Giving first initial run at free → length free ≤ at → insert free at run ≡ given_back first initial
-given_last first initial run at free g h =
-    let d : drop at free ≡ [] = drop_all at free h in
-    sym (g.is ∙ rw d refl)
-
--- no buffer before the place is the one that comes back
-pub strikes_on : (b : Run) (at : ℕ) (out : List Run) (other : Run) → at < length out → other ≡ get_or out at other
-    → is_run b other ≡ false → returned b out ≡ take at out ++ returned b (drop at out)
-    → returned b out ≡ take (at + 1) out ++ returned b (drop (at + 1) out)
-strikes_on b at out other h e t is =
-    let d = drop_here out at other h e in
-    let k = take_here out at other h e in
-    let next : suc at ≡ at + 1 = omega arith in
-    let q : returned b out ≡ take (suc at) out ++ returned b (drop (suc at) out) =
-    is ∙ rw (d, t, k) (sym (append_assoc (take at out) (other ∷ []) (returned b (drop (suc at) out)))) in
-    subst (λ i. returned b out ≡ take i out ++ returned b (drop i out)) next q
-
 -- the buffer at the place is the one
 pub strikes_here : (b : Run) (at : ℕ) (out : List Run) (other : Run) → at < length out → other ≡ get_or out at other
     → b.first ≡ other.first → b.lines ≡ other.lines → returned b out ≡ take at out ++ returned b (drop at out)
@@ -179,9 +100,3 @@ strikes_here b at out other h e f l is =
     let t : is_run b other ≡ true =
     and_from (b.first == other.first) (b.lines == other.lines) (eq-eqb b.first other.first f) (eq-eqb b.lines other.lines l) in
     sym (is ∙ rw (d, t) refl)
-
-pub strikes_none : (b : Run) (at : ℕ) (out : List Run) → length out ≤ at → returned b out ≡ take at out ++ returned b (drop at out)
-    → returned b out ≡ out
-strikes_none b at out h is =
-    let d : drop at out ≡ [] = drop_all at out h in
-    is ∙ rw (d, take_all at out h) (append-nil out)

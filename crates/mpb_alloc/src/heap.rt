@@ -1,6 +1,6 @@
 //! The heap of a core's message passing buffer.
 
-ghost use Rattle.std.specs.Prelude.{◌≡◌, ℕ, ◌+◌, ◌<◌, ◌≤◌, ◌↔◌, ◌++◌, [], ◌∷◌, length, IsTrue, IsOk, IfOk, OnErr, OnOk, Contains, option_map, slice_index_or};
+ghost use Rattle.std.specs.Prelude.{◌≡◌, ◌+◌, ◌<◌, ◌↔◌, ◌++◌, [], ◌∷◌, length, IsTrue, IfOk, OnErr, OnOk, Contains, option_map, slice_index_or};
 ghost use Rattle.mpb_alloc.specs.Heaps.{front_of, longest_of, lowest_fit, given_back, taken_from, joined, returned, end_of, IsWithin, StandWithin};
 
 use arrayvec::ArrayVec;

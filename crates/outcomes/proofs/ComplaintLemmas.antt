@@ -1,18 +1,12 @@
 -- Endings, and the lines of complaints.
-use Rattle.std.proofs.Common.{◌≡◌, ℕ, Bool, true, false, List, [], ◌∷◌, ◌++◌, refl, sym, ◌∙◌, append_assoc, Result, Ok, Err}
+use Rattle.std.proofs.Common.{◌≡◌, ℕ, Bool, true, false, List, refl, sym, ◌∙◌, Result, Ok, Err}
 use Rattle.std.proofs.lemmas.Bool.{false≢true}
 use Rattle.std.specs.Result.{IsErr, IsOk}
-use Rattle.rcce_io.specs.Sending.{joined}
 use Rattle.outcomes.specs.declared.complaint.Complaint.{Complaint}
 use Rattle.outcomes.specs.declared.complaint.Complaint.TheVariants as complaint
 use Rattle.outcomes.specs.Statuses.{is_quiet}
 use Rattle.outcomes.specs.Outcomes.{Ran, run_outcome}
 use Rattle.outcomes.specs.Complaints.{complaint_outcome, outcome_of}
-
--- the line of refused words, part by part
-pub words_line : (program colon fault word behind value end : List ℕ) →
-    joined (program ∷ colon ∷ (fault ++ (word ++ (behind ++ value))) ∷ end ∷ []) ≡ joined (program ∷ colon ∷ fault ∷ word ∷ behind ∷ value ∷ end ∷ [])
-words_line program colon fault word behind value end = simp append_assoc
 
 run_loud : (ran : Ran) (finished : Bool) → ran.finished ≡ finished → is_quiet (run_outcome ran).status ≡ false
 run_loud ran true is = rw is refl

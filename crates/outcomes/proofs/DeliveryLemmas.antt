@@ -1,35 +1,15 @@
 -- What the sinks took of an outcome's texts.
-use Rattle.std.proofs.Common.{◌≡◌, ◌⊎◌, ℕ, ◌<◌, ◌≤◌, true, List, [], refl, sym, ap, subst, ◌∙◌, inl, inr, arith, Result, Ok, Err}
+use Rattle.std.proofs.Common.{◌≡◌, ◌⊎◌, ℕ, ◌<◌, ◌≤◌, true, List, [], refl, sym, ap, subst, ◌∙◌, inl, inr, arith}
 use Rattle.std.proofs.lemmas.Bool.{false≢true}
 use Rattle.std.proofs.lemmas.List.{append-nil}
-use Rattle.std.specs.Result.{IsErr}
-use Rattle.rcce_io.specs.declared.writing.WriteFault.{WriteFault}
 use Rattle.rcce_io.specs.Faults.{next_count, Rose, IsSteady}
-use Rattle.rcce_io.specs.Sending.{SinkView, CutShort, Sends, with_text}
+use Rattle.rcce_io.specs.Sending.{SinkView, CutShort, with_text}
 use Rattle.rcce_io.proofs.SendingLemmas.{text_none}
 use Rattle.outcomes.specs.declared.status.Status.{Status}
 use Rattle.outcomes.specs.declared.status.Status.TheVariants as status
 use Rattle.outcomes.specs.Statuses.{is_quiet}
 use Rattle.outcomes.specs.Outcomes.{Outcome, no_memory}
-use Rattle.outcomes.specs.Delivery.{Sinks, sinks, Sent, Delivers, AreSteady, Shows, ShowsOr, TakesFront}
-
--- both texts, one behind the other
-pub sent_both : (o : Outcome) (out out_after err err_after : SinkView) (r : Result (Unit {0}) WriteFault) →
-    out_after ≡ with_text o.out out → Sends o.err err err_after r → Sent o (sinks out err) (sinks out_after err_after) r
-sent_both o out out_after err err_after (Ok _) first second = rw (first, second) refl
-sent_both o out out_after err err_after (Err _) first second = inr (first, second)
-
--- a text for err alone
-pub sent_alone : (o : Outcome) (out err err_after : SinkView) (r : Result (Unit {0}) WriteFault) →
-    o.out ≡ [] → Sends o.err err err_after r → Sent o (sinks out err) (sinks out err_after) r
-sent_alone o out err err_after r none sent =
-    sent_both o out out err err_after r (sym (ap (λ t. with_text t out) none ∙ text_none out)) sent
-
--- the first text was cut short
-pub sent_stopped : (o : Outcome) (out out_after err : SinkView) (r : Result (Unit {0}) WriteFault) →
-    IsErr r → CutShort o.out out out_after → Sent o (sinks out err) (sinks out_after err) r
-sent_stopped o out out_after err (Ok _) failed cut = absurd (false≢true failed)
-sent_stopped o out out_after err (Err _) failed cut = inl (cut, refl)
+use Rattle.outcomes.specs.Delivery.{Sinks, Delivers, AreSteady, Shows, ShowsOr, TakesFront}
 
 -- a count that rose did not stay
 pub rose_not_steady : (before now : ℕ) → Rose before now → IsSteady before now → ⊥

@@ -1,5 +1,5 @@
 -- A crew of fresh UEs, which grows by one member after the other.
-use Rattle.std.proofs.Common.{◌≡◌, ℕ, ◌+◌, List, [], ◌∷◌, ◌++◌, None, sym, subst, ap, ◌∙◌, arith, slice_index_or}
+use Rattle.std.proofs.Common.{◌≡◌, ℕ, ◌+◌, List, [], ◌∷◌, ◌++◌, None, sym, subst, arith}
 use Rattle.std.proofs.lemmas.List.{length_push}
 use Rattle.scc_base.specs.Setups.{SetupView}
 use Rattle.scc_mesh.specs.Scenes.{ChipView, IsNew}
@@ -27,7 +27,5 @@ pub crew_fresh : (script : Script) (s : SetupView) (crew : List (Member UeView))
 crew_fresh script s crew are chip new = record {
   whole = new.whole;
   empty = λ r low. new.empty r;
-  each = are.count ∙ sym (ap (λ (x : SetupView). x.nue) new.about);
-  fresh = λ k d low. subst (λ (x : SetupView). IsFreshUe script x k (slice_index_or crew k d).worker) (sym new.about) (are.each k d (omega (arith, are.count, low))).fresh;
-  home = λ k d low. (are.each k d (omega (arith, are.count, low))).home;
+  members = subst (λ (x : SetupView). AreFresh script x x.nue crew) (sym new.about) are;
 }

@@ -51,20 +51,23 @@ use Rattle.rcce_run.proofs.VainLike.{slot_like}
 pub fresh_crew : (script : Script) (chip : ChipView) (crew : List (Member UeView)) → IsFreshCrew script chip crew → IsCrew member_tied chip crew
 fresh_crew script chip crew fresh = record {
   whole = fresh.whole;
-  each = fresh.each;
-  ties = λ k d low. record {
-    ties = ue_stands (slice_index_or crew k d).worker (about_in chip) k (events_in chip k)
-        (λ sight setup rank events. (fresh.fresh k d low).tied sight setup rank (events ∙ fresh.empty k (subst (λ (n : ℕ). k < n) fresh.each low)));
-    empty = fresh.home k d low;
-  };
+  each = fresh.members.count;
+  ties = λ k d low.
+      let below : k < (about_in chip).nue = subst (λ (n : ℕ). k < n) fresh.members.count low in
+      let member = fresh.members.each k d below in
+      record {
+        ties = ue_stands (slice_index_or crew k d).worker (about_in chip) k (events_in chip k)
+            (λ sight setup rank events. member.fresh.tied sight setup rank (events ∙ fresh.empty k below));
+        empty = member.home;
+      };
 }
 
 pub fresh_run : (script : Script) (chip : ChipView) (crew : List (Member UeView)) → IsFreshCrew script chip crew → AllRun member_seen script crew
-fresh_run script chip crew fresh k d low = ap (λ (m : MachineView). m.script) (fresh.fresh k d low).machine
+fresh_run script chip crew fresh k d low = ap (λ (m : MachineView). m.script) (fresh.members.each k d (subst (λ (n : ℕ). k < n) fresh.members.count low)).fresh.machine
 
 pub fresh_some : (script : Script) (chip : ChipView) (crew : List (Member UeView)) (s : SetupView) → IsFreshCrew script chip crew → s ≡ about_in chip → 1 ≤ s.nue → 0 < length crew
 fresh_some script chip crew s fresh same ranks =
-    let each = fresh.each in
+    let each = fresh.members.count in
     let some : 1 ≤ (about_in chip).nue = subst (λ (x : SetupView). 1 ≤ x.nue) same ranks in
     omega (arith, each, some)
 

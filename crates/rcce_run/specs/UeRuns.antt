@@ -42,14 +42,12 @@ pub record AreFresh (script : Script) (s : SetupView) (n : ℕ) (crew : List (Me
   pub count : length crew ≡ n
   pub each : (rank : ℕ) (d : Member UeView) → rank < n → IsFreshMember script s rank (slice_index_or crew rank d)
 
--- a chip that is open without events, all its ranks at home, and for each rank, in rank order, a UE of this script with the
--- chip's setup, before its first turn
+-- a chip that is open without events, all its ranks at home, and for each rank such a member, of this script and with the
+-- chip's setup
 pub record IsFreshCrew (script : Script) (chip : ChipView) (crew : List (Member UeView)) : Type 0 where
   pub whole : IsWhole chip
   pub empty : (r : ℕ) → r < (about_in chip).nue → events_in chip r ≡ []
-  pub each : length crew ≡ (about_in chip).nue
-  pub fresh : (k : ℕ) (d : Member UeView) → k < length crew → IsFreshUe script (about_in chip) k (slice_index_or crew k d).worker
-  pub home : (k : ℕ) (d : Member UeView) → k < length crew → (slice_index_or crew k d).token ≡ None
+  pub members : AreFresh script (about_in chip) (about_in chip).nue crew
 
 -- what a run sees of the UE of a member, and where it stands
 abbrev pub member_seen : Member UeView → WorkerView

@@ -1,6 +1,6 @@
 //! A row of turns of one worker, in the thread that makes its rank's events.
 
-ghost use Rattle.std.specs.Prelude.{◌≡◌, ◌≤◌, ◌<◌};
+ghost use Rattle.std.specs.Prelude.{◌≡◌, ◌<◌};
 ghost use Rattle.rcce_run.specs.Away.{IsLater, RowOfTurns, vain_by};
 
 use crate::workers::Worker;

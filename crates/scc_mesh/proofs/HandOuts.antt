@@ -74,15 +74,6 @@ pub after_gather : (chip new : ChipView) (n r : ℕ) (events : List Event) → r
 after_gather chip new n r events is made before below =
     subst (λ (x : ChipView). IsHomeBelow x (n + 1)) (sym (made ∙ ap (λ q. with_home chip (slice_set (home_in chip) q (Some events))) is)) (one_came_home chip n events before below)
 
--- a rank that came home has its token's events
-pub home_events : (chip new : ChipView) (r n : ℕ) (events : List Event) → new ≡ with_home chip (slice_set (home_in chip) r (Some events)) → IsHomeBelow chip n
-    → r < (about_in chip).nue → events_in new r ≡ events
-home_events chip new r n events made before below = ap (λ (x : ChipView). events_in x r) made ∙ kept chip before.room below
-  where
-    kept : (c : ChipView) → (about_in c).nue ≤ length (home_in c) → r < (about_in c).nue → events_in (with_home c (slice_set (home_in c) r (Some events))) r ≡ events
-    kept None room lt = absurd (omega (arith, lt))
-    kept (Some scene) room lt = ap list_or_none (known_here scene.home r (Some events) (omega (arith, room, lt)))
-
 -- the others keep their events where a rank is handed out
 pub others_keep : (chip new : ChipView) (r q : ℕ) → q ≢ r → new ≡ with_home chip (without (home_in chip) r) → events_in new q ≡ events_in chip q
 others_keep chip new r q ne made = ap (λ (x : ChipView). events_in x q) made ∙ kept chip

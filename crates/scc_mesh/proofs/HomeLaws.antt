@@ -1,5 +1,5 @@
 -- What a chip with its ranks at home knows.
-use Rattle.std.proofs.Common.{◌≡◌, ◌≢◌, length, slice_set, ℕ, ◌<◌, ◌≤◌, Bool, true, false, nat_lt, List, [], Option, Some, None, refl, sym, ◌∙◌, ap, subst, arith}
+use Rattle.std.proofs.Common.{◌≡◌, ℕ, ◌<◌, ◌≤◌, Bool, true, false, nat_lt, List, [], Option, Some, None, refl, sym, ◌∙◌, ap, subst, arith}
 use Rattle.std.proofs.lemmas.Bool.Decides.{nat_tests}
 use Rattle.scc_base.specs.Setups.{SetupView}
 use Rattle.scc_base.specs.declared.events.Event.{Event}
@@ -8,11 +8,11 @@ use Rattle.scc_proto.specs.Soundness.{IsSound}
 use Rattle.scc_proto.specs.Ports.{IsSoundPort, record_in}
 use Rattle.scc_proto.proofs.Tests.{both_first, both_second}
 use Rattle.scc_proto.proofs.SoundLaw.{sound_law}
-use Rattle.scc_mesh.specs.SeatViews.{View, known, list_or_none, list_at, IsKnown, newcomer, without}
+use Rattle.scc_mesh.specs.SeatViews.{View, known, list_or_none, list_at, IsKnown, newcomer}
 use Rattle.scc_mesh.specs.Keeping.{records_by, Together}
-use Rattle.scc_mesh.specs.Scenes.{ChipView, Scene, IsHome, about_in, home_in, events_in, with_home, IsWhole, IsNew, KnowsHome, AgreesAtHome, is_port_of, sight_in}
+use Rattle.scc_mesh.specs.Scenes.{ChipView, Scene, about_in, events_in, IsWhole, IsNew, KnowsHome, AgreesAtHome, is_port_of, sight_in}
 use Rattle.scc_mesh.specs.Scenes as scenes
-use Rattle.scc_mesh.proofs.ViewLemmas.{is_known, known_here, known_there, list_past, newcomer_here, newcomer_list}
+use Rattle.scc_mesh.proofs.ViewLemmas.{is_known, list_past, newcomer_here, newcomer_list}
 
 module _ (scene : Scene) (whole : IsWhole (Some scene)) (knows : KnowsHome (Some scene)) where
   same_list : (r : ℕ) → knows.0.lists r ≡ list_at scene.home r
@@ -63,15 +63,3 @@ new_chip s scene about home = record {
   whole = record { opened = refl; home = λ r lt. subst (λ (v : View). IsKnown v r) (sym home) (newcomer_here s r (subst (λ (x : SetupView). r < x.nue) about lt)) };
   empty = λ r. ap (λ (v : View). list_at v r) home ∙ newcomer_list s r;
 }
-
--- the other ranks stay at home where one goes away
-pub still_home : (chip : ChipView) (r q : ℕ) → q ≢ r → IsHome chip q → IsHome (with_home chip (without (home_in chip) r)) q
-still_home None r q ne here = here
-still_home (Some scene) r q ne here =
-    let same = known_there scene.home r None q ne in
-    same ∙ here ∙ (λ i. Some (list_or_none (sym same i)))
-
--- a rank that was taken home is at home
-pub home_again : (chip : ChipView) (r : ℕ) (events : List Event) → r < length (home_in chip) → IsHome (with_home chip (slice_set (home_in chip) r (Some events))) r
-home_again None r events lt = absurd (omega (arith, lt))
-home_again (Some scene) r events lt = is_known (slice_set scene.home r (Some events)) r events (known_here scene.home r (Some events) lt)

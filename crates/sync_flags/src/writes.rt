@@ -1,14 +1,14 @@
 //! Writes of flags.
 
-ghost use Rattle.std.specs.Prelude.{◌≡◌, ◌<◌, ◌≤◌, ◌↔◌, ℕ, List, [], ◌∷◌, None, Some, IsErr, IfSome, is_some, false};
-ghost use Rattle.scc_base.specs.Events.{store_of, take_of};
+ghost use Rattle.std.specs.Prelude.{◌≡◌, ◌<◌, ◌≤◌, ◌↔◌, ℕ, List, [], None, Some, IsErr, IfSome, is_some, false};
+ghost use Rattle.scc_base.specs.Events.{store_of};
 ghost use Rattle.scc_base.specs.declared.events.Event.{Event};
 ghost use Rattle.scc_proto.specs.Ports.{Did, MayMake, record_in};
 ghost use Rattle.put_get.specs.Cores.{MadeSteps};
 ghost use Rattle.tas_lock.specs.Holds.{IsHolding, IsNotHolding, after_try};
 ghost use Rattle.sync_flags.specs.Flags.{flag_of, with_bit};
 ghost use Rattle.sync_flags.specs.Tries.{AtRegister, TriedInVain};
-ghost use Rattle.sync_flags.specs.Writes.{MayChange, MayWrite, StoresWord, TakesWithin, ChangesBit, TriesChange, WritesBit, GivesUp, WritesFlag};
+ghost use Rattle.sync_flags.specs.Writes.{MayChange, MayWrite, StoresWord, TakesWithin, ChangesBit, TriesChange, WritesFlag};
 
 use crate::flags::Flag;
 use crate::looks::look_word;

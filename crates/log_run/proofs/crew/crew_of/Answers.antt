@@ -1,4 +1,4 @@
-use Rattle.std.proofs.Common.{ap, arith, length, List, [], Option, Some, ℕ, subst, sym, slice_index_or}
+use Rattle.std.proofs.Common.{ap, arith, length, List, [], Option, ℕ, subst, sym, slice_index_or}
 use Rattle.std.proofs.lemmas.List.{length_push}
 use Rattle.scc_base.specs.Setups.{SetupView}
 use Rattle.rcce_ue.specs.Ues.{UeView}
