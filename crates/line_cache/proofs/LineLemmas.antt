@@ -56,15 +56,6 @@ held_at (x ∷ xs) (suc i) line e s h is t = by (held_at xs i line e s.1 (omega 
         absurd (cc)
     by behind false q = rw q behind
 
--- looking a line up place by place, from the last entry back
-pub none_from : (es : List Entry) (i : ℕ) (line : LineAt) (e : Entry) → i < length es → e ≡ get_or es i e
-    → held (drop (i + 1) es) line ≡ None → same_line e.line line ≡ false → held (drop i es) line ≡ None
-none_from es i line e h is w f =
-    let d : drop i es ≡ e ∷ drop (suc i) es = drop-cons es i e h ∙ ap (λ x. x ∷ drop (suc i) es) (sym is) in
-    let next : i + 1 ≡ suc i = omega arith in
-    let behind : held (drop (suc i) es) line ≡ None = subst (λ k. held (drop k es) line ≡ None) next w in
-    rw (d, f) behind
-
 -- the entries before a place were written, those from there on are as they were
 pub noted_on : (p : WordAt) (v : ℕ) (old now : List Entry) (i : ℕ) (e : Entry) → i < length now → e ≡ get_or now i e
     → take i now ≡ noted (take i old) p v → drop i now ≡ drop i old
