@@ -2,7 +2,6 @@
 use Rattle.std.proofs.Common.{◌≡◌, ℕ, List, [], Option, Some, None, refl, sym, subst}
 use base.Stored.{Gv, gnil}
 use Rattle.scc_base.specs.Setups.{SetupView}
-use Rattle.scc_base.specs.declared.events.Event.{Event}
 use Rattle.scc_proto.specs.Ports.{Sight, record_in}
 use Rattle.put_get.specs.Cores.{Private}
 use Rattle.send_recv.specs.Calling.{IsBetweenMessages}
@@ -48,8 +47,3 @@ pub op_begins : (s : Sight) (c : Private) (slot : SlotAt) (src dst : List ℕ) (
     → IsFit more s.seat.rank s.seat.setup.nue len src dst → op ≡ new_more more len → Stands (taking_part s c op slot src dst)
 op_begins s c slot src dst op more len free fits is =
     subst (λ (x : MoreAt). Stands (taking_part s c x slot src dst)) (sym is) ((record_in s).calls, begins s c slot more len src dst free fits)
-
--- the same for a list of events that is empty
-pub op_starts_there : (s : SetupView) (r : ℕ) (events : List Event) (c : Private) (slot : SlotAt) (src dst : List ℕ) (op : Option MoreAt) → events ≡ []
-    → ((s : SetupView) (r : ℕ) → IsAtOp (sight_alone s r []) c slot src dst op) → IsAtOp (sight_alone s r events) c slot src dst op
-op_starts_there s r events c slot src dst op none ready = subst (λ (es : List Event). IsAtOp (sight_alone s r es) c slot src dst op) (sym none) (ready s r)

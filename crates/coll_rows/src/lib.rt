@@ -8,4 +8,6 @@ mod meetings;
 #[cfg(test)]
 mod members;
 #[cfg(test)]
+mod pieces;
+#[cfg(test)]
 mod runs;

@@ -1,76 +1,64 @@
 //! Collective calls of two and of three ranks of a chip with one seat.
 
-use crate::members::{Job, Member};
+ghost use Rattle.std.specs.Prelude.{◌≤◌};
+
+use crate::members::{Fresh, Member, member_of};
+use crate::pieces::KINDS;
 use chip_teams::{Team, opened};
 use coll_more::More;
 use line_cache::{Always, Evict, Never};
-use scc_base::{CommRule, Layout};
+use scc_base::{CommRule, Layout, Rank};
 use std::alloc::Global;
 use std::test::Fail;
 
-/// An evictor that can be made for each rank.
-pub(crate) trait Fresh: Evict + Drop {
-    fn fresh() -> Self;
-}
-
-impl Fresh for Never {
-    fn fresh() -> Never {
-        Never
-    }
-}
-
-impl Fresh for Always {
-    fn fresh() -> Always {
-        Always::new()
-    }
-}
-
-/// The four collective calls.
-pub(crate) const KINDS: &[More] = &[More::Gather, More::Scatter, More::Allgather, More::Alltoall];
-
-// A call that a rank makes twice.
-fn jobs_of(alloc: Global, more: More, len: u32, rank: u8, nue: u8) -> Result<Vec<Job>, Fail> {
-    let mut jobs = Vec::new(alloc);
-    for _ in 0..2 {
-        jobs.push(Job::new(alloc, more, len, rank, nue)?)?;
-    }
-    Ok(jobs)
-}
-
-// Gives the next rank of a team a call to make twice.
+// Gives the next rank of a team a call to make so many times.
 fn join_next<V: Fresh>(
     alloc: Global,
     team: &mut Team<Member<V>>,
     more: More,
     len: u32,
-    rank: u8,
+    rank: Rank,
     nue: u8,
-) -> Result<(), Fail> {
-    let jobs = jobs_of(alloc, more, len, rank, nue)?;
-    team.join(Member::new(alloc, V::fresh(), jobs))
+    times: u32,
+) -> Result<(), Fail>
+    requires few { nue ≤ 48 }
+    requires short { len ≤ 1024 }
+{
+    team.join(member_of(alloc, more, len, rank, nue, times)?)
 }
 
-// Some ranks, which make a call twice each.
-fn met<V: Fresh>(
+/// Some ranks of a chip, which are to make a call so many times each.
+pub(crate) fn met<V: Fresh>(
     alloc: Global,
     layout: Layout,
     nue: u8,
     more: More,
     len: u32,
-) -> Result<Team<Member<V>>, Fail> {
+    times: u32,
+) -> Result<Team<Member<V>>, Fail>
+    requires few { nue ≤ 48 }
+    requires short { len ≤ 1024 }
+{
     let mut team = Team::new(alloc, opened(alloc, nue, layout, CommRule::Absent)?);
     for rank in 0..nue {
-        join_next(alloc, &mut team, more, len, rank, nue)?;
+        join_next(alloc, &mut team, more, len, Rank::of(rank), nue, times)?;
     }
     Ok(team)
+}
+
+/// How many calls of a rank have got the bytes that were to come.
+pub(crate) fn right_at<V: Evict + Drop>(team: &Team<Member<V>>, at: usize) -> u32 {
+    match team.player(at) {
+        Some(member) => member.right,
+        None => 0,
+    }
 }
 
 // Whether these ranks have made two calls, each with the bytes that were to come.
 fn are_right<V: Evict + Drop>(team: &Team<Member<V>>, order: &[usize]) -> bool {
     for at in order {
-        match team.player(*at) {
-            Some(member) if member.right == 2 => {}
-            _ => return false,
+        if right_at(team, *at) != 2 {
+            return false;
         }
     }
     true
@@ -84,27 +72,32 @@ fn end_right<V: Fresh>(
     more: More,
     len: u32,
 ) -> Result<bool, Fail> {
-    let mut team = met::<V>(alloc, layout, order.len().min(48) as u8, more, len)?;
+    let nue = order.len();
+    if nue > 48 || len > 1_024 {
+        return Ok(false);
+    }
+    let mut team = met::<V>(alloc, layout, nue as u8, more, len, 2)?;
     Ok(team.rounds(order, 2_000) > 0 && are_right(&team, order))
 }
 
-// Whether the pieces of this length come in both layouts, where no line is evicted and where one is at each fill.
-fn come(alloc: Global, order: &[usize], more: More, len: u32) -> Result<bool, Fail> {
-    let mut right = true;
-    for layout in [Layout::LineFlags, Layout::BitFlags] {
-        right = end_right::<Never>(alloc, layout, order, more, len)? && right;
-        right = end_right::<Always>(alloc, layout, order, more, len)? && right;
-    }
-    Ok(right)
+// Whether the pieces of this length come in this layout, where no line is evicted and where one is at each fill.
+fn come(
+    alloc: Global,
+    layout: Layout,
+    order: &[usize],
+    more: More,
+    len: u32,
+) -> Result<bool, Fail> {
+    let kept = end_right::<Never>(alloc, layout, order, more, len)?;
+    Ok(end_right::<Always>(alloc, layout, order, more, len)? && kept)
 }
 
-// Whether the pieces come of each call, of no byte, of one and of a line and one byte.
-fn all_come(alloc: Global, order: &[usize]) -> Result<bool, Fail> {
+// Whether the pieces of each call come in both layouts.
+fn all_come(alloc: Global, order: &[usize], len: u32) -> Result<bool, Fail> {
     let mut right = true;
     for more in KINDS {
-        for len in &[0, 1, 33] {
-            right = come(alloc, order, *more, *len)? && right;
-        }
+        right = come(alloc, Layout::LineFlags, order, *more, len)? && right;
+        right = come(alloc, Layout::BitFlags, order, *more, len)? && right;
     }
     Ok(right)
 }
@@ -114,7 +107,9 @@ const ORDERS: &[&[usize]] = &[&[0, 1], &[0, 1, 2], &[2, 0, 1]];
 #[test]
 fn the_pieces_come_to_two_and_three_ranks(rt: HostRuntime) -> Result<(), Fail> {
     for order in ORDERS {
-        assert!(rt; all_come(rt.alloc(), order)?);
+        for len in &[0, 1, 33] {
+            assert!(rt; all_come(rt.alloc(), order, *len)?);
+        }
     }
     Ok(())
 }

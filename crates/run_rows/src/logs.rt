@@ -8,33 +8,50 @@ use rcce_run::RunEnd;
 use scc_base::{Layout, Rank};
 use scc_mesh::Chip;
 use script_reader::{Scripts, read_script};
-use std::alloc::Global;
-use std::test::Fail;
+use std::alloc::{AllocError, Global};
+
+const BYTES: &[u8] = &[1, 2, 3, 4];
 
 /// Whether a rank has made one call, of four bytes.
 fn keeps_one_call(run: &LogRun<'_>, rank: Rank) -> bool
     requires below { rank < run.now.nue }
 {
-    run.calls(rank).len() == 1 && run.bytes(rank) == [1u8, 2, 3, 4].as_slice()
+    run.calls(rank).len() == 1 && run.bytes(rank) == BYTES
+}
+
+/// Whether a run of two ranks has finished, and keeps one call of each.
+fn keeps_two_calls(run: &LogRun<'_>) -> bool
+    requires two { run.now.nue ≡ 2 }
+{
+    keeps_one_call(run, Rank::of(0))
+        && keeps_one_call(run, Rank::of(1))
+        && run.end() == RunEnd::Finished
 }
 
 /// Whether a run of a script for two ranks has room, finishes, and keeps one call of each rank.
-fn keeps_both(alloc: Global, scripts: &Scripts) -> Result<bool, Fail>
+fn keeps_both(alloc: Global, scripts: &Scripts) -> Result<bool, AllocError>
     requires two { scripts.now.nue ≡ 2 }
 {
-    let setup = setup_of(scripts, Layout::lines()).ok_or("a setup")?;
+    let Some(setup) = setup_of(scripts, Layout::LineFlags) else {
+        return Ok(false);
+    };
     if !has_room(alloc, scripts)? {
         return Ok(false);
     }
     let mut chip = Chip::blank();
     let run = run_script(alloc, scripts, &setup, &mut chip)?;
-    let both = keeps_one_call(&run, Rank::of(0)) && keeps_one_call(&run, Rank::of(1));
-    Ok(both && run.end() == RunEnd::Finished)
+    Ok(keeps_two_calls(&run))
+}
+
+/// Whether the run of this text does so.
+fn is_kept(alloc: Global, text: &[u8]) -> bool {
+    match read_script(alloc, text, 2) {
+        Ok(scripts) => matches!(keeps_both(alloc, &scripts), Ok(true)),
+        Err(_) => false,
+    }
 }
 
 #[test]
-fn a_message_is_kept_by_both_ranks(rt: HostRuntime) -> Result<(), Fail> {
-    let scripts = read_script(rt.alloc(), FOUR_BYTES.script, 2)?;
-    assert!(rt; keeps_both(rt.alloc(), &scripts)?);
-    Ok(())
+fn a_message_is_kept_by_both_ranks(rt: HostRuntime) {
+    assert!(rt; is_kept(rt.alloc(), FOUR_BYTES.script));
 }

@@ -2,13 +2,12 @@
 
 ghost use Rattle.std.specs.Prelude.{None, []};
 
-use crate::runs::{Evictors, FOUR_BYTES, Nevers, come};
-use line_cache::Evict;
-use rcce_run::{Gate, Mode, Open, RunEnd};
+use crate::runs::{FOUR_BYTES, PerRank, comes_to};
+use line_cache::{Evict, Never};
+use rcce_run::{Gate, Mode, Open};
 use scc_base::{Layout, Rank};
 use std::alloc::Global;
 use std::sync::atomic::{AtomicU64, Ordering};
-use std::test::Fail;
 use std::thread::Threads;
 
 /// How often a rank looks for the other one.
@@ -77,14 +76,8 @@ impl<'a> Evict for Meets<'a> {
     }
 }
 
-/// Evictors that meet here.
-#[derive(Drop)]
-struct MeetAt<'a> {
-    meeting: &'a Meeting,
-}
-
-impl<'a> Evictors<Meets<'a>> for MeetAt<'a> {
-    fn make(&self, rank: u8) -> Meets<'a> {
+impl<'a> PerRank for Meets<'a> {
+    fn for_rank(&self, rank: u8) -> Meets<'a> {
         let _ = rank;
         Meets {
             meeting: self.meeting,
@@ -94,36 +87,29 @@ impl<'a> Evictors<Meets<'a>> for MeetAt<'a> {
 }
 
 /// Whether four bytes arrive by two ranks that meet.
-fn meet<V: Evict + Drop + Send, E: Evictors<V>, G: Gate + Sync, R: Threads + Sync>(
+fn meet<V: PerRank + Send, G: Gate + Sync, R: Threads + Sync>(
     rt: &R,
     alloc: Global,
-    evictors: &E,
+    like: &V,
     gate: &G,
     meeting: &Meeting,
-) -> Result<bool, Fail> {
-    let came = come(
-        rt,
-        alloc,
-        FOUR_BYTES,
-        Layout::lines(),
-        evictors,
-        Mode::Threads,
-        gate,
-    )?;
-    Ok(came.end == RunEnd::Finished && meeting.was_held())
+) -> bool {
+    let layout = Layout::LineFlags;
+    comes_to(rt, alloc, layout, FOUR_BYTES, like, Mode::Threads, gate) && meeting.was_held()
 }
 
 #[test]
-fn two_ranks_wait_for_each_other_at_the_gate(rt: HostRuntime) -> Result<(), Fail> {
+fn two_ranks_wait_for_each_other_at_the_gate(rt: HostRuntime) {
     let meeting = Meeting::new();
-    assert!(rt; meet(&rt, rt.alloc(), &Nevers, &meeting, &meeting)?);
-    Ok(())
+    assert!(rt; meet(&rt, rt.alloc(), &Never, &meeting, &meeting));
 }
 
 #[test]
-fn two_ranks_wait_for_each_other_inside_their_turns(rt: HostRuntime) -> Result<(), Fail> {
+fn two_ranks_wait_for_each_other_inside_their_turns(rt: HostRuntime) {
     let meeting = Meeting::new();
-    let evictors = MeetAt { meeting: &meeting };
-    assert!(rt; meet(&rt, rt.alloc(), &evictors, &Open, &meeting)?);
-    Ok(())
+    let meets = Meets {
+        meeting: &meeting,
+        was_asked: false,
+    };
+    assert!(rt; meet(&rt, rt.alloc(), &meets, &Open, &meeting));
 }

@@ -12,67 +12,52 @@ use scc_base::{CoreId, Layout, Rank, Setup};
 use scc_mesh::Chip;
 use script_plain::UeEnd;
 use script_reader::{Scripts, read_script};
-use std::alloc::{Alloc, Global};
-use std::process::Abort;
-use std::test::Fail;
+use std::alloc::{AllocError, Global};
 use std::thread::Threads;
 
-/// A script for some ranks, and what it comes to.
+/// How a rank ends, and at which line.
+pub(crate) enum End {
+    Finished,
+    Waits(u32),
+    Mismatch(u32),
+}
+
+/// A script, and what it comes to: the end of the run, and of each rank its end and the items that it prints.
 #[derive(Drop)]
 pub(crate) struct Row<'a> {
-    shows: &'a str,
-    nue: u8,
     pub(crate) script: &'a [u8],
     end: RunEnd,
-    /// How each rank ends, and at which line: `f` has finished, `w` waits, `m` was stopped by a mismatch.
-    ranks: &'a [(u8, u32)],
-    /// The bytes of all printed items, in rank order.
-    printed: &'a [u8],
+    ranks: &'a [(End, &'a [&'a [u8]])],
 }
 
 /// Rank 0 sends four bytes to rank 1, which prints them.
 pub(crate) const FOUR_BYTES: &Row<'static> = &Row {
-    shows: "four bytes",
-    nue: 2,
     script: b"ue 0\nbytes x 01020304\nsend 1 x\nue 1\nrecv 0 y 4\nprint y\n",
     end: RunEnd::Finished,
-    ranks: &[(b'f', 0), (b'f', 0)],
-    printed: &[1, 2, 3, 4],
+    ranks: &[(End::Finished, &[]), (End::Finished, &[&[1, 2, 3, 4]])],
 };
 
-/// Makes an evictor for each rank.
-pub(crate) trait Evictors<V: Evict> {
-    fn make(&self, rank: u8) -> V;
+/// An evictor that makes one of its kind for each rank.
+pub(crate) trait PerRank: Evict + Drop {
+    fn for_rank(&self, rank: u8) -> Self;
 }
 
-/// Evictors that drop nothing.
-#[derive(Drop)]
-pub(crate) struct Nevers;
-
-impl Evictors<Never> for Nevers {
-    fn make(&self, rank: u8) -> Never {
+impl PerRank for Never {
+    fn for_rank(&self, rank: u8) -> Never {
         let _ = rank;
         Never
     }
 }
 
-/// Evictors that drop the oldest line at every fill.
-#[derive(Drop)]
-struct Each;
-
-impl Evictors<Always> for Each {
-    fn make(&self, rank: u8) -> Always {
+impl PerRank for Always {
+    fn for_rank(&self, rank: u8) -> Always {
         let _ = rank;
         Always::new()
     }
 }
 
-/// Evictors that a seed starts for each rank.
-#[derive(Drop)]
-struct Seeds;
-
-impl Evictors<Seeded> for Seeds {
-    fn make(&self, rank: u8) -> Seeded {
+impl PerRank for Seeded {
+    fn for_rank(&self, rank: u8) -> Seeded {
         Seeded::new(rank as u64)
     }
 }
@@ -91,7 +76,7 @@ pub(crate) fn setup_of(scripts: &Scripts, layout: Layout) -> Option<Setup>
 }
 
 /// A chip that was just opened.
-fn opened(alloc: Global, setup: &Setup) -> Result<Chip, Fail>
+fn opened(alloc: Global, setup: &Setup) -> Result<Chip, AllocError>
     ensures new { IfOk result (λ chip. IsNew setup.now chip) }
 {
     let mut chip = Chip::blank();
@@ -99,13 +84,13 @@ fn opened(alloc: Global, setup: &Setup) -> Result<Chip, Fail>
     Ok(chip)
 }
 
-/// A member for each rank.
-fn crew_of<'s, V: Evict + Drop, E: Evictors<V>>(
+/// A member for each rank, with an evictor like this one.
+fn crew_of<'s, V: PerRank>(
     alloc: Global,
     scripts: &'s Scripts,
     setup: &Setup,
-    evictors: &E,
-) -> Result<Vec<Crew<'s, V>>, Fail>
+    like: &V,
+) -> Result<Vec<Crew<'s, V>>, AllocError>
     requires ranks { setup.now.nue ≡ scripts.now.nue }
     requires communicators { setup.now.comms ≡ rules_of scripts.now.items }
     ensures fresh { IfOk result (λ crew. (chip : ChipView) → IsNew setup.now chip → IsFreshCrew scripts.now chip crew.items) }
@@ -117,114 +102,124 @@ fn crew_of<'s, V: Evict + Drop, E: Evictors<V>>(
             scripts,
             setup.copy(),
             Rank::of(number),
-            evictors.make(number),
+            like.for_rank(number),
         )?;
         crew.push(Crew::new(ue))?;
     }
     Ok(crew)
 }
 
-/// What a run came to.
-#[derive(Drop)]
-pub(crate) struct Came {
-    pub(crate) end: RunEnd,
-    ranks: Vec<(u8, u32)>,
-    printed: Vec<u8>,
-}
-
-/// How a UE ends, and at which line.
-fn end_of<V: Evict + Drop>(ue: &Ue<'_, V>) -> (u8, u32) {
+/// Whether a UE has come to this end.
+fn is_at<V: Evict>(ue: &Ue<'_, V>, end: &End) -> bool {
     if !ue.is_pausing() {
-        return (b'g', 0);
+        return false;
     }
     match ue.end() {
-        UeEnd::Finished => (b'f', 0),
-        UeEnd::Waits { line, .. } => (b'w', line),
-        UeEnd::Mismatch { line, .. } => (b'm', line),
+        UeEnd::Finished => matches!(end, End::Finished),
+        UeEnd::Waits { line, .. } => matches!(end, End::Waits(at) if *at == line),
+        UeEnd::Mismatch { line, .. } => matches!(end, End::Mismatch(at) if *at == line),
     }
 }
 
-/// Notes how the UEs of a crew ended and what they printed.
-fn note<V: Evict + Drop>(alloc: Global, end: RunEnd, crew: &[Crew<'_, V>]) -> Result<Came, Fail> {
-    let mut ranks = Vec::new(alloc);
-    let mut printed = Vec::new(alloc);
-    for member in crew {
-        let ue = member.ue();
-        ranks.push(end_of(ue))?;
-        for i in 0..ue.items() {
-            printed.extend_from_slice(ue.item(i).bytes())?;
+/// Whether a UE has printed these items.
+fn has_printed<V: Evict>(ue: &Ue<'_, V>, wanted: &[&[u8]]) -> bool {
+    if ue.items() != wanted.len() {
+        return false;
+    }
+    for i in 0..wanted.len() {
+        if ue.item(i).bytes() != wanted[i] {
+            return false;
         }
     }
-    Ok(Came {
-        end,
-        ranks,
-        printed,
-    })
+    true
 }
 
-/// A run of a script on a new chip with this setup.
-fn run_of<V: Evict + Drop + Send, E: Evictors<V>, G: Gate + Sync, R: Threads + Sync>(
+/// Whether the ranks have come to what a row says.
+fn are_as_told<V: Evict + Drop>(crew: &[Crew<'_, V>], row: &Row<'_>) -> bool {
+    for (member, (end, printed)) in crew.iter().zip(row.ranks) {
+        if !is_at(member.ue(), end) || !has_printed(member.ue(), printed) {
+            return false;
+        }
+    }
+    crew.len() == row.ranks.len()
+}
+
+/// Whether a run of a script on a new chip with this setup comes to all that a row says.
+fn run_comes_to<V: PerRank + Send, G: Gate + Sync, R: Threads + Sync>(
     rt: &R,
     alloc: Global,
     scripts: &Scripts,
     setup: &Setup,
-    evictors: &E,
+    row: &Row<'_>,
+    like: &V,
     mode: Mode,
     gate: &G,
-) -> Result<Came, Fail>
+) -> Result<bool, AllocError>
     requires ranks { setup.now.nue ≡ scripts.now.nue }
     requires communicators { setup.now.comms ≡ rules_of scripts.now.items }
 {
     let mut chip = opened(alloc, setup)?;
-    let mut crew = crew_of(alloc, scripts, setup, evictors)?;
+    let mut crew = crew_of(alloc, scripts, setup, like)?;
     let end = run(rt, &mut chip, crew.as_mut_slice(), mode, gate);
-    note(alloc, end, crew.as_slice())
+    Ok(end == row.end && are_as_told(crew.as_slice(), row))
 }
 
-/// A run of a row's script.
-pub(crate) fn come<V: Evict + Drop + Send, E: Evictors<V>, G: Gate + Sync, R: Threads + Sync>(
+/// Whether a run of a script in this layout does.
+fn script_comes_to<V: PerRank + Send, G: Gate + Sync, R: Threads + Sync>(
     rt: &R,
     alloc: Global,
-    row: &Row,
+    scripts: &Scripts,
     layout: Layout,
-    evictors: &E,
+    row: &Row<'_>,
+    like: &V,
     mode: Mode,
     gate: &G,
-) -> Result<Came, Fail> {
-    if row.nue == 0 || row.nue > 48 {
-        return Err("a number of ranks".into());
+) -> bool {
+    match setup_of(scripts, layout) {
+        Some(setup) => matches!(
+            run_comes_to(rt, alloc, scripts, &setup, row, like, mode, gate),
+            Ok(true)
+        ),
+        None => false,
     }
-    let scripts = read_script(alloc, row.script, row.nue)?;
-    let setup = setup_of(&scripts, layout).ok_or("a setup")?;
-    run_of(rt, alloc, &scripts, &setup, evictors, mode, gate)
 }
 
-/// Whether a run came to all that its row says.
-fn is_as_told(came: &Came, row: &Row) -> bool {
-    came.end == row.end
-        && came.ranks.as_slice() == row.ranks
-        && came.printed.as_slice() == row.printed
-}
-
-/// Asserts something of a row by what it shows.
-fn holds<R: Abort>(rt: &R, is: bool, shows: &str) {
-    assert!(rt; is, "{shows}");
-}
-
-/// Runs a row's script in some modes and both layouts, and compares what it comes to.
-fn expect<V: Evict + Drop + Send, E: Evictors<V>, R: Threads + Sync + Alloc<A = Global> + Abort>(
+/// Whether a run of a row's script comes to all that the row says.
+pub(crate) fn comes_to<V: PerRank + Send, G: Gate + Sync, R: Threads + Sync>(
     rt: &R,
-    row: &Row,
+    alloc: Global,
+    layout: Layout,
+    row: &Row<'_>,
+    like: &V,
+    mode: Mode,
+    gate: &G,
+) -> bool {
+    let nue = row.ranks.len();
+    if nue < 1 || nue > 48 {
+        return false;
+    }
+    match read_script(alloc, row.script, nue as u8) {
+        Ok(scripts) => script_comes_to(rt, alloc, &scripts, layout, row, like, mode, gate),
+        Err(_) => false,
+    }
+}
+
+/// Whether runs in both layouts and these modes do.
+fn always_comes_to<V: PerRank + Send, R: Threads + Sync>(
+    rt: &R,
+    alloc: Global,
+    row: &Row<'_>,
+    like: &V,
     modes: &[Mode],
-    evictors: &E,
-) -> Result<(), Fail> {
+) -> bool {
     for mode in modes {
-        for layout in [Layout::LineFlags, Layout::BitFlags] {
-            let came = come(rt, rt.alloc(), row, layout, evictors, *mode, &Open)?;
-            holds(rt, is_as_told(&came, row), row.shows);
+        for layout in &[Layout::LineFlags, Layout::BitFlags] {
+            if !comes_to(rt, alloc, *layout, row, like, *mode, &Open) {
+                return false;
+            }
         }
     }
-    Ok(())
+    true
 }
 
 const MODES: &[Mode] = &[
@@ -235,64 +230,80 @@ const MODES: &[Mode] = &[
     Mode::Threads,
 ];
 
-#[test]
-fn four_bytes_arrive_in_every_mode_and_with_every_evictor(rt: HostRuntime) -> Result<(), Fail> {
-    expect(&rt, FOUR_BYTES, MODES, &Nevers)?;
-    expect(&rt, FOUR_BYTES, MODES, &Each)?;
-    expect(&rt, FOUR_BYTES, MODES, &Seeds)
+/// Whether four bytes arrive in every mode with evictors like this one.
+fn four_bytes_arrive<V: PerRank + Send, R: Threads + Sync>(
+    rt: &R,
+    alloc: Global,
+    like: &V,
+) -> bool {
+    always_comes_to(rt, alloc, FOUR_BYTES, like, MODES)
 }
 
-const ROWS: &[Row<'static>] = &[
-    Row {
-        shows: "a ring that all send first",
-        nue: 3,
-        script: b"all\nfill x 1 9\nsend +1 x\nrecv -1 y 1\nprint y\n",
-        end: RunEnd::Stuck,
-        ranks: &[(b'w', 3), (b'w', 3), (b'w', 3)],
-        printed: &[],
-    },
-    Row {
-        shows: "a ring that all post first",
-        nue: 3,
-        script: b"all\nfill x 1 9\npost +1 x\nrecv -1 y 1\nprint y\n",
-        end: RunEnd::Finished,
-        ranks: &[(b'f', 0), (b'f', 0), (b'f', 0)],
-        printed: &[9, 9, 9],
-    },
-    Row {
-        shows: "a posted message that nobody takes",
-        nue: 2,
-        script: b"ue 0\nbytes x 05\npost 1 x\nprint x\n",
-        end: RunEnd::Stuck,
-        ranks: &[(b'w', 3), (b'f', 0)],
-        printed: &[5],
-    },
-    Row {
-        shows: "a sum in groups of groups",
-        nue: 6,
-        script: b"rcce 2\nall\nsplit 1 div 3\nsplit 9 of 1 mod 2\nrank x int\nallreduce 9 sum int y x\nbarrier 9\nbarrier 1\nprint y\n",
-        end: RunEnd::Finished,
-        ranks: &[(b'f', 0); 6],
-        printed: &[
-            2, 0, 0, 0, 1, 0, 0, 0, 2, 0, 0, 0, 8, 0, 0, 0, 4, 0, 0, 0, 8, 0, 0, 0,
-        ],
-    },
-    Row {
-        shows: "lengths that differ",
-        nue: 2,
-        script: b"ue 0\nbytes x 0001020304050607\nsend 1 x\nue 1\nrecv 0 y 4\nprint y\n",
-        end: RunEnd::Stuck,
-        ranks: &[(b'w', 3), (b'm', 5)],
-        printed: &[],
-    },
+#[test]
+fn four_bytes_arrive_in_every_mode_and_with_every_evictor(rt: HostRuntime) {
+    assert!(rt; four_bytes_arrive(&rt, rt.alloc(), &Never));
+    assert!(rt; four_bytes_arrive(&rt, rt.alloc(), &Always::new()));
+    assert!(rt; four_bytes_arrive(&rt, rt.alloc(), &Seeded::new(0)));
+}
+
+const RING_THAT_ALL_SEND_FIRST: &Row<'static> = &Row {
+    script: b"all\nfill x 1 9\nsend +1 x\nrecv -1 y 1\nprint y\n",
+    end: RunEnd::Stuck,
+    ranks: &[
+        (End::Waits(3), &[]),
+        (End::Waits(3), &[]),
+        (End::Waits(3), &[]),
+    ],
+};
+
+const RING_THAT_ALL_POST_FIRST: &Row<'static> = &Row {
+    script: b"all\nfill x 1 9\npost +1 x\nrecv -1 y 1\nprint y\n",
+    end: RunEnd::Finished,
+    ranks: &[
+        (End::Finished, &[&[9]]),
+        (End::Finished, &[&[9]]),
+        (End::Finished, &[&[9]]),
+    ],
+};
+
+const POST_THAT_NOBODY_TAKES: &Row<'static> = &Row {
+    script: b"ue 0\nbytes x 05\npost 1 x\nprint x\n",
+    end: RunEnd::Stuck,
+    ranks: &[(End::Waits(3), &[&[5]]), (End::Finished, &[])],
+};
+
+const SUM_IN_GROUPS_OF_GROUPS: &Row<'static> = &Row {
+    script: b"rcce 2\nall\nsplit 1 div 3\nsplit 9 of 1 mod 2\nrank x int\nallreduce 9 sum int y x\nbarrier 9\nbarrier 1\nprint y\n",
+    end: RunEnd::Finished,
+    ranks: &[
+        (End::Finished, &[&[2, 0, 0, 0]]),
+        (End::Finished, &[&[1, 0, 0, 0]]),
+        (End::Finished, &[&[2, 0, 0, 0]]),
+        (End::Finished, &[&[8, 0, 0, 0]]),
+        (End::Finished, &[&[4, 0, 0, 0]]),
+        (End::Finished, &[&[8, 0, 0, 0]]),
+    ],
+};
+
+const LENGTHS_THAT_DIFFER: &Row<'static> = &Row {
+    script: b"ue 0\nbytes x 0001020304050607\nsend 1 x\nue 1\nrecv 0 y 4\nprint y\n",
+    end: RunEnd::Stuck,
+    ranks: &[(End::Waits(3), &[]), (End::Mismatch(5), &[])],
+};
+
+const ROWS: &[&Row<'static>] = &[
+    RING_THAT_ALL_SEND_FIRST,
+    RING_THAT_ALL_POST_FIRST,
+    POST_THAT_NOBODY_TAKES,
+    SUM_IN_GROUPS_OF_GROUPS,
+    LENGTHS_THAT_DIFFER,
 ];
 
 const BOTH_MODES: &[Mode] = &[Mode::Serial(1), Mode::Threads];
 
 #[test]
-fn scripts_come_to_their_ends(rt: HostRuntime) -> Result<(), Fail> {
+fn scripts_come_to_their_ends(rt: HostRuntime) {
     for row in ROWS {
-        expect(&rt, row, BOTH_MODES, &Seeds)?;
+        assert!(rt; always_comes_to(&rt, rt.alloc(), row, &Seeded::new(0), BOTH_MODES));
     }
-    Ok(())
 }

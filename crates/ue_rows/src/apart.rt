@@ -5,19 +5,19 @@ ghost use Rattle.scc_base.specs.declared.events.Event.{Event};
 ghost use Rattle.scc_proto.specs.Ports.{Did};
 ghost use Rattle.scc_mesh.specs.Scenes.{IsNew, about_in};
 ghost use Rattle.script_reader.specs.Script.{rules_of};
+ghost use Rattle.rcce_ue.specs.Standing.{Tied};
+ghost use Rattle.chip_teams.specs.Teams.{sight_alone};
 ghost use Rattle.ue_rows.specs.AwayPlayers.{IsAway};
 
-use crate::scripts::{
-    End, Fresh, Runner, Told, chip_with, runner_of, script_of, setup_for, told_of,
-};
+use crate::scripts::{End, Fresh, Runner, chip_with, is_at, runner_of, setup_for};
 use chip_teams::Player;
-use line_cache::Never;
+use line_cache::{Evict, Never};
+use rcce_ue::Ue;
 use scc_base::{Layout, Rank, Setup};
 use scc_mesh::{Chip, Token, Words};
 use scc_proto::Port;
-use script_reader::Scripts;
-use std::alloc::Global;
-use std::test::Fail;
+use script_reader::{Scripts, read_script};
+use std::alloc::{AllocError, Global};
 use std::thread;
 use std::thread::Threads;
 
@@ -103,122 +103,160 @@ fn rounds<M: Player + Drop + Send, R: Threads + Sync>(
     }
 }
 
-// The two ranks of a new chip after so many rounds.
-fn both_after<M: Player + Drop + Send, R: Threads + Sync>(
-    rt: &R,
-    alloc: Global,
-    chip: &mut Chip,
-    one: M,
-    other: M,
-    count: usize,
-) -> Result<Vec<Apart<M>>, Fail>
-    requires new { IsNew (about_in chip.old) chip.old }
-    requires ranks { 2 ≤ (about_in chip.old).nue }
-    requires one { M.stands one (about_in chip.old) 0 [] }
-    requires other { M.stands other (about_in chip.old) 1 [] }
-{
-    let first = chip.spread(Rank::of(0));
-    let second = chip.spread(Rank::of(1));
-    let words = chip.words();
-    let mut ranks = Vec::new(alloc);
-    ranks.push(Apart {
-        token: Some(first),
-        player: one,
-    })?;
-    ranks.push(Apart {
-        token: Some(second),
-        player: other,
-    })?;
-    rounds(rt, words, ranks.as_mut_slice(), count);
-    Ok(ranks)
-}
-
-// The two ranks of a chip with this setup after so many rounds.
-fn both_on_chip<M: Player + Drop + Send, R: Threads + Sync>(
-    rt: &R,
-    alloc: Global,
-    setup: Setup,
-    one: M,
-    other: M,
-    count: usize,
-) -> Result<Vec<Apart<M>>, Fail>
-    requires ranks { 2 ≤ setup.nue }
-    requires one { M.stands one setup 0 [] }
-    requires other { M.stands other setup 1 [] }
-{
-    let mut chip = chip_with(alloc, setup)?;
-    both_after(rt, alloc, &mut chip, one, other, count)
-}
-
-// The two ranks of a script after so many rounds.
-fn two_after<'s, V: Fresh + Send, R: Threads + Sync>(
-    rt: &R,
-    alloc: Global,
-    scripts: &'s Scripts,
-    setup: Setup,
-    count: usize,
-) -> Result<Vec<Apart<Runner<'s, V>>>, Fail>
-    requires two { setup.nue ≡ 2 }
-    requires ranks { setup.nue ≡ scripts.now.nue }
-    requires communicators { setup.comms ≡ rules_of scripts.now.items }
-{
-    let one = runner_of::<V>(alloc, scripts, &setup, 0)?;
-    let other = runner_of::<V>(alloc, scripts, &setup, 1)?;
-    both_on_chip(rt, alloc, setup, one, other, count)
-}
-
-// What is told of each of these ranks.
-fn all_told<V: Fresh>(alloc: Global, ranks: &[Apart<Runner<'_, V>>]) -> Result<Vec<Told>, Fail> {
-    let mut all = Vec::new(alloc);
-    for rank in ranks {
-        all.push(told_of(alloc, &rank.player)?)?;
-    }
-    Ok(all)
-}
-
-// What is told of the two ranks of a script after so many rounds.
-fn told_apart<V: Fresh + Send, R: Threads + Sync>(
-    rt: &R,
-    alloc: Global,
-    text: &[u8],
-    layout: Layout,
-    count: usize,
-) -> Result<Vec<Told>, Fail> {
-    let scripts = script_of(alloc, text, 2)?;
-    let setup = setup_for(&scripts, layout)?;
-    let ranks = two_after::<V, R>(rt, alloc, &scripts, setup, count)?;
-    all_told(alloc, ranks.as_slice())
-}
-
 // Whether a row of bytes is this long, and as `fill` makes it from 0 on.
-fn is_filled(bytes: &[u8], len: usize) -> bool {
+fn is_filled(bytes: &[u8], len: u16) -> bool {
     for i in 0..bytes.len() {
         if bytes[i] != (i % 251) as u8 {
             return false;
         }
     }
-    bytes.len() == len
+    bytes.len() == len as usize
 }
 
-// Whether a message of this length arrives. In each round one of the two ranks can move, also where no thread can be had
-// and they take their turns one after the other.
-fn arrives<R: Threads + Sync>(
+// Whether a UE has printed items of these lengths, each as `fill` makes it.
+fn are_filled<V: Evict>(ue: &Ue<'_, V>, lens: &[u16]) -> bool {
+    if ue.items() != lens.len() {
+        return false;
+    }
+    for i in 0..lens.len() {
+        if !is_filled(ue.item(i).bytes(), lens[i]) {
+            return false;
+        }
+    }
+    true
+}
+
+/// A rank that tells whether it has finished, with messages of these lengths, each as `fill` makes it.
+trait Finishes {
+    fn has_finished(&self, lens: &[u16]) -> bool;
+}
+
+impl<'s, V: Evict + Drop> Finishes for Runner<'s, V> {
+    fn has_finished(&self, lens: &[u16]) -> bool {
+        is_at(&self.ue, &End::Finished) && are_filled(&self.ue, lens)
+    }
+}
+
+// The two ranks of a new chip after so many rounds.
+fn both_after<M: Player + Drop + Send, R: Threads + Sync>(
     rt: &R,
     alloc: Global,
-    layout: Layout,
-    text: &[u8],
-    len: u16,
-) -> Result<bool, Fail> {
-    let len = len as usize;
-    let told = told_apart::<Never, R>(rt, alloc, text, layout, 2 * (len / 32) + 60)?;
-    Ok(match told.as_slice() {
-        [first, second] => {
-            first.end == End::Finished
-                && second.end == End::Finished
-                && is_filled(second.printed.as_slice(), len)
+    chip: &mut Chip,
+    first: M,
+    second: M,
+    count: usize,
+) -> Result<Vec<Apart<M>>, AllocError>
+    requires new { IsNew (about_in chip.old) chip.old }
+    requires ranks { 2 ≤ (about_in chip.old).nue }
+    requires first { M.stands first (about_in chip.old) 0 [] }
+    requires second { M.stands second (about_in chip.old) 1 [] }
+{
+    let sender = chip.spread(Rank::of(0));
+    let receiver = chip.spread(Rank::of(1));
+    let words = chip.words();
+    let mut ranks = Vec::new(alloc);
+    ranks.push(Apart {
+        token: Some(sender),
+        player: first,
+    })?;
+    ranks.push(Apart {
+        token: Some(receiver),
+        player: second,
+    })?;
+    rounds(rt, words, ranks.as_mut_slice(), count);
+    Ok(ranks)
+}
+
+// Whether two ranks have finished, the second with a message of this length.
+fn have_finished<M: Player + Finishes + Drop>(ranks: &[Apart<M>], len: u16) -> bool {
+    match ranks {
+        [sender, receiver] => {
+            sender.player.has_finished(&[]) && receiver.player.has_finished(&[len])
         }
         _ => false,
-    })
+    }
+}
+
+// Whether the two ranks of a chip with this setup finish, the second with a message of this length. In each round one of
+// the two can move, also where no thread can be had and they take their turns one after the other.
+fn arrives_with<M: Player + Finishes + Drop + Send, R: Threads + Sync>(
+    rt: &R,
+    alloc: Global,
+    setup: &Setup,
+    first: M,
+    second: M,
+    len: u16,
+) -> Result<bool, AllocError>
+    requires ranks { 2 ≤ setup.now.nue }
+    requires first { M.stands first setup.now 0 [] }
+    requires second { M.stands second setup.now 1 [] }
+{
+    let mut chip = chip_with(alloc, setup)?;
+    let count = 2 * (len as usize / 32) + 60;
+    let ranks = both_after(rt, alloc, &mut chip, first, second, count)?;
+    Ok(have_finished(ranks.as_slice(), len))
+}
+
+// Whether a message of this length arrives from this rank of a script for two.
+fn arrives_from<'s, V: Fresh + Send, R: Threads + Sync>(
+    rt: &R,
+    alloc: Global,
+    scripts: &'s Scripts,
+    setup: &Setup,
+    first: Runner<'s, V>,
+    len: u16,
+) -> Result<bool, AllocError>
+    requires two { setup.now.nue ≡ 2 }
+    requires ranks { setup.now.nue ≡ scripts.now.nue }
+    requires communicators { setup.now.comms ≡ rules_of scripts.now.items }
+    requires first { Tied first.ue (sight_alone setup.now 0 []) }
+{
+    let second = runner_of(alloc, scripts, setup, 1)?;
+    arrives_with(rt, alloc, setup, first, second, len)
+}
+
+// Whether it arrives by the script, on a chip with this setup.
+fn arrives_on<V: Fresh + Send, R: Threads + Sync>(
+    rt: &R,
+    alloc: Global,
+    scripts: &Scripts,
+    setup: &Setup,
+    len: u16,
+) -> Result<bool, AllocError>
+    requires two { setup.now.nue ≡ 2 }
+    requires ranks { setup.now.nue ≡ scripts.now.nue }
+    requires communicators { setup.now.comms ≡ rules_of scripts.now.items }
+{
+    let first = runner_of::<V>(alloc, scripts, setup, 0)?;
+    arrives_from(rt, alloc, scripts, setup, first, len)
+}
+
+// Whether it arrives in this layout.
+fn arrives_in<R: Threads + Sync>(
+    rt: &R,
+    alloc: Global,
+    scripts: &Scripts,
+    layout: Layout,
+    len: u16,
+) -> bool
+    requires two { scripts.now.nue ≡ 2 }
+{
+    match setup_for(scripts, layout) {
+        Some(setup) => matches!(
+            arrives_on::<Never, R>(rt, alloc, scripts, &setup, len),
+            Ok(true)
+        ),
+        None => false,
+    }
+}
+
+// Whether it arrives in both layouts.
+fn arrives<R: Threads + Sync>(rt: &R, alloc: Global, text: &[u8], len: u16) -> bool {
+    let Ok(scripts) = read_script(alloc, text, 2) else {
+        return false;
+    };
+    arrives_in(rt, alloc, &scripts, Layout::LineFlags, len)
+        && arrives_in(rt, alloc, &scripts, Layout::BitFlags, len)
 }
 
 // A message that is sent or posted, and its length.
@@ -246,10 +284,8 @@ const MESSAGES: &[(&[u8], u16)] = &[
 ];
 
 #[test]
-fn messages_arrive_between_threads(rt: HostRuntime) -> Result<(), Fail> {
+fn messages_arrive_between_threads(rt: HostRuntime) {
     for (text, len) in MESSAGES {
-        assert!(rt; arrives(&rt, rt.alloc(), Layout::lines(), text, *len)?);
-        assert!(rt; arrives(&rt, rt.alloc(), Layout::bits(), text, *len)?);
+        assert!(rt; arrives(&rt, rt.alloc(), text, *len));
     }
-    Ok(())
 }

@@ -1,54 +1,29 @@
 //! What scripts come to over a chip with one seat.
 
 use crate::scripts::End::{Finished, Mismatch, Waits};
-use crate::scripts::{End, Fresh, Told, run};
+use crate::scripts::{Row, comes_to};
 use line_cache::{Always, Never};
 use scc_base::Layout;
 use std::alloc::Global;
 use std::process::Abort;
 use std::test::Fail;
 
-/// What is wanted of a rank: its end, the bytes that it prints, and how many turns it may take that move.
-type Wanted = (End, &'static [u8], u64);
-
-/// A script, and what is wanted of each rank.
-type Row = (&'static [u8], &'static [Wanted]);
-
-// Whether each rank has come to its end, has printed these bytes, and has taken no more turns that move than its bound.
-fn are_wanted(all: &[Told], wanted: &[Wanted]) -> bool {
-    for (told, (end, printed, most)) in all.iter().zip(wanted) {
-        if told.end != *end || told.printed.as_slice() != *printed || told.moved > *most {
-            return false;
-        }
-    }
-    all.len() == wanted.len()
-}
-
-// Whether a script with this evictor comes to what is wanted, of at most 48 ranks.
-fn comes_to<V: Fresh>(
-    alloc: Global,
-    row: &Row,
-    layout: Layout,
-    backwards: bool,
-) -> Result<bool, Fail> {
-    let (text, wanted) = *row;
-    let nue = wanted.len();
-    if nue < 1 || nue > 48 {
-        return Ok(false);
-    }
-    let all = run::<V>(alloc, text, nue as u8, layout, backwards)?;
-    Ok(are_wanted(all.as_slice(), wanted))
-}
-
-// The same of each script, in both layouts, in both orders of the ranks, with an evictor that drops nothing and one that
+// Whether a script comes to what is wanted in both orders of the ranks, with an evictor that drops nothing and one that
 // drops all.
-fn always_come_to<R: Abort>(rt: &R, alloc: Global, rows: &[Row]) -> Result<(), Fail> {
+fn comes_to_it(alloc: Global, row: &Row<'_>, layout: Layout) -> Result<bool, Fail> {
+    let mut right = true;
+    for backwards in &[false, true] {
+        right = comes_to::<Never>(alloc, row, layout, *backwards)? && right;
+        right = comes_to::<Always>(alloc, row, layout, *backwards)? && right;
+    }
+    Ok(right)
+}
+
+// The same of each script, in both layouts.
+fn always_come_to<R: Abort>(rt: &R, alloc: Global, rows: &[Row<'_>]) -> Result<(), Fail> {
     for row in rows {
-        for layout in [Layout::LineFlags, Layout::BitFlags] {
-            for backwards in [false, true] {
-                assert!(rt; comes_to::<Never>(alloc, row, layout, backwards)?);
-                assert!(rt; comes_to::<Always>(alloc, row, layout, backwards)?);
-            }
+        for layout in &[Layout::LineFlags, Layout::BitFlags] {
+            assert!(rt; comes_to_it(alloc, row, *layout)?);
         }
     }
     Ok(())
@@ -64,26 +39,29 @@ const RING_OF_POSTS: &[u8] = b"all\nrank r int\npost +1 r\nrecv -1 y 4\nprint y\
 const HALO: &[u8] =
     b"all\nrank mine int\neven\nrepeat 3\nsend +1 mine\nrecv -1 left 4\nend\nodd\nrepeat 3\nrecv -1 left 4\nsend +1 mine\nend\nall\nprint left\n";
 
-const MESSAGES: &[Row] = &[
+const MESSAGES: &[Row<'static>] = &[
     (
         FOUR_BYTES,
-        &[(Finished, &[], 12), (Finished, &[1, 2, 3, 4], 12)],
+        &[
+            (Finished, &[], 12, (1, 4)),
+            (Finished, &[&[1, 2, 3, 4]], 12, (0, 0)),
+        ],
     ),
     (
         RING_OF_POSTS,
         &[
-            (Finished, &[2, 0, 0, 0], 24),
-            (Finished, &[0, 0, 0, 0], 24),
-            (Finished, &[1, 0, 0, 0], 24),
+            (Finished, &[&[2, 0, 0, 0]], 24, (1, 4)),
+            (Finished, &[&[0, 0, 0, 0]], 24, (1, 4)),
+            (Finished, &[&[1, 0, 0, 0]], 24, (1, 4)),
         ],
     ),
     (
         HALO,
         &[
-            (Finished, &[3, 0, 0, 0], 72),
-            (Finished, &[0, 0, 0, 0], 72),
-            (Finished, &[1, 0, 0, 0], 72),
-            (Finished, &[2, 0, 0, 0], 72),
+            (Finished, &[&[3, 0, 0, 0]], 72, (3, 12)),
+            (Finished, &[&[0, 0, 0, 0]], 72, (3, 12)),
+            (Finished, &[&[1, 0, 0, 0]], 72, (3, 12)),
+            (Finished, &[&[2, 0, 0, 0]], 72, (3, 12)),
         ],
     ),
 ];
@@ -101,34 +79,64 @@ const COLLECTIVES: &[u8] =
 const SPLIT_AGAIN: &[u8] =
     b"rcce 2\nall\nsplit 1 mod 2\nsplit 2 of 1 div 2\nbarrier 2\nrank mine int\nints sum 0\nallreduce 2 sum int sum mine\nprint sum\n";
 
-const GROUPS: &[Row] = &[
+const GROUPS: &[Row<'static>] = &[
     (
         COLLECTIVES,
-        &[(Finished, &[7, 8, 0, 0, 0, 0, 0, 0, 0, 0], 14)],
+        &[(
+            Finished,
+            &[&[7, 8], &[0, 0, 0, 0], &[0, 0, 0, 0]],
+            14,
+            (0, 0),
+        )],
     ),
     (
         COLLECTIVES,
         &[
-            (Finished, &[7, 8, 1, 0, 0, 0, 1, 0, 0, 0], 60),
-            (Finished, &[7, 8, 0, 0, 0, 0, 1, 0, 0, 0], 55),
+            (
+                Finished,
+                &[&[7, 8], &[1, 0, 0, 0], &[1, 0, 0, 0]],
+                60,
+                (2, 6),
+            ),
+            (
+                Finished,
+                &[&[7, 8], &[0, 0, 0, 0], &[1, 0, 0, 0]],
+                55,
+                (2, 8),
+            ),
         ],
     ),
     (
         COLLECTIVES,
         &[
-            (Finished, &[7, 8, 3, 0, 0, 0, 2, 0, 0, 0], 106),
-            (Finished, &[7, 8, 0, 0, 0, 0, 2, 0, 0, 0], 55),
-            (Finished, &[7, 8, 0, 0, 0, 0, 2, 0, 0, 0], 55),
+            (
+                Finished,
+                &[&[7, 8], &[3, 0, 0, 0], &[2, 0, 0, 0]],
+                106,
+                (4, 12),
+            ),
+            (
+                Finished,
+                &[&[7, 8], &[0, 0, 0, 0], &[2, 0, 0, 0]],
+                55,
+                (2, 8),
+            ),
+            (
+                Finished,
+                &[&[7, 8], &[0, 0, 0, 0], &[2, 0, 0, 0]],
+                55,
+                (2, 8),
+            ),
         ],
     ),
     (
         SPLIT_AGAIN,
         &[
-            (Finished, &[2, 0, 0, 0], 55),
-            (Finished, &[4, 0, 0, 0], 53),
-            (Finished, &[2, 0, 0, 0], 53),
-            (Finished, &[4, 0, 0, 0], 51),
-            (Finished, &[4, 0, 0, 0], 30),
+            (Finished, &[&[2, 0, 0, 0]], 55, (1, 4)),
+            (Finished, &[&[4, 0, 0, 0]], 53, (1, 4)),
+            (Finished, &[&[2, 0, 0, 0]], 53, (1, 4)),
+            (Finished, &[&[4, 0, 0, 0]], 51, (1, 4)),
+            (Finished, &[&[4, 0, 0, 0]], 30, (0, 0)),
         ],
     ),
 ];
@@ -144,21 +152,27 @@ const ONLY_PRINTS: &[u8] = b"all\nbytes x ff\nrepeat 2\nprint x\nend\n";
 
 const OWN_POST: &[u8] = b"ue 0\nbytes x 01\npost 1 x\nprint x\nue 1\nbytes y 02\n";
 
-const RESTS: &[Row] = &[
+const RESTS: &[Row<'static>] = &[
     (
         ANOTHER_HEAD,
         &[
-            (Waits { line: 3 }, &[], 12),
-            (Mismatch { line: 5 }, &[], 12),
+            (Waits { line: 3 }, &[], 12, (0, 0)),
+            (Mismatch { line: 5 }, &[], 12, (0, 0)),
         ],
     ),
     (
         ONLY_PRINTS,
-        &[(Finished, &[255, 255], 6), (Finished, &[255, 255], 6)],
+        &[
+            (Finished, &[&[255], &[255]], 6, (0, 0)),
+            (Finished, &[&[255], &[255]], 6, (0, 0)),
+        ],
     ),
     (
         OWN_POST,
-        &[(Waits { line: 3 }, &[1], 13), (Finished, &[], 1)],
+        &[
+            (Waits { line: 3 }, &[&[1]], 13, (1, 1)),
+            (Finished, &[], 1, (0, 0)),
+        ],
     ),
 ];
 
@@ -170,22 +184,16 @@ fn ranks_stop_wait_and_only_print(rt: HostRuntime) -> Result<(), Fail> {
 const TWO_POSTS: &[u8] =
     b"ue 0\nbytes x 01020304\nsend 1 x\npost 1 x\npost 1 x\nue 1\nrecv 0 y 4\n";
 
-// Whether the first post is on its way, and counted, and the second waits for its slot.
-fn counts_one_post(all: &[Told]) -> bool {
-    match all {
-        [first, second] => {
-            first.end == Waits { line: 5 }
-                && first.sent == 2
-                && first.sent_bytes == 8
-                && second.sent == 0
-        }
-        _ => false,
-    }
-}
+// The first post is on its way, and counted, and the second waits for its slot.
+const COUNTED: &[Row<'static>] = &[(
+    TWO_POSTS,
+    &[
+        (Waits { line: 5 }, &[], 34, (2, 8)),
+        (Finished, &[], 11, (0, 0)),
+    ],
+)];
 
 #[test]
 fn a_message_on_its_way_is_counted_once(rt: HostRuntime) -> Result<(), Fail> {
-    let all = run::<Never>(rt.alloc(), TWO_POSTS, 2, Layout::lines(), false)?;
-    assert!(rt; counts_one_post(all.as_slice()));
-    Ok(())
+    always_come_to(&rt, rt.alloc(), COUNTED)
 }

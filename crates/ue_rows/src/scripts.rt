@@ -1,6 +1,6 @@
 //! Whole scripts over a chip with one seat: each rank's unit of execution takes turns until none of them moves.
 
-ghost use Rattle.std.specs.Prelude.{◌≡◌, ◌+◌, ◌<◌, ◌≤◌, [], IfOk};
+ghost use Rattle.std.specs.Prelude.{◌≡◌, ◌+◌, ◌<◌, [], IfOk, IfSome};
 ghost use Rattle.scc_mesh.specs.Scenes.{IsNew, about_in};
 ghost use Rattle.script_reader.specs.Script.{rules_of};
 ghost use Rattle.rcce_ue.specs.Standing.{Tied};
@@ -14,7 +14,7 @@ use scc_mesh::Chip;
 use scc_proto::Port;
 use script_plain::UeEnd;
 use script_reader::{Scripts, read_script};
-use std::alloc::Global;
+use std::alloc::{AllocError, Global};
 use std::test::Fail;
 
 /// An evictor that can be made for each rank.
@@ -45,7 +45,7 @@ fn moved_after(answer: &Turn, moved: u64) -> u64 {
 /// A rank of a script, with the number of its turns that moved.
 #[derive(Drop)]
 pub(crate) struct Runner<'s, V: Evict + Drop> {
-    ue: Ue<'s, V>,
+    pub ue: Ue<'s, V>,
     moved: u64,
 }
 
@@ -62,80 +62,81 @@ impl<'s, V: Evict + Drop> Player for Runner<'s, V> {
     }
 }
 
-/// How a rank's run ended.
-#[derive(Clone, Copy, PartialEq)]
+/// How a rank's run ends.
 pub(crate) enum End {
     Finished,
     Waits { line: u32 },
     Mismatch { line: u32 },
 }
 
-/// What is told of a rank: its end, the bytes that it printed, its turns that moved, and what it sent.
-#[derive(Drop)]
-pub(crate) struct Told {
-    pub end: End,
-    pub printed: Vec<u8>,
-    pub moved: u64,
-    pub sent: u64,
-    pub sent_bytes: u64,
+/// Whether a UE has come to this end.
+pub(crate) fn is_at<V: Evict>(ue: &Ue<'_, V>, end: &End) -> bool {
+    if !ue.is_pausing() {
+        return false;
+    }
+    match ue.end() {
+        UeEnd::Finished => matches!(end, End::Finished),
+        UeEnd::Waits { line, .. } => matches!(end, End::Waits { line: at } if *at == line),
+        UeEnd::Mismatch { line, .. } => matches!(end, End::Mismatch { line: at } if *at == line),
+    }
 }
 
-/// What is told of a rank that rests.
-pub(crate) fn told_of<V: Evict + Drop>(
-    alloc: Global,
-    runner: &Runner<'_, V>,
-) -> Result<Told, Fail> {
-    let mut printed = Vec::new(alloc);
-    for i in 0..runner.ue.items() {
-        printed.extend_from_slice(runner.ue.item(i).bytes())?;
+// Whether a UE has printed these items.
+fn has_printed<V: Evict>(ue: &Ue<'_, V>, wanted: &[&[u8]]) -> bool {
+    if ue.items() != wanted.len() {
+        return false;
     }
-    if !runner.ue.is_pausing() {
-        return Err("a rank that rests".into());
+    for i in 0..wanted.len() {
+        if ue.item(i).bytes() != wanted[i] {
+            return false;
+        }
     }
-    let end = match runner.ue.end() {
-        UeEnd::Finished => End::Finished,
-        UeEnd::Waits { line, .. } => End::Waits { line },
-        UeEnd::Mismatch { line, .. } => End::Mismatch { line },
-    };
-    Ok(Told {
-        end,
-        printed,
-        moved: runner.moved,
-        sent: runner.ue.sent(),
-        sent_bytes: runner.ue.sent_bytes(),
-    })
+    true
+}
+
+/// What is wanted of a rank: its end, the items that it prints, how many turns it may take that move, and how many messages
+/// and bytes it has sent.
+pub(crate) type Wanted<'a> = (End, &'a [&'a [u8]], u64, (u64, u64));
+
+/// A script, and what is wanted of each rank.
+pub(crate) type Row<'a> = (&'a [u8], &'a [Wanted<'a>]);
+
+// A rank that tells whether it has come to what is wanted.
+trait Ends {
+    fn is_wanted(&self, wanted: &Wanted<'_>) -> bool;
+}
+
+impl<'s, V: Evict + Drop> Ends for Runner<'s, V> {
+    fn is_wanted(&self, wanted: &Wanted<'_>) -> bool {
+        let (end, printed, most, (sent, sent_bytes)) = wanted;
+        self.moved <= *most
+            && self.ue.sent() == *sent
+            && self.ue.sent_bytes() == *sent_bytes
+            && has_printed(&self.ue, printed)
+            && is_at(&self.ue, end)
+    }
 }
 
 /// A setup for a script, from the highest core down.
-pub(crate) fn setup_for(scripts: &Scripts, layout: Layout) -> Result<Setup, Fail>
-    ensures ranks { IfOk result (λ s. s.nue ≡ scripts.now.nue) }
-    ensures communicators { IfOk result (λ s. s.comms ≡ rules_of scripts.now.items) }
+pub(crate) fn setup_for(scripts: &Scripts, layout: Layout) -> Option<Setup>
+    ensures ranks { IfSome result (λ s. s.nue ≡ scripts.now.nue) }
+    ensures communicators { IfSome result (λ s. s.comms ≡ rules_of scripts.now.items) }
 {
     let mut cores = [CoreId::of(0); 48];
     for number in 0..48 {
         cores[number] = CoreId::of(47 - number as u8);
     }
-    let setup = Setup::new(scripts.nue(), layout, cores, scripts.comm_rules());
-    Ok(setup.ok_or("a setup")?)
+    Setup::new(scripts.nue(), layout, cores, scripts.comm_rules())
 }
 
 /// A chip with this setup that was just opened.
-pub(crate) fn chip_with(alloc: Global, setup: Setup) -> Result<Chip, Fail>
-    ensures new { IfOk result (λ chip. IsNew setup chip) }
+pub(crate) fn chip_with(alloc: Global, setup: &Setup) -> Result<Chip, AllocError>
+    ensures new { IfOk result (λ chip. IsNew setup.now chip) }
     ensures here { IfOk result (λ chip. IsNew (about_in chip) chip) }
 {
     let mut chip = Chip::blank();
-    chip.open(alloc, setup)?;
+    chip.open(alloc, setup.copy())?;
     Ok(chip)
-}
-
-/// The script that this text is.
-pub(crate) fn script_of(alloc: Global, text: &[u8], nue: u8) -> Result<Scripts, Fail>
-    requires some { 1 ≤ nue }
-    requires most { nue ≤ 48 }
-    ensures ranks { IfOk result (λ s. s.nue ≡ nue) }
-{
-    Ok(read_script(alloc, text, nue)?)
 }
 
 /// A rank of a script before its first turn.
@@ -144,7 +145,7 @@ pub(crate) fn runner_of<'s, V: Fresh>(
     scripts: &'s Scripts,
     setup: &Setup,
     number: u8,
-) -> Result<Runner<'s, V>, Fail>
+) -> Result<Runner<'s, V>, AllocError>
     requires within { number < setup.now.nue }
     requires ranks { setup.now.nue ≡ scripts.now.nue }
     requires communicators { setup.now.comms ≡ rules_of scripts.now.items }
@@ -172,21 +173,23 @@ fn join_next<'s, V: Fresh>(
 }
 
 // The ranks of a script on a chip that was just opened.
-fn team_of<'s, V: Fresh>(
+fn team_on<'s, V: Fresh>(
     alloc: Global,
     scripts: &'s Scripts,
-    layout: Layout,
-) -> Result<Team<Runner<'s, V>>, Fail> {
-    let setup = setup_for(scripts, layout)?;
-    let mut team = Team::new(alloc, chip_with(alloc, setup.copy())?);
+    setup: &Setup,
+) -> Result<Team<Runner<'s, V>>, Fail>
+    requires ranks { setup.now.nue ≡ scripts.now.nue }
+    requires communicators { setup.now.comms ≡ rules_of scripts.now.items }
+{
+    let mut team = Team::new(alloc, chip_with(alloc, setup)?);
     for number in 0..scripts.nue() {
-        join_next(alloc, &mut team, scripts, &setup, number)?;
+        join_next(alloc, &mut team, scripts, setup, number)?;
     }
     Ok(team)
 }
 
 // One turn of each rank, in rank order or the other way round. Whether one of them moved.
-fn sweep<V: Evict + Drop>(team: &mut Team<Runner<'_, V>>, nue: usize, backwards: bool) -> bool {
+fn sweep<M: Player + Drop>(team: &mut Team<M>, nue: usize, backwards: bool) -> bool {
     let mut moved = false;
     for number in 0..nue {
         let at = if backwards { nue - 1 - number } else { number };
@@ -196,7 +199,7 @@ fn sweep<V: Evict + Drop>(team: &mut Team<Runner<'_, V>>, nue: usize, backwards:
 }
 
 // Sweeps until no rank moves. Whether they came to that.
-fn settles<V: Evict + Drop>(team: &mut Team<Runner<'_, V>>, nue: usize, backwards: bool) -> bool {
+fn settles<M: Player + Drop>(team: &mut Team<M>, nue: usize, backwards: bool) -> bool {
     for _ in 0..1_000 {
         if !sweep(team, nue, backwards) {
             return true;
@@ -205,38 +208,55 @@ fn settles<V: Evict + Drop>(team: &mut Team<Runner<'_, V>>, nue: usize, backward
     false
 }
 
-// What is told of each rank.
-fn all_told<V: Evict + Drop>(
-    alloc: Global,
-    team: &Team<Runner<'_, V>>,
-    nue: u8,
-) -> Result<Vec<Told>, Fail> {
-    let mut all = Vec::new(alloc);
-    for number in 0..nue as usize {
-        if let Some(player) = team.player(number) {
-            all.push(told_of(alloc, player)?)?;
+// Whether each rank has come to what is wanted.
+fn are_wanted<M: Player + Ends + Drop>(team: &Team<M>, wanted: &[Wanted<'_>]) -> bool {
+    for at in 0..wanted.len() {
+        match team.player(at) {
+            Some(player) if player.is_wanted(&wanted[at]) => {}
+            _ => return false,
         }
     }
-    Ok(all)
+    true
 }
 
-/// What is told of each rank of a script after sweeps, in rank order or the other way round, and of none where
-/// they come to no rest.
-pub(crate) fn run<V: Fresh>(
+// Whether the ranks come to rest, each at what is wanted, by sweeps in rank order or the other way round.
+fn rest_at<M: Player + Ends + Drop>(
+    team: &mut Team<M>,
+    backwards: bool,
+    wanted: &[Wanted<'_>],
+) -> bool {
+    settles(team, wanted.len(), backwards) && are_wanted(team, wanted)
+}
+
+// Whether the ranks of a script do so.
+fn come_to<V: Fresh>(
     alloc: Global,
-    text: &[u8],
-    nue: u8,
+    scripts: &Scripts,
     layout: Layout,
     backwards: bool,
-) -> Result<Vec<Told>, Fail>
-    requires some { 1 ≤ nue }
-    requires most { nue ≤ 48 }
-{
-    let scripts = script_of(alloc, text, nue)?;
-    let mut team = team_of::<V>(alloc, &scripts, layout)?;
-    if settles(&mut team, nue as usize, backwards) {
-        all_told(alloc, &team, nue)
-    } else {
-        Ok(Vec::new(alloc))
+    wanted: &[Wanted<'_>],
+) -> Result<bool, Fail> {
+    let Some(setup) = setup_for(scripts, layout) else {
+        return Ok(false);
+    };
+    let mut team = team_on::<V>(alloc, scripts, &setup)?;
+    Ok(rest_at(&mut team, backwards, wanted))
+}
+
+/// Whether the script of a row comes to what is wanted of at most 48 ranks, by sweeps in rank order or the other way round.
+pub(crate) fn comes_to<V: Fresh>(
+    alloc: Global,
+    row: &Row<'_>,
+    layout: Layout,
+    backwards: bool,
+) -> Result<bool, Fail> {
+    let (text, wanted) = *row;
+    let nue = wanted.len();
+    if nue < 1 || nue > 48 {
+        return Ok(false);
+    }
+    match read_script(alloc, text, nue as u8) {
+        Ok(scripts) => come_to::<V>(alloc, &scripts, layout, backwards, wanted),
+        Err(_) => Ok(false),
     }
 }

@@ -6,11 +6,11 @@ use Rattle.coll_rows.proofs.members.Member.begin.Goals as goal
 pub returns-then-all_out : goal.returns-then-all_out
 returns-then-all_out g c =
     let s = g.P.Port.sight c.args.port.now in
-    let job = c.args.job in
-    let short : job.len ≤ 1024 = omega arith in
-    let src_is : length job.src.items ≡ src_len_of job.more s.seat.rank s.seat.setup.nue job.len = search rules in
-    let dst_is : length job.dst.items ≡ dst_len_of job.more s.seat.rank s.seat.setup.nue job.len = search rules in
+    let m = c.args.self.now in
+    let short : m.len ≤ 1024 = omega arith in
+    let src_is : length m.src.items ≡ src_len_of m.more s.seat.rank s.seat.setup.nue m.len = search rules in
+    let dst_is : length m.dst.items ≡ dst_len_of m.more s.seat.rank s.seat.setup.nue m.len = search rules in
     record {
-      stands = op_begins s c.args.self.now.core c.args.self.now.slot job.src.items job.dst.items c.new.result job.more job.len c.requires.free
+      stands = op_begins s m.core m.slot m.src.items m.dst.items c.new.result m.more m.len c.requires.free
           (record { short = short; src_is = src_is; dst_is = dst_is }) c.new.ensures.starts;
     }
