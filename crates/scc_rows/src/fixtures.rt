@@ -12,7 +12,6 @@ use scc_mesh::{Chip, SeatPort};
 use scc_proto::{CountingPort, Port};
 use std::alloc::Global;
 use std::cell::Cell;
-use std::process::Abort;
 use std::test::Fail;
 use tas_lock::{Held, release, try_acquire};
 
@@ -53,11 +52,6 @@ pub(crate) fn pair_in(alloc: Global, layout: Layout) -> Result<Chip, Fail>
     let mut chip = Chip::blank();
     chip.open(alloc, setup)?;
     Ok(chip)
-}
-
-/// A buffer of so many lines.
-pub(crate) fn buffer<R: Abort>(rt: &R, first: u8, lines: u8) -> Buf {
-    Buf::new(first, lines).expect(rt, "a buffer")
 }
 
 /// The ports of both ranks, with their loads counted.
