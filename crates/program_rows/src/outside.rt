@@ -250,9 +250,13 @@ const LIMITS: &[(u16, usize)] = &[
     (0, 1),
 ];
 
-fn expect_lens<R: Abort>(rt: &R, alloc: Global) -> Result<(), AllocError> {
+fn long_file(alloc: Global) -> Result<MemFiles, AllocError> {
     let long = vec![in alloc; 7; 10_000]?;
-    let mut files = file_a(alloc, &long)?;
+    file_a(alloc, &long)
+}
+
+fn expect_lens<R: Abort>(rt: &R, alloc: Global) -> Result<(), AllocError> {
+    let mut files = long_file(alloc)?;
     for (limit, len) in LIMITS {
         assert!(rt; len_read(alloc, &mut files, *limit) == Some(*len));
     }
@@ -284,17 +288,18 @@ fn a_file_that_is_read_in_pieces_arrives_whole(rt: HostRuntime) -> Result<(), Al
     holds(&rt, arrives_whole(rt.alloc()))
 }
 
-/// Whether two names have their contents, and a third one is not there.
-fn has_two_files(alloc: Global) -> Result<bool, AllocError> {
+fn two_files(alloc: Global) -> Result<MemFiles, AllocError> {
     let mut files = MemFiles::new(alloc);
     files.add("a", b"one")?;
     files.add("b", b"")?;
-    Ok(
-        files.has_file("b")
-            && !files.has_file("c")
-            && reads(alloc, &mut files, "a", b"one")
-            && reads(alloc, &mut files, "b", b""),
-    )
+    Ok(files)
+}
+
+/// Whether two names have their contents, and a third one is not there.
+fn has_two_files(alloc: Global) -> Result<bool, AllocError> {
+    let mut files = two_files(alloc)?;
+    let are_named = files.has_file("b") && !files.has_file("c");
+    Ok(are_named && reads(alloc, &mut files, "a", b"one") && reads(alloc, &mut files, "b", b""))
 }
 
 #[test]
@@ -358,19 +363,23 @@ const NOT_READ: &[(&str, ReadEnd)] = &[
     ("/dev/null/below", ReadEnd::Failed),
 ];
 
+/// Whether a name of 300 bytes is a fault.
+fn fails_at_long_name<F: Files>(alloc: Global, files: &mut F) -> Result<bool, AllocError> {
+    let name = "n".repeat(alloc, 300)?;
+    Ok(fails(alloc, files, name.as_str(), ReadEnd::Failed))
+}
+
 fn expect_system<R: Abort, F: Files>(
     rt: &R,
     alloc: Global,
     files: &mut F,
 ) -> Result<(), AllocError> {
-    let name_too_long = "n".repeat(alloc, 300)?;
     for (name, end) in NOT_READ {
         assert!(rt; fails(alloc, files, name, *end));
     }
-    assert!(rt; fails(alloc, files, name_too_long.as_str(), ReadEnd::Failed));
     assert!(rt; reads(alloc, files, "/dev/null", b""));
     assert!(rt; reads(alloc, files, "/dev/zero", &[0; 10]));
-    Ok(())
+    holds(rt, fails_at_long_name(alloc, files))
 }
 
 #[test]
