@@ -1,5 +1,5 @@
 -- Laws of the plain step and of the plain meaning.
-use Rattle.std.proofs.Common.{◌≡◌, ◌++◌, ℕ, suc, ◌+◌, ◌-◌, ◌<◌, Bool, true, false, List, [], ◌∷◌, length, map, drop, Some, None, refl, sym, ap, ◌∙◌, subst, arith, sum_by, slice_get}
+use Rattle.std.proofs.Common.{◌≡◌, ◌++◌, ℕ, ◌+◌, ◌-◌, ◌<◌, List, [], ◌∷◌, length, map, drop, None, refl, sym, ap, ◌∙◌, arith, sum_by, slice_get}
 use Rattle.std.specs.List.{range_with_len}
 use Rattle.std.proofs.lemmas.List.{length-map}
 use Rattle.std.proofs.lemmas.List.FromFn.{length-map-range_with_len, map-range_with_len_more}
@@ -13,8 +13,7 @@ use Rattle.script_plain.specs.declared.prims.Standing.TheVariants as standing
 use Rattle.script_plain.specs.Local.{Local, local_start, local_next, next_by_act, next_by_prim, prim_by_standing, cost_of, runs}
 use Rattle.script_plain.specs.Next.{Next}
 use Rattle.script_plain.specs.Next.Next.{Ends, Goes, Posts, Sends, Recvs, Bars}
-use Rattle.script_plain.specs.Step.{Configuration, lowest, lowest_step, run_on}
-use Rattle.script_plain.specs.Code.{StepsAt, StepsLowest}
+use Rattle.script_plain.specs.Step.{run_on}
 use Rattle.script_plain.specs.Meaning.{State, recorded, next_of, keys_of, plain_step, plain_end, start_of, steps_left, locals_of, seen_of}
 use Rattle.script_plain.proofs.Costs.{Lowers, next_map}
 use Rattle.script_plain.proofs.RunLaws
@@ -108,18 +107,3 @@ length-plain_end script =
     length-map (plain_end script).cells (λ (u : State). u.local)
     ∙ RunLaws.length-run_on (keys_of script) next_of (steps_left (start_of script)) (start_of script)
     ∙ length-map-range_with_len (λ (rank : ℕ). record { local = local_start script rank; matched = [] }) 0 script.nue
-
--- what an answer of the code says: a step was taken
-pub was_taken : (keys : ℕ → ℕ → ℕ) (b : Bool) (old new : Configuration Local) → b ≡ true → StepsLowest keys b old new → lowest_step keys local_next old ≡ Some new
-was_taken keys b old new moved said = let P : Bool → Type 0 = λ t. StepsLowest keys t old new in subst P moved said
-
--- or the rank owns none, and the search goes on behind it
-pub was_passed : (keys : ℕ → ℕ → ℕ) (b : Bool) (i : ℕ) (old new : Configuration Local) → b ≡ false → StepsAt keys b i old new → i < length old.cells → lowest keys local_next old (length old.cells - i) i ≡ lowest_step keys local_next old → (new ≡ old) × (lowest keys local_next new (length new.cells - (i + 1)) (i + 1) ≡ lowest_step keys local_next new)
-was_passed keys b i old new rested said within left =
-    let P : Bool → Type 0 = λ t. StepsAt keys t i old new in
-    let none = subst P rested said in
-    let more : length old.cells - i ≡ suc (length old.cells - (i + 1)) = omega (arith, within) in
-    let on : lowest keys local_next old (length old.cells - (i + 1)) (i + 1) ≡ lowest_step keys local_next old =
-    sym (RunLaws.lowest_skips keys local_next old (length old.cells - i) (length old.cells - (i + 1)) i more none.0) ∙ left in
-    let Q : Configuration Local → Type 0 = λ c. lowest keys local_next c (length c.cells - (i + 1)) (i + 1) ≡ lowest_step keys local_next c in
-    (none.1, subst Q (sym none.1) on)

@@ -135,11 +135,6 @@ abbrev pub StepsAt : (ℕ → ℕ → ℕ) → Bool → ℕ → Configuration Lo
 StepsAt keys true i old new = step_of keys local_next old i ≡ Some new
 StepsAt keys false i old new = (step_of keys local_next old i ≡ None) × (new ≡ old)
 
--- the enabled step with the lowest owner was taken, or none is enabled
-abbrev pub StepsLowest : (ℕ → ℕ → ℕ) → Bool → Configuration Local → Configuration Local → Type 0
-StepsLowest keys true old new = lowest_step keys local_next old ≡ Some new
-StepsLowest keys false old new = (lowest_step keys local_next old ≡ None) × (new ≡ old)
-
 -- no rank stands at a statement of its own
 abbrev pub IsNoneGoing : List Local → Type 0
 IsNoneGoing ues = (i : ℕ) (u : Local) → slice_get ues i ≡ Some u → is_going (local_next u) ≡ false

@@ -8,7 +8,6 @@ mod collective_laws;
 mod ends;
 mod held_laws;
 mod laws;
-mod lowest;
 mod machines;
 mod matches;
 mod posts;
@@ -24,8 +23,8 @@ mod walk;
 pub use barriers::{is_with, setup_of};
 pub use call_laws::{calls_are_known_before, calls_can_be_made, primitives_are_operations};
 pub use collective_laws::{
-    broadcasts_arrive, messages_arrive_as_sent, ranks_go_their_own_ways, reductions_fold,
-    used_up_statements_are_done,
+    broadcasts_arrive, calls_are_counted_alike, messages_arrive_as_sent, ranks_go_their_own_ways,
+    reductions_fold, used_up_statements_are_done,
 };
 pub use ends::{End, UeEnd};
 pub use held_laws::ends_are_explained;
@@ -33,7 +32,6 @@ pub use laws::{
     barriers_meet, every_order_has_one_end, every_order_is_finite, lowest_owner_steps,
     steps_commute, ways_tell_calls,
 };
-pub use lowest::lowest_run;
 pub use machines::Machine;
 pub use matches::{Match, Matches, plain_matches};
 pub use posts::{Left, OnItsWay, Posted};

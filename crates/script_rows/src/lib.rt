@@ -1,4 +1,4 @@
-//! Tests of what no run of a program shows of scripts: their limits, any order of steps, and the texts of generated scripts. There is no other code.
+//! Tests of what no run of a program shows of scripts: their limits, a machine by itself, and the texts of generated scripts. There is no other code.
 #![tactic(auto)]
 
 #[cfg(test)]
@@ -6,4 +6,4 @@ mod generated;
 #[cfg(test)]
 mod limits;
 #[cfg(test)]
-mod runs;
+mod machines;

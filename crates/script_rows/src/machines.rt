@@ -1,0 +1,52 @@
+//! What runs of scripts cannot show: a machine by itself.
+
+use scc_base::Rank;
+use script_plain::{Machine, setup_of};
+use script_reader::{Scripts, read_script};
+use std::alloc::{AllocError, Global};
+
+/// Whether a machine has printed these items.
+fn has_printed(machine: &Machine<'_>, wanted: &[&[u8]]) -> bool {
+    if machine.items() != wanted.len() {
+        return false;
+    }
+    for i in 0..wanted.len() {
+        if machine.item(i).bytes() != wanted[i] {
+            return false;
+        }
+    }
+    true
+}
+
+/// Takes at most 100 steps of a machine, until it pauses.
+fn go_on(machine: &mut Machine<'_>) {
+    for _ in 0..100 {
+        if machine.is_going() {
+            machine.go();
+        }
+    }
+}
+
+/// Whether the machine of rank 0 goes through a script by itself and prints these items.
+fn prints(alloc: Global, scripts: &Scripts, wanted: &[&[u8]]) -> Result<bool, AllocError> {
+    let mut machine = Machine::new(alloc, scripts, setup_of(scripts), Rank::of(0))?;
+    go_on(&mut machine);
+    Ok(has_printed(&machine, wanted))
+}
+
+/// Whether it does so with this script for one rank.
+fn text_prints(alloc: Global, text: &[u8], wanted: &[&[u8]]) -> bool {
+    match read_script(alloc, text, 1) {
+        Ok(scripts) => matches!(prints(alloc, &scripts, wanted), Ok(true)),
+        Err(_) => false,
+    }
+}
+
+const SUMS: &[u8] = b"all\nints x 3\nrepeat 2\napply sum int x x\nprint int x\nend\n";
+
+const PRINTED: &[&[u8]] = &[&[6, 0, 0, 0], &[12, 0, 0, 0]];
+
+#[test]
+fn a_machine_goes_through_a_script_by_itself(rt: HostRuntime) {
+    assert!(rt; text_prints(rt.alloc(), SUMS, PRINTED));
+}
