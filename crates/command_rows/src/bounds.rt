@@ -1,6 +1,6 @@
 //! What no clause and no row says: that the longest texts arrive, and that the longest runs and the greatest logs end.
 
-use crate::cases::{Ended, Given, NOWHERE, run};
+use crate::cases::{Ended, FOUR_BYTES, Given, NOWHERE, run};
 use crate::programs::{Audit, Launcher, Program};
 use outcomes::Status;
 use std::alloc::{AllocError, Global};
@@ -38,6 +38,23 @@ fn expect<R: Threads + Sync + Abort, P: Program>(
         assert!(rt; row.is_told_by(&ended));
     }
     Ok(())
+}
+
+/// The least that has something to tell.
+const FOUR: &[Row] = &[Row {
+    given: Given {
+        words: &["-nue", "2", "s"],
+        hosts: b"",
+        script: FOUR_BYTES,
+    },
+    len: 16,
+    front: b"ue 1 y 01020304",
+    back: b"\n",
+}];
+
+#[test]
+fn four_bytes_have_memory(rt: HostRuntime) -> Result<(), AllocError> {
+    expect(&rt, rt.alloc(), &Launcher, FOUR)
 }
 
 /// One chunk, one byte more, and the most.
