@@ -1,5 +1,5 @@
 //! Whole scripts with what they come to, computed by the definitions.
-#![tactic(auto, unfolding(scc_base::specs::Communicators::key_of, script_reader::specs::Words::number_of, script_plain::specs::Local::local_next, script_plain::specs::Program::unrolled, hex::specs::Hex::decode_pairs))]
+#![tactic(auto)]
 
 mod collectives;
 mod messages;
