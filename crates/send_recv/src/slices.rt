@@ -1,6 +1,7 @@
 //! The words of a message's bytes.
 
 ghost use Rattle.std.specs.Prelude.{◌≡◌, ◌+◌, ◌*◌, ◌^◌, ◌<◌, ◌≤◌, ℕ, length, slice_index};
+ghost use Rattle.scc_base.specs.Bytes.{byte_of_word};
 ghost use Rattle.send_recv.specs.Bytes.{word_at, words_at, byte_of_line};
 
 use scc_base::byte_of;
@@ -22,6 +23,18 @@ fn word_from(bytes: &[u8], at: usize) -> u64
     requires fits { at ≤ 2 ^ 32 }
     ensures gives { result ≡ word_at bytes.now at }
 {
+    if at + 8 <= bytes.len() {
+        return u64::from_le_bytes([
+            bytes[at],
+            bytes[at + 1],
+            bytes[at + 2],
+            bytes[at + 3],
+            bytes[at + 4],
+            bytes[at + 5],
+            bytes[at + 6],
+            bytes[at + 7],
+        ]);
+    }
     let low = four_from(bytes, at);
     let high = four_from(bytes, at + 4);
     low as u64 + 0x1_0000_0000 * high as u64
@@ -51,6 +64,24 @@ pub(crate) fn line_from(bytes: &[u8], at: usize) -> [u64; 4]
     [first, second, third, fourth]
 }
 
+// Writes the eight bytes of a word into a message, from byte `at` on, up to the message's end.
+fn put_word(bytes: &mut [u8], at: usize, word: u64)
+    requires fits { at ≤ 2 ^ 32 }
+    ensures put { (k : ℕ) → k < 8 → at + k < length bytes.old → slice_index bytes.new (at + k) ≡ byte_of_word word k }
+    ensures before { (k : ℕ) → k < at → slice_index bytes.new k ≡ slice_index bytes.old k }
+    ensures behind { (k : ℕ) → at + 8 ≤ k → slice_index bytes.new k ≡ slice_index bytes.old k }
+{
+    if at + 8 <= bytes.len() {
+        bytes[at..at + 8].copy_from_slice(&word.to_le_bytes());
+        return;
+    }
+    'bytes: for k in 0..8 {
+        if at + k < bytes.len() {
+            bytes[at + k] = byte_of(word, k);
+        }
+    }
+}
+
 /// Writes the 32 bytes of a line into a message, from byte `at` on, up to the message's end.
 pub(crate) fn put_line(bytes: &mut [u8], at: usize, words: &[u64; 4])
     requires fits { at ≤ 2 ^ 31 }
@@ -58,9 +89,8 @@ pub(crate) fn put_line(bytes: &mut [u8], at: usize, words: &[u64; 4])
     ensures before { (k : ℕ) → k < at → slice_index bytes.new k ≡ slice_index bytes.old k }
     ensures behind { (k : ℕ) → at + 32 ≤ k → slice_index bytes.new k ≡ slice_index bytes.old k }
 {
-    'bytes: for k in 0..32 {
-        if at + k < bytes.len() {
-            bytes[at + k] = byte_of(words[k / 8], k % 8);
-        }
-    }
+    put_word(bytes, at, words[0]);
+    put_word(bytes, at + 8, words[1]);
+    put_word(bytes, at + 16, words[2]);
+    put_word(bytes, at + 24, words[3]);
 }
