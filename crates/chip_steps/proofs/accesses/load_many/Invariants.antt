@@ -1,6 +1,0 @@
-use Rattle.chip_steps.specs.declared.accesses.Kind.TheVariants.{Loads}
-use Rattle.chip_steps.specs.Steps.{Stepped}
-use Rattle.chip_steps.proofs.accesses.load_many.Given as goal
-
-abbrev pub invariant-steps : goal.invariant-steps
-invariant-steps g l = Stepped (g.P.Port.sight l.fn.port) Loads l.i (g.P.Port.sight l.port)

@@ -1,5 +1,0 @@
-use Rattle.std.proofs.Common.{◌≡◌}
-use Rattle.chip_steps.proofs.bare.load_many.Given as goal
-
-abbrev pub invariant-steps : goal.invariant-steps
-invariant-steps l = l.seat.table_id ≡ l.fn.words.table_id

@@ -1,6 +1,0 @@
-use Rattle.std.proofs.Common.{string_bytes}
-use Rattle.chip_steps.proofs.NumberLemmas.{under_two}
-use Rattle.chip_steps.proofs.job_of.Goals as goal
-
-pub returns-in_default : goal.returns-in_default
-returns-in_default c = under_two string_bytes c.args.words.now c.in_default.len_below

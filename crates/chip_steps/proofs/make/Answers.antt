@@ -1,6 +1,0 @@
-use Rattle.std.proofs.Common.{rules}
-use Rattle.chip_steps.proofs.make.Goals as goal
-
--- Answered by name, so that a body which turns this is refused at once, with no search for what else might be written.
-pub returns-in_ok-chip-in-Port : goal.returns-in_ok-chip-in-Port
-returns-in_ok-chip-in-Port c = search rules

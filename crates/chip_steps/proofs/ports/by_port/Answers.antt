@@ -1,6 +1,0 @@
-use Rattle.std.proofs.Common.{rules}
-use Rattle.chip_steps.proofs.ports.by_port.Goals as goal
-
--- Answered by name, so that a body which turns this is refused at once, with no search for what else might be written.
-pub returns : goal.returns
-returns c = search rules

@@ -1,0 +1,98 @@
+//! What the words of `chip_steps` ask for, and what is made of it.
+
+ghost use Rattle.std.specs.Prelude.{◌≡◌, map, string_bytes, IfOk};
+ghost use Rattle.steps_program.specs.Jobs.{job_of, case_of, number_of, HasMadeBy};
+
+use crate::accesses::Kind;
+use crate::bare::bare;
+use crate::ports::{by_port, by_seat};
+use scc_mesh::{Chip, Token};
+use std::alloc::{AllocError, Global};
+
+/// Where the accesses go: to a bare table, to a chip by a rank at home, or by a rank that is away.
+#[derive(Clone, Copy)]
+pub enum Way {
+    Table,
+    Port,
+    Seat,
+}
+
+/// A kind of accesses, and where they go.
+#[derive(Clone, Copy)]
+pub struct Case {
+    pub way: Way,
+    pub kind: Kind,
+}
+
+/// The accesses that are asked for, and how many.
+#[derive(Drop)]
+pub struct Job {
+    pub case: Case,
+    pub count: u32,
+}
+
+/// Who has the accesses: nobody, a rank at home on its chip, or a rank that is away from it.
+#[derive(Drop)]
+pub enum Made {
+    OnTable,
+    AtHome(Chip),
+    Away(Chip, Token),
+}
+
+// KIND.
+fn case_of(word: &str) -> Option<Case>
+    ensures { result ≡ case_of word.now }
+{
+    let (way, kind) = match word {
+        "table-load" => (Way::Table, Kind::Loads),
+        "table-store" => (Way::Table, Kind::Stores),
+        "port-load" => (Way::Port, Kind::Loads),
+        "port-store" => (Way::Port, Kind::Stores),
+        "seat-load" => (Way::Seat, Kind::Loads),
+        "seat-store" => (Way::Seat, Kind::Stores),
+        _ => return None,
+    };
+    Some(Case { way, kind })
+}
+
+// COUNT.
+fn number_of(word: &str) -> Option<u32>
+    ensures { result ≡ number_of word.now }
+{
+    match word.parse::<u32>() {
+        Ok(number) => Some(number),
+        Err(_) => None,
+    }
+}
+
+/// What the words KIND and COUNT ask for. Other words ask for nothing.
+pub fn job_of(words: &[String]) -> Option<Job>
+    ensures { result ≡ job_of (map string_bytes words.now) }
+{
+    let [kind, count] = words else {
+        return None;
+    };
+    let case = case_of(kind.as_str())?;
+    let count = number_of(count.as_str())?;
+    Some(Job { case, count })
+}
+
+/// Makes the accesses that are asked for.
+pub fn make(alloc: Global, job: &Job) -> Result<Made, AllocError>
+    ensures made { IfOk result (λ made. HasMadeBy job.now made) }
+{
+    match job.case.way {
+        Way::Table => {
+            bare(alloc, job.case.kind, job.count)?;
+            Ok(Made::OnTable)
+        }
+        Way::Port => {
+            let chip = by_port(alloc, job.case.kind, job.count)?;
+            Ok(Made::AtHome(chip))
+        }
+        Way::Seat => {
+            let away = by_seat(alloc, job.case.kind, job.count)?;
+            Ok(Made::Away(away.chip, away.token))
+        }
+    }
+}
