@@ -1,4 +1,4 @@
-//! Tests of the five programs by their top calls: what no row of a run shows. There is no other code.
+//! Tests of programs and of the script language: what no row of a run shows. There is no other code.
 #![tactic(auto)]
 
 #[cfg(test)]
@@ -6,10 +6,26 @@ mod bounds;
 #[cfg(test)]
 mod cases;
 #[cfg(test)]
+mod ends;
+#[cfg(test)]
 mod faults;
+#[cfg(test)]
+mod generated;
+#[cfg(test)]
+mod limits;
+#[cfg(test)]
+mod line_count;
 #[cfg(test)]
 mod lines;
 #[cfg(test)]
+mod machines;
+#[cfg(test)]
+mod outside;
+#[cfg(test)]
 mod programs;
 #[cfg(test)]
+mod taps;
+#[cfg(test)]
 mod together;
+#[cfg(test)]
+mod words;

@@ -1,9 +1,29 @@
-//! Tests of whole runs over the chip, in threads and on one. There is no other code.
+//! Tests over a chip: of UEs and of collective calls on one with one seat, and of whole runs, in threads and on one. There is no other code.
 #![tactic(auto)]
 
+#[cfg(test)]
+mod coll_alone;
+#[cfg(test)]
+mod coll_members;
+#[cfg(test)]
+mod coll_pieces;
+#[cfg(test)]
+mod coll_runs;
+#[cfg(test)]
+mod coll_teams;
+#[cfg(test)]
+mod evictors;
 #[cfg(test)]
 mod logs;
 #[cfg(test)]
 mod meetings;
 #[cfg(test)]
 mod runs;
+#[cfg(test)]
+mod scripts;
+#[cfg(test)]
+mod ue_apart;
+#[cfg(test)]
+mod ue_ends;
+#[cfg(test)]
+mod ues;

@@ -2,7 +2,7 @@
 
 ghost use Rattle.std.specs.Prelude.{◌≡◌, ◌<◌};
 
-use crate::runs::{FOUR_BYTES, setup_of};
+use crate::scripts::{FOUR_BYTES, setup_of};
 use log_run::{LogRun, has_room, run_script};
 use rcce_run::RunEnd;
 use scc_base::{Layout, Rank};
@@ -32,7 +32,7 @@ fn keeps_two_calls(run: &LogRun<'_>) -> bool
 fn keeps_both(alloc: Global, scripts: &Scripts) -> Result<bool, AllocError>
     requires two { scripts.now.nue ≡ 2 }
 {
-    let Some(setup) = setup_of(scripts, Layout::LineFlags) else {
+    let Some(setup) = setup_of(scripts, Layout::LineFlags, false) else {
         return Ok(false);
     };
     if !has_room(alloc, scripts)? {
@@ -53,5 +53,5 @@ fn is_kept(alloc: Global, text: &[u8]) -> bool {
 
 #[test]
 fn a_message_is_kept_by_both_ranks(rt: HostRuntime) {
-    assert!(rt; is_kept(rt.alloc(), FOUR_BYTES.script));
+    assert!(rt; is_kept(rt.alloc(), FOUR_BYTES));
 }

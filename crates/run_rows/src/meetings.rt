@@ -2,7 +2,8 @@
 
 ghost use Rattle.std.specs.Prelude.{None, []};
 
-use crate::runs::{FOUR_BYTES, PerRank, comes_to};
+use crate::evictors::PerRank;
+use crate::runs::{FOUR_ARRIVE, comes_to};
 use line_cache::{Evict, Never};
 use rcce_run::{Gate, Mode, Open};
 use scc_base::{Layout, Rank};
@@ -95,7 +96,7 @@ fn meet<V: PerRank + Send, G: Gate + Sync, R: Threads + Sync>(
     meeting: &Meeting,
 ) -> bool {
     let layout = Layout::LineFlags;
-    comes_to(rt, alloc, layout, FOUR_BYTES, like, Mode::Threads, gate) && meeting.was_held()
+    comes_to(rt, alloc, layout, FOUR_ARRIVE, like, Mode::Threads, gate) && meeting.was_held()
 }
 
 #[test]

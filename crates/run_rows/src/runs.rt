@@ -1,88 +1,34 @@
 //! What the clauses do not say: whole runs of scripts in both modes, and that memory suffices for them.
 
-ghost use Rattle.std.specs.Prelude.{◌≡◌, IfOk, IfSome};
+ghost use Rattle.std.specs.Prelude.{◌≡◌, IfOk};
 ghost use Rattle.rcce_run.specs.UeRuns.{IsFreshCrew};
 ghost use Rattle.scc_mesh.specs.Scenes.{ChipView, IsNew};
 ghost use Rattle.script_reader.specs.Script.{rules_of};
 
+use crate::evictors::PerRank;
+use crate::scripts::{End, FOUR_BYTES, chip_with, has_printed, is_at, setup_of};
 use line_cache::{Always, Evict, Never, Seeded};
 use rcce_run::{Crew, Gate, Mode, Open, RunEnd, run};
 use rcce_ue::Ue;
-use scc_base::{CoreId, Layout, Rank, Setup};
-use scc_mesh::Chip;
-use script_plain::UeEnd;
+use scc_base::{Layout, Rank, Setup};
 use script_reader::{Scripts, read_script};
 use std::alloc::{AllocError, Global};
 use std::thread::Threads;
 
-/// How a rank ends, and at which line.
-pub(crate) enum End {
-    Finished,
-    Waits(u32),
-    Mismatch(u32),
-}
-
 /// A script, and what it comes to: the end of the run, and of each rank its end and the items that it prints.
 #[derive(Drop)]
 pub(crate) struct Row<'a> {
-    pub(crate) script: &'a [u8],
+    script: &'a [u8],
     end: RunEnd,
     ranks: &'a [(End, &'a [&'a [u8]])],
 }
 
 /// Rank 0 sends four bytes to rank 1, which prints them.
-pub(crate) const FOUR_BYTES: &Row<'static> = &Row {
-    script: b"ue 0\nbytes x 01020304\nsend 1 x\nue 1\nrecv 0 y 4\nprint y\n",
+pub(crate) const FOUR_ARRIVE: &Row<'static> = &Row {
+    script: FOUR_BYTES,
     end: RunEnd::Finished,
     ranks: &[(End::Finished, &[]), (End::Finished, &[&[1, 2, 3, 4]])],
 };
-
-/// An evictor that makes one of its kind for each rank.
-pub(crate) trait PerRank: Evict + Drop {
-    fn for_rank(&self, rank: u8) -> Self;
-}
-
-impl PerRank for Never {
-    fn for_rank(&self, rank: u8) -> Never {
-        let _ = rank;
-        Never
-    }
-}
-
-impl PerRank for Always {
-    fn for_rank(&self, rank: u8) -> Always {
-        let _ = rank;
-        Always::new()
-    }
-}
-
-impl PerRank for Seeded {
-    fn for_rank(&self, rank: u8) -> Seeded {
-        Seeded::new(rank as u64)
-    }
-}
-
-/// The setup of a script, on cores 0 and up.
-pub(crate) fn setup_of(scripts: &Scripts, layout: Layout) -> Option<Setup>
-    ensures layout { IfSome result (λ s. s.layout ≡ layout) }
-    ensures ranks { IfSome result (λ s. s.nue ≡ scripts.now.nue) }
-    ensures communicators { IfSome result (λ s. s.comms ≡ rules_of scripts.now.items) }
-{
-    let mut cores = [CoreId::of(0); 48];
-    for number in 0..48 {
-        cores[number] = CoreId::of(number as u8);
-    }
-    Setup::new(scripts.nue(), layout, cores, scripts.comm_rules())
-}
-
-/// A chip that was just opened.
-fn opened(alloc: Global, setup: &Setup) -> Result<Chip, AllocError>
-    ensures new { IfOk result (λ chip. IsNew setup.now chip) }
-{
-    let mut chip = Chip::blank();
-    chip.open(alloc, setup.copy())?;
-    Ok(chip)
-}
 
 /// A member for each rank, with an evictor like this one.
 fn crew_of<'s, V: PerRank>(
@@ -109,31 +55,6 @@ fn crew_of<'s, V: PerRank>(
     Ok(crew)
 }
 
-/// Whether a UE has come to this end.
-fn is_at<V: Evict>(ue: &Ue<'_, V>, end: &End) -> bool {
-    if !ue.is_pausing() {
-        return false;
-    }
-    match ue.end() {
-        UeEnd::Finished => matches!(end, End::Finished),
-        UeEnd::Waits { line, .. } => matches!(end, End::Waits(at) if *at == line),
-        UeEnd::Mismatch { line, .. } => matches!(end, End::Mismatch(at) if *at == line),
-    }
-}
-
-/// Whether a UE has printed these items.
-fn has_printed<V: Evict>(ue: &Ue<'_, V>, wanted: &[&[u8]]) -> bool {
-    if ue.items() != wanted.len() {
-        return false;
-    }
-    for i in 0..wanted.len() {
-        if ue.item(i).bytes() != wanted[i] {
-            return false;
-        }
-    }
-    true
-}
-
 /// Whether the ranks have come to what a row says.
 fn are_as_told<V: Evict + Drop>(crew: &[Crew<'_, V>], row: &Row<'_>) -> bool {
     for (member, (end, printed)) in crew.iter().zip(row.ranks) {
@@ -158,7 +79,7 @@ fn run_comes_to<V: PerRank + Send, G: Gate + Sync, R: Threads + Sync>(
     requires ranks { setup.now.nue ≡ scripts.now.nue }
     requires communicators { setup.now.comms ≡ rules_of scripts.now.items }
 {
-    let mut chip = opened(alloc, setup)?;
+    let mut chip = chip_with(alloc, setup)?;
     let mut crew = crew_of(alloc, scripts, setup, like)?;
     let end = run(rt, &mut chip, crew.as_mut_slice(), mode, gate);
     Ok(end == row.end && are_as_told(crew.as_slice(), row))
@@ -175,7 +96,7 @@ fn script_comes_to<V: PerRank + Send, G: Gate + Sync, R: Threads + Sync>(
     mode: Mode,
     gate: &G,
 ) -> bool {
-    match setup_of(scripts, layout) {
+    match setup_of(scripts, layout, false) {
         Some(setup) => matches!(
             run_comes_to(rt, alloc, scripts, &setup, row, like, mode, gate),
             Ok(true)
@@ -236,7 +157,7 @@ fn four_bytes_arrive<V: PerRank + Send, R: Threads + Sync>(
     alloc: Global,
     like: &V,
 ) -> bool {
-    always_comes_to(rt, alloc, FOUR_BYTES, like, MODES)
+    always_comes_to(rt, alloc, FOUR_ARRIVE, like, MODES)
 }
 
 #[test]

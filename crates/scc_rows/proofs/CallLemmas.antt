@@ -20,13 +20,6 @@ pub other_bytes : {s : Sight} {c : Private} {slot : SlotAt} {peer : ℕ} {old by
 other_bytes st = record { peers = st.peers; at = st.at }
 
 module _ {s t : Sight} {peer : ℕ} (peers : are_peers s.seat.setup s.seat.rank peer ≡ true) where
-  pub sent_whole : {c d : Private} {op : SendAt} {slot after : SlotAt} {bytes : List ℕ} → SendStands s c op slot bytes → Sent (sending s c op slot bytes) (with_slot t d after) → IsTalking t d after peer bytes None None
-  sent_whole st r = record { peers = peers_kept peer r.events r.did peers; at = free_after_send st r }
-
-  pub send_stalled : {c d : Private} {op now : SendAt} {slot after : SlotAt} {bytes : List ℕ} {polls : ℕ} {spot : Spot} {get : Option RecvAt} → SendStalled (sending s c op slot bytes) polls (sending t d now after bytes) spot
-      → IsTalking t d after peer bytes (Some now) get
-  send_stalled r = record { peers = peers_kept peer r.events r.did peers; at = r.stands }
-
   pub received_whole : {c d : Private} {op : RecvAt} {slot : SlotAt} {bytes before after any : List ℕ} {polls : ℕ} → RecvStands s c op before → SlotStands s.seat (record_in s) slot
       → Received (receiving s c op bytes) polls (with_bytes t d after) → IsTalking t d slot peer any None None
   received_whole st slot r = record { peers = peers_kept peer r.events r.did peers; at = free_after_receive st.hands slot r }

@@ -75,14 +75,6 @@ may_write_flag s r f set rest lt high free = by f.bit free
     by None none = heap_store_may s.seat (record_in s) r f (flag_value set) rest.valid below high (ap leaves_heap rest.idle)
     by (Some b) none = heap_bit_may s.seat (record_in s) r f b set rest.valid below high (ap leaves_heap rest.idle) none
 
--- a flag that is written by a rank that holds no register
-pub free_to_take : (s : Sight) (r : ℕ) (f : FlagView) → ((core : ℕ) → (record_in s).held core ≡ None) → MayTake s r f
-free_to_take s r f none = by f.bit
-  where
-    by : (bit : Option ℕ) → IfSome bit (λ b. IsNotHolding (record_in s) (host_of s.seat.setup.hosts r))
-    by None = tt
-    by (Some b) = ap is_none (none (host_of s.seat.setup.hosts r))
-
 -- after a write of the flag the rank holds its register no more
 pub still_free : (s t : Sight) (c d : Private) (r : ℕ) (f : FlagView) (set : Bool) (polls : ℕ) (result : Result Unit Stalled) → WritesFlag s c (flag_of s.seat.setup r f) f.bit set polls t d result
     → IfSome f.bit (λ b. IsNotHolding (record_in t) (host_of s.seat.setup.hosts r)) → MayTake t r f

@@ -145,21 +145,6 @@ quiet_push (first ∷ rest) e h one =
     let each = both (is_quiet first.access first.place) (are_quiet rest) h in
     λ i. each.0 i && quiet_push rest e each.1 one i
 
-honest_by : (s : SetupView) (me : ℕ) (rec : Record) (access : Access) (place : WordAt) (value : ℕ) → is_quiet access place ≡ true
-    → (noted : ℕ) → noted_load s me rec access place ≡ Some noted → value ≡ noted
-honest_by s me rec Load place value h = by_role s place (λ (role : Role). (noted : ℕ) → noted_by (load_by s me 0 role) rec ≡ Some noted → value ≡ noted) h
-    (λ noted e. absurd (cc)) (λ noted e. absurd (cc))
-honest_by s me rec Store place value h = λ noted e. absurd (cc)
-honest_by s me rec Take place value h = λ noted e. absurd (cc)
-honest_by s me rec Free place value h = λ noted e. absurd (cc)
-
-pub quiet_did : (old new : Sight) (e : Event) → is_quiet e.access e.place ≡ true → MayMake old.seat (record_in old) e
-    → new ≡ record old { events = old.events ++ e ∷ [] } → Did old (e ∷ []) new
-quiet_did old new e h may is = record {
-  continues = is;
-  made = (record { permitted = may; honest = honest_by old.seat.setup old.seat.rank (record_in old) e.access e.place e.value h }, tt);
-}
-
 -- a list to which an event was pushed, or for which there was no memory
 pub quiet_pushed : (events new : List Event) (ok : Bool) (e : Event) → new ≡ (if ok then events ++ e ∷ [] else events) → are_quiet events ≡ true
     → is_quiet e.access e.place ≡ true → are_quiet new ≡ true

@@ -203,10 +203,6 @@ place_may s p r value rest lt on high =
     subst (λ (core : ℕ). May s.seat (record_in s) (store_of (record { core = core; line = p.line; word = p.word }) value ∷ [])) (sym on)
     (one_store s.seat rest.valid r (subst (λ n. r < n) (sym rest.two) lt) (record_in s) p.line p.word value high rest.idle)
 
-pub may_store : (s : Sight) (p : WordAt) (r value : ℕ) → IsAtRest s → r < 2 → p.core ≡ host_of s.seat.setup.hosts r → 225 ≤ p.line
-    → MayMake s.seat (record_in s) (store_of p value)
-may_store s p r value rest lt on high = (place_may s p r value rest lt on high).may.0
-
 pub store_rests : (s : Sight) (p : WordAt) (r value : ℕ) (t : Sight) → Did s (store_of p value ∷ []) t → IsAtRest s → r < 2
     → p.core ≡ host_of s.seat.setup.hosts r → 225 ≤ p.line → IsAtRest t
 store_rests s p r value t did rest lt on high = did_keeps s _ t did rest (place_may s p r value rest lt on high).idle

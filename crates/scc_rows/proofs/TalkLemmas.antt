@@ -71,35 +71,6 @@ pub talk_starts : (s : SetupView) (r : ℕ) (c : Private) (slot : SlotAt) (peer 
     → IsTalking (sight_alone s r []) c slot peer bytes None None
 talk_starts s r c slot peer bytes peers empty new = record { peers = peers; at = starts_free (sight_alone s r []) c slot refl empty new }
 
-plain_valid : (len : ℕ) → len ≤ 65536 → IsHead (plain_head len)
-plain_valid len le = record { kind_below = omega arith; comm_below = omega arith; len_within = le; plain_in_world = λ same. refl }
-
-plain_short : (len : ℕ) → len ≤ 3584 → IsPostHead (plain_head len)
-plain_short len le = record { plain = refl; in_world = refl; len_within = le }
-
-pub begins_receive : {s : Sight} {c : Private} {slot : SlotAt} {peer : ℕ} {old bytes : List ℕ} {op : RecvAt} → IsTalking s c slot peer old None None → length bytes ≤ 65536
-    → op ≡ new_receive peer (plain_head (length bytes)) → IsTalking s c slot peer bytes None (Some op)
-begins_receive {s} {c} {slot} {peer} {old} {bytes} {op} st le is = record {
-  peers = st.peers;
-  at = (subst (λ (o : RecvAt). RecvStands s c o bytes) (sym is) (receive_starts st.at peer (plain_head (length bytes)) bytes st.peers (plain_valid (length bytes) le) refl), st.at.slot_stands);
-}
-
-pub begins_send : {s : Sight} {c : Private} {slot : SlotAt} {peer : ℕ} {old bytes : List ℕ} {op : SendAt} {get : Option RecvAt} → IsTalking s c slot peer old None None → length bytes ≤ 65536
-    → op ≡ new_send peer (plain_head (length bytes)) false → IsTalking s c slot peer bytes (Some op) get
-begins_send {s} {c} {slot} {peer} {old} {bytes} {op} st le is = record {
-  peers = st.peers;
-  at = subst (λ (o : SendAt). SendStands s c o slot bytes) (sym is)
-      (send_starts st.at peer (plain_head (length bytes)) false bytes st.peers (plain_valid (length bytes) le) (λ posted. absurd (cc)) refl);
-}
-
-pub begins_post : {s : Sight} {c : Private} {slot : SlotAt} {peer : ℕ} {old bytes : List ℕ} {op : SendAt} {get : Option RecvAt} → IsTalking s c slot peer old None None → length bytes ≤ 3584
-    → op ≡ new_send peer (plain_head (length bytes)) true → IsTalking s c slot peer bytes (Some op) get
-begins_post {s} {c} {slot} {peer} {old} {bytes} {op} st le is = record {
-  peers = st.peers;
-  at = subst (λ (o : SendAt). SendStands s c o slot bytes) (sym is)
-      (send_starts st.at peer (plain_head (length bytes)) true bytes st.peers (plain_valid (length bytes) (omega (arith, le))) (λ posted. plain_short (length bytes) le) refl);
-}
-
 -- ---- a turn
 
 pub peers_kept : {s t : Sight} (peer : ℕ) (es : List Event) → Did s es t → are_peers s.seat.setup s.seat.rank peer ≡ true → are_peers t.seat.setup t.seat.rank peer ≡ true
@@ -110,20 +81,12 @@ pub written_back : (n : ℕ) (xs ys : List ℕ) → length xs ≡ n → take n (
 written_back n xs ys long = ap (λ (k : ℕ). take k (xs ++ ys)) (sym long) ∙ take-append_seam xs ys
 
 -- a call that goes on
-pub send_goes_on : {s t : Sight} {c d : Private} {op now : SendAt} {slot after : SlotAt} {bytes : List ℕ} {peer : ℕ} {answer : Turn} {get : Option RecvAt}
-    → are_peers s.seat.setup s.seat.rank peer ≡ true → SendTurned (sending s c op slot bytes) (sending t d now after bytes) answer → SendStands t d now after bytes → IsTalking t d after peer bytes (Some now) get
-send_goes_on peers turned st = record { peers = peers_kept _ turned.events turned.did peers; at = st }
-
 pub receive_goes_on : {s t : Sight} {c d : Private} {op now : RecvAt} {slot : SlotAt} {bytes after : List ℕ} {peer : ℕ} {answer : RecvTurn}
     → are_peers s.seat.setup s.seat.rank peer ≡ true → SlotStands s.seat (record_in s) slot → RecvTurned (receiving s c op bytes) (receiving t d now after) answer → RecvStands t d now after
     → IsTalking t d slot peer after None (Some now)
 receive_goes_on peers slot turned st = record { peers = peers_kept _ turned.events turned.did peers; at = (st, slot_after turned.events turned.did turned.post slot) }
 
 -- a call that is at its end
-pub send_is_over : {s t : Sight} {c d : Private} {op now : SendAt} {slot after : SlotAt} {bytes : List ℕ} {peer : ℕ}
-    → are_peers s.seat.setup s.seat.rank peer ≡ true → SendTurned (sending s c op slot bytes) (sending t d now after bytes) turn.Done → SendStands t d now after bytes → IsTalking t d after peer bytes None None
-send_is_over peers turned st = record { peers = peers_kept _ turned.events turned.did peers; at = free_after_sent turned st }
-
 pub receive_is_over : {s t : Sight} {c d : Private} {op now : RecvAt} {slot : SlotAt} {bytes after : List ℕ} {peer : ℕ}
     → are_peers s.seat.setup s.seat.rank peer ≡ true → SlotStands s.seat (record_in s) slot → RecvTurned (receiving s c op bytes) (receiving t d now after) recv_turn.Done → RecvStands t d now after
     → IsTalking t d slot peer after None None

@@ -12,7 +12,7 @@ ghost use Rattle.scc_proto.specs.Agreement.{Agrees};
 ghost use Rattle.scc_mesh.specs.Keeping.{IsStoredAt};
 ghost use Rattle.scc_mesh.specs.Scenes.{IsOpen, IsWhole, IsHomeBelow, about_in, table_in, events_in, records_in};
 
-use crate::fixtures::{new_pair, world_of};
+use crate::fixtures::{as_named, new_pair, world_of};
 use scc_base::{CoreId, Layout, Place, Rank};
 use scc_mesh::{Chip, SeatPort, Token, Words};
 use scc_proto::Port;
@@ -23,12 +23,11 @@ use std::thread::Threads;
 
 #[test]
 fn a_blank_chip_opens(rt: HostRuntime) -> Result<(), Fail> {
-    let mut chip = Chip::blank();
-    assert!(rt; !chip.is_open());
     let setup = world_of(48, Layout::lines()).ok_or("a setup")?;
+    let mut chip = Chip::blank();
+    let early = chip.is_open();
     chip.open(rt.alloc(), setup)?;
-    assert!(rt; chip.is_open() && chip.setup().nue() == 48);
-    Ok(())
+    as_named(!early && chip.is_open() && chip.setup().nue() == 48)
 }
 
 // A chip of two ranks that was just opened.
@@ -184,8 +183,7 @@ fn two_ranks_step_in_threads_of_their_own(rt: HostRuntime) -> Result<(), Fail> {
     step_apart(&rt, &mut chip);
     let _nue = chip.setup().nue();
     let mut port = chip.port(Rank::of(0));
-    assert!(rt; sees_both(&mut port));
-    Ok(())
+    as_named(sees_both(&mut port))
 }
 
 fn away_and_home(chip: &mut Chip)
@@ -202,6 +200,5 @@ fn away_and_home(chip: &mut Chip)
 fn a_rank_goes_away_and_comes_home(rt: HostRuntime) -> Result<(), Fail> {
     let mut chip = opened_pair(rt.alloc())?;
     away_and_home(&mut chip);
-    assert!(rt; chip.is_open());
-    Ok(())
+    as_named(chip.is_open())
 }

@@ -5,7 +5,8 @@ ghost use Rattle.scc_base.specs.Communicators.{rule_of};
 ghost use Rattle.scc_base.specs.declared.communicators.CommRule.TheVariants.{Absent};
 ghost use Rattle.scc_mesh.specs.Scenes.{IsNew, about_in};
 
-use crate::fixtures::LAYOUTS;
+use crate::fixtures::{LAYOUTS, as_named};
+use crate::steps::{Answer, Step, takes};
 use barrier::{BarOp, BarStop, Parity, barrier};
 use chip_teams::{Player, Team, opened};
 use line_cache::Never;
@@ -107,68 +108,77 @@ const ORDERS: &[&[usize]] = &[
     &[2, 1, 0],
 ];
 
-#[test]
-fn members_pass_twice_in_every_order(rt: HostRuntime) -> Result<(), Fail> {
-    for layout in LAYOUTS {
-        assert!(rt; rounds_of(rt.alloc(), *layout, 1, &[0])? == 2);
-        for order in ORDERS {
-            assert!(rt; rounds_of(rt.alloc(), *layout, order.len() as u8, order)? > 0);
-        }
+fn shows_orders(alloc: Global, layout: Layout) -> Result<(), Fail> {
+    as_named(rounds_of(alloc, layout, 1, &[0])? == 2)?;
+    for order in ORDERS {
+        as_named(rounds_of(alloc, layout, order.len() as u8, order)? > 0)?;
     }
     Ok(())
 }
 
-// Whether a turn of a rank is the last of its barriers.
-fn passes(team: &mut Team<Entrant>, at: usize) -> bool {
-    team.turn(at) == Some(Turn::Done)
+#[test]
+fn members_pass_twice_in_every_order(rt: HostRuntime) -> Result<(), Fail> {
+    for layout in LAYOUTS {
+        shows_orders(rt.alloc(), *layout)?;
+    }
+    Ok(())
 }
 
-// Whether a turn of a rank goes on within a barrier.
-fn moves(team: &mut Team<Entrant>, at: usize) -> bool {
-    team.turn(at) == Some(Turn::Moved)
+const TWO_STAY: &[Step] = &[Step::Turn(0, Answer::Stays), Step::Turn(1, Answer::Stays)];
+
+const ALL_PASS: &[Step] = &[Step::Rounds(&[0, 1, 2], 10, true)];
+
+// Whether two of three ranks do not pass before the third has entered.
+fn pass_after_third(team: &mut Team<Entrant>) -> bool {
+    for _ in 0..10 {
+        if !takes(team, TWO_STAY) {
+            return false;
+        }
+    }
+    takes(team, ALL_PASS)
 }
 
 #[test]
 fn nobody_passes_before_all_have_entered(rt: HostRuntime) -> Result<(), Fail> {
     let chip = opened(rt.alloc(), 3, Layout::lines(), CommRule::Absent)?;
     let mut team = entrants(rt.alloc(), chip, 0, 0)?;
-    for _ in 0..10 {
-        assert!(rt; !passes(&mut team, 0) && !passes(&mut team, 1));
+    as_named(pass_after_third(&mut team))
+}
+
+// Shows that so many ranks, of which those of even number are one group and the others another, take these steps in a
+// barrier of it, in both layouts.
+fn shows_groups(alloc: Global, nue: u8, steps: &[Step]) -> Result<(), Fail> {
+    for layout in LAYOUTS {
+        let chip = opened(alloc, nue, *layout, CommRule::Mod { parent: 0, k: 2 })?;
+        let mut team = entrants(alloc, chip, 8, 0)?;
+        as_named(takes(&mut team, steps))?;
     }
-    assert!(rt; team.rounds(&[0, 1, 2], 10) > 0);
     Ok(())
 }
 
-// So many ranks of which those of even number are one group, and the others another, which enter a barrier of it.
-fn entrants_of_split(alloc: Global, layout: Layout, nue: u8) -> Result<Team<Entrant>, Fail> {
-    let chip = opened(alloc, nue, layout, CommRule::Mod { parent: 0, k: 2 })?;
-    entrants(alloc, chip, 8, 0)
-}
-
-// Whether rank 0 alone does not pass a barrier of its group, and passes it with rank 2.
-fn passes_with_two(team: &mut Team<Entrant>) -> bool {
-    let alone = team.rounds(&[0], 5);
-    alone == 0 && team.rounds(&[2, 0], 5) > 0
-}
+/// Both groups are at it at once. Rank 0 alone does not pass a barrier of its group, and passes it with rank 2.
+const BOTH_GROUPS: &[Step] = &[
+    Step::Turn(0, Answer::Moves),
+    Step::Turn(1, Answer::Moves),
+    Step::Rounds(&[3, 1], 5, true),
+    Step::Rounds(&[0], 5, false),
+    Step::Rounds(&[2, 0], 5, true),
+];
 
 #[test]
 fn the_groups_of_a_split_do_not_wait_for_each_other(rt: HostRuntime) -> Result<(), Fail> {
-    for layout in LAYOUTS {
-        // Both groups are at it at once.
-        let mut team = entrants_of_split(rt.alloc(), *layout, 4)?;
-        assert!(rt; moves(&mut team, 0) && moves(&mut team, 1));
-        assert!(rt; team.rounds(&[3, 1], 5) > 0 && passes_with_two(&mut team));
-    }
-    Ok(())
+    shows_groups(rt.alloc(), 4, BOTH_GROUPS)
 }
+
+const GROUP_OF_ONE: &[Step] = &[
+    Step::Turn(1, Answer::Passes),
+    Step::Rounds(&[0], 5, false),
+    Step::Rounds(&[2, 0], 5, true),
+];
 
 #[test]
 fn a_rank_that_is_a_group_of_its_own_waits_for_nobody(rt: HostRuntime) -> Result<(), Fail> {
-    for layout in LAYOUTS {
-        let mut team = entrants_of_split(rt.alloc(), *layout, 3)?;
-        assert!(rt; passes(&mut team, 1) && passes_with_two(&mut team));
-    }
-    Ok(())
+    shows_groups(rt.alloc(), 3, GROUP_OF_ONE)
 }
 
 // Enters a barrier of all ranks by the root alone.
@@ -198,14 +208,18 @@ fn is_stalled(answer: Result<(), BarStop>, line: u8) -> bool {
 /// The lines of the gather flags of the world.
 const GATHERS: &[(Layout, u8)] = &[(Layout::LineFlags, 97), (Layout::BitFlags, 2)];
 
+fn shows_root_alone(alloc: Global, layout: Layout, line: u8) -> Result<(), Fail> {
+    let mut chip = opened(alloc, 2, layout, CommRule::Absent)?;
+    if chip.setup().rule(0) == CommRule::Absent {
+        return as_named(false);
+    }
+    as_named(is_stalled(entered_by_root(&mut chip, 2), line))
+}
+
 #[test]
 fn the_root_alone_is_stalled_at_the_other_gather_flag(rt: HostRuntime) -> Result<(), Fail> {
     for (layout, line) in GATHERS {
-        let mut chip = opened(rt.alloc(), 2, *layout, CommRule::Absent)?;
-        if chip.setup().rule(0) == CommRule::Absent {
-            return Err("a communicator of all ranks".into());
-        }
-        assert!(rt; is_stalled(entered_by_root(&mut chip, 2), *line));
+        shows_root_alone(rt.alloc(), *layout, *line)?;
     }
     Ok(())
 }

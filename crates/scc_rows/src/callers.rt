@@ -7,7 +7,7 @@ ghost use Rattle.chip_teams.specs.Teams.{sight_alone};
 ghost use Rattle.scc_rows.specs.Talkers.{IsTalking};
 
 use crate::fixtures::pair_in;
-use crate::messages::{bytes_from, head_of, post_head_of, team_of_two};
+use crate::messages::{bytes_from, head_of, post_head_of, team_of_two, zeros};
 use chip_teams::{Player, Team};
 use line_cache::Never;
 use put_get::Core;
@@ -248,15 +248,20 @@ impl Player for Caller {
     }
 }
 
+// A call, with the length of its bytes.
+fn call_of(alloc: Global, deed: Deed, len: usize) -> Result<Call, Fail> {
+    let bytes = match deed {
+        Deed::Send | Deed::Post => bytes_from(alloc, 1, len)?,
+        Deed::Receive | Deed::Test => zeros(alloc, len)?,
+    };
+    Ok(Call { deed, bytes })
+}
+
 // These calls, in this order, each with the length of its bytes.
 fn calls_of(alloc: Global, deeds: &[(Deed, usize)]) -> Result<Vec<Call>, Fail> {
     let mut calls = Vec::new(alloc);
     for (deed, len) in deeds.iter().rev() {
-        let bytes = match deed {
-            Deed::Send | Deed::Post => bytes_from(alloc, 1, *len)?,
-            Deed::Receive | Deed::Test => vec![in alloc; 0; *len]?,
-        };
-        calls.push(Call { deed: *deed, bytes })?;
+        calls.push(call_of(alloc, *deed, *len)?)?;
     }
     Ok(calls)
 }

@@ -2,7 +2,7 @@
 
 ghost use Rattle.scc_rows.specs.Rests.{IsAtRest, IsWithout};
 
-use crate::fixtures::{Meeting, acquire, free, give_back, holds, store, take};
+use crate::fixtures::{Meeting, acquire, free, give_back, shows, store, take};
 use scc_base::{CoreId, Place, Rank};
 use scc_proto::{CountingPort, Port};
 use std::test::Fail;
@@ -31,8 +31,7 @@ impl Meeting for AllLoads {
 
 #[test]
 fn every_word_is_zero_after_open(rt: HostRuntime) -> Result<(), Fail> {
-    assert!(rt; holds::<AllLoads>(rt.alloc())?);
-    Ok(())
+    shows::<AllLoads>(rt.alloc())
 }
 
 // Whether a word is 0 for a rank until another stores it, and the word beside it changes nothing.
@@ -61,8 +60,7 @@ impl Meeting for StoreAndLoad {
 
 #[test]
 fn a_store_is_seen_by_another_ranks_load(rt: HostRuntime) -> Result<(), Fail> {
-    assert!(rt; holds::<StoreAndLoad>(rt.alloc())?);
-    Ok(())
+    shows::<StoreAndLoad>(rt.alloc())
 }
 
 // Whether a register is taken by the first of two ranks alone, and by the other once it is freed.
@@ -92,8 +90,7 @@ impl Meeting for TwoTakes {
 
 #[test]
 fn a_register_is_taken_once_until_it_is_freed(rt: HostRuntime) -> Result<(), Fail> {
-    assert!(rt; holds::<TwoTakes>(rt.alloc())?);
-    Ok(())
+    shows::<TwoTakes>(rt.alloc())
 }
 
 // Whether a rank that holds no register can take this one; it gives it back at once.
@@ -137,6 +134,5 @@ impl Meeting for TwoLocks {
 
 #[test]
 fn a_lock_is_another_ranks_only_after_its_release(rt: HostRuntime) -> Result<(), Fail> {
-    assert!(rt; holds::<TwoLocks>(rt.alloc())?);
-    Ok(())
+    shows::<TwoLocks>(rt.alloc())
 }

@@ -1,6 +1,6 @@
 //! Collective calls as steps, and folds: values from the tables and the worked runs.
 
-use crate::fixtures::cores_in_order;
+use crate::fixtures::{cores_in_order, has_text};
 use groups::{Coll, Op, Shape, Step, Ty, fold_into, step, steps};
 use scc_base::{CommRule, Head, Kind, Layout, Rank, Setup};
 use std::test::Fail;
@@ -342,7 +342,6 @@ fn lengths_that_do_not_fit_are_refused(rt: HostRuntime) {
 
 #[test]
 fn a_shape_has_a_text(rt: HostRuntime) -> Result<(), Fail> {
-    let text = Shape { acc: 4, more: 8 }.to_string(rt.alloc())?;
-    assert!(rt; text.as_str() == "lengths 4 and 8 do not fit");
-    Ok(())
+    let shape = Shape { acc: 4, more: 8 };
+    has_text(rt.alloc(), &shape, "lengths 4 and 8 do not fit")
 }

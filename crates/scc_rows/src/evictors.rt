@@ -2,7 +2,7 @@
 
 ghost use Rattle.std.specs.Prelude.{◌≡◌, [], None, if◌then◌else◌};
 
-use crate::fixtures::{Meeting, holds};
+use crate::fixtures::{Meeting, has_text, shows};
 use line_cache::Evict;
 use put_get::{Core, RangeFault};
 use scc_base::{CoreId, Place};
@@ -11,9 +11,8 @@ use std::test::Fail;
 
 #[test]
 fn the_text_of_the_fault(rt: HostRuntime) -> Result<(), Fail> {
-    let text = RangeFault { asked: 3, len: 2 }.to_string(rt.alloc())?;
-    assert!(rt; text.as_str() == "asked 3 lines of a buffer of 2");
-    Ok(())
+    let fault = RangeFault { asked: 3, len: 2 };
+    has_text(rt.alloc(), &fault, "asked 3 lines of a buffer of 2")
 }
 
 /// The evictor that names the middle one of three entries, once.
@@ -66,6 +65,5 @@ impl Meeting for MiddleLine {
 
 #[test]
 fn the_named_entry_leaves_and_no_other(rt: HostRuntime) -> Result<(), Fail> {
-    assert!(rt; holds::<MiddleLine>(rt.alloc())?);
-    Ok(())
+    shows::<MiddleLine>(rt.alloc())
 }

@@ -12,6 +12,7 @@ use scc_mesh::{Chip, SeatPort};
 use scc_proto::{CountingPort, Port};
 use std::alloc::Global;
 use std::cell::Cell;
+use std::fmt::Display;
 use std::test::Fail;
 use tas_lock::{Held, release, try_acquire};
 
@@ -105,14 +106,42 @@ fn holds_on<M: Meeting>(chip: &mut Chip) -> bool
 }
 
 /// Whether a meeting at a chip of two ranks that was just opened goes as it is named.
-pub(crate) fn holds_in<M: Meeting>(alloc: Global, layout: Layout) -> Result<bool, Fail> {
+fn holds_in<M: Meeting>(alloc: Global, layout: Layout) -> Result<bool, Fail> {
     let mut chip = pair_in(alloc, layout)?;
     Ok(holds_on::<M>(&mut chip))
 }
 
-/// The same with line flags.
-pub(crate) fn holds<M: Meeting>(alloc: Global) -> Result<bool, Fail> {
-    holds_in::<M>(alloc, Layout::LineFlags)
+/// Nothing where a test goes as it is named, and else its failure.
+pub(crate) fn as_named(goes: bool) -> Result<(), Fail> {
+    if goes {
+        Ok(())
+    } else {
+        Err("it does not go as it is named".into())
+    }
+}
+
+/// Shows that a meeting at such a chip, with line flags, goes as it is named.
+pub(crate) fn shows<M: Meeting>(alloc: Global) -> Result<(), Fail> {
+    shows_in::<M>(alloc, Layout::LineFlags)
+}
+
+/// The same with these flags.
+pub(crate) fn shows_in<M: Meeting>(alloc: Global, layout: Layout) -> Result<(), Fail> {
+    as_named(holds_in::<M>(alloc, layout)?)
+}
+
+/// The same with each layout of the flags.
+pub(crate) fn shows_in_both<M: Meeting>(alloc: Global) -> Result<(), Fail> {
+    for layout in LAYOUTS {
+        shows_in::<M>(alloc, *layout)?;
+    }
+    Ok(())
+}
+
+/// Shows that a value has this text.
+pub(crate) fn has_text<T: Display>(alloc: Global, value: &T, text: &str) -> Result<(), Fail> {
+    let shown = value.to_string(alloc)?;
+    as_named(shown.as_str() == text)
 }
 
 /// Puts lines, by a rank with no message and no barrier under way.

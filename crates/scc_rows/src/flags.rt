@@ -4,7 +4,7 @@ ghost use Rattle.std.specs.Prelude.{◌≡◌, ◌<◌, ◌≤◌, None};
 ghost use Rattle.scc_rows.specs.Rests.{IsAtRest};
 ghost use Rattle.scc_rows.specs.Writers.{MayTake};
 
-use crate::fixtures::{Meeting, free, holds, holds_in, take};
+use crate::fixtures::{Meeting, free, shows, shows_in, take};
 use line_cache::{Evict, Never};
 use put_get::Core;
 use scc_base::{Buf, CoreId, Layout, Place, Rank, Spot, Stalled};
@@ -100,9 +100,8 @@ impl Meeting for BitFlag {
 
 #[test]
 fn a_flag_goes_from_one_rank_to_the_other(rt: HostRuntime) -> Result<(), Fail> {
-    assert!(rt; holds_in::<WordFlag>(rt.alloc(), Layout::BitFlags)?);
-    assert!(rt; holds_in::<BitFlag>(rt.alloc(), Layout::BitFlags)?);
-    Ok(())
+    shows_in::<WordFlag>(rt.alloc(), Layout::BitFlags)?;
+    shows_in::<BitFlag>(rt.alloc(), Layout::BitFlags)
 }
 
 /// A rank writes a bit twice, while the other holds the register and after its release, and reads it.
@@ -131,6 +130,5 @@ impl Meeting for HeldRegister {
 
 #[test]
 fn a_bit_stalls_at_a_register_that_another_rank_holds(rt: HostRuntime) -> Result<(), Fail> {
-    assert!(rt; holds::<HeldRegister>(rt.alloc())?);
-    Ok(())
+    shows::<HeldRegister>(rt.alloc())
 }

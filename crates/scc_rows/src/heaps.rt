@@ -1,5 +1,6 @@
 //! The heap's lines: the calls succeed, and the texts of the faults.
 
+use crate::fixtures::has_text;
 use mpb_alloc::{Heap, MallocFault};
 use scc_base::Buf;
 use std::test::Fail;
@@ -47,15 +48,21 @@ fn the_lowest_run_that_fits_is_taken_and_neighbours_join(rt: HostRuntime) {
     assert!(rt; give_back(&mut heap, second) && gives(&mut heap, 160, 225, 5));
 }
 
+const TEXTS: &[(MallocFault, &str)] = &[
+    (MallocFault::Empty, "nothing asked"),
+    (
+        MallocFault::Full {
+            asked: 4,
+            longest: 3,
+        },
+        "asked 4 lines, longest run 3",
+    ),
+];
+
 #[test]
 fn the_texts_of_the_faults(rt: HostRuntime) -> Result<(), Fail> {
-    let empty = MallocFault::Empty.to_string(rt.alloc())?;
-    assert!(rt; empty.as_str() == "nothing asked");
-    let full = MallocFault::Full {
-        asked: 4,
-        longest: 3,
+    for (fault, text) in TEXTS {
+        has_text(rt.alloc(), fault, text)?;
     }
-    .to_string(rt.alloc())?;
-    assert!(rt; full.as_str() == "asked 4 lines, longest run 3");
     Ok(())
 }

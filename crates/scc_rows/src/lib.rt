@@ -39,6 +39,8 @@ mod own_flags;
 #[cfg(test)]
 mod private_lines;
 #[cfg(test)]
+mod steps;
+#[cfg(test)]
 mod whole_barriers;
 #[cfg(test)]
 mod whole_messages;

@@ -3,7 +3,7 @@
 ghost use Rattle.std.specs.Prelude.{◌≡◌, [], IfOk};
 ghost use Rattle.scc_proto.specs.Lone.{lone_sight};
 
-use crate::fixtures::world_of;
+use crate::fixtures::{as_named, world_of};
 use scc_base::{CoreId, Layout, Line, Place, Rank};
 use scc_proto::examples::store_then_load;
 use scc_proto::{CountingPort, LonePort, Port};
@@ -46,8 +46,7 @@ fn keeps<P: Port>(port: &mut P) -> bool
 #[test]
 fn a_word_has_what_was_stored(rt: HostRuntime) -> Result<(), Fail> {
     let mut port = chip(rt.alloc())?;
-    assert!(rt; keeps(&mut port));
-    Ok(())
+    as_named(keeps(&mut port))
 }
 
 // Whether the one load of a word is counted.
@@ -60,14 +59,11 @@ fn counts<P: Port + Drop>(port: P) -> bool
 
 #[test]
 fn loads_are_counted(rt: HostRuntime) -> Result<(), Fail> {
-    let port = chip(rt.alloc())?;
-    assert!(rt; counts(port));
-    Ok(())
+    as_named(counts(chip(rt.alloc())?))
 }
 
 #[test]
 fn a_free_register_is_taken(rt: HostRuntime) -> Result<(), Fail> {
     let mut port = chip(rt.alloc())?;
-    assert!(rt; taken(&mut port));
-    Ok(())
+    as_named(taken(&mut port))
 }

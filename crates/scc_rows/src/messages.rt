@@ -8,7 +8,8 @@ ghost use Rattle.scc_mesh.specs.Scenes.{IsNew, about_in};
 ghost use Rattle.chip_teams.specs.Teams.{sight_alone};
 ghost use Rattle.scc_rows.specs.Talkers.{IsTalking};
 
-use crate::fixtures::LAYOUTS;
+use crate::fixtures::{LAYOUTS, as_named};
+use crate::steps::{Answer, Step, takes};
 use chip_teams::{Player, Team, opened};
 use line_cache::{Always, Evict, Never};
 use put_get::Core;
@@ -229,22 +230,31 @@ pub(crate) fn bytes_from(alloc: Global, first: u8, len: usize) -> Result<Vec<u8>
     Ok(bytes)
 }
 
+/// So many bytes that are 0.
+pub(crate) fn zeros(alloc: Global, len: usize) -> Result<Vec<u8>, Fail> {
+    Ok(vec![in alloc; 0; len]?)
+}
+
+// A deed with a message of so many bytes, the first of them this one.
+fn task_of(alloc: Global, first: u8, deed: Deed, len: usize) -> Result<Task, Fail> {
+    let wanted = bytes_from(alloc, first, len)?;
+    let bytes = match deed {
+        Deed::Receive => zeros(alloc, len)?,
+        Deed::Send | Deed::Post => bytes_from(alloc, first, len)?,
+    };
+    Ok(Task {
+        deed,
+        bytes,
+        wanted,
+    })
+}
+
 // These deeds, in this order, each with the length of its message. The messages of two ranks are told apart by
 // their place from the end.
-pub(crate) fn tasks_of(alloc: Global, deeds: &[(Deed, usize)]) -> Result<Vec<Task>, Fail> {
+fn tasks_of(alloc: Global, deeds: &[(Deed, usize)]) -> Result<Vec<Task>, Fail> {
     let mut tasks = Vec::new(alloc);
     for (k, (deed, len)) in deeds.iter().rev().enumerate() {
-        let first = (k % 2) as u8;
-        let wanted = bytes_from(alloc, first, *len)?;
-        let bytes = match deed {
-            Deed::Receive => vec![in alloc; 0; *len]?,
-            Deed::Send | Deed::Post => bytes_from(alloc, first, *len)?,
-        };
-        tasks.push(Task {
-            deed: *deed,
-            bytes,
-            wanted,
-        })?;
+        tasks.push(task_of(alloc, (k % 2) as u8, *deed, *len)?)?;
     }
     Ok(tasks)
 }
@@ -300,92 +310,90 @@ fn arrived_in<V: Evict + Drop>(team: &Team<Talker<V>>) -> u32 {
     team.player(1).map_or(0, |talker| talker.arrived)
 }
 
-// Rank 0 does the first deeds and rank 1 the others, in turn, until all are done. How many messages arrived, and 0 where
-// there is no end.
-fn exchanged<V: Evict + Drop>(
+// Shows that rank 0 does the first deeds and rank 1 the others by these steps, and that so many messages arrive.
+fn shows_exchange<V: Evict + Drop>(
     alloc: Global,
     layout: Layout,
     evictors: (V, V),
-    first: &[(Deed, usize)],
-    second: &[(Deed, usize)],
-) -> Result<u32, Fail> {
-    let mut team = talking(alloc, layout, evictors, first, second)?;
-    let ends = team.rounds(&[0, 1], 6_000) > 0;
-    Ok(if ends { arrived_in(&team) } else { 0 })
+    deeds: (&[(Deed, usize)], &[(Deed, usize)]),
+    steps: &[Step],
+    arrived: u32,
+) -> Result<(), Fail> {
+    let mut team = talking(alloc, layout, evictors, deeds.0, deeds.1)?;
+    as_named(takes(&mut team, steps) && arrived_in(&team) == arrived)
 }
 
-/// No byte, one byte, one chunk and one byte more, in the chunks of either layout, and the longest message.
-const LENGTHS: &[usize] = &[0, 1, 3_584, 3_585, 6_624, 6_625, 65_536];
+/// In turn, until all are done.
+const IN_TURN: &[Step] = &[Step::Rounds(&[0, 1], 6_000, true)];
 
-// How many messages of these lengths arrive.
-fn lengths_arrived(alloc: Global, layout: Layout) -> Result<u32, Fail> {
-    let mut arrived: u32 = 0;
-    for len in LENGTHS {
-        let one = exchanged(
-            alloc,
-            layout,
-            (Never, Never),
-            &[(Deed::Send, *len)],
-            &[(Deed::Receive, *len)],
-        )?;
-        arrived = arrived.saturating_add(one);
+/// No byte, one byte, one chunk and one byte more, in the chunks of either layout, and the longest message; and two
+/// messages of one length in order, sent and posted.
+const EXCHANGES: &[(&[(Deed, usize)], &[(Deed, usize)], u32)] = &[
+    (&[(Deed::Send, 0)], &[(Deed::Receive, 0)], 1),
+    (&[(Deed::Send, 1)], &[(Deed::Receive, 1)], 1),
+    (&[(Deed::Send, 3_584)], &[(Deed::Receive, 3_584)], 1),
+    (&[(Deed::Send, 3_585)], &[(Deed::Receive, 3_585)], 1),
+    (&[(Deed::Send, 6_624)], &[(Deed::Receive, 6_624)], 1),
+    (&[(Deed::Send, 6_625)], &[(Deed::Receive, 6_625)], 1),
+    (&[(Deed::Send, 65_536)], &[(Deed::Receive, 65_536)], 1),
+    (
+        &[(Deed::Send, 33), (Deed::Send, 33)],
+        &[(Deed::Receive, 33), (Deed::Receive, 33)],
+        2,
+    ),
+    (
+        &[(Deed::Post, 33), (Deed::Post, 33)],
+        &[(Deed::Receive, 33), (Deed::Receive, 33)],
+        2,
+    ),
+];
+
+fn shows_exchanges(alloc: Global, layout: Layout) -> Result<(), Fail> {
+    for &(first, second, arrived) in EXCHANGES {
+        let evictors = (Never, Never);
+        shows_exchange(alloc, layout, evictors, (first, second), IN_TURN, arrived)?;
     }
-    Ok(arrived)
-}
-
-const TWO_SENT: &[(Deed, usize)] = &[(Deed::Send, 33), (Deed::Send, 33)];
-
-const TWO_POSTED: &[(Deed, usize)] = &[(Deed::Post, 33), (Deed::Post, 33)];
-
-const TWO_RECEIVED: &[(Deed, usize)] = &[(Deed::Receive, 33), (Deed::Receive, 33)];
-
-// Whether two messages of one length, sent or posted, are received in order.
-fn two_arrive(alloc: Global, layout: Layout, two: &[(Deed, usize)]) -> Result<bool, Fail> {
-    Ok(exchanged(alloc, layout, (Never, Never), two, TWO_RECEIVED)? == 2)
+    Ok(())
 }
 
 const SENT_AND_POSTED: &[(Deed, usize)] = &[(Deed::Send, 6_625), (Deed::Post, 40)];
 
 const BOTH_RECEIVED: &[(Deed, usize)] = &[(Deed::Receive, 6_625), (Deed::Receive, 40)];
 
-// Whether messages sent and posted arrive, where each fill of either rank evicts a line.
-fn evicted_arrive(alloc: Global, layout: Layout) -> Result<bool, Fail> {
+// Shows that messages sent and posted arrive, where each fill of either rank evicts a line.
+fn shows_evictions(alloc: Global, layout: Layout) -> Result<(), Fail> {
     let evictors = (Always::new(), Always::new());
-    Ok(exchanged(alloc, layout, evictors, SENT_AND_POSTED, BOTH_RECEIVED)? == 2)
+    let both = (SENT_AND_POSTED, BOTH_RECEIVED);
+    shows_exchange(alloc, layout, evictors, both, IN_TURN, 2)
 }
 
 #[test]
 fn messages_arrive_whole_and_in_order(rt: HostRuntime) -> Result<(), Fail> {
     for layout in LAYOUTS {
-        assert!(rt; lengths_arrived(rt.alloc(), *layout)? == 7);
-        assert!(rt; two_arrive(rt.alloc(), *layout, TWO_SENT)?);
-        assert!(rt; two_arrive(rt.alloc(), *layout, TWO_POSTED)?);
-        assert!(rt; evicted_arrive(rt.alloc(), *layout)?);
+        shows_exchanges(rt.alloc(), *layout)?;
+        shows_evictions(rt.alloc(), *layout)?;
     }
     Ok(())
-}
-
-// Whether a turn of a rank waits.
-fn waits(team: &mut Team<Talker<Never>>, at: usize) -> bool {
-    matches!(&team.turn(at), Some(Turn::Waiting(_)))
 }
 
 const SEND: &[(Deed, usize)] = &[(Deed::Send, 100)];
 
 const RECEIVE: &[(Deed, usize)] = &[(Deed::Receive, 100)];
 
-// Whether a receive waits until the sender has taken its turns, and then goes on.
-fn receive_goes_on(alloc: Global, layout: Layout) -> Result<bool, Fail> {
-    let mut team = talking(alloc, layout, (Never, Never), SEND, RECEIVE)?;
-    let early = team.rounds(&[1], 20);
-    let receiver_waits = waits(&mut team, 1);
-    // Once the message is sent the sender waits in its turn, and the receive goes on.
-    let alone = team.rounds(&[0], 20);
-    let sender_waits = waits(&mut team, 0);
-    let moves = team.turn(1) == Some(Turn::Moved);
-    let ends = team.rounds(&[1, 0], 20) > 0;
-    let stood = early == 0 && receiver_waits && alone == 0 && sender_waits;
-    Ok(stood && moves && ends && arrived_in(&team) == 1)
+/// A receive waits until the sender has taken its turns. Once the message is sent the sender waits in its turn, and
+/// the receive goes on.
+const RECEIVE_WAITS: &[Step] = &[
+    Step::Rounds(&[1], 20, false),
+    Step::Turn(1, Answer::Waits),
+    Step::Rounds(&[0], 20, false),
+    Step::Turn(0, Answer::Waits),
+    Step::Turn(1, Answer::Moves),
+    Step::Rounds(&[1, 0], 20, true),
+];
+
+fn shows_receive(alloc: Global, layout: Layout) -> Result<(), Fail> {
+    let evictors = (Never, Never);
+    shows_exchange(alloc, layout, evictors, (SEND, RECEIVE), RECEIVE_WAITS, 1)
 }
 
 const SEND_FORTY: &[(Deed, usize)] = &[(Deed::Send, 40)];
@@ -400,42 +408,43 @@ fn met_forty(team: &Team<Talker<Never>>) -> bool {
     }
 }
 
-// Whether a receive of another length meets the head that was sent, and leaves the message to the next receive.
-fn other_length_is_met(alloc: Global, layout: Layout) -> Result<bool, Fail> {
+// Shows that a receive of another length meets the head that was sent, and leaves the message to the next receive.
+fn shows_other_length(alloc: Global, layout: Layout) -> Result<(), Fail> {
     let mut team = talking(alloc, layout, (Never, Never), SEND_FORTY, RECEIVE_MORE)?;
-    let ends = team.rounds(&[0, 1], 100) > 0;
-    Ok(ends && met_forty(&team) && arrived_in(&team) == 1)
+    as_named(takes(&mut team, IN_TURN) && met_forty(&team) && arrived_in(&team) == 1)
 }
 
 const LONG_AND_SHORT: &[(Deed, usize)] = &[(Deed::Post, 3_584), (Deed::Post, 7)];
 
 const THEIR_RECEIVES: &[(Deed, usize)] = &[(Deed::Receive, 3_584), (Deed::Receive, 7)];
 
+/// A second post waits. The first is received while the sender does nothing, and the second has not come.
+const SECOND_POST_WAITS: &[Step] = &[
+    Step::Rounds(&[0], 300, false),
+    Step::Turn(0, Answer::Waits),
+    Step::Rounds(&[1], 300, false),
+];
+
 // Whether a second post waits until the first is taken.
-fn second_post_waits(alloc: Global, layout: Layout) -> Result<bool, Fail> {
-    let mut team = talking(
-        alloc,
-        layout,
-        (Never, Never),
-        LONG_AND_SHORT,
-        THEIR_RECEIVES,
-    )?;
-    let alone = team.rounds(&[0], 300);
-    let stands = waits(&mut team, 0);
-    // The first is received while the sender does nothing, and the second has not come.
-    let first = team.rounds(&[1], 300);
-    let one = arrived_in(&team);
-    let ends = team.rounds(&[0, 1], 300) > 0;
-    let stood = alone == 0 && stands && first == 0 && one == 1;
-    Ok(stood && ends && arrived_in(&team) == 2)
+fn second_post_waits(team: &mut Team<Talker<Never>>) -> bool {
+    takes(team, SECOND_POST_WAITS)
+        && arrived_in(team) == 1
+        && takes(team, IN_TURN)
+        && arrived_in(team) == 2
+}
+
+fn shows_second_post(alloc: Global, layout: Layout) -> Result<(), Fail> {
+    let evictors = (Never, Never);
+    let mut team = talking(alloc, layout, evictors, LONG_AND_SHORT, THEIR_RECEIVES)?;
+    as_named(second_post_waits(&mut team))
 }
 
 #[test]
 fn a_call_that_waits_goes_on(rt: HostRuntime) -> Result<(), Fail> {
     for layout in LAYOUTS {
-        assert!(rt; receive_goes_on(rt.alloc(), *layout)?);
-        assert!(rt; other_length_is_met(rt.alloc(), *layout)?);
-        assert!(rt; second_post_waits(rt.alloc(), *layout)?);
+        shows_receive(rt.alloc(), *layout)?;
+        shows_other_length(rt.alloc(), *layout)?;
+        shows_second_post(rt.alloc(), *layout)?;
     }
     Ok(())
 }

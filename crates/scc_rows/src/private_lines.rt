@@ -3,7 +3,7 @@
 ghost use Rattle.std.specs.Prelude.{◌≡◌, None};
 ghost use Rattle.scc_rows.specs.Rests.{IsAtRest};
 
-use crate::fixtures::{Meeting, Watched, flush, get, holds, put, read, store, write};
+use crate::fixtures::{Meeting, Watched, flush, get, put, read, shows, store, write};
 use line_cache::{Always, Evict, Never};
 use put_get::{Core, RangeFault};
 use scc_base::{Buf, CoreId, Line, Place, Rank};
@@ -54,9 +54,21 @@ fn reads<P: Port, V: Evict>(
     found == value && port.loads() == loads
 }
 
-// Whether a get of two lines of rank 1 finds zeros, with so many loads, and so many questions of the evictor and lines
-// that it had dropped.
-fn gets_zeros<P: Port, V: Evict + Drop>(
+// Whether a get of two lines of rank 1 finds zeros.
+fn gets_zeros<P: Port, V: Evict + Drop>(port: &mut P, evict: V) -> bool
+    requires rests { IsAtRest (P.sight port.old) }
+{
+    let Some(at) = Buf::new(225, 2) else {
+        return false;
+    };
+    let mut core = Core::new(evict);
+    let mut lines = [[9; 4]; 2];
+    let got = get(&mut core, port, Rank::of(1), at, &mut lines).is_ok();
+    got && are(&lines, ZEROS)
+}
+
+// Whether it does so with so many loads, and so many questions of the evictor and lines that it had dropped.
+fn gets_counted<P: Port, V: Evict + Drop>(
     port: &mut CountingPort<P>,
     inner: V,
     loads: u64,
@@ -65,20 +77,15 @@ fn gets_zeros<P: Port, V: Evict + Drop>(
 ) -> bool
     requires rests { IsAtRest (P.sight port.old.port) }
 {
-    let Some(at) = Buf::new(225, 2) else {
-        return false;
-    };
     let asked = Cell::new(0);
     let dropped = Cell::new(0);
-    let mut core = Core::new(Watched {
+    let evict = Watched {
         inner,
         asked: &asked,
         dropped: &dropped,
-    });
-    let mut lines = [[9; 4]; 2];
-    let got = get(&mut core, port, Rank::of(1), at, &mut lines).is_ok();
-    let counted = port.loads() == loads && asked.get() == questions && dropped.get() == drops;
-    got && are(&lines, ZEROS) && counted
+    };
+    let got = gets_zeros(port, evict);
+    got && port.loads() == loads && asked.get() == questions && dropped.get() == drops
 }
 
 /// A rank gets three lines of a buffer of two.
@@ -98,8 +105,7 @@ impl Meeting for LongGet {
 
 #[test]
 fn a_get_of_more_lines_than_the_buffer_has_makes_no_event(rt: HostRuntime) -> Result<(), Fail> {
-    assert!(rt; holds::<LongGet>(rt.alloc())?);
-    Ok(())
+    shows::<LongGet>(rt.alloc())
 }
 
 // Whether lines of rank 0 that one rank puts are what the other then gets.
@@ -129,8 +135,7 @@ impl Meeting for PutAndGet {
 
 #[test]
 fn a_put_is_seen_by_another_ranks_get(rt: HostRuntime) -> Result<(), Fail> {
-    assert!(rt; holds::<PutAndGet>(rt.alloc())?);
-    Ok(())
+    shows::<PutAndGet>(rt.alloc())
 }
 
 /// A rank reads a word, before and after the other's put, and once more after `cl1invmb`.
@@ -155,8 +160,7 @@ impl Meeting for HeldLine {
 
 #[test]
 fn a_held_line_stays_old_until_cl1invmb(rt: HostRuntime) -> Result<(), Fail> {
-    assert!(rt; holds::<HeldLine>(rt.alloc())?);
-    Ok(())
+    shows::<HeldLine>(rt.alloc())
 }
 
 /// A rank gets two lines, and no line leaves its cache.
@@ -164,14 +168,13 @@ struct GetWithoutEvictions;
 
 impl Meeting for GetWithoutEvictions {
     fn holds<P: Port, Q: Port>(first: &mut CountingPort<P>, _second: &mut CountingPort<Q>) -> bool {
-        gets_zeros(first, Never, 8, 2, 0)
+        gets_counted(first, Never, 8, 2, 0)
     }
 }
 
 #[test]
 fn a_get_loads_each_line_once_where_none_is_dropped(rt: HostRuntime) -> Result<(), Fail> {
-    assert!(rt; holds::<GetWithoutEvictions>(rt.alloc())?);
-    Ok(())
+    shows::<GetWithoutEvictions>(rt.alloc())
 }
 
 /// A rank gets two lines, and each leaves its cache at once.
@@ -179,14 +182,13 @@ struct GetWithEvictions;
 
 impl Meeting for GetWithEvictions {
     fn holds<P: Port, Q: Port>(first: &mut CountingPort<P>, _second: &mut CountingPort<Q>) -> bool {
-        gets_zeros(first, Always::new(), 32, 8, 8)
+        gets_counted(first, Always::new(), 32, 8, 8)
     }
 }
 
 #[test]
 fn a_get_loads_each_line_for_each_word_where_all_are_dropped(rt: HostRuntime) -> Result<(), Fail> {
-    assert!(rt; holds::<GetWithEvictions>(rt.alloc())?);
-    Ok(())
+    shows::<GetWithEvictions>(rt.alloc())
 }
 
 /// A rank reads a word, one beside it, and one of another line.
@@ -212,8 +214,7 @@ impl Meeting for ThreeReads {
 
 #[test]
 fn the_evictor_is_not_asked_where_the_line_is_held(rt: HostRuntime) -> Result<(), Fail> {
-    assert!(rt; holds::<ThreeReads>(rt.alloc())?);
-    Ok(())
+    shows::<ThreeReads>(rt.alloc())
 }
 
 // Whether another rank loads a written word once the next line is written, and that line's once it is flushed.
@@ -245,8 +246,7 @@ impl Meeting for TwoWrites {
 
 #[test]
 fn a_written_word_is_stored_when_another_line_is_written(rt: HostRuntime) -> Result<(), Fail> {
-    assert!(rt; holds::<TwoWrites>(rt.alloc())?);
-    Ok(())
+    shows::<TwoWrites>(rt.alloc())
 }
 
 // The word that another rank stored between flushes of a core of which only the second has something to store.
@@ -274,8 +274,7 @@ impl Meeting for ThreeFlushes {
 
 #[test]
 fn a_flush_of_nothing_stores_nothing(rt: HostRuntime) -> Result<(), Fail> {
-    assert!(rt; holds::<ThreeFlushes>(rt.alloc())?);
-    Ok(())
+    shows::<ThreeFlushes>(rt.alloc())
 }
 
 // Whether a put and a get of three lines of a buffer of two are refused, while another rank stores a word of it.
@@ -329,6 +328,5 @@ impl Meeting for Refusals {
 
 #[test]
 fn a_refused_put_and_get_change_nothing(rt: HostRuntime) -> Result<(), Fail> {
-    assert!(rt; holds::<Refusals>(rt.alloc())?);
-    Ok(())
+    shows::<Refusals>(rt.alloc())
 }

@@ -3,12 +3,13 @@
 ghost use Rattle.std.specs.Prelude.{◌<◌};
 ghost use Rattle.scc_mesh.specs.Scenes.{IsNew, about_in};
 
-use crate::fixtures::LAYOUTS;
+use crate::fixtures::{LAYOUTS, as_named};
+use crate::steps::{Answer, Step, takes};
 use barrier::{BarOp, BarStop, Parity, barrier};
 use chip_teams::{Player, Team, opened};
 use line_cache::Never;
 use put_get::Core;
-use scc_base::{CommRule, CoreId, Layout, Place, Spot, Turn};
+use scc_base::{CommRule, Layout, Turn};
 use scc_mesh::Chip;
 use scc_proto::Port;
 use std::alloc::Global;
@@ -84,48 +85,65 @@ fn passers(alloc: Global, chip: Chip, comm: u8) -> Result<Team<Passer>, Fail>
     Ok(team)
 }
 
-// Whether a turn of a rank waits at the first bit of the first word of this line on rank 1's core.
-fn waits_at(team: &mut Team<Passer>, at: usize, line: u8) -> bool {
-    let place = Place::new(CoreId::of(46), line, 0);
-    team.turn(at) == Some(Turn::Waiting(Spot::Flag { place, bit: 0 }))
+// Shows that the ranks of a chip take these steps, and then those, by whole calls of this communicator's barriers.
+fn shows_passers(
+    alloc: Global,
+    chip: Chip,
+    comm: u8,
+    first: &[Step],
+    second: &[Step],
+) -> Result<(), Fail>
+    requires new { IsNew (about_in chip) chip }
+    requires below { comm < 16 }
+{
+    let mut team = passers(alloc, chip, comm)?;
+    as_named(takes(&mut team, first) && takes(&mut team, second))
 }
 
-// Whether a turn of a rank passes a barrier.
-fn passes(team: &mut Team<Passer>, at: usize) -> bool {
-    team.turn(at) == Some(Turn::Done)
-}
+/// A rank waits at each of the other's flags in turn, and the barrier then goes on, at both: the lines of the gather
+/// and the release flags of the world.
+const BY_LINES: &[Step] = &[
+    Step::Turn(0, Answer::WaitsAt(97)),
+    Step::Turn(1, Answer::WaitsAt(105)),
+    Step::Turn(1, Answer::WaitsAt(105)),
+    Step::Turn(0, Answer::Passes),
+    Step::Turn(1, Answer::Passes),
+];
 
-// Whether a rank waits at each of the other's flags in turn, and the barrier then goes on, at both.
-fn stalls_and_goes_on(team: &mut Team<Passer>, gather: u8, release: u8) -> bool {
-    let root = waits_at(team, 0, gather);
-    let other = waits_at(team, 1, release);
-    let again = waits_at(team, 1, release);
-    root && other && again && passes(team, 0) && passes(team, 1)
-}
+const BY_BITS: &[Step] = &[
+    Step::Turn(0, Answer::WaitsAt(2)),
+    Step::Turn(1, Answer::WaitsAt(10)),
+    Step::Turn(1, Answer::WaitsAt(10)),
+    Step::Turn(0, Answer::Passes),
+    Step::Turn(1, Answer::Passes),
+];
 
-/// The lines of the gather and the release flags of the world.
-const FLAGS: &[(Layout, u8, u8)] = &[(Layout::LineFlags, 97, 105), (Layout::BitFlags, 2, 10)];
+const STALLS: &[(Layout, &[Step])] = &[(Layout::LineFlags, BY_LINES), (Layout::BitFlags, BY_BITS)];
 
 #[test]
 fn a_barrier_that_stalled_goes_on(rt: HostRuntime) -> Result<(), Fail> {
-    for (layout, gather, release) in FLAGS {
+    for (layout, steps) in STALLS {
         let chip = opened(rt.alloc(), 2, *layout, CommRule::Absent)?;
-        let mut team = passers(rt.alloc(), chip, 0)?;
         // Twice, so that the flags are flipped up and down again.
-        assert!(rt; stalls_and_goes_on(&mut team, *gather, *release));
-        assert!(rt; stalls_and_goes_on(&mut team, *gather, *release));
+        shows_passers(rt.alloc(), chip, 0, steps, steps)?;
     }
     Ok(())
 }
+
+const FIRST_PASSES: &[Step] = &[
+    Step::Turn(2, Answer::Stays),
+    Step::Turn(0, Answer::Passes),
+    Step::Turn(0, Answer::Stays),
+];
+
+const OTHERS_PASS: &[Step] = &[Step::Turn(2, Answer::Passes), Step::Turn(1, Answer::Passes)];
 
 #[test]
 fn a_groups_barrier_goes_on_without_the_other_ranks(rt: HostRuntime) -> Result<(), Fail> {
     for layout in LAYOUTS {
         // Ranks 0 and 2 are one group, and rank 1 is another.
         let chip = opened(rt.alloc(), 3, *layout, CommRule::Mod { parent: 0, k: 2 })?;
-        let mut team = passers(rt.alloc(), chip, 8)?;
-        assert!(rt; !passes(&mut team, 2) && passes(&mut team, 0) && !passes(&mut team, 0));
-        assert!(rt; passes(&mut team, 2) && passes(&mut team, 1));
+        shows_passers(rt.alloc(), chip, 8, FIRST_PASSES, OTHERS_PASS)?;
     }
     Ok(())
 }

@@ -1,0 +1,2 @@
+pub mod AwayPlayers
+pub mod CollMembers

@@ -1,0 +1,293 @@
+//! Messages between two ranks whose turns are taken in threads of their own.
+
+ghost use Rattle.std.specs.Prelude.{◌≡◌, ◌<◌, ◌≤◌, ℕ, List, [], length, slice_index_or};
+ghost use Rattle.scc_base.specs.declared.events.Event.{Event};
+ghost use Rattle.scc_proto.specs.Ports.{Did};
+ghost use Rattle.scc_mesh.specs.Scenes.{IsNew, about_in};
+ghost use Rattle.script_reader.specs.Script.{rules_of};
+ghost use Rattle.rcce_ue.specs.Standing.{Tied};
+ghost use Rattle.chip_teams.specs.Teams.{sight_alone};
+ghost use Rattle.run_rows.specs.AwayPlayers.{IsAway};
+
+use crate::evictors::Fresh;
+use crate::scripts::{End, chip_with, is_at, setup_of};
+use crate::ues::{Runner, runner_of};
+use chip_teams::Player;
+use line_cache::{Evict, Never};
+use rcce_ue::Ue;
+use scc_base::{Layout, Rank, Setup};
+use scc_mesh::{Chip, Token, Words};
+use scc_proto::Port;
+use script_reader::{Scripts, read_script};
+use std::alloc::{AllocError, Global};
+use std::thread;
+use std::thread::Threads;
+
+/// A rank that is away, with its token between its turns, and what it does.
+#[derive(Drop)]
+struct Apart<M: Player + Drop> {
+    token: Option<Token>,
+    player: M,
+}
+
+// So many turns of a rank, by its port.
+fn turns<M: Player, P: Port>(player: &mut M, port: &mut P, count: u32)
+    requires stands { M.stands player.old (P.sight port.old).seat.setup (P.sight port.old).seat.rank (P.sight port.old).events }
+    ensures stands { M.stands player.new (P.sight port.new).seat.setup (P.sight port.new).seat.rank (P.sight port.new).events }
+    ensures did { (events : List Event) × Did (P.sight port.old) events (P.sight port.new) }
+{
+    for _ in 0..count {
+        player.turn(port);
+    }
+}
+
+// The same of a rank that is away, by a port that its token gives for them.
+fn turns_away<M: Player>(words: Words<'_>, token: Token, player: &mut M, count: u32) -> Token
+    requires of_chip { token.table ≡ words.space.now.table }
+    requires stands { M.stands player.old words.space.now.about token.rank token.events }
+    ensures of_chip { result.table ≡ token.table }
+    ensures stands { M.stands player.new words.entry.space.now.about result.rank result.events }
+{
+    let mut port = words.port(token);
+    turns(player, &mut port, count);
+    port.into_token()
+}
+
+// The same, with the token in its place before and after them.
+fn turns_held<M: Player + Drop>(words: Words<'_>, rank: &mut Apart<M>, count: u32)
+    requires away { IsAway (M.stands rank.old.player) words.space.now.about words.space.now.table rank.old.token }
+    ensures away { IsAway (M.stands rank.new.player) words.entry.space.now.about words.entry.space.now.table rank.new.token }
+{
+    let Some(token) = rank.token.take() else {
+        unreachable!()
+    };
+    rank.token = Some(turns_away(words, token, &mut rank.player, count));
+}
+
+// So many turns of each rank, at the same time where threads can be had: the words and a rank go into each thread.
+fn all_turn<M: Player + Drop + Send, R: Threads + Sync>(
+    rt: &R,
+    words: Words<'_>,
+    ranks: &mut [Apart<M>],
+    count: u32,
+)
+    requires some { 0 < length ranks.old }
+    requires away { (i : ℕ) (d : _) → i < length ranks.old → let m = slice_index_or ranks.old i d in IsAway (M.stands m.player) words.space.now.about words.space.now.table m.token }
+    ensures away { (i : ℕ) (d : _) → i < length ranks.old → let m = slice_index_or ranks.new i d in IsAway (M.stands m.player) words.entry.space.now.about words.entry.space.now.table m.token }
+{
+    let threads = ranks.len();
+    thread::for_each_mut(
+        rt,
+        ranks,
+        threads,
+        &|at: usize, rank: &mut Apart<M>|
+            requires { IsAway (M.stands rank.old.player) words.space.now.about words.space.now.table rank.old.token }
+            ensures { IsAway (M.stands rank.new.player) words.entry.space.now.about words.entry.space.now.table rank.new.token }
+        {
+            let _ = at;
+            turns_held(words, rank, count)
+        },
+    );
+}
+
+// As many turns of each as so many rounds have.
+fn rounds<M: Player + Drop + Send, R: Threads + Sync>(
+    rt: &R,
+    words: Words<'_>,
+    ranks: &mut [Apart<M>],
+    count: usize,
+)
+    requires some { 0 < length ranks.old }
+    requires away { (i : ℕ) (d : _) → i < length ranks.old → let m = slice_index_or ranks.old i d in IsAway (M.stands m.player) words.space.now.about words.space.now.table m.token }
+{
+    for _ in 0..count {
+        all_turn(rt, words, ranks, 10);
+    }
+}
+
+// Whether a row of bytes is this long, and as `fill` makes it from 0 on.
+fn is_filled(bytes: &[u8], len: u16) -> bool {
+    for i in 0..bytes.len() {
+        if bytes[i] != (i % 251) as u8 {
+            return false;
+        }
+    }
+    bytes.len() == len as usize
+}
+
+// Whether a UE has printed items of these lengths, each as `fill` makes it.
+fn are_filled<V: Evict>(ue: &Ue<'_, V>, lens: &[u16]) -> bool {
+    if ue.items() != lens.len() {
+        return false;
+    }
+    for i in 0..lens.len() {
+        if !is_filled(ue.item(i).bytes(), lens[i]) {
+            return false;
+        }
+    }
+    true
+}
+
+/// A rank that tells whether it has finished, with messages of these lengths, each as `fill` makes it.
+trait Finishes {
+    fn has_finished(&self, lens: &[u16]) -> bool;
+}
+
+impl<'s, V: Evict + Drop> Finishes for Runner<'s, V> {
+    fn has_finished(&self, lens: &[u16]) -> bool {
+        is_at(&self.ue, &End::Finished) && are_filled(&self.ue, lens)
+    }
+}
+
+// The two ranks of a new chip after so many rounds.
+fn both_after<M: Player + Drop + Send, R: Threads + Sync>(
+    rt: &R,
+    alloc: Global,
+    chip: &mut Chip,
+    first: M,
+    second: M,
+    count: usize,
+) -> Result<Vec<Apart<M>>, AllocError>
+    requires new { IsNew (about_in chip.old) chip.old }
+    requires ranks { 2 ≤ (about_in chip.old).nue }
+    requires first { M.stands first (about_in chip.old) 0 [] }
+    requires second { M.stands second (about_in chip.old) 1 [] }
+{
+    let sender = chip.spread(Rank::of(0));
+    let receiver = chip.spread(Rank::of(1));
+    let words = chip.words();
+    let mut ranks = Vec::new(alloc);
+    ranks.push(Apart {
+        token: Some(sender),
+        player: first,
+    })?;
+    ranks.push(Apart {
+        token: Some(receiver),
+        player: second,
+    })?;
+    rounds(rt, words, ranks.as_mut_slice(), count);
+    Ok(ranks)
+}
+
+// Whether two ranks have finished, the second with a message of this length.
+fn have_finished<M: Player + Finishes + Drop>(ranks: &[Apart<M>], len: u16) -> bool {
+    match ranks {
+        [sender, receiver] => {
+            sender.player.has_finished(&[]) && receiver.player.has_finished(&[len])
+        }
+        _ => false,
+    }
+}
+
+// Whether the two ranks of a chip with this setup finish, the second with a message of this length. In each round one of
+// the two can move, also where no thread can be had and they take their turns one after the other.
+fn arrives_with<M: Player + Finishes + Drop + Send, R: Threads + Sync>(
+    rt: &R,
+    alloc: Global,
+    setup: &Setup,
+    first: M,
+    second: M,
+    len: u16,
+) -> Result<bool, AllocError>
+    requires ranks { 2 ≤ setup.now.nue }
+    requires first { M.stands first setup.now 0 [] }
+    requires second { M.stands second setup.now 1 [] }
+{
+    let mut chip = chip_with(alloc, setup)?;
+    let count = 2 * (len as usize / 32) + 60;
+    let ranks = both_after(rt, alloc, &mut chip, first, second, count)?;
+    Ok(have_finished(ranks.as_slice(), len))
+}
+
+// Whether a message of this length arrives from this rank of a script for two.
+fn arrives_from<'s, V: Fresh + Send, R: Threads + Sync>(
+    rt: &R,
+    alloc: Global,
+    scripts: &'s Scripts,
+    setup: &Setup,
+    first: Runner<'s, V>,
+    len: u16,
+) -> Result<bool, AllocError>
+    requires two { setup.now.nue ≡ 2 }
+    requires ranks { setup.now.nue ≡ scripts.now.nue }
+    requires communicators { setup.now.comms ≡ rules_of scripts.now.items }
+    requires first { Tied first.ue (sight_alone setup.now 0 []) }
+{
+    let second = runner_of(alloc, scripts, setup, 1)?;
+    arrives_with(rt, alloc, setup, first, second, len)
+}
+
+// Whether it arrives by the script, on a chip with this setup.
+fn arrives_on<V: Fresh + Send, R: Threads + Sync>(
+    rt: &R,
+    alloc: Global,
+    scripts: &Scripts,
+    setup: &Setup,
+    len: u16,
+) -> Result<bool, AllocError>
+    requires two { setup.now.nue ≡ 2 }
+    requires ranks { setup.now.nue ≡ scripts.now.nue }
+    requires communicators { setup.now.comms ≡ rules_of scripts.now.items }
+{
+    let first = runner_of::<V>(alloc, scripts, setup, 0)?;
+    arrives_from(rt, alloc, scripts, setup, first, len)
+}
+
+// Whether it arrives in this layout.
+fn arrives_in<R: Threads + Sync>(
+    rt: &R,
+    alloc: Global,
+    scripts: &Scripts,
+    layout: Layout,
+    len: u16,
+) -> bool
+    requires two { scripts.now.nue ≡ 2 }
+{
+    match setup_of(scripts, layout, true) {
+        Some(setup) => matches!(
+            arrives_on::<Never, R>(rt, alloc, scripts, &setup, len),
+            Ok(true)
+        ),
+        None => false,
+    }
+}
+
+// Whether it arrives in both layouts.
+fn arrives<R: Threads + Sync>(rt: &R, alloc: Global, text: &[u8], len: u16) -> bool {
+    let Ok(scripts) = read_script(alloc, text, 2) else {
+        return false;
+    };
+    arrives_in(rt, alloc, &scripts, Layout::LineFlags, len)
+        && arrives_in(rt, alloc, &scripts, Layout::BitFlags, len)
+}
+
+// A message that is sent or posted, and its length.
+const MESSAGES: &[(&[u8], u16)] = &[
+    (
+        b"ue 0\nfill x 0 0\nsend 1 x\nue 1\nrecv 0 y 0\nprint y\n",
+        0,
+    ),
+    (
+        b"ue 0\nfill x 33 0\nsend 1 x\nue 1\nrecv 0 y 33\nprint y\n",
+        33,
+    ),
+    (
+        b"ue 0\nfill x 3585 0\nsend 1 x\nue 1\nrecv 0 y 3585\nprint y\n",
+        3_585,
+    ),
+    (
+        b"ue 0\nfill x 6625 0\nsend 1 x\nue 1\nrecv 0 y 6625\nprint y\n",
+        6_625,
+    ),
+    (
+        b"ue 0\nfill x 3584 0\npost 1 x\nue 1\nrecv 0 y 3584\nprint y\n",
+        3_584,
+    ),
+];
+
+#[test]
+fn messages_arrive_between_threads(rt: HostRuntime) {
+    for (text, len) in MESSAGES {
+        assert!(rt; arrives(&rt, rt.alloc(), text, *len));
+    }
+}
