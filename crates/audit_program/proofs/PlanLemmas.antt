@@ -1,8 +1,8 @@
 -- What a log's file comes to.
-use Rattle.std.proofs.Common.{◌≡◌, ℕ, List, refl, sym, subst, ap, inl, inr, Option, Result, Ok, Err}
+use Rattle.std.proofs.Common.{◌≡◌, ℕ, List, refl, sym, subst, ap, inl, Option, Result, Ok, Err}
 use Rattle.rcce_io.specs.Files.{FilesView, NamedFile}
 use Rattle.outcomes.specs.Coming.{Comes, IsMeant}
-use Rattle.outcomes.specs.Outcomes.{Outcome, file_refused, no_memory, run_outcome}
+use Rattle.outcomes.specs.Outcomes.{Outcome, file_refused, run_outcome}
 use Rattle.rcce_audit.specs.declared.faults.LogFault.{LogFault}
 use Rattle.rcce_audit.specs.declared.verdicts.Verdict.{Verdict}
 use Rattle.rcce_audit.specs.Grammar.{log_of}
@@ -15,11 +15,6 @@ use Rattle.scc_mesh.specs.Scenes.{ChipView}
 use Rattle.audit_program.specs.History.{ChipTells}
 use Rattle.rcce_words.specs.ScriptWords.{Command}
 use Rattle.audit_program.specs.Program.{IsJudge, log_plan, named_plan, verdict_ran}
-
--- want of memory may stand for each
-pub comes_memory : (judge : LogView → Verdict) (program file : List ℕ) (said : Result LogView LogFault) (files : FilesView) → Comes program (log_plan judge file said) files files (no_memory program)
-comes_memory judge program file (Ok log) files = (refl, inr refl)
-comes_memory judge program file (Err fault) files = (refl, inr refl)
 
 -- a log that is refused
 pub comes_refused : (judge : LogView → Verdict) (program file : List ℕ) (said : Result LogView LogFault) (fault : LogFault) (kind : List ℕ) (files : FilesView) → said ≡ Err fault → kind ≡ fault_name fault.kind

@@ -1,5 +1,5 @@
 -- What the plan of a run comes to, and what the run leaves on the chip.
-use Rattle.std.proofs.Common.{◌≡◌, ℕ, List, map, codes, refl, sym, subst, inl, inr, Bool, true, false, if◌then◌else◌, Option, Some, None, Result, Ok, Err}
+use Rattle.std.proofs.Common.{◌≡◌, ℕ, List, map, codes, refl, sym, subst, inl, Bool, true, false, if◌then◌else◌, Option, Some, None, Result, Ok, Err}
 use Rattle.std.specs.List.{range_with_len}
 use Rattle.rcce_io.specs.Files.{FilesView, NamedFile}
 use Rattle.scc_base.specs.Setups.{SetupView}
@@ -9,13 +9,13 @@ use Rattle.script_reader.specs.Settled as settled
 use Rattle.outcomes.specs.Coming.{ByTest, Comes, IsMeant}
 use Rattle.outcomes.specs.Complaints.{complaint_outcome, outcome_of}
 use Rattle.outcomes.specs.Delivery.{Delivers, Sinks}
-use Rattle.outcomes.specs.Outcomes.{Outcome, Ran, file_refused, no_memory, run_outcome}
+use Rattle.outcomes.specs.Outcomes.{Outcome, file_refused, run_outcome}
 use Rattle.outcomes.specs.Plans.{Plan}
 use Rattle.outcomes.specs.Plans.Plan.{Runs, Refuses}
 use Rattle.outcomes.specs.Statuses.{is_quiet}
 use Rattle.outcomes.specs.declared.complaint.Complaint.{Complaint}
-use Rattle.outcomes.specs.declared.complaint.Complaint.TheVariants as complaint
 use Rattle.outcomes.specs.declared.status.Status.{Status}
+use Rattle.outcomes.proofs.StatusLemmas.{complaint_quiet, run_loud}
 use Rattle.log_run.specs.LogRuns.{HasRun}
 use Rattle.log_run.specs.Sizes.{has_room_for_all}
 use Rattle.audit_program.specs.declared.logged.Logged.{Logged}
@@ -32,34 +32,10 @@ use Rattle.audit_program.specs.Loading.{Ends, HasRan, Launches, logged_ran}
 use Rattle.audit_program.specs.Program.{command_plan, log_ran, run_plan, script_log}
 use Rattle.audit_program.proofs.BackLemmas.{judged_legal, read_back}
 
--- ---- statuses
-
-loud_by : (finished : Bool) (out err : List ℕ) → is_quiet (run_outcome (record { finished = finished; out = out; err = err })).status ≡ false
-loud_by true out err = refl
-loud_by false out err = refl
-
-loud : (ran : Ran) → is_quiet (run_outcome ran).status ≡ false
-loud ran = loud_by ran.finished ran.out ran.err
-
-quiet : (name : List ℕ) (why : Complaint) → is_quiet (complaint_outcome name why).status ≡ true
-quiet name (complaint.Words fault word behind value) = refl
-quiet name complaint.Memory = refl
-quiet name (complaint.Absent file) = refl
-quiet name (complaint.ReadFault file) = refl
-quiet name (complaint.Refused file line kind) = refl
-
 -- ---- the plan of a script
 
 abbrev by_room : List ℕ → Script → Bool → Plan
 by_room file script room = if room then Runs (log_ran script) else Refuses file 0 (codes "TooLong")
-
-memory_by : (name file : List ℕ) (script : Script) (files : FilesView) (room : Bool) → Comes name (by_room file script room) files files (no_memory name)
-memory_by name file script files true = (refl, inr refl)
-memory_by name file script files false = (refl, inr refl)
-
--- want of memory may stand for a run and for a refusal
-pub comes_memory : (name file : List ℕ) (script : Script) (files : FilesView) → Comes name (run_plan file script) files files (no_memory name)
-comes_memory name file script files = memory_by name file script files (has_room_for_all script)
 
 -- too many calls
 pub comes_refused : (name file : List ℕ) (script : Script) (files : FilesView) → false ≡ has_room_for_all script → Comes name (run_plan file script) files files (file_refused name file 0 (codes "TooLong"))
@@ -76,14 +52,14 @@ shows_run : (script : Script) (chip : ChipView) → HasLogged script chip
 shows_run script chip has =
     let o : Outcome = run_outcome (log_ran script) in
     let P : Bool → Type 0 = λ b. ByTest b (chip ≡ None) ((o ≡ o) × HasLogged script chip) in
-    subst P (sym (loud (log_ran script))) (refl, has)
+    subst P (sym (run_loud (log_ran script))) (refl, has)
 
 shows_none : (script : Script) (chip : ChipView) (why : Complaint) → chip ≡ None
     → ByTest (is_quiet (complaint_outcome (codes "rcceaudit") why).status) (chip ≡ None) ((complaint_outcome (codes "rcceaudit") why ≡ run_outcome (log_ran script)) × HasLogged script chip)
 shows_none script chip why blank =
     let o : Outcome = complaint_outcome (codes "rcceaudit") why in
     let P : Bool → Type 0 = λ b. ByTest b (chip ≡ None) ((o ≡ run_outcome (log_ran script)) × HasLogged script chip) in
-    subst P (sym (quiet (codes "rcceaudit") why)) blank
+    subst P (sym (complaint_quiet (codes "rcceaudit") why)) blank
 
 pub has_ran : (file : List ℕ) (script : Script) (chip : ChipView) (before after : Sinks) (s : Status) (answer : Result Logged Complaint) → Launches file script chip answer
     → Delivers (outcome_of (codes "rcceaudit") logged_ran answer) before after s → HasRan file script chip before after s
@@ -131,7 +107,7 @@ pub ends_complained : (command : Command) (before after : FilesView) (chip : Chi
 ends_complained command before after chip why sinks sinks_after s came delivers blank =
     let o : Outcome = complaint_outcome (codes "rcceaudit") why in
     let P : Bool → Type 0 = λ b. ByTest b (chip ≡ None) ((x : Script) × ScriptIn command.script before.told command.nue x × (o ≡ run_outcome (log_ran x)) × HasLogged x chip) in
-    (o, came, delivers, subst P (sym (quiet (codes "rcceaudit") why)) blank)
+    (o, came, delivers, subst P (sym (complaint_quiet (codes "rcceaudit") why)) blank)
 
 pub ends_words : (command : Option Command) (job : ScriptJob) (before after : FilesView) (chip : ChipView) (sinks sinks_after : Sinks) (s : Status) → Some (job_command job) ≡ command
     → Ends (RunTells before.told (job_command job) chip) (plan_of command_plan (Some (job_command job))) before after sinks sinks_after s

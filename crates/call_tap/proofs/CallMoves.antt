@@ -120,18 +120,6 @@ module _ (size : ℕ) (header chunk through : List ℕ) (flips : ℕ → ℕ) wh
   take_goes_on sender head st (AtPause i asked m o) from (Some h) may =
       subst (λ (r : ℕ). Holds size header chunk through flips (midst.Taking i asked) (Taking r m [])) (same_by_eqb i from may) (AtTake i asked m [] o (none_stands (slice_index chunk)))
 
-  pub take_never : (mid : Midst) (st : Stage) → Holds size header chunk through flips mid st → mid ≢ midst.Rest → ((sender : ℕ) (head : MessageHead) → mid ≢ midst.Paused sender head) → (from : ℕ) (notes : Option Notes)
-      → may_take from notes st ≡ true → ⊥
-  take_never mid st AtIdle rest paused from notes may = rest refl
-  take_never mid st (AtDraft h c a b) rest paused from notes may = rest refl
-  take_never mid st (AtSend to head part m c o s u) rest paused from None may = absurd (cc)
-  take_never mid st (AtSend to head part m c o s u) rest paused from (Some h) may = absurd (cc)
-  take_never mid st (AtPause sender head m o) rest paused from notes may = paused sender head refl
-  take_never mid st (AtTake sender head m c o s) rest paused from None may = absurd (cc)
-  take_never mid st (AtTake sender head m c o s) rest paused from (Some h) may = absurd (cc)
-  take_never mid st (AtMeet comm value seen released is) rest paused from None may = absurd (cc)
-  take_never mid st (AtMeet comm value seen released is) rest paused from (Some h) may = absurd (cc)
-
   -- a chunk was taken
   pub ready_raised : (from : ℕ) (head : MessageHead) (st : Stage) → Holds size header chunk through flips (midst.Taking from head) st → (to : ℕ) → has_taken size to st ≡ true → (calls : List DataCall) → (now : List ℕ) (last : Bool)
       → ((m : Progress) (c : Notes) → IsOpen size head through m → StandsIn c (slice_index chunk) → is_whole size m c ≡ true → IsTaken size head m c now last)
@@ -153,14 +141,6 @@ module _ (size : ℕ) (header chunk through : List ℕ) (flips : ℕ → ℕ) wh
           if_false (is_last size m) (calls ++ recv_from from (message_of (with_chunk size m c)) ∷ []) calls is,
         ),
       )
-
-  pub ready_never : (mid : Midst) (st : Stage) → Holds size header chunk through flips mid st → ((sender : ℕ) (head : MessageHead) → mid ≢ midst.Taking sender head) → (to : ℕ) → has_taken size to st ≡ true → ⊥
-  ready_never mid st AtIdle other to may = absurd (cc)
-  ready_never mid st (AtDraft h c a b) other to may = absurd (cc)
-  ready_never mid st (AtSend j head part m c o s u) other to may = absurd (cc)
-  ready_never mid st (AtPause sender head m o) other to may = absurd (cc)
-  ready_never mid st (AtTake sender head m c o s) other to may = other sender head refl
-  ready_never mid st (AtMeet comm value seen released is) other to may = absurd (cc)
 
   -- a chunk that was sent is through
   pub ready_lowered : (to : ℕ) (head : MessageHead) (st : Stage) → Holds size header chunk through flips (midst.Sending to head) st → (by : ℕ) (post : Option OnItsWay) → may_go_on by st post ≡ true → (calls : List DataCall) → (now : List ℕ) (last : Bool)
@@ -186,15 +166,6 @@ module _ (size : ℕ) (header chunk through : List ℕ) (flips : ℕ → ℕ) wh
           if_false (is_last size m) (calls ++ send_to to (message_of (with_chunk size m c)) ∷ []) calls is,
         ),
       )
-
-  pub ready_passed : (mid : Midst) (st : Stage) → Holds size header chunk through flips mid st → ((to : ℕ) (head : MessageHead) → mid ≢ midst.Sending to head) → (calls : List DataCall)
-      → Holds size header chunk through flips mid (lower_ready size st) × (calls_sent size st calls ≡ calls)
-  ready_passed mid st AtIdle other calls = (AtIdle, refl)
-  ready_passed mid st (AtDraft h c a b) other calls = (AtDraft h c a b, refl)
-  ready_passed mid st (AtSend to head part m c o s u) other calls = absurd (other to head refl)
-  ready_passed mid st (AtPause sender head m o) other calls = (AtPause sender head m o, refl)
-  ready_passed mid st (AtTake sender head m c o s) other calls = (AtTake sender head m c o s, refl)
-  ready_passed mid st (AtMeet comm value seen released is) other calls = (AtMeet comm value seen released is, refl)
 
   -- a barrier is entered: a group of one has no other member to wait for
   pub entered : (mid : Midst) (st : Stage) → Holds size header chunk through flips mid st → (comm value last : ℕ) → (is_idle st && (value == 1 - flips comm % 2)) ≡ true → (calls : List DataCall) → (alone : Bool) → alone ≡ (last == 0)
@@ -271,12 +242,3 @@ module _ (size : ℕ) (header chunk through : List ℕ) (flips : ℕ → ℕ) wh
         subst (λ (x : Stage). Holds size header chunk through flips (midst.Meeting own flag) x) (sym (if_false ((own == comm) && (value == flips comm % 2)) Idle (Barrier own seen rel) t)) (AtMeet own flag seen rel is),
         if_false ((own == comm) && (value == flips comm % 2)) (calls ++ Bar own ∷ []) calls t,
       )
-
-  pub await_passed : (mid : Midst) (st : Stage) → Holds size header chunk through flips mid st → ((own flag : ℕ) → mid ≢ midst.Meeting own flag) → (comm value v : ℕ) → (calls : List DataCall)
-      → Holds size header chunk through flips mid (look_release comm value v st) × (calls_let_go comm value v st calls ≡ calls)
-  await_passed mid st AtIdle other comm value v calls = (AtIdle, refl)
-  await_passed mid st (AtDraft h c a b) other comm value v calls = (AtDraft h c a b, refl)
-  await_passed mid st (AtSend j head part m c o s u) other comm value v calls = (AtSend j head part m c o s u, refl)
-  await_passed mid st (AtPause sender head m o) other comm value v calls = (AtPause sender head m o, refl)
-  await_passed mid st (AtTake sender head m c o s) other comm value v calls = (AtTake sender head m c o s, refl)
-  await_passed mid st (AtMeet own flag seen rel is) other comm value v calls = absurd (other own flag refl)

@@ -128,23 +128,6 @@ module _ (size : ℕ) (header chunk through : List ℕ) (flips : ℕ → ℕ) wh
       yes true t = refl
       yes false t = absurd (cc)
 
-  -- another chunk word changes nothing
-  pub chunk_passed : (mid : Midst) (st : Stage) → Holds size header chunk through flips mid st → (from : ℕ) → ((head : MessageHead) → mid ≢ midst.Taking from head) → (k v : ℕ)
-      → Holds size header chunk through flips mid (read_chunk from k v st)
-  chunk_passed mid st AtIdle from other k v = AtIdle
-  chunk_passed mid st (AtDraft h c a b) from other k v = AtDraft h c a b
-  chunk_passed mid st (AtSend to head part m c o s u) from other k v = AtSend to head part m c o s u
-  chunk_passed mid st (AtPause sender head m o) from other k v = AtPause sender head m o
-  chunk_passed mid st (AtTake sender head m c o s) from other k v =
-      same_or_other (Holds size header chunk through flips (midst.Taking sender head) (read_chunk from k v (Taking sender m c))) sender from
-      (λ t e. absurd (other head (ap (λ (r : ℕ). midst.Taking r head) e)))
-      (λ t ne. subst (λ (x : Stage). Holds size header chunk through flips (midst.Taking sender head) x) (sym (no (sender == from) t)) (AtTake sender head m c o s))
-    where
-      no : (b : Bool) → b ≡ false → (if b then Taking sender m (note_word k v c) else Taking sender m c) ≡ Taking sender m c
-      no true t = absurd (cc)
-      no false t = refl
-  chunk_passed mid st (AtMeet comm value seen released is) from other k v = AtMeet comm value seen released is
-
   -- a later chunk is raised
   pub sent_again : (mid : Midst) (st : Stage) → Holds size header chunk through flips mid st → mid ≢ midst.Rest → (to : ℕ) → may_raise size to st ≡ true → (calls : List DataCall)
       → Holds size header chunk through flips mid (raise_sent to st) × (calls_raised size to st calls ≡ calls)

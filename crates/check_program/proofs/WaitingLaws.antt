@@ -89,10 +89,6 @@ answer_peer keys ends meant nue rank result same many is gives =
           (subst (λ (n : ℕ). IfSome (waits_for keys ends rank) (λ k. IsPeer n rank k)) many here.1),
     )
 
--- the first number from k on that passes, where none before k does
-pub first_here : (test : ℕ → Bool) (n m k : ℕ) → n ≡ suc m → test k ≡ true → first_from test n k ≡ Some k
-first_here test n m k more is = ap (λ (x : ℕ). first_from test x k) more ∙ ap (λ (b : Bool). cond b (Some k) (first_from test m (k + 1))) is
-
 pub first_past : (test : ℕ → Bool) (n m k : ℕ) → n ≡ suc m → test k ≡ false → first_from test n k ≡ first_from test m (k + 1)
 first_past test n m k more is = ap (λ (x : ℕ). first_from test x k) more ∙ ap (λ (b : Bool). cond b (Some k) (first_from test m (k + 1))) is
 
@@ -104,10 +100,6 @@ module _ (next : ℕ → Option ℕ) where
   -- one step, and then the rest of a walk
   pub walked_on : (n m at to : ℕ) → n ≡ suc m → next at ≡ Some to → walked next n at ≡ walked next m to
   walked_on n m at to more is = ap (λ (k : ℕ). walked next k at) more ∙ ap (λ (o : Option ℕ). option_map_or (walked next m) o at) is
-
-  pub walked_no_more : (n at : ℕ) → next at ≡ None → walked next n at ≡ at
-  walked_no_more zero at is = refl
-  walked_no_more (suc n) at is = ap (λ (o : Option ℕ). option_map_or (walked next n) o at) is
 
   least_by : (n at : ℕ) (o : Option ℕ) → option_map_or (λ k. min at (least_walked next n k)) o at ≤ at
   least_by n at None = omega arith
@@ -123,12 +115,6 @@ module _ (next : ℕ → Option ℕ) where
       let step : least_walked next n at ≡ min at (least_walked next m to) =
       ap (λ (k : ℕ). least_walked next k at) more ∙ ap (λ (o : Option ℕ). option_map_or (λ k. min at (least_walked next m k)) o at) is in
       omega (arith, step, least_le m to, low, made)
-
-  pub least_no_more : (n at so_far : ℕ) → next at ≡ None → so_far ≤ at → so_far ≡ min so_far (least_walked next n at)
-  least_no_more zero at so_far is low = omega (arith, low)
-  least_no_more (suc n) at so_far is low =
-      let stays : least_walked next (suc n) at ≡ at = ap (λ (o : Option ℕ). option_map_or (λ k. min at (least_walked next n k)) o at) is in
-      omega (arith, stays, low)
 
 -- a rank that is not of the group, or has come to the barrier, is passed over
 module _ (keys : ℕ → ℕ → ℕ) (ends : List Ended) (comm rank number other : ℕ) (here : other ≡ number) where

@@ -9,7 +9,7 @@ use Rattle.std.proofs.lemmas.List.FromFn.{fill_by_all, get_or-range_with_len, le
 use Rattle.std.proofs.lemmas.List.Quantifiers.{position-Some}
 use Rattle.std.proofs.lemmas.Bool.{ltb-false}
 use Rattle.std.proofs.lemmas.Bool.Decides.{nat_tests}
-use Rattle.std.proofs.lemmas.List.Folds.{list_all-append, list_any-append}
+use Rattle.std.proofs.lemmas.List.Folds.{list_any-append}
 use Rattle.std.proofs.lemmas.List.Sums.{fails_before_first}
 use Rattle.std.proofs.lemmas.List.Splits.{length-slice_split, slice_split_at, slice_split_none}
 use Rattle.mesh_load.specs.Mesh.{core_of}
@@ -145,15 +145,6 @@ refuse_count : (nue : ℕ) (word : List ℕ) → (length (parts_of word) == nue)
 refuse_count nue word fails =
     ap (λ (b : Bool). cond (b && list_all is_core (parts_of word) && are_different (cores_in word)) (Some (by_rank (cores_in word))) None) fails
 
-refuse_part : (nue : ℕ) (word : List ℕ) → list_all is_core (parts_of word) ≡ false → listed_cores nue word ≡ None
-refuse_part nue word fails =
-    ap (λ (b : Bool). cond ((length (parts_of word) == nue) && b && are_different (cores_in word)) (Some (by_rank (cores_in word))) None) fails
-    ∙ by (length (parts_of word) == nue)
-  where
-    by : (b : Bool) → cond (b && false && are_different (cores_in word)) (Some (by_rank (cores_in word))) None ≡ None
-    by true = refl
-    by false = refl
-
 refuse_twice : (nue : ℕ) (word : List ℕ) → are_different (cores_in word) ≡ false → listed_cores nue word ≡ None
 refuse_twice nue word fails =
     ap (λ (b : Bool). cond ((length (parts_of word) == nue) && list_all is_core (parts_of word) && b) (Some (by_rank (cores_in word))) None) fails
@@ -194,25 +185,6 @@ pub too_many : (word : List ℕ) (nue : ℕ) (at w : List ℕ) → SoFar word nu
 too_many word nue at w so_far =
     refuse_count nue word (not_same (length (parts_of word)) nue (λ same.
     omega (arith, same, ap length so_far.whole, length-append so_far.front (parts_of w), so_far.count, length-slice_split is_comma w)))
-
--- there are too few
-pub too_few : (word : List ℕ) (nue i : ℕ) (at : List ℕ) → i < nue → SoFar word i at None → listed_cores nue word ≡ None
-too_few word nue i at low so_far =
-    refuse_count nue word (not_same (length (parts_of word)) nue (λ same.
-    omega (arith, same, low, ap length (so_far.whole ∙ append-nil so_far.front), so_far.count)))
-
--- a part is no core
-pub no_core : (word : List ℕ) (nue i : ℕ) (at w first : List ℕ) (more : Option (List ℕ)) → SoFar word i at (Some w) → parts_of w ≡ first ∷ parts_behind more → core_number first ≡ None → listed_cores nue word ≡ None
-no_core word nue i at w first more so_far cuts is =
-    refuse_part nue word (
-    ap (list_all is_core) (so_far.whole ∙ ap (λ (l : List (List ℕ)). so_far.front ++ l) cuts)
-    ∙ list_all-append is_core so_far.front (first ∷ parts_behind more)
-    ∙ ap (λ (o : Option ℕ). list_all is_core so_far.front && (is_some o && list_all is_core (parts_behind more))) is
-    ∙ none (list_all is_core so_far.front))
-  where
-    none : (b : Bool) → (b && false) ≡ false
-    none true = refl
-    none false = refl
 
 -- a core comes twice
 pub twice : (word : List ℕ) (nue i : ℕ) (at w first : List ℕ) (more : Option (List ℕ)) (core : ℕ) → SoFar word i at (Some w) → parts_of w ≡ first ∷ parts_behind more → core_number first ≡ Some core

@@ -1,4 +1,4 @@
-pub mod ComplaintLemmas
 pub mod DeliveryLemmas
 pub mod PromiseLemmas
 pub mod ReadingLemmas
+pub mod StatusLemmas

@@ -17,7 +17,7 @@ use Rattle.outcomes.specs.Plans.{Plan, Program, contents_outcome, plan_outcome, 
 use Rattle.outcomes.specs.Plans.Plan.{Runs, Refuses, Reads}
 use Rattle.outcomes.specs.Coming.{ByTest, LeadsOn, Comes, IsMeant, Holds, Asks, IsAsked}
 use Rattle.outcomes.specs.Delivery.{Sinks, Delivers, Shows}
-use Rattle.outcomes.specs.Promises.{EndsWith, EndsAsMeant, Promises}
+use Rattle.outcomes.specs.Promises.{EndsAsMeant, Promises}
 use Rattle.outcomes.proofs.DeliveryLemmas.{rose_not_steady, shows_steady, shows_or_write, shows_unless_write, status_of_end, rose_by_write, write_out_of, write_err_of, quiet_of, fronts_of, later_of, shown_or}
 
 -- facts about told files
@@ -354,12 +354,3 @@ module _ (program : Program) (words : List (List ℕ)) (files files_after : File
   -- a program that ends as its words and files mean keeps every promise
   pub keeps_promises : EndsAsMeant program words files files_after before after s → Promises program words files files_after before after s
   keeps_promises ended = promises_of ended.0 ended.1 ended.2
-
-  -- and so does one of whose outcome more is said
-  pub ends_with : {also : Outcome → Type 0} → EndsWith also program words files files_after before after s → Promises program words files files_after before after s
-  ends_with ended = promises_of ended.0 ended.1 ended.2
-
-  -- the outcome of which more is said has the status that was answered, unless a write failed
-  pub also_of : {also : Outcome → Type 0} → EndsWith also program words files files_after before after s →
-      (o : Outcome) × ((s ≡ o.status) ⊎ (s ≡ status.Write)) × also o
-  also_of ended = (ended.0, status_of_end ended.0 before after s ended.2, ended.3)

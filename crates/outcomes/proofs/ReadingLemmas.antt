@@ -1,13 +1,20 @@
 -- What the reading of a file says to the plan that asks for it.
-use Rattle.std.proofs.Common.{◌≡◌, ℕ, ◌+◌, ◌<◌, ◌≤◌, List, length, take, refl, sym, subst, ap, ◌∙◌, arith, Option, Some, None, IfSome, Ok}
+use Rattle.std.proofs.Common.{◌≡◌, ℕ, ◌+◌, ◌<◌, ◌≤◌, List, length, take, refl, sym, subst, ap, ◌∙◌, arith, inr, Option, Some, None, IfSome, Ok, Err}
 use Rattle.std.proofs.lemmas.List.{length-take, take_all}
 use Rattle.std.proofs.lemmas.Bool.{le-ltb, lt-ltb}
 use Rattle.rcce_io.specs.Files.{FilesView, NamedFile, contents_of}
 use Rattle.rcce_io.specs.Reading.{ReadsAll}
+use Rattle.rcce_io.specs.declared.reading.ReadEnd.TheVariants as ends
 use Rattle.outcomes.specs.Coming.{Comes, Holds}
-use Rattle.outcomes.specs.Outcomes.{Outcome, too_long}
+use Rattle.outcomes.specs.Outcomes.{Outcome, no_memory, too_long}
 use Rattle.outcomes.specs.Plans.{Plan}
-use Rattle.outcomes.specs.Plans.Plan.{Reads}
+use Rattle.outcomes.specs.Plans.Plan.{Runs, Refuses, Reads}
+
+-- want of memory may stand for each plan, before any call on the files
+pub lacks_memory : (program : List ℕ) (plan : Plan) (files : FilesView) → Comes program plan files files (no_memory program)
+lacks_memory program (Runs ran) files = (refl, inr refl)
+lacks_memory program (Refuses file line kind) files = (refl, inr refl)
+lacks_memory program (Reads file limit next) files = (files, Err ends.Memory, refl, (refl, refl))
 
 -- a longer file is refused
 pub reads_long : (file : List ℕ) (limit : ℕ) (before after : FilesView) (bytes : List ℕ) → ReadsAll file limit before after (Ok bytes) → limit < length bytes →

@@ -1,5 +1,5 @@
 -- What a core did since its last invalidation goes on with the calls for whole lines.
-use Rattle.std.proofs.Common.{◌≡◌, ℕ, zero, suc, ◌+◌, ◌<◌, Bool, true, false, cond, ◌&&◌, ◌==◌, List, [], ◌∷◌, ◌++◌, Option, None, Some, refl, sym, ◌∙◌, ap, subst, append_assoc, append-nil, arith, slice_index}
+use Rattle.std.proofs.Common.{◌≡◌, ℕ, zero, suc, ◌+◌, ◌<◌, Bool, true, false, cond, ◌==◌, List, [], ◌∷◌, ◌++◌, Option, None, Some, refl, sym, ◌∙◌, ap, subst, append_assoc, append-nil, arith, slice_index}
 use Rattle.std.proofs.lemmas.Bool.{and_from, eq-eqb}
 use Rattle.scc_base.specs.Places.{LineAt, WordAt, word_of_line, line_of_word, same_line}
 use Rattle.scc_base.specs.Events.{store_of}
@@ -10,7 +10,7 @@ use Rattle.line_cache.specs.Lines.{noted}
 use Rattle.write_combine.specs.declared.combiner.Out.{Out}
 use Rattle.write_combine.specs.Combining.{one_word, with_word, handed_out, held_after}
 use Rattle.put_get.specs.Accesses.{stores_of_line, stores_of, whole_line}
-use Rattle.put_get.specs.Cores.{Private, ReadsWord, ReadsLine, Writes, WritesLine, Flushes, line_noted}
+use Rattle.put_get.specs.Cores.{Private, ReadsWord, ReadsLine, WritesLine, line_noted}
 use Rattle.put_get.specs.Transfers.{line_at, put_stores, put_lines, Puts, ReadsLines, Gets}
 use Rattle.put_get.specs.Answers.{IsKnown, Since, Invalidated, HasRead, HasWritten, HasFlushed, writes_of, writes_from, IsLineTold, LinesLaw}
 use Rattle.put_get.proofs.StepLemmas.{events_once, did_front, did_left}

@@ -4,7 +4,7 @@ use Rattle.std.proofs.lemmas.List.{take_all, length-take, take_more_set}
 use Rattle.std.proofs.Math.Seq.{take-suc}
 use Rattle.scc_base.specs.Places.{LineAt}
 use Rattle.scc_proto.specs.Ports.{Sight, Did, MayMakeAll, record_in}
-use Rattle.scc_proto.proofs.PortLaws.{did_nothing, did_both, may_next, may_front}
+use Rattle.scc_proto.proofs.PortLaws.{did_nothing, did_both, may_next}
 use Rattle.line_cache.specs.declared.cache.Entry.{Entry}
 use Rattle.write_combine.specs.declared.combiner.Out.{Out}
 use Rattle.write_combine.specs.Combining.{handed_out}
@@ -69,16 +69,6 @@ rest_here : (core line : ℕ) (src : List (List ℕ)) (i : ℕ) (ws : List ℕ) 
     → MayMakeAll t.seat (record_in t) (stores_of_line (whole_line (line_at core (line + i)) ws) ++ put_stores core (line + i + 1) (drop (suc i) src))
 rest_here core line src i ws t h e may =
     subst (λ xs. MayMakeAll t.seat (record_in t) (put_stores core (line + i) xs)) (lines_here src i ws h e) may
-
--- the line that was written may be stored
-pub may_flush : (s : Sight) (c : Private) (core line : ℕ) (src : List (List ℕ)) (i : ℕ) (ws : List ℕ) (t : Sight) (d : Private) (u : Sight) (e : Private)
-    → i < length src → ws ≡ get_or src i [] → Putting s c core line src i t d → WritesLine t d (line_at core (line + i)) ws u e
-    → MayMakeAll u.seat (record_in u) (stores_of e.out)
-may_flush s c core line src i ws t d u e h is p w =
-    let stores = stores_of_line (whole_line (line_at core (line + i)) ws) in
-    let behind = put_stores core (line + i + 1) (drop (suc i) src) in
-    let all = may_next t [] (stores ++ behind) u (writes_nothing t d u e (line_at core (line + i)) ws p.out w) (rest_here core line src i ws t h is p.rest) in
-    subst (λ (x : Private). MayMakeAll u.seat (record_in u) (stores_of x.out)) (sym w.is) (may_front u.seat (record_in u) stores behind all)
 
 pub putting_next : (s : Sight) (c : Private) (core line : ℕ) (src : List (List ℕ)) (i : ℕ) (ws : List ℕ) (t : Sight) (d : Private) (u : Sight) (e : Private) (v : Sight) (f : Private)
     → i < length src → ws ≡ get_or src i [] → Putting s c core line src i t d → WritesLine t d (line_at core (line + i)) ws u e → Flushes u e v f

@@ -15,10 +15,8 @@ use Rattle.scc_base.specs.declared.communicators.CommRule.TheVariants.{Absent, W
 use Rattle.scc_base.proofs.WorldRules as world
 use Rattle.rcce_audit.specs.declared.faults.LogFault.{LogFault}
 use Rattle.rcce_audit.specs.declared.faults.LogKind.TheVariants as kind
-use Rattle.rcce_audit.specs.declared.faults.LogStop.{LogStop}
-use Rattle.rcce_audit.specs.declared.faults.LogStop.TheVariants as stop
 use Rattle.rcce_audit.specs.declared.lines.CommSplit.{CommSplit}
-use Rattle.rcce_audit.specs.Grammar.{Reading, RankedCall, with_comm, with_call, is_in_order, add_call, begins_comm, comm_said, call_said, line_said, kind_of, lines_said, end_said, nue_of, world_alone, no_calls, start_of, first_said, all_said, parts_said, log_of, is_present, Gives, ◌>=>◌}
+use Rattle.rcce_audit.specs.Grammar.{Reading, RankedCall, with_comm, with_call, is_in_order, add_call, begins_comm, comm_said, call_said, line_said, kind_of, lines_said, end_said, nue_of, world_alone, no_calls, start_of, first_said, all_said, parts_said, log_of, is_present, ◌>=>◌}
 use Rattle.rcce_audit.specs.Logs.{LogView, calls_of, IsLogCall, IsLog, most_log_bytes}
 use Rattle.rcce_audit.specs.Texts.{head_words, line_of, rule_lines, call_words, call_lines, table_lines, log_lines, text_of, log_text, IsFileLog}
 use Rattle.rcce_audit.specs.Words.{◌>>=◌, parts_of, words_of}
@@ -370,10 +368,6 @@ last_part {X} parts d some =
 -- what the parts of a text say, the text says
 pub log_told : (bytes : List ℕ) (parts : List (List ℕ)) (said : Result LogView LogFault) → length bytes ≤ most_log_bytes → parts ≡ parts_of bytes → parts_said parts ≡ said → log_of bytes ≡ said
 log_told bytes parts said within same is = cond-false (nat_lt most_log_bytes (length bytes)) _ _ (le-ltb most_log_bytes (length bytes) within) ∙ ap parts_said (sym same) ∙ is
-
-pub stop_told : {A X Y : Type 0} (view : X → A) (other : Y → A) (stop : LogStop) (said also : Result A LogFault) → Gives view (Err stop) said → also ≡ said → Gives other (Err stop) also
-stop_told view other (stop.Fault fault) said also is same = same ∙ is
-stop_told view other stop.Memory said also is same = tt
 
 -- a text has at most one part more than bytes
 pub few_parts : (bytes : List ℕ) (parts : List (List ℕ)) → parts ≡ parts_of bytes → length parts ≤ length bytes + 1

@@ -41,18 +41,8 @@ get-none (x ∷ calls) (suc n) is = omega (arith, get-none calls n is)
 pub drop-none : {X : Type 0} (calls : List X) (n : ℕ) → slice_get calls n ≡ None → drop n calls ≡ []
 drop-none {X} calls n is = at_drop_all (λ (l : List X). l) calls n (get-none calls n is)
 
--- what an advance leaves of the caller's list, and of the others'
-pub advance_own : (s : SetupView) (lists : List (List DataCall)) (k : ℕ) (old new : Progress) (c : DataCall) → slice_index new.next k ≡ slice_index old.next k + 1
-    → slice_get (list_at lists k) (slice_index old.next k) ≡ Some c → left_of lists old.next k ≡ c ∷ left_of lists new.next k
-advance_own s lists k old new c own is =
-    drop-at (list_at lists k) (slice_index old.next k) c is ∙ ap (λ (n : ℕ). c ∷ drop n (list_at lists k)) (sym own)
-
 pub left_same : (lists : List (List DataCall)) (k : ℕ) (old new : List ℕ) → slice_index new k ≡ slice_index old k → left_of lists old k ≡ left_of lists new k
 left_same lists k old new same = ap (λ (n : ℕ). drop n (list_at lists k)) (sym same)
-
--- a rank's slot by what is noted of it
-pub slot_same : (lists : List (List DataCall)) (k : ℕ) (old new : List (Option ℕ)) → slice_index_or new k None ≡ slice_index_or old k None → slot_of lists old k ≡ slot_of lists new k
-slot_same lists k old new same = cc
 
 module _ (nue : ℕ) (keys : ℕ → ℕ → ℕ) where
   -- a rank without calls has no step

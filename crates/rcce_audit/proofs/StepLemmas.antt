@@ -183,16 +183,6 @@ module _ (s : SetupView) (lists : List (List DataCall)) where
     woken_taker = λ t is asleep. absurd cc;
   }
 
-  -- what forbids each step
-  pub no_post : (a : ℕ) (m : Outgoing) (p : Progress) → (slot_of lists p.posted a ≡ None → ⊥) → (t : Standing) → Makes s.nue (setup_key s) (Posting a m) (standing_of lists p) t → ⊥
-  no_post a m p full t makes = full (makes.slots.changed a (itself a)).0
-
-  pub no_take : (from : ℕ) (m : Outgoing) (p : Progress) → (slot_of lists p.posted from ≡ Some m → ⊥) → (t : Standing) → Makes s.nue (setup_key s) (Taking from m) (standing_of lists p) t → ⊥
-  no_take from m p other t makes = other (makes.slots.changed from (itself from)).0
-
-  pub no_pair_full : (from : ℕ) (m : Outgoing) (p : Progress) → (slot_of lists p.posted from ≡ None → ⊥) → (t : Standing) → Makes s.nue (setup_key s) (Pairing from m) (standing_of lists p) t → ⊥
-  no_pair_full from m p full t makes = full (makes.slots.changed from (itself from)).0
-
   pub no_pair : (from : ℕ) (m : Outgoing) (p : Progress) → (slice_get (list_at lists m.to) (slice_index p.next m.to) ≡ Some (Recv from m.head m.bytes) → ⊥) → (t : Standing) → Makes s.nue (setup_key s) (Pairing from m) (standing_of lists p) t → ⊥
   no_pair from m p other t makes = other (get-drop (list_at lists m.to) (slice_index p.next m.to) (Recv from m.head m.bytes) (t.calls m.to) asked)
     where

@@ -57,9 +57,6 @@ barrier_pieces r comm = sym (simp append_assoc)
 pub split_pieces : (comm parent how k : List ℕ) → codes "comm " ++ (comm ++ (codes " " ++ (parent ++ (codes " " ++ (how ++ (codes " " ++ (k ++ (codes "\n" ++ [])))))))) ≡ ended (codes "comm" ∷ comm ∷ parent ∷ how ∷ k ∷ [])
 split_pieces comm parent how k = sym (simp append_assoc)
 
-pub head_pieces : (nue : List ℕ) → codes "rcce log " ++ (nue ++ (codes "\n" ++ [])) ≡ ended (codes "rcce" ∷ codes "log" ∷ nue ∷ [])
-head_pieces nue = refl
-
 -- the text of a log, part by part
 pub log_parts : (log : LogView) → log_text log ≡ ended (head_words log.nue) ++ (text_of (table_lines rule_lines 0 log.comms) ++ text_of (table_lines call_lines 0 log.lists))
 log_parts log = ap (λ (t : List ℕ). ended (head_words log.nue) ++ t) (text_of-append (table_lines rule_lines 0 log.comms) (table_lines call_lines 0 log.lists))

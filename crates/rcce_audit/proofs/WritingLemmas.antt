@@ -277,14 +277,6 @@ get_or-front [] back k d below = absurd (omega arith)
 get_or-front (x ∷ front) back zero d below = refl
 get_or-front (x ∷ front) back (suc k) d below = let within : k < length front = omega arith in get_or-front front back k d within
 
-get_or-back : {X : Type 0} (front back : List X) (k : ℕ) (d : X) → get_or (front ++ back) (length front + k) d ≡ get_or back k d
-get_or-back {X} front back k d = past front (length front + k) refl
-  where
-    past : (f : List X) (n : ℕ) → n ≡ length f + k → get_or (f ++ back) n d ≡ get_or back k d
-    past [] n is = ap (λ (m : ℕ). get_or back m d) (is ∙ omega arith)
-    past (x ∷ f) zero is = absurd (omega arith)
-    past (x ∷ f) (suc n) is = past f n (omega arith)
-
 -- a reading with other lists and another last rank
 abbrev at_lists : Reading → List (List DataCall) → Option ℕ → Reading
 at_lists r lists rank = record r { log = record r.log { lists = lists }; rank = rank }

@@ -10,7 +10,7 @@ use Rattle.script_plain.specs.declared.posts.Posted.{Posted}
 use Rattle.script_plain.specs.Next.{Next}
 use Rattle.script_plain.specs.Next.Next.{Ends}
 use Rattle.script_plain.specs.Step.{Configuration, next_at, slot_at, with_cell, with_slot, by_rank}
-use Rattle.script_plain.proofs.OrderLaws.{get_set, list_same}
+use Rattle.script_plain.proofs.OrderLaws.{get_set}
 use Rattle.script_plain.proofs.RunLaws.{get-by_rank}
 use Rattle.rcce_run.specs.Sweep.{outgoing, at_rank, Holds}
 
@@ -117,13 +117,6 @@ module _ {U : Type 0} (nue : ℕ) where
     cells_at = λ k. get-by_rank change c.cells k ∙ ap (option_map (change k)) (holds.cells_at k) ∙ at_map (change k) nue k (cells k);
     slots_at = holds.slots_at;
   }
-
-  -- two configurations that hold the same are the same
-  pub holds_once : (c d : Configuration U) (cells : ℕ → U) (slots : ℕ → Option Posted) → Holds nue c cells slots → Holds nue d cells slots → c ≡ d
-  holds_once c d cells slots one two =
-      let same_cells : c.cells ≡ d.cells = list_same c.cells d.cells (λ k. one.cells_at k ∙ sym (two.cells_at k)) in
-      let same_slots : c.slots ≡ d.slots = list_same c.slots d.slots (λ k. one.slots_at k ∙ sym (two.slots_at k)) in
-      λ i. record { cells = same_cells i; slots = same_slots i }
 
   module _ (next : U → Next U) (c : Configuration U) (cells : ℕ → U) (slots : ℕ → Option Posted) (holds : Holds nue c cells slots) where
     -- what stands next at a rank, and what stands in its slot

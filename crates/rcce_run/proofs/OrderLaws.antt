@@ -35,10 +35,6 @@ module _ {G : Type 0} (step : G → ℕ × G) (nue : ℕ) where
   unfolding drawn
   none_drawn g = refl
 
-  pub none_named : (g : G) → named step nue 0 g ≡ []
-  unfolding named
-  none_named g = refl
-
 module _ {A : Type 0} (seen : A → WorkerView) (tied : A → SetupView → ℕ → List Event → Type 0) where
   pub turns_then : (one two : List ℕ) (chip mid now : ChipView) (crew some later : List A) → TurnsOf seen tied one chip crew mid some → TurnsOf seen tied two mid some now later
       → TurnsOf seen tied (one ++ two) chip crew now later

@@ -18,14 +18,6 @@ later_between first before after last one later two = record {
 }
 
 module _ {A : Type 0} (seen : A → WorkerView) (tied : A → SetupView → ℕ → List Event → Type 0) where
-  -- a worker of a crew, where the chip and the worker are as they were
-  pub tied_still : (chip mid : ChipView) (crew : List A) (at : ℕ) (member : A) → IsCrew tied chip crew → at < length crew → about_in mid ≡ about_in chip → events_in mid at ≡ events_in chip at
-      → member ≡ slice_index_or crew at member → tied member (about_in mid) at (events_in mid at)
-  tied_still chip mid crew at member is_crew low about events here =
-      subst (λ (s : SetupView). tied member s at (events_in mid at)) (sym about)
-      (subst (λ (es : List Event). tied member (about_in chip) at es) (sym events)
-      (subst (λ (m : A). tied m (about_in chip) at (events_in chip at)) (sym here) (is_crew.ties at member low)))
-
   -- a crew whose members each went on
   pub round_stands : (chip now : ChipView) (crew later : List A) → IsCrew tied chip crew → IsWhole now → about_in now ≡ about_in chip → table_in now ≡ table_in chip → length later ≡ length crew
       → ((k : ℕ) (d : A) → k < length crew → tied (slice_index_or later k d) (about_in now) k (events_in now k))

@@ -143,9 +143,6 @@ each_post BitFlags = omega arith
 lines_all : (size len : ℕ) → lines_from size len 0 ≡ lines_of len
 lines_all size len = let none : len - size * 0 ≡ len = omega arith in ap lines_of none
 
-some_chunk : (size len : ℕ) → 1 ≤ chunk_count size len
-some_chunk size len = omega arith
-
 post_fits : (slot lines product chunks : ℕ) → product ≤ 2 * (chunks - 0) → 3 + (slot + 1 + lines + product) ≤ slot + (1 + (4 + 5 * chunks + lines))
 post_fits slot lines product chunks le = omega (arith, le)
 

@@ -16,7 +16,7 @@ use Rattle.send_recv.specs.Ranks.{receiving, sending, with_slot}
 use Rattle.barrier.specs.Stages.{BarAt, BarStands, meeting}
 use Rattle.barrier.specs.Turns.{BarTurned}
 use Rattle.script_plain.specs.Local.{Local, local_next}
-use Rattle.script_plain.specs.Moves.{bytes_out, is_stopped, length_in, passed, refused, taken, went}
+use Rattle.script_plain.specs.Moves.{bytes_out, is_receiving, is_stopped, length_in, passed, refused, taken, went}
 use Rattle.script_plain.specs.Next.{Next, is_going}
 use Rattle.script_plain.specs.Next.Next.{Ends, Goes, Posts, Sends, Recvs, Bars}
 use Rattle.rcce_ue.specs.Standing.{IsRecvOf, Tied}
@@ -78,6 +78,17 @@ module _ (ue old now : UeView) (s t : Sight) where
 
     asked : op.head.len ≡ length_in (local_next ue.machine.local)
     asked = asked_by (local_next ue.machine.local) there_recv.stands.1
+
+    receives_by : (n : Next Local) → IsRecvOf op n → IsTrue (is_receiving n)
+    receives_by Ends of = absurd of
+    receives_by (Goes after) of = absurd of
+    receives_by (Posts message after) of = absurd of
+    receives_by (Sends to head bytes after) of = absurd of
+    receives_by (Recvs from head take_in refuse) of = refl
+    receives_by (Bars comm after) of = absurd of
+
+    pub receives : IsTrue (is_receiving (local_next ue.machine.local))
+    receives = receives_by (local_next ue.machine.local) there_recv.stands.1
 
     pub head_fits : op.head.len ≤ length ue.inbox
     head_fits =

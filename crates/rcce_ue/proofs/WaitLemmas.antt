@@ -1,13 +1,11 @@
 -- A turn that waits made one try in vain, by a step of the chip's memory at a known point of its events.
-use Rattle.std.proofs.Common.{◌≡◌, ℕ, suc, Bool, true, false, not, ◌&&◌, ◌||◌, if◌then◌else◌, List, [], ◌∷◌, ◌++◌, Option, Some, refl, sym, ap, ◌∙◌, subst, arith, append_assoc, append-nil}
+use Rattle.std.proofs.Common.{◌≡◌, ℕ, suc, Bool, true, false, not, ◌&&◌, ◌||◌, if◌then◌else◌, List, [], ◌∷◌, ◌++◌, Some, refl, sym, ap, ◌∙◌, subst, arith, append_assoc, append-nil}
 use Rattle.scc_base.specs.declared.events.Event.{Event}
 use Rattle.scc_base.specs.declared.events.Spot.{Spot}
-use Rattle.scc_base.specs.declared.events.Turn.TheVariants as turn
 use Rattle.scc_proto.specs.Ports.{Seat, Sight}
 use Rattle.put_get.specs.Accesses.{WereSteps}
-use Rattle.put_get.specs.Cores.{MadeSteps}
-use Rattle.sync_flags.specs.Tries.{Aim, Fruitful, NoTry, Tried, Vain, all_vain, changing_after, is_changing, is_try, is_vain, spot_of, tries_from}
-use Rattle.rcce_ue.specs.Turns.{UeTurned, ue_aim}
+use Rattle.sync_flags.specs.Tries.{Aim, all_vain, changing_after, is_changing, is_try, is_vain, spot_of, tries_from}
+use Rattle.rcce_ue.specs.Turns.{ue_aim}
 use Rattle.rcce_ue.specs.Ues.{UeView}
 
 -- among these events, the try, which was vain and a step made after the events before it
@@ -75,19 +73,3 @@ pub record WaitedAt (stepped : Seat → List Event → Event → Type 0) (ue : U
   pub spot_is : spot_of aim ≡ spot
   pub events : List Event
   pub look : VainStep (stepped s.seat) s.events aim false events
-
-waited_by : (stepped : Seat → List Event → Event → Type 0) (ue : UeView) (s : Sight) (now : UeView) (spot : Spot) (events : List Event) → WereSteps (stepped s.seat) s.events events
-    → (waits : Option Spot) → waits ≡ Some spot → Tried (ue_aim s.seat ue now.parity) events waits → WaitedAt stepped ue s now spot
-waited_by stepped ue s now spot events steps waits is (NoTry none no_spot) = absurd (cc)
-waited_by stepped ue s now spot events steps waits is (Vain at aims one vain here) = record {
-  aim = at;
-  aim_is = aims;
-  spot_is = (let both : Some (spot_of at) ≡ Some spot = sym here ∙ is in cc);
-  events = events;
-  look = found (stepped s.seat) s.events at false 0 events one vain steps;
-}
-waited_by stepped ue s now spot events steps waits is (Fruitful at aims one vain no_spot) = absurd (cc)
-
-pub waited : (stepped : Seat → List Event → Event → Type 0) (ue : UeView) (s : Sight) (now : UeView) (t : Sight) (spot : Spot) → UeTurned ue s now t (turn.Waiting spot) → MadeSteps stepped s t
-    → WaitedAt stepped ue s now spot
-waited stepped ue s now t spot r steps = waited_by stepped ue s now spot r.events (steps r.events r.did) (Some spot) refl r.tried

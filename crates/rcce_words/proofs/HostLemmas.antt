@@ -79,9 +79,6 @@ flips : (core : ℕ) (cores : List ℕ) → list_any (λ c. eqb c core) cores �
 flips core [] = refl
 flips core (c ∷ cores) = rw (nat_eq_equiv.symm c core, flips core cores) refl
 
-pub has_core_flipped : (core : ℕ) (cores : List ℕ) → list_any (λ c. eqb c core) cores ≡ has_core core cores
-has_core_flipped core cores = flips core cores
-
 -- the cores of the first ranks differ
 host_first : (nue : ℕ) (cores : List ℕ) → nue ≤ 48 → (r : ℕ) → r < nue → host_of (host_list nue cores) r ≡ slice_index cores r
 host_first nue cores most r h =

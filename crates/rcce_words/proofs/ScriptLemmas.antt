@@ -1,5 +1,5 @@
 -- What the reading of a script's file says to its plan.
-use Rattle.std.proofs.Common.{◌≡◌, ℕ, ◌≤◌, List, length, refl, sym, subst, ap, inl, inr, Option, Some, Result, Ok, Err}
+use Rattle.std.proofs.Common.{◌≡◌, ℕ, ◌≤◌, List, length, refl, sym, subst, ap, inl, Option, Some, Result, Ok, Err}
 use Rattle.rcce_io.specs.Files.{FilesView}
 use Rattle.script_reader.specs.declared.fault.ReadFault.{ReadFault}
 use Rattle.script_reader.specs.Faults.{kind_name}
@@ -7,11 +7,11 @@ use Rattle.script_reader.specs.Reading.{most_script_bytes, parse_script}
 use Rattle.script_reader.specs.Script.{Script}
 use Rattle.outcomes.specs.Coming.{Comes, Holds, IsMeant}
 use Rattle.outcomes.specs.Complaints.{ReadsFile}
-use Rattle.outcomes.specs.Outcomes.{Outcome, file_refused, no_memory}
+use Rattle.outcomes.specs.Outcomes.{Outcome, file_refused}
 use Rattle.outcomes.specs.Plans.{Plan}
 use Rattle.outcomes.specs.declared.complaint.Complaint.{Complaint}
 use Rattle.rcce_words.specs.ScriptWords.{plan_of}
-use Rattle.rcce_words.specs.ScriptFiles.{MayLackMemory, ReadsBytes, ReadsScript, bytes_plan, parsed_plan}
+use Rattle.rcce_words.specs.ScriptFiles.{ReadsBytes, ReadsScript, bytes_plan, parsed_plan}
 
 -- a script that is refused
 pub comes_refused : (program : List ℕ) (next : Script → Plan) (file bytes : List ℕ) (nue : ℕ) (fault : ReadFault) (kind : List ℕ) (files : FilesView) → parse_script bytes nue ≡ Err fault → kind ≡ kind_name fault.kind
@@ -19,16 +19,6 @@ pub comes_refused : (program : List ℕ) (next : Script → Plan) (file bytes : 
 comes_refused program next file bytes nue fault kind files said named =
     subst (λ (r : Result Script ReadFault). Comes program (parsed_plan next file r) files files (file_refused program file fault.line kind)) (sym said)
     (refl, inl (ap (λ (k : List ℕ). file_refused program file fault.line k) named))
-
-lacks_by : (program : List ℕ) (next : Script → Plan) (file : List ℕ) (said : Result Script ReadFault) (files : FilesView) → ((script : Script) → MayLackMemory (next script))
-    → Comes program (parsed_plan next file said) files files (no_memory program)
-lacks_by program next file (Ok script) files lacks = lacks script program files
-lacks_by program next file (Err fault) files lacks = (refl, inr refl)
-
--- want of memory may stand for a script that leads on, and for one that is refused
-pub comes_memory : (program : List ℕ) (next : Script → Plan) (file bytes : List ℕ) (nue : ℕ) (files : FilesView) → ((script : Script) → MayLackMemory (next script))
-    → Comes program (bytes_plan next file nue bytes) files files (no_memory program)
-comes_memory program next file bytes nue files lacks = lacks_by program next file (parse_script bytes nue) files lacks
 
 -- what the reading of the file's bytes says is what the reading of the file says
 pub reads_by : (file : List ℕ) (nue : ℕ) (bytes : List ℕ) (before between : FilesView) (answer : Result Script Complaint) → ReadsFile file most_script_bytes before between (Ok bytes) → length bytes ≤ most_script_bytes
@@ -38,7 +28,7 @@ reads_by file nue bytes before between (Ok script) reads few holds said = record
       (subst (λ (r : Result Script ReadFault). Comes program (parsed_plan next file r) between end o) (sym said) came);
   stands = (bytes, few, holds, said);
 }
-reads_by file nue bytes before between (Err why) reads few holds came = λ program next lacks. reads program (bytes_plan next file nue) between _ (came program next between lacks)
+reads_by file nue bytes before between (Err why) reads few holds came = λ program next. reads program (bytes_plan next file nue) between _ (came program next between)
 
 -- words that are a command come to what it comes to
 pub meant_by : {C : Type 0} → (program : List ℕ) (plan : C → Plan) (asked : C) (command : Option C) (before after : FilesView) (o : Outcome) → Some asked ≡ command

@@ -7,7 +7,7 @@ use Rattle.script_reader.specs.Reading.{most_script_bytes, parse_script}
 use Rattle.script_reader.specs.Script.{Script}
 use Rattle.outcomes.specs.Coming.{Comes, Holds}
 use Rattle.outcomes.specs.Complaints.{complaint_outcome}
-use Rattle.outcomes.specs.Outcomes.{Outcome, no_memory}
+use Rattle.outcomes.specs.Outcomes.{Outcome}
 use Rattle.outcomes.specs.Plans.{Plan}
 use Rattle.outcomes.specs.Plans.Plan.{Refuses, Reads}
 use Rattle.outcomes.specs.declared.complaint.Complaint.{Complaint}
@@ -29,10 +29,6 @@ script_plan next file nue = Reads file most_script_bytes (bytes_plan next file n
 abbrev pub ScriptIn : List ℕ → Option (List NamedFile) → ℕ → Script → Type 0
 ScriptIn file told nue script = (bytes : List ℕ) × (length bytes ≤ most_script_bytes) × Holds told file bytes × (parse_script bytes nue ≡ Ok script)
 
--- a plan for which want of memory may stand before any call on the files
-abbrev pub MayLackMemory : Plan → Type 0
-MayLackMemory plan = (program : List ℕ) (files : FilesView) → Comes program plan files files (no_memory program)
-
 -- the script stands in the file, and the plan of the file comes to what it comes to with this script
 pub record LeadsTo (file : List ℕ) (nue : ℕ) (before after : FilesView) (script : Script) : Type 0 where
   pub goes : (program : List ℕ) (next : Script → Plan) (end : FilesView) (o : Outcome) → Comes program (next script) after end o → Comes program (script_plan next file nue) before end o
@@ -43,10 +39,10 @@ pub record LeadsTo (file : List ℕ) (nue : ℕ) (before after : FilesView) (scr
 abbrev pub ReadsScript : List ℕ → ℕ → FilesView → FilesView → Result Script Complaint → Type 0
 ReadsScript file nue before after (Ok script) = LeadsTo file nue before after script
 ReadsScript file nue before after (Err why) =
-    (program : List ℕ) (next : Script → Plan) → ((script : Script) → MayLackMemory (next script)) → Comes program (script_plan next file nue) before after (complaint_outcome program why)
+    (program : List ℕ) (next : Script → Plan) → Comes program (script_plan next file nue) before after (complaint_outcome program why)
 
 -- what the reading of its bytes says to theirs
 abbrev pub ReadsBytes : List ℕ → ℕ → List ℕ → Result Script Complaint → Type 0
 ReadsBytes file nue bytes (Ok script) = parse_script bytes nue ≡ Ok script
 ReadsBytes file nue bytes (Err why) =
-    (program : List ℕ) (next : Script → Plan) (files : FilesView) → ((script : Script) → MayLackMemory (next script)) → Comes program (bytes_plan next file nue bytes) files files (complaint_outcome program why)
+    (program : List ℕ) (next : Script → Plan) (files : FilesView) → Comes program (bytes_plan next file nue bytes) files files (complaint_outcome program why)

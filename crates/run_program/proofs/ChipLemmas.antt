@@ -5,13 +5,13 @@ use Rattle.scc_mesh.specs.Scenes.{ChipView}
 use Rattle.outcomes.specs.Coming.{ByTest, IsMeant}
 use Rattle.outcomes.specs.Complaints.{complaint_outcome, outcome_of}
 use Rattle.outcomes.specs.Delivery.{Delivers, Sinks}
-use Rattle.outcomes.specs.Outcomes.{Outcome, Ran, no_memory, run_outcome}
+use Rattle.outcomes.specs.Outcomes.{Outcome, no_memory, run_outcome}
 use Rattle.outcomes.specs.Plans.{Plan}
 use Rattle.outcomes.specs.Promises.{EndsWith}
 use Rattle.outcomes.specs.Statuses.{is_quiet}
 use Rattle.outcomes.specs.declared.complaint.Complaint.{Complaint}
-use Rattle.outcomes.specs.declared.complaint.Complaint.TheVariants as complaint
 use Rattle.outcomes.specs.declared.status.Status.{Status}
+use Rattle.outcomes.proofs.StatusLemmas.{complaint_quiet, run_loud}
 use Rattle.rcce_words.specs.CommandLine.{parse_command}
 use Rattle.run_program.specs.Asking.{ChipTells, WordsAskFor, asked_ran}
 use Rattle.run_program.specs.History.{Asked, HasRun}
@@ -21,28 +21,12 @@ use Rattle.run_program.specs.Program.{rccerun, words_plan}
 use Rattle.run_program.specs.Reports.{Shown, shown_ran}
 use Rattle.run_program.specs.declared.loaded.Loaded.{Loaded}
 
--- what has run has a status with which texts stand on out
-loud_by : (finished : Bool) (out err : List ℕ) → is_quiet (run_outcome (record { finished = finished; out = out; err = err })).status ≡ false
-loud_by true out err = refl
-loud_by false out err = refl
-
-loud : (ran : Ran) → is_quiet (run_outcome ran).status ≡ false
-loud ran = loud_by ran.finished ran.out ran.err
-
--- and a complaint has not
-quiet : (name : List ℕ) (why : Complaint) → is_quiet (complaint_outcome name why).status ≡ true
-quiet name (complaint.Words fault word behind value) = refl
-quiet name complaint.Memory = refl
-quiet name (complaint.Absent file) = refl
-quiet name (complaint.ReadFault file) = refl
-quiet name (complaint.Refused file line kind) = refl
-
 -- the chip shows the outcome of a run that took place
 shows_run : (asked : Asked) (chip : ChipView) → HasRun asked chip → ChipShows asked chip (run_outcome (asked_ran asked))
 shows_run asked chip has =
     let o : Outcome = run_outcome (asked_ran asked) in
     let P : Bool → Type 0 = λ b. ByTest b (chip ≡ None) ((o ≡ o) × HasRun asked chip) in
-    subst P (sym (loud (asked_ran asked))) (refl, has)
+    subst P (sym (run_loud (asked_ran asked))) (refl, has)
 
 -- a run that took place, or for which there was no memory, was written
 pub ran_by : (asked : Asked) (chip : ChipView) (before after : Sinks) (s : Status) (answer : Result Shown Complaint) → Launches asked chip answer
@@ -92,4 +76,4 @@ ends_refused words files files_after before after s chip why leads delivers blan
     let o : Outcome = complaint_outcome (codes "rccerun") why in
     let Rest : Type 0 = (asked : Asked) × WordsAskFor words command files.told asked × (o ≡ run_outcome (asked_ran asked)) × HasRun asked chip in
     let P : Bool → Type 0 = λ b. ByTest b (chip ≡ None) Rest in
-    (o, refused_by (words_plan words command) (WordsAskFor words command files.told) files files_after why leads, delivers, subst P (sym (quiet (codes "rccerun") why)) blank)
+    (o, refused_by (words_plan words command) (WordsAskFor words command files.told) files files_after why leads, delivers, subst P (sym (complaint_quiet (codes "rccerun") why)) blank)

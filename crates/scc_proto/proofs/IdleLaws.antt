@@ -1,6 +1,6 @@
 -- Ports of ranks that are in no call: heap words may be stored and loaded, and they are in no call after it.
 use Rattle.std.proofs.Common.{◌≡◌, ℕ, ◌<◌, ◌≤◌, List, [], ◌∷◌, None, sym, ◌∙◌, ap, subst}
-use Rattle.scc_base.specs.Events.{load_of, store_of}
+use Rattle.scc_base.specs.Events.{store_of}
 use Rattle.scc_base.specs.Layouts.{first_heap}
 use Rattle.scc_base.specs.Places.{WordAt}
 use Rattle.scc_base.specs.Setups.{IsSetup}
@@ -12,7 +12,7 @@ use Rattle.scc_proto.specs.Records.{chunk_of, record_of}
 use Rattle.scc_proto.specs.Ports.{Sight, Did, MayMake, record_in}
 use Rattle.scc_proto.specs.IdlePorts.{IsIdle}
 use Rattle.scc_proto.proofs.PortLaws.{record_of-nil, record_did_one}
-use Rattle.scc_proto.proofs.PlaceMoves.{Makes, heap_stored, heap_loaded}
+use Rattle.scc_proto.proofs.PlaceMoves.{Makes, heap_stored}
 use Rattle.scc_proto.proofs.Roles.{own_word}
 
 -- before the first event
@@ -40,8 +40,3 @@ module _ (sight : Sight) (r line word value : ℕ) (valid : IsSetup sight.seat.s
   idle_after_store new did =
       let done = subst (λ (p : WordAt). Did sight (store_of p value ∷ []) new) is did in
       ap (λ (rec : Record). rec.stage) (record_did_one sight _ new done ∙ stored.becomes) ∙ idle
-
-  pub idle_after_load : (new : Sight) → Did sight (load_of place value ∷ []) new → IsIdle new
-  idle_after_load new did =
-      let done = subst (λ (p : WordAt). Did sight (load_of p value ∷ []) new) is did in
-      ap (λ (rec : Record). rec.stage) (record_did_one sight _ new done ∙ (heap_loaded sight.seat (record_in sight) valid r line word value below high).becomes) ∙ idle

@@ -38,9 +38,6 @@ word_is words place is = ap (λ b. if b then slice_index words (word_number plac
 lt_yes : (a b : ℕ) → a < b → nat_lt a b ≡ true
 lt_yes a b h = grind (arith, nat_tests)
 
-lt_tells : (a b : ℕ) → nat_lt a b ≡ true → a < b
-lt_tells a b t = grind (arith, nat_tests)
-
 pub register_is : (words : List ℕ) (core : ℕ) → core < 48 → (memory_of words).register core ≡ slice_index words (register_number core)
 unfolding memory_of
 register_is words core lt = ap (λ b. if b then slice_index words (register_number core) else 0) (lt_yes core 48 lt)
@@ -75,9 +72,6 @@ is_there : (place : WordAt) (core line word : ℕ) → core ≡ place.core → l
 is_there place core line word a b c = grind (arith, nat_tests)
 
 module _ (words : List ℕ) (place : WordAt) (v : ℕ) (is : IsPlace place) (long : length words ≡ 49200) where
-  number : ℕ
-  number = word_number place.core place.line place.word
-
   module _ (core line word : ℕ) where
     other_number : is_at place core line word ≡ false → is_word core line word ≡ true → word_number core line word ≢ word_number place.core place.line place.word
     other_number away inside same =

@@ -1,20 +1,18 @@
 -- What the open call adds to the finished ones, what the tests of heads say, and what agreement says of single words and
 -- registers.
-use Rattle.std.proofs.Common.{◌≡◌, ◌⊎◌, ℕ, suc, ◌<◌, ◌≤◌, ◌==◌, Bool, true, false, true≢false, ◌&&◌, nat_lt, nat_le, if◌then◌else◌, List, [], ◌∷◌, ◌++◌, Option, Some, None, is_some, inl, inr, refl, sym, ◌∙◌, ap, subst, append-nil, arith}
+use Rattle.std.proofs.Common.{◌≡◌, ◌⊎◌, ℕ, ◌<◌, Bool, true, false, if◌then◌else◌, List, [], ◌∷◌, ◌++◌, Some, None, is_some, inl, inr, refl, ap, subst, append-nil, arith}
 use Rattle.std.proofs.lemmas.Bool.Decides.{nat_tests}
-use Rattle.std.specs.Int.{bit_at}
 use Rattle.scc_base.specs.Calls.{DataCall, Bar}
 use Rattle.scc_base.specs.Heads.{MessageHead, IsHead, IsPostHead}
 use Rattle.scc_base.specs.Places.{WordAt, IsPlace}
 use Rattle.scc_base.specs.Setups.{SetupView}
 use Rattle.scc_proto.specs.Messages.{is_head, is_post_head, message_of, send_to}
-use Rattle.scc_proto.specs.Stages.{FlagWords, Stage, Idle, Drafting, Sending, Between, Taking, Barrier, Record}
-use Rattle.scc_proto.specs.Words.{Memory, Role, SentFlags, ReadyFlags, IdleWord, are_peers, role_of, word_at}
+use Rattle.scc_proto.specs.Stages.{Stage, Idle, Drafting, Sending, Between, Taking, Barrier, Record}
+use Rattle.scc_proto.specs.Words.{Memory, Role, role_of, word_at}
 use Rattle.scc_proto.specs.Records.{chunk_of}
 use Rattle.scc_proto.specs.Passed.{IsPassed, in_hand, open_of, open_call, is_received, is_gathered, passed_open, passed_calls}
 use Rattle.scc_proto.specs.Registers.{Holder, Nobody, HeldBy}
 use Rattle.scc_proto.specs.Agreement.{Agrees, WordAgrees}
-use Rattle.scc_proto.proofs.Tests.{both_first, both_second}
 
 -- the open call is passed or it is not
 passed_if : (calls : List DataCall) (call : DataCall) (test : Bool) → IsPassed calls (Some call) (calls ++ (if test then call ∷ [] else []))

@@ -1,6 +1,5 @@
 -- Lists of moves, each permitted in turn: what a record permits, beside what it refuses.
 use Rattle.std.specs.Prelude.{◌≡◌, ℕ, Bool, true, ◌&&◌, List, [], ◌∷◌, ◌++◌}
-use Rattle.scc_base.specs.Places.{WordAt}
 use Rattle.scc_proto.specs.Stages.{Record, blank}
 use Rattle.scc_proto.specs.Moves.{Move, RaiseSent, StoreHeap, after}
 use Rattle.scc_proto.specs.Permission.{permits}

@@ -44,13 +44,6 @@ module _ (rank : ℕ) where
       let P : List Open → Type 0 = λ r. IsDeep rank items at r in
       subst P (sym none) (record { here = omega arith; held = tt })
 
-  pub deep_past : (items : List Item) (at to : ℕ) (repeats : List Open) → length items ≤ at → length items ≤ to → IsDeep rank items at repeats → IsDeep rank items to repeats
-  deep_past items at to repeats here there deep =
-      record {
-        here = omega (arith, deep.here, depth_past items at here, depth_past items to there);
-        held = deep.held;
-      }
-
   -- over an item that has no primitives
   entered_by : (items : List Item) (at : ℕ) (item : Item) (repeats : List Open) (n : Nesting) → slice_get items at ≡ Some item → nesting_at rank item ≡ n
       → (n ≡ nesting.Closes → ⊥) → IsDeep rank items at repeats → IsDeep rank items (at + 1) (opened n at repeats)
@@ -100,9 +93,6 @@ module _ (rank : ℕ) where
       let P : ℕ → Type 0 = λ n. IsDeep rank items n after in
       let Q : List Open → Type 0 = λ r. IsDeep rank items (passed_to (nesting_at rank item) at end before) r in
       subst P (sym goes) (subst Q (sym now) (passed_by items at end item before (nesting_at rank item) here refl deep))
-
-  pub room_here : (items : List Item) (at room : ℕ) (repeats : List Open) → IsDeep rank items at repeats → HasRoom rank items room → length repeats ≤ room
-  room_here items at room repeats deep fits = omega (arith, deep.here, fits at)
 
   -- one item changes the depth by at most one
   pub depth_more : (n : Nesting) (depth : ℕ) → depth_after n depth ≤ depth + 1

@@ -189,10 +189,6 @@ module _ (script : Script) (whole : IsWhole script.nue script.items) (n : ℕ) (
   pub rank_within : rank < script.nue
   rank_within = sound_now.0
 
-  -- each register of a rank, now
-  pub lengths_now : (reg : ℕ) → Holds (reckoned_at script rank reg) (length (register_at u.local reg))
-  lengths_now = sound_now.1.fits.registers
-
   -- and wherever the rank stood on its way
   pub lengths_before : (way later : List (List ℕ)) (begun : State) → begun ≡ gone_through way (started script rank) → u.matched ≡ (gone_through later begun).matched
       → (reg : ℕ) → Holds (reckoned_at script rank reg) (length (register_at begun.local reg))

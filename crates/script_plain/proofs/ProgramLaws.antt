@@ -138,9 +138,3 @@ pub along_made_way : (script : Script) (rank : ℕ) (P : State → Type 0)
     → P (started script rank) → (path : List (List ℕ)) → P (gone_through path (started script rank))
 along_made_way script rank P kept holds path =
     way_by (setup_of script) rank script.items P kept (program_of script rank) (started script rank) path (program_made script rank) refl refl holds
-
-pub along_own_way : (script : Script) (rank : ℕ) (P : State → Type 0)
-    → ((item : Item) (rest : List Prim) (u : State) (path : List (List ℕ)) → IsOfRank script.items rank item → Facing item.line (acts_of (setup_of script) rank item.stmt) rest u → length path ≤ length (acts_of (setup_of script) rank item.stmt) → P u → P (gone_through path u))
-    → P (started script rank) → (path : List (List ℕ)) → P (gone_through path (started script rank))
-along_own_way script rank P kept holds path =
-    along_made_way script rank P (λ item rest u way is more facing low here. kept item rest u way is facing low here) holds path

@@ -135,38 +135,6 @@ raised_wider m spare reg len =
       spare = omega arith;
     }
 
--- the accumulator is, and the buffer of received bytes, and what is printed
-pub accumulator_within : (l m : Lengths) (len : ℕ) → IsWithin l m → IsWithin (record l { accumulator = len }) (record m { accumulator = greater m.accumulator len })
-accumulator_within l m len within =
-    record {
-      registers = within.registers;
-      accumulator = greater_new m.accumulator len;
-      received = within.received;
-      items = within.items;
-      printed = within.printed;
-    }
-
-pub received_within : (l m : Lengths) (len : ℕ) → IsWithin l m → IsWithin (record l { received = len }) (record m { received = greater m.received len })
-received_within l m len within =
-    record {
-      registers = within.registers;
-      accumulator = within.accumulator;
-      received = greater_new m.received len;
-      items = within.items;
-      printed = within.printed;
-    }
-
-pub printed_within : (l m : Lengths) (items printed : ℕ) → IsWithin l m
-    → IsWithin (record l { items = items; printed = printed }) (record m { items = greater m.items items; printed = greater m.printed printed })
-printed_within l m items printed within =
-    record {
-      registers = within.registers;
-      accumulator = within.accumulator;
-      received = within.received;
-      items = greater_new m.items items;
-      printed = greater_new m.printed printed;
-    }
-
 pub more_within : (m : Lengths) (acc got items printed : ℕ)
     → IsWithin m (record m { accumulator = greater m.accumulator acc }) × (IsWithin m (record m { received = greater m.received got }) × IsWithin m (record m { items = greater m.items items; printed = greater m.printed printed }))
 more_within m acc got items printed = (

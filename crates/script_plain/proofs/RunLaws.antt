@@ -277,16 +277,3 @@ module _ {U : Type 0} (keys : ℕ → ℕ → ℕ) (next : U → Next U) (cost :
   enough zero m c fits other = sym (no_more m c (none_left c (lowest_step keys next c) fits refl))
   enough (suc n) zero c fits other = no_more (suc n) c (none_left c (lowest_step keys next c) other refl)
   enough (suc n) (suc m) c fits other = same_by n m c (lowest_step keys next c) refl fits other (enough n m)
-
-  one_more : (n : ℕ) (c d : Configuration U) → lowest_step keys next c ≡ Some d → run_on keys next (suc n) c ≡ run_on keys next n d
-  one_more n c d step = ap (λ (o : Option (Configuration U)). option_map_or (run_on keys next n) o c) step
-
-  after_within : (n : ℕ) (c d : Configuration U) → lowest_step keys next c ≡ Some d → sum_by cost c.cells ≤ n → run_on keys next (sum_by cost d.cells) d ≡ run_on keys next n c
-  after_within zero c d step fits = absurd (omega (arith, falls_lowest c d step))
-  after_within (suc n) c d step fits =
-      let less : sum_by cost d.cells < sum_by cost c.cells = falls_lowest c d step in
-      enough (sum_by cost d.cells) n d (omega arith) (omega (arith, less)) ∙ sym (one_more n c d step)
-
-  -- a step on the way does not change the end
-  pub after_step : (c d : Configuration U) → lowest_step keys next c ≡ Some d → run_on keys next (sum_by cost d.cells) d ≡ run_on keys next (sum_by cost c.cells) c
-  after_step c d step = after_within (sum_by cost c.cells) c d step (omega arith)

@@ -203,17 +203,6 @@ front_is s rank items at step item repeats act here there acts =
 pub stands_there : (s : SetupView) (rank : ℕ) (items : List Item) (at step : ℕ) (item : Item) → slice_get items at ≡ Some item → StandsAt s rank items at step → step < length (prims_of s rank item)
 stands_there s rank items at step item here stands = let P : Option Item → Type 0 = λ o. HasMore s rank o step in subst P here stands
 
-acts_by_rank : (s : SetupView) (rank step : ℕ) (item : Item) (b : Bool) → has_rank item.who rank ≡ b → step < length (prims_of s rank item) → step < length (acts_of s rank item.stmt)
-acts_by_rank s rank step item true has there =
-    let all : length (prims_of s rank item) ≡ length (acts_of s rank item.stmt) = rw has (length-map (acts_of s rank item.stmt) (λ (act : Act). record { line = item.line; act = act })) in
-    omega (arith, there, all)
-acts_by_rank s rank step item false has there =
-    let none : length (prims_of s rank item) ≡ 0 = rw has refl in
-    absurd (omega (arith, there, none))
-
-pub acts_there : (s : SetupView) (rank : ℕ) (items : List Item) (at step : ℕ) (item : Item) → slice_get items at ≡ Some item → StandsAt s rank items at step → step < length (acts_of s rank item.stmt)
-acts_there s rank items at step item here stands = acts_by_rank s rank step item (has_rank item.who rank) refl (stands_there s rank items at step item here stands)
-
 pub none_there : (s : SetupView) (rank : ℕ) (items : List Item) (at step : ℕ) → length items ≤ at → StandsAt s rank items at step
 none_there s rank items at step past = let P : Option Item → Type 0 = λ o. HasMore s rank o step in subst P (sym (slice_get_past items at past)) tt
 

@@ -1,5 +1,5 @@
 -- What the reader keeps after one more statement.
-use Rattle.std.proofs.Common.{◌≡◌, ℕ, ◌<◌, ◌≤◌, false, List, [], ◌∷◌, ◌++◌, Some, length, get_or, reverse, sym, ap, ◌∙◌, arith, subst}
+use Rattle.std.proofs.Common.{◌≡◌, ℕ, ◌<◌, false, List, [], ◌∷◌, ◌++◌, Some, length, get_or, reverse, sym, ap, ◌∙◌, subst}
 use Rattle.std.proofs.lemmas.Bool.{ltb-false}
 use Rattle.std.proofs.lemmas.List.{length-reverse, reverse-reverse}
 use Rattle.std.proofs.lemmas.List.Elements.{All-push}
@@ -55,41 +55,6 @@ in_line-new nue items item rules settled short flat = record {
   present = λ rank below has. subst (λ (list : List Item). rule_of (rules_of list) (comm_needed item.stmt) ≡ rule.Absent → ⊥) (sym (reverse-reverse items)) (settled.present rank below has);
   sized = short-sized item.stmt short;
   flat = flat;
-}
-
--- a statement's registers stay named where names are added
-named-more : (fewer more : ℕ) (s : Stmt) → fewer ≤ more → IsNamed fewer s → IsNamed more s
-named-more fewer more (stmt.Bytes reg bytes) up named = omega arith
-named-more fewer more (stmt.Fill reg len start) up named = omega arith
-named-more fewer more (stmt.RankOf reg ty) up named = omega arith
-named-more fewer more (stmt.Apply op ty dst src) up named = (omega arith, omega arith)
-named-more fewer more (stmt.Send peer reg) up named = omega arith
-named-more fewer more (stmt.Post peer reg) up named = omega arith
-named-more fewer more (stmt.Recv peer reg len) up named = omega arith
-named-more fewer more (stmt.Print reg form) up named = omega arith
-named-more fewer more (stmt.Bcast comm root reg len) up named = omega arith
-named-more fewer more (stmt.Reduce comm root op ty dst src) up named = (omega arith, omega arith)
-named-more fewer more (stmt.Allreduce comm op ty dst src) up named = (omega arith, omega arith)
-named-more fewer more _ up named = tt
-
--- what is kept stays so where names are added
-pub kept-named : (version : Version) (nue : ℕ) (items : List Item) (names more : List (List ℕ)) (run : SetupView) (repeats : List Open) (tallies : List Tally)
-    → length names ≤ length more → IsKept version nue items names run repeats tallies → IsKept version nue items more run repeats tallies
-kept-named version nue items names more run repeats tallies up k = record {
-  some = k.some;
-  most = k.most;
-  sized = k.sized;
-  run_is = k.run_is;
-  repeats_are = k.repeats_are;
-  rules = k.rules;
-  settled = k.settled;
-  have = k.have;
-  low = k.low;
-  passed = k.passed;
-  in_line = k.in_line;
-  named = λ i d below. named-more (length names) (length more) (get_or items i d).stmt up (k.named i d below);
-  ranked = k.ranked;
-  tallied = k.tallied;
 }
 
 pub kept-more : (version : Version) (nue : ℕ) (items : List Item) (names : List (List ℕ)) (item : Item) (run after : SetupView) (repeats later : List Open) (tallies noted : List Tally)

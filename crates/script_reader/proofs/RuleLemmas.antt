@@ -205,11 +205,6 @@ rules-made (stmt.Allreduce comm op ty dst src) items item version nue is made kn
 rules-made (stmt.Repeat times end) items item version nue is made known parented new rules = absurd (false≢true new)
 rules-made (stmt.End start) items item version nue is made known parented new rules = absurd (false≢true new)
 
--- the rules of no statement
-pub AreRules-start : AreRules (rules_of [])
-AreRules-start zero low = refl
-AreRules-start (suc c) low = subst (λ (r : CommRule). IsRule (rules_of []) (suc c) r) (sym (split-at [] (suc c) (omega arith) low)) (λ none. omega (arith, none))
-
 -- a communicator past the last one has no split
 pub split-low : (s : Stmt) (version : Version) (run : SetupView) (comm : ℕ) → is_unknown version run s ≡ false → last_comm version < comm → split_rule s comm ≡ rule.Absent
 split-low (stmt.Split split r) version run comm known above =

@@ -1,12 +1,12 @@
 -- A change of a bit under its register, from one try of sync_flags.
-use Rattle.std.proofs.Common.{◌≡◌, ℕ, Bool, true, List, ◌∷◌, Option, Some, None, is_none, refl, sym, subst, slice_index}
+use Rattle.std.proofs.Common.{◌≡◌, ℕ, Bool, true, List, ◌∷◌, Option, Some, is_none, refl, sym, subst, slice_index}
 use Rattle.std.specs.Prelude.{IsTrue}
 use Rattle.scc_base.specs.Places.{WordAt, FlagPlace, flag_word, line_of_word}
 use Rattle.scc_base.specs.Events.{store_of, take_of}
 use Rattle.scc_base.specs.declared.events.Event.{Event}
 use Rattle.scc_proto.specs.Stages.{FlagWords, Record}
 use Rattle.scc_proto.specs.Soundness.{IsSound}
-use Rattle.scc_proto.specs.Ports.{Sight, Did, MayMake, IsSoundPort, and_then, record_in, record_on}
+use Rattle.scc_proto.specs.Ports.{Sight, Did, MayMake, IsSoundPort, and_then, record_in}
 use Rattle.scc_proto.proofs.PortLaws.{record_in-and_then}
 use Rattle.put_get.specs.Accesses.{loads_of}
 use Rattle.put_get.specs.Cores.{Private}

@@ -14,7 +14,7 @@ use Rattle.scc_proto.specs.Moves.{Move, after}
 use Rattle.scc_proto.specs.Records.{chunk_of, change_held, note_sent, note_ready, sent_noted, ready_noted}
 use Rattle.scc_proto.specs.Ports.{Seat, record_next, record_on}
 use Rattle.scc_proto.proofs.Tests.{put_here}
-use Rattle.scc_proto.proofs.Roles.{own_word, role_spare_bits, if_yes, if_no}
+use Rattle.scc_proto.proofs.Roles.{own_word, role_spare_bits, if_no}
 use Rattle.scc_proto.proofs.PlaceMoves.{idle_loaded, register_taken, register_freed, sent_bits_noted, ready_bits_noted}
 use Rattle.put_get.specs.Accesses.{loads_of}
 use Rattle.sync_flags.specs.Flags.{with_bit}

@@ -1,5 +1,5 @@
 -- Looks at flags and changes of them, from the calls of a core and of a register that make them.
-use Rattle.std.proofs.Common.{◌≡◌, ℕ, zero, suc, ◌+◌, ◌-◌, ◌*◌, ◌%◌, ◌^◌, ◌<◌, Bool, true, false, ◌==◌, if◌then◌else◌, List, [], ◌∷◌, Option, Some, None, refl, sym, ◌∙◌, ap, subst, arith, slice_index}
+use Rattle.std.proofs.Common.{◌≡◌, ℕ, zero, suc, ◌<◌, Bool, true, false, if◌then◌else◌, [], ◌∷◌, Option, Some, None, refl, sym, ◌∙◌, ap, subst, arith, slice_index}
 use Rattle.scc_base.specs.Places.{WordAt, FlagPlace, flag_word, line_of_word, same_line}
 use Rattle.scc_base.specs.Setups.{SetupView}
 use Rattle.scc_base.specs.Events.{store_of}
@@ -9,7 +9,7 @@ use Rattle.scc_proto.proofs.PortLaws.{did_both, seat_kept, may_next}
 use Rattle.write_combine.specs.declared.combiner.Out.{Out}
 use Rattle.write_combine.specs.Combining.{handed_out, held_after, one_word, with_word}
 use Rattle.put_get.specs.Accesses.{stores_of}
-use Rattle.put_get.specs.Cores.{Private, Fetch, Held, Loaded, ReadsWord, Writes, Flushes}
+use Rattle.put_get.specs.Cores.{Private, Writes, Flushes}
 use Rattle.sync_flags.specs.Looks.{LooksAt}
 use Rattle.send_recv.specs.Flags.{is_set, Looks, WritesFlag, MayWriteFlag}
 

@@ -1,5 +1,5 @@
 -- The changes of flags that a receive makes: that the record permits them, and the record after them.
-use Rattle.std.proofs.Common.{◌≡◌, ℕ, true, false, List, [], ◌∷◌, ◌++◌, Option, Some, None, is_some, refl, sym, ◌∙◌, ap, subst, arith, slice_index}
+use Rattle.std.proofs.Common.{◌≡◌, ℕ, true, false, List, [], ◌∷◌, ◌++◌, Option, Some, None, refl, sym, ◌∙◌, ap, subst, arith, slice_index}
 use Rattle.scc_base.specs.Places.{FlagPlace, flag_word, line_of_word}
 use Rattle.scc_base.specs.Layouts.{sent_at, ready_at}
 use Rattle.scc_base.specs.Setups.{IsSetup}

@@ -1,4 +1,4 @@
-use Rattle.std.proofs.Common.{codes, inr, refl}
+use Rattle.std.proofs.Common.{codes}
 use Rattle.check_program.specs.Program.{run_plan}
 use Rattle.check_program.proofs.launcher.run_file.Goals as goal
 
@@ -8,4 +8,4 @@ returns-in-Ok g c =
     c.in-Ok.ensures.reads.goes (codes "rccecheck") run_plan read _ (c.run_script.ensures read)
 
 pub returns-in-Err : goal.returns-in-Err
-returns-in-Err g c = c.in-Err.ensures.reads (codes "rccecheck") run_plan (λ script program files. (refl, inr refl))
+returns-in-Err g c = c.in-Err.ensures.reads (codes "rccecheck") run_plan

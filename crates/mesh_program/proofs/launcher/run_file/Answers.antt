@@ -1,4 +1,4 @@
-use Rattle.std.proofs.Common.{codes, inr, refl}
+use Rattle.std.proofs.Common.{codes}
 use Rattle.mesh_program.specs.Program.{run_plan}
 use Rattle.mesh_program.proofs.launcher.run_file.Goals as goal
 
@@ -8,4 +8,4 @@ returns-in-Ok g c =
     c.in-Ok.ensures.reads.goes (codes "rccemesh") (run_plan c.args.job.now.at) read _ (c.run_script.ensures read)
 
 pub returns-in-Err : goal.returns-in-Err
-returns-in-Err g c = c.in-Err.ensures.reads (codes "rccemesh") (run_plan c.args.job.now.at) (λ script program files. (refl, inr refl))
+returns-in-Err g c = c.in-Err.ensures.reads (codes "rccemesh") (run_plan c.args.job.now.at)

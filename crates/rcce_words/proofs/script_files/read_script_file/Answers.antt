@@ -10,4 +10,4 @@ returns-in-Ok g c = record {
 }
 
 pub returns-in-Err-clause-reads : goal.returns-in-Err-clause-reads
-returns-in-Err-clause-reads g c = λ program next lacks. c.in-Err.ensures.reads program (bytes_plan next c.args.file.now c.args.nue)
+returns-in-Err-clause-reads g c = λ program next. c.in-Err.ensures.reads program (bytes_plan next c.args.file.now c.args.nue)

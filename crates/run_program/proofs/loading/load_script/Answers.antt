@@ -1,4 +1,3 @@
-use Rattle.std.proofs.Common.{inr, refl}
 use Rattle.run_program.specs.Program.{rccerun, run_plan}
 use Rattle.run_program.proofs.LoadLemmas.{loads_script}
 use Rattle.run_program.proofs.loading.load_script.Goals as goal
@@ -9,4 +8,4 @@ returns-in-Ok g c =
     c.with_setup.ensures.script c.with_setup.ensures.setup c.with_setup.ensures.seed
 
 pub returns-in-Err : goal.returns-in-Err
-returns-in-Err g c = c.in-Err.ensures.reads rccerun.name run_plan (λ script program files. (refl, inr refl))
+returns-in-Err g c = c.in-Err.ensures.reads rccerun.name run_plan

@@ -1,4 +1,4 @@
-use Rattle.std.proofs.Common.{rules, refl}
+use Rattle.std.proofs.Common.{refl}
 use Rattle.scc_base.specs.Communicators.{key_of}
 use Rattle.scc_proto.specs.Records.{act_of, record_of}
 use Rattle.scc_proto.specs.Messages.{has_all, bytes_from, is_zero_from}
