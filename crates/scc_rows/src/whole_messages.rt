@@ -290,8 +290,6 @@ const POST: &[(Deed, usize)] = &[(Deed::Post, 100)];
 
 const RECEIVE: &[(Deed, usize)] = &[(Deed::Receive, 100)];
 
-const TEST_AND_RECEIVE: &[(Deed, usize)] = &[(Deed::Test, 100), (Deed::Receive, 100)];
-
 const STALLED_RECEIVE: &[(usize, Want)] = &[(1, Want::Unsent), (0, Want::Done), (1, Want::Arrives)];
 
 #[test]
@@ -339,11 +337,16 @@ fn another_length_is_told_and_leaves_the_message(rt: HostRuntime) -> Result<(), 
     shows_calls_in_both(rt.alloc(), POST_EIGHT, TESTS, TOLD)
 }
 
+/// A byte more than a line.
+const POST_MORE: &[(Deed, usize)] = &[(Deed::Post, 33)];
+
+const TEST_AND_RECEIVE: &[(Deed, usize)] = &[(Deed::Test, 33), (Deed::Receive, 33)];
+
 const EARLY_TEST: &[(usize, Want)] = &[(1, Want::NothingSent), (0, Want::Done), (1, Want::Arrives)];
 
 #[test]
 fn a_test_of_nothing_leaves_a_later_receive(rt: HostRuntime) -> Result<(), Fail> {
-    shows_calls_in_both(rt.alloc(), POST, TEST_AND_RECEIVE, EARLY_TEST)
+    shows_calls_in_both(rt.alloc(), POST_MORE, TEST_AND_RECEIVE, EARLY_TEST)
 }
 
 const TWO_POSTS: &[(Deed, usize)] = &[(Deed::Post, 40), (Deed::Post, 40)];

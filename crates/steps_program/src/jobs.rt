@@ -39,7 +39,7 @@ pub enum Made {
     Away(Chip, Token),
 }
 
-// KIND.
+// The accesses that the word KIND names, and where they go.
 fn case_of(word: &str) -> Option<Case>
     ensures { result ≡ case_of word.now }
 {
@@ -55,7 +55,7 @@ fn case_of(word: &str) -> Option<Case>
     Some(Case { way, kind })
 }
 
-// COUNT.
+// The number that the word COUNT tells.
 fn number_of(word: &str) -> Option<u32>
     ensures { result ≡ number_of word.now }
 {
