@@ -1,14 +1,14 @@
 -- Lists of entries: looking a line up, and that no line is held twice.
-use Rattle.std.proofs.Common.{◌≡◌, ℕ, zero, suc, ◌+◌, ◌<◌, Bool, true, false, cond, ◌==◌, List, [], ◌∷◌, ◌++◌, None, Some, length, get_or, take, drop, set, refl, ap, sym, subst, ◌∙◌, arith, drop-cons, slice_set, remove, append-nil, length-append, length-drop}
+use Rattle.std.proofs.Common.{◌≡◌, ◌≢◌, ℕ, zero, suc, ◌+◌, ◌<◌, Bool, true, false, cond, ◌==◌, List, [], ◌∷◌, ◌++◌, None, Some, length, get_or, take, drop, set, refl, ap, sym, subst, ◌∙◌, arith, drop-cons, slice_set, remove, append-nil, length-append, length-drop}
 use Rattle.std.proofs.lemmas.List.{length-take}
 use Rattle.std.proofs.Math.Seq.{take-add}
-use Rattle.std.proofs.lemmas.Grind.{drop_more_same}
-use Rattle.std.proofs.lemmas.List.{take_more_set, drop-set-lt, map-append, drop_all, take_all}
+use Rattle.std.proofs.lemmas.Grind.{drop_more_same, get_or-set_at}
+use Rattle.std.proofs.lemmas.List.{get_or-set_other, take_more_set, drop-set-lt, map-append, drop_all, take_all}
 use Rattle.std.specs.List.{refill}
 use Rattle.std.proofs.lemmas.Bool.{cond_both, eq-eqb, eqb-true, and_parts, and_from}
 use Rattle.scc_base.specs.Places.{LineAt, WordAt, line_of_word, same_line}
 use Rattle.line_cache.specs.declared.cache.Entry.{Entry}
-use Rattle.line_cache.specs.Lines.{held, written, noted, AreDistinct, IsCache, most_lines}
+use Rattle.line_cache.specs.Lines.{held, written, noted, AreDistinct, IsCache, IsMarked, most_lines}
 
 same_line-sym : (a b : LineAt) → same_line a b ≡ true → same_line b a ≡ true
 same_line-sym a b t =
@@ -111,14 +111,21 @@ distinct-noted [] p v s = tt
 distinct-noted (x ∷ xs) p v s =
     (subst (λ a. held (noted xs p v) a ≡ None) (sym (written_line x p v)) (held-noted xs p v x.line s.0), distinct-noted xs p v s.1)
 
+-- a word of a line that is not held changes nothing
+pub noted_none : (es : List Entry) (p : WordAt) (v : ℕ) → held es (line_of_word p) ≡ None → noted es p v ≡ es
+noted_none [] p v h = refl
+noted_none (x ∷ xs) p v h =
+    let n = not_held x xs (line_of_word p) h in
+    rw (n.0, noted_none xs p v n.1) refl
+
 length-noted : (es : List Entry) (p : WordAt) (v : ℕ) → length (noted es p v) ≡ length es
 length-noted [] p v = refl
 length-noted (x ∷ xs) p v = ap suc (length-noted xs p v)
 
-pub cache-noted : (es : List Entry) (p : WordAt) (v : ℕ) → IsCache es → IsCache (noted es p v)
+cache-noted : (es : List Entry) (p : WordAt) (v : ℕ) → IsCache es → IsCache (noted es p v)
 cache-noted es p v s = record { distinct = distinct-noted es p v s.distinct; few = rw (length-noted es p v) s.few }
 
-pub cache-remove : (es : List Entry) (i : ℕ) → IsCache es → IsCache (remove es i)
+cache-remove : (es : List Entry) (i : ℕ) → IsCache es → IsCache (remove es i)
 cache-remove es i s =
     let few = s.few in
     record {
@@ -126,11 +133,39 @@ cache-remove es i s =
       few = simp length-append (omega (arith, length-take i es, length-drop (suc i) es));
     }
 
-pub cache-push : (es : List Entry) (e : Entry) → length es < most_lines → IsCache es → held es e.line ≡ None → IsCache (es ++ e ∷ [])
+cache-push : (es : List Entry) (e : Entry) → length es < most_lines → IsCache es → held es e.line ≡ None → IsCache (es ++ e ∷ [])
 cache-push es e room s h = record {
   distinct = distinct-push es e s.distinct h;
   few = simp length-append (omega arith);
 }
+
+pub none_marked : (marks : List Bool) → IsMarked marks []
+none_marked marks = record { cache = record { distinct = tt; few = omega arith }; unmarked = λ line bare. refl }
+
+pub marked-remove : (marks : List Bool) (es : List Entry) (i : ℕ) → IsMarked marks es → IsMarked marks (remove es i)
+marked-remove marks es i s = record {
+  cache = cache-remove es i s.cache;
+  unmarked = λ line bare. held-remove es i line (s.unmarked line bare);
+}
+
+-- a line that is brought in has its mark then, and every other number the one that it had
+pub marked-push : (marks : List Bool) (k : ℕ) (es : List Entry) (e : Entry) → length es < most_lines → k < length marks → k ≡ e.line.line
+    → IsMarked marks es → held es e.line ≡ None → IsMarked (set marks k true) (es ++ e ∷ [])
+marked-push marks k es e room few at s h =
+    record { cache = cache-push es e room s.cache h; unmarked = λ line bare. by line bare (k == line.line) refl }
+  where
+    by : (line : LineAt) → get_or (set marks k true) line.line false ≡ false → (t : Bool) → (k == line.line) ≡ t
+        → held (es ++ e ∷ []) line ≡ None
+    by line bare true q =
+        let there = get_or-set_at marks k line.line true false (sym (eqb-true k line.line q)) few in
+        absurd (cc)
+    by line bare false q =
+        let apart : line.line ≢ k = λ same. absurd (cc (eq-eqb k line.line (sym same), q)) in
+        held-push es e line (s.unmarked line (sym (get_or-set_other marks k line.line true false apart) ∙ bare)) (other (same_line e.line line) refl)
+      where
+        other : (t : Bool) → same_line e.line line ≡ t → same_line e.line line ≡ false
+        other true t = let parts = and_parts (e.line.core == line.core) (e.line.line == line.line) t in absurd (cc (parts.1, q, at))
+        other false f = f
 
 -- a list written over by one of its length
 pub refilled : (xs ws : List Entry) → length ws ≡ length xs → refill (length xs) xs ws ≡ ws
@@ -138,6 +173,8 @@ refilled xs ws e =
     let d : drop (length ws) xs ≡ [] = drop_all (length ws) xs (omega arith) in
     rw (d, append-nil ws) (take_all (length xs) ws (omega arith))
 
-pub cache-refilled : (xs ws : List Entry) (p : WordAt) (v : ℕ) → ws ≡ noted xs p v → IsCache xs → IsCache (refill (length xs) xs ws)
-cache-refilled xs ws p v e s =
-    rw (refilled xs ws (ap length e ∙ length-noted xs p v), e) (cache-noted xs p v s)
+pub marked-refilled : (marks : List Bool) (xs ws : List Entry) (p : WordAt) (v : ℕ) → ws ≡ noted xs p v → IsMarked marks xs
+    → IsMarked marks (refill (length xs) xs ws)
+marked-refilled marks xs ws p v e s =
+    rw (refilled xs ws (ap length e ∙ length-noted xs p v), e)
+    (record { cache = cache-noted xs p v s.cache; unmarked = λ line bare. held-noted xs p v line (s.unmarked line bare) })

@@ -1,7 +1,7 @@
 -- The private lines of a core: the lines of message passing buffers that it holds, with their words, in the
 -- order in which they were brought in (SCC External Architecture Specification; the whole cache as one list
 -- of at most 512 lines is this project's profile).
-use Rattle.std.specs.Prelude.{◌≡◌, ℕ, ◌≤◌, ◌==◌, if◌then◌else◌, List, [], ◌∷◌, ◌++◌, Option, None, Some, length, drop, map, slice_set}
+use Rattle.std.specs.Prelude.{◌≡◌, ℕ, ◌≤◌, Bool, false, ◌==◌, if◌then◌else◌, List, [], ◌∷◌, ◌++◌, Option, None, Some, length, drop, map, slice_index_or, slice_set}
 use Rattle.scc_base.specs.Places.{LineAt, WordAt, line_of_word, same_line}
 use Rattle.line_cache.specs.declared.cache.Entry.{Entry}
 
@@ -37,3 +37,8 @@ AreDistinct (e ∷ es) = (held es e.line ≡ None) × AreDistinct es
 pub record IsCache (es : List Entry) : Type 0 where
   pub distinct : AreDistinct es
   pub few : length es ≤ most_lines
+
+-- such lines, and marks by the number of a line: one without a mark is not held
+pub record IsMarked (marks : List Bool) (es : List Entry) : Type 0 where
+  pub cache : IsCache es
+  pub unmarked : (line : LineAt) → slice_index_or marks line.line false ≡ false → held es line ≡ None

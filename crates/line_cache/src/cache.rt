@@ -47,18 +47,20 @@ impl Default for Entry {
 #[derive(Drop)]
 pub struct Cache {
     entries: ArrayVec<Entry, 512>,
+    // Whether a line of this number may be held, so that a line that is not is mostly told without a search.
+    marks: [bool; 256],
 }
 
 impl Model for Cache {
     ghost use Rattle.std.specs.Prelude.{List};
     ghost use Rattle.line_cache.specs.declared.cache.Entry.{Entry};
-    ghost use Rattle.line_cache.specs.Lines.{IsCache};
+    ghost use Rattle.line_cache.specs.Lines.{IsMarked};
 
     ghost Value = { List Entry };
 
     ghost view = { λ c. c.entries.items };
 
-    ghost invariant = { λ c. IsCache c.entries.items };
+    ghost invariant = { λ c. IsMarked c.marks c.entries.items };
 }
 
 impl Cache {
@@ -71,6 +73,7 @@ impl Cache {
     {
         Cache {
             entries: ArrayVec::new(),
+            marks: [false; 256],
         }
     }
 
@@ -93,6 +96,9 @@ impl Cache {
     pub fn look(&self, line: Line) -> Option<[u64; 4]>
         ensures { result ≡ held self.now line }
     {
+        if !self.marks[usize::from(line.line())] {
+            return None;
+        }
         look_in(self.entries.as_slice(), line)
     }
 
@@ -105,6 +111,7 @@ impl Cache {
         if self.entries.is_full() {
             self.entries.remove(0);
         }
+        self.marks[usize::from(line.line())] = true;
         self.entries.push(Entry { line, words });
     }
 
@@ -113,7 +120,9 @@ impl Cache {
         ensures lines { self.new ≡ noted self.old place value }
         ensures cache { IsCache self.new }
     {
-        note(self.entries.as_mut_slice(), place, value);
+        if self.marks[usize::from(place.line())] {
+            note(self.entries.as_mut_slice(), place, value);
+        }
     }
 
     /// Drops the entry at this place.
@@ -129,6 +138,9 @@ impl Cache {
     pub fn invalidate(&mut self)
         ensures { self.new ≡ [] }
     {
+        for entry in self.entries.iter() {
+            self.marks[usize::from(entry.line.line())] = false;
+        }
         self.entries.clear();
     }
 }

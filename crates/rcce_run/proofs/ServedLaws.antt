@@ -1,4 +1,4 @@
--- Members of a crew that are served one after the other.
+-- Lists: an entry whatever stands for the others, and a sum in which no part rises.
 use Rattle.std.proofs.Common.{◌≡◌, ℕ, zero, suc, ◌<◌, ◌≤◌, List, [], ◌∷◌, length, slice_index_or, refl, sum_by, arith}
 use Rattle.std.proofs.lemmas.List.Sums.{sum_by-cons}
 

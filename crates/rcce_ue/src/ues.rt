@@ -256,6 +256,7 @@ impl<'s, V: Evict + Drop> Ue<'s, V> {
         ensures machine { IfOk result (λ u. u.machine ≡ record { script = scripts.now; setup = setup; rank = rank; local = local_start scripts.now rank }) }
         ensures tied { IfOk result (λ u. (s : Sight) → s.seat.setup ≡ setup → s.seat.rank ≡ rank → s.events ≡ [] → Tied u s) }
         ensures left { IfOk result (λ u. left_of u ≤ visits scripts.now rank + bounds_of setup scripts.now rank) }
+        ensures evictor { IfOk result (λ u. u.core.answers ≡ V.answers evict) }
     {
         scripts.acceptance_law();
         let machine = Machine::new(alloc, scripts, setup, rank)?;

@@ -29,3 +29,6 @@ returns-clause-left g c =
     let made : m ≡ c.in_ok-machine.machine = sym c.in_ok-machine.ensures in
     let opens : open_for (call_of (local_next m.local)) ≡ c.begin-op.result = sym (c.begin-op.ensures ∙ ap open_for (c.call.ensures ∙ ap (λ (x : MachineView). call_of (local_next x.local)) c.in_ok-machine.ensures)) in
     subst (λ (x : UeView). left_of x ≤ visits m.script m.rank + bounds_of m.setup m.script m.rank) (λ i. record b { machine = made i; op = opens i }) (start_left b fresh)
+
+pub returns-clause-evictor : goal.returns-clause-evictor
+returns-clause-evictor g c = ap (λ (x : Private). x.answers) c.new-2.ensures
