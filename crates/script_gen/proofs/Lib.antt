@@ -1,3 +1,4 @@
+pub mod BothScripts
 pub mod Checks
 pub mod Facts
 pub mod GenLaws

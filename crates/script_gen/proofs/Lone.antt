@@ -20,15 +20,9 @@ use Rattle.script_gen.specs.Scripts.{item_of, lone_script}
 use Rattle.script_gen.specs.Texts.{text_of_lines, turns_of}
 use Rattle.script_gen.proofs.Checks.{AreLight, Passes, clears, not_above, placed, stage}
 use Rattle.script_gen.proofs.Facts.{light_sum, none_odd, work}
-use Rattle.script_gen.proofs.Lines.{AreLines, AreWords, IsWord, decimal_word, line_of, lines_of_text}
+use Rattle.script_gen.proofs.Lines.{AreLines, line_of, lines_of_text}
+use Rattle.script_gen.proofs.BothScripts.{end_are, even_are, fill_are, names_1, names_2, odd_are, printme_are, rank_are, repeat_are, sum_are}
 use Rattle.script_gen.proofs.Reading.{allreduce_is, fill_is, go, repeat_is, text_short, too_long}
-
--- the names of the registers, as they come
-abbrev names_1 : List (List ℕ)
-names_1 = codes "h" ∷ []
-
-abbrev names_2 : List (List ℕ)
-names_2 = codes "h" ∷ codes "me" ∷ []
 
 -- its lines, as words
 abbrev pub lone_words : ℕ → ℕ → List (List (List ℕ))
@@ -270,45 +264,15 @@ module _ (s t : ℕ) (small : s ≤ 65535) (least : 1 ≤ t) (few : t ≤ 10) wh
     clear = λ check rank below has. absurd (none_odd rank below has);
   }
 
-  s_is : IsWord (decimal s)
-  s_is = decimal_word s small
-
-  t_is : IsWord (decimal t)
-  t_is = decimal_word t (omega (arith, few))
-
-  even_are : AreWords (codes "even" ∷ [])
-  even_are = ((refl, refl), tt)
-
-  fill_are : AreWords (codes "fill" ∷ codes "h" ∷ decimal s ∷ decimal s ∷ [])
-  fill_are = ((refl, refl), ((refl, refl), (s_is, (s_is, tt))))
-
-  rank_are : AreWords (codes "rank" ∷ codes "me" ∷ codes "long" ∷ [])
-  rank_are = ((refl, refl), ((refl, refl), ((refl, refl), tt)))
-
-  repeat_are : AreWords (codes "repeat" ∷ decimal t ∷ [])
-  repeat_are = ((refl, refl), (t_is, tt))
-
-  sum_are : AreWords (codes "allreduce" ∷ codes "0" ∷ codes "sum" ∷ codes "long" ∷ codes "me" ∷ codes "me" ∷ [])
-  sum_are = ((refl, refl), ((refl, refl), ((refl, refl), ((refl, refl), ((refl, refl), ((refl, refl), tt))))))
-
-  end_are : AreWords (codes "end" ∷ [])
-  end_are = ((refl, refl), tt)
-
-  printme_are : AreWords (codes "print" ∷ codes "long" ∷ codes "me" ∷ [])
-  printme_are = ((refl, refl), ((refl, refl), ((refl, refl), tt)))
-
-  odd_are : AreWords (codes "odd" ∷ [])
-  odd_are = ((refl, refl), tt)
-
   are : AreLines (lone_words s t)
   are = (
     even_are,
     (
-      fill_are,
+      fill_are s small,
       (
         rank_are,
         (
-          repeat_are,
+          repeat_are t few,
           (
             sum_are,
             (
@@ -318,10 +282,10 @@ module _ (s t : ℕ) (small : s ≤ 65535) (least : 1 ≤ t) (few : t ≤ 10) wh
                 (
                   odd_are,
                   (
-                    fill_are,
+                    fill_are s small,
                     (
                       rank_are,
-                      (repeat_are, (sum_are, (end_are, (printme_are, tt)))),
+                      (repeat_are t few, (sum_are, (end_are, (printme_are, tt)))),
                     ),
                   ),
                 ),
@@ -339,13 +303,13 @@ module _ (s t : ℕ) (small : s ≤ 65535) (least : 1 ≤ t) (few : t ≤ 10) wh
       (rest s t 1) _ even_are
       refl
       (go 1 (at 1 s t 0 [] who.Even) (at 1 s t 1 names_1 who.Even) (codes "fill") (codes "h" ∷ decimal s ∷ decimal s ∷ [])
-      (rest s t 2) _ fill_are
+      (rest s t 2) _ (fill_are s small)
       (fill_is 2 (at 1 s t 0 [] who.Even) s small ∙ placed 1 (take 0 (lone_said s t)) names_1 who.Even (stmt.Fill 0 s s) pass_0 2 refl)
       (go 2 (at 1 s t 1 names_1 who.Even) (at 1 s t 2 names_2 who.Even) (codes "rank") (codes "me" ∷ codes "long" ∷ [])
       (rest s t 3) _ rank_are
       (placed 1 (take 1 (lone_said s t)) names_2 who.Even (stmt.RankOf 1 ty.Long) pass_1 3 refl)
       (go 3 (at 1 s t 2 names_2 who.Even) (at 1 s t 3 names_2 who.Even) (codes "repeat") (decimal t ∷ [])
-      (rest s t 4) _ repeat_are
+      (rest s t 4) _ (repeat_are t few)
       (repeat_is 4 (at 1 s t 2 names_2 who.Even) t least few ∙ placed 1 (take 2 (lone_said s t)) names_2 who.Even (stmt.Repeat t 0) pass_2 4 refl)
       (go 4 (at 1 s t 3 names_2 who.Even) (at 1 s t 4 names_2 who.Even) (codes "allreduce") (codes "0" ∷ codes "sum" ∷ codes "long" ∷ codes "me" ∷ codes "me" ∷ [])
       (rest s t 5) _ sum_are
@@ -360,13 +324,13 @@ module _ (s t : ℕ) (small : s ≤ 65535) (least : 1 ≤ t) (few : t ≤ 10) wh
       (rest s t 8) _ odd_are
       refl
       (go 8 (at 1 s t 6 names_2 who.Odd) (at 1 s t 7 names_2 who.Odd) (codes "fill") (codes "h" ∷ decimal s ∷ decimal s ∷ [])
-      (rest s t 9) _ fill_are
+      (rest s t 9) _ (fill_are s small)
       (fill_is 9 (at 1 s t 6 names_2 who.Odd) s small ∙ placed 1 (take 6 (lone_said s t)) names_2 who.Odd (stmt.Fill 0 s s) pass_6 9 refl)
       (go 9 (at 1 s t 7 names_2 who.Odd) (at 1 s t 8 names_2 who.Odd) (codes "rank") (codes "me" ∷ codes "long" ∷ [])
       (rest s t 10) _ rank_are
       (placed 1 (take 7 (lone_said s t)) names_2 who.Odd (stmt.RankOf 1 ty.Long) pass_7 10 refl)
       (go 10 (at 1 s t 8 names_2 who.Odd) (at 1 s t 9 names_2 who.Odd) (codes "repeat") (decimal t ∷ [])
-      (rest s t 11) _ repeat_are
+      (rest s t 11) _ (repeat_are t few)
       (repeat_is 11 (at 1 s t 8 names_2 who.Odd) t least few ∙ placed 1 (take 8 (lone_said s t)) names_2 who.Odd (stmt.Repeat t 0) pass_8 11 refl)
       (go 11 (at 1 s t 9 names_2 who.Odd) (at 1 s t 10 names_2 who.Odd) (codes "allreduce") (codes "0" ∷ codes "sum" ∷ codes "long" ∷ codes "me" ∷ codes "me" ∷ [])
       (rest s t 12) _ sum_are

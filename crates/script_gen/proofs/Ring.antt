@@ -20,17 +20,12 @@ use Rattle.script_gen.specs.Scripts.{item_of, recv_last, ring_script, send_next}
 use Rattle.script_gen.specs.Texts.{text_of_lines, turns_of}
 use Rattle.script_gen.proofs.Checks.{AreLight, Passes, clears, not_above, placed, stage}
 use Rattle.script_gen.proofs.Facts.{light_sum, odd_other, recv_other, send_other, work}
-use Rattle.script_gen.proofs.Lines.{AreLines, AreWords, IsWord, decimal_word, line_of, lines_of_text}
+use Rattle.script_gen.proofs.Lines.{AreLines, AreWords, decimal_word, line_of, lines_of_text}
+use Rattle.script_gen.proofs.BothScripts.{end_are, even_are, fill_are, names_1, names_2, odd_are, printme_are, rank_are, repeat_are, sum_are}
 use Rattle.script_gen.proofs.Others.{AreOthers, others_none, others_shown, print_more, print_within, silent, still_within}
 use Rattle.script_gen.proofs.Reading.{allreduce_is, fill_is, go, recv_is, repeat_is, send_is, text_short, too_long}
 
--- the names of the registers, as they come
-abbrev names_1 : List (List ℕ)
-names_1 = codes "h" ∷ []
-
-abbrev names_2 : List (List ℕ)
-names_2 = codes "h" ∷ codes "me" ∷ []
-
+-- the names of the registers, once the third has come
 abbrev names_3 : List (List ℕ)
 names_3 = codes "h" ∷ codes "me" ∷ codes "g" ∷ []
 
@@ -462,54 +457,24 @@ module _ (nue s t : ℕ) (some : 2 ≤ nue) (most : nue ≤ 48) (small : s ≤ 6
         (shown_17 rank has) refl (length_17 nue s t rank (past s t 9) has (none_of rank has)) (omega (arith, small))) check;
   }
 
-  s_is : IsWord (decimal s)
-  s_is = decimal_word s small
-
-  t_is : IsWord (decimal t)
-  t_is = decimal_word t (omega (arith, few))
-
-  even_are : AreWords (codes "even" ∷ [])
-  even_are = ((refl, refl), tt)
-
-  fill_are : AreWords (codes "fill" ∷ codes "h" ∷ decimal s ∷ decimal s ∷ [])
-  fill_are = ((refl, refl), ((refl, refl), (s_is, (s_is, tt))))
-
-  rank_are : AreWords (codes "rank" ∷ codes "me" ∷ codes "long" ∷ [])
-  rank_are = ((refl, refl), ((refl, refl), ((refl, refl), tt)))
-
-  repeat_are : AreWords (codes "repeat" ∷ decimal t ∷ [])
-  repeat_are = ((refl, refl), (t_is, tt))
-
   send_are : AreWords (codes "send" ∷ codes "+1" ∷ codes "h" ∷ [])
   send_are = ((refl, refl), ((refl, refl), ((refl, refl), tt)))
 
   recv_are : AreWords (codes "recv" ∷ codes "-1" ∷ codes "g" ∷ decimal s ∷ [])
-  recv_are = ((refl, refl), ((refl, refl), ((refl, refl), (s_is, tt))))
-
-  sum_are : AreWords (codes "allreduce" ∷ codes "0" ∷ codes "sum" ∷ codes "long" ∷ codes "me" ∷ codes "me" ∷ [])
-  sum_are = ((refl, refl), ((refl, refl), ((refl, refl), ((refl, refl), ((refl, refl), ((refl, refl), tt))))))
-
-  end_are : AreWords (codes "end" ∷ [])
-  end_are = ((refl, refl), tt)
+  recv_are = ((refl, refl), ((refl, refl), ((refl, refl), (decimal_word s small, tt))))
 
   printg_are : AreWords (codes "print" ∷ codes "g" ∷ [])
   printg_are = ((refl, refl), ((refl, refl), tt))
-
-  printme_are : AreWords (codes "print" ∷ codes "long" ∷ codes "me" ∷ [])
-  printme_are = ((refl, refl), ((refl, refl), ((refl, refl), tt)))
-
-  odd_are : AreWords (codes "odd" ∷ [])
-  odd_are = ((refl, refl), tt)
 
   are : AreLines (ring_words s t)
   are = (
     even_are,
     (
-      fill_are,
+      fill_are s small,
       (
         rank_are,
         (
-          repeat_are,
+          repeat_are t few,
           (
             send_are,
             (
@@ -522,7 +487,7 @@ module _ (nue s t : ℕ) (some : 2 ≤ nue) (most : nue ≤ 48) (small : s ≤ 6
                     printg_are,
                     (
                       printme_are,
-                      (odd_are, (fill_are, (rank_are, (repeat_are, (recv_are, (send_are, (sum_are, (end_are, (printg_are, (printme_are, tt)))))))))),
+                      (odd_are, (fill_are s small, (rank_are, (repeat_are t few, (recv_are, (send_are, (sum_are, (end_are, (printg_are, (printme_are, tt)))))))))),
                     ),
                   ),
                 ),
@@ -540,13 +505,13 @@ module _ (nue s t : ℕ) (some : 2 ≤ nue) (most : nue ≤ 48) (small : s ≤ 6
       (rest s t 1) _ even_are
       refl
       (go 1 (at nue s t 0 [] who.Even) (at nue s t 1 names_1 who.Even) (codes "fill") (codes "h" ∷ decimal s ∷ decimal s ∷ [])
-      (rest s t 2) _ fill_are
+      (rest s t 2) _ (fill_are s small)
       (fill_is 2 (at nue s t 0 [] who.Even) s small ∙ placed nue (take 0 (ring_said s t)) names_1 who.Even (stmt.Fill 0 s s) pass_0 2 refl)
       (go 2 (at nue s t 1 names_1 who.Even) (at nue s t 2 names_2 who.Even) (codes "rank") (codes "me" ∷ codes "long" ∷ [])
       (rest s t 3) _ rank_are
       (placed nue (take 1 (ring_said s t)) names_2 who.Even (stmt.RankOf 1 ty.Long) pass_1 3 refl)
       (go 3 (at nue s t 2 names_2 who.Even) (at nue s t 3 names_2 who.Even) (codes "repeat") (decimal t ∷ [])
-      (rest s t 4) _ repeat_are
+      (rest s t 4) _ (repeat_are t few)
       (repeat_is 4 (at nue s t 2 names_2 who.Even) t least few ∙ placed nue (take 2 (ring_said s t)) names_2 who.Even (stmt.Repeat t 0) pass_2 4 refl)
       (go 4 (at nue s t 3 names_2 who.Even) (at nue s t 4 names_2 who.Even) (codes "send") (codes "+1" ∷ codes "h" ∷ [])
       (rest s t 5) _ send_are
@@ -570,13 +535,13 @@ module _ (nue s t : ℕ) (some : 2 ≤ nue) (most : nue ≤ 48) (small : s ≤ 6
       (rest s t 11) _ odd_are
       refl
       (go 11 (at nue s t 9 names_3 who.Odd) (at nue s t 10 names_3 who.Odd) (codes "fill") (codes "h" ∷ decimal s ∷ decimal s ∷ [])
-      (rest s t 12) _ fill_are
+      (rest s t 12) _ (fill_are s small)
       (fill_is 12 (at nue s t 9 names_3 who.Odd) s small ∙ placed nue (take 9 (ring_said s t)) names_3 who.Odd (stmt.Fill 0 s s) pass_9 12 refl)
       (go 12 (at nue s t 10 names_3 who.Odd) (at nue s t 11 names_3 who.Odd) (codes "rank") (codes "me" ∷ codes "long" ∷ [])
       (rest s t 13) _ rank_are
       (placed nue (take 10 (ring_said s t)) names_3 who.Odd (stmt.RankOf 1 ty.Long) pass_10 13 refl)
       (go 13 (at nue s t 11 names_3 who.Odd) (at nue s t 12 names_3 who.Odd) (codes "repeat") (decimal t ∷ [])
-      (rest s t 14) _ repeat_are
+      (rest s t 14) _ (repeat_are t few)
       (repeat_is 14 (at nue s t 11 names_3 who.Odd) t least few ∙ placed nue (take 11 (ring_said s t)) names_3 who.Odd (stmt.Repeat t 0) pass_11 14 refl)
       (go 14 (at nue s t 12 names_3 who.Odd) (at nue s t 13 names_3 who.Odd) (codes "recv") (codes "-1" ∷ codes "g" ∷ decimal s ∷ [])
       (rest s t 15) _ recv_are
