@@ -1,4 +1,5 @@
 pub mod ChipLemmas
+pub mod EvictorLemmas
 pub mod LoadLemmas
 pub mod ReportLemmas
 pub mod RunLemmas

@@ -3,7 +3,7 @@
 ghost use Rattle.std.specs.Prelude.{◌≡◌, IfOk};
 ghost use Rattle.rcce_run.specs.UeRuns.{AreFresh};
 ghost use Rattle.script_reader.specs.Script.{rules_of};
-ghost use Rattle.run_program.specs.Evictors.{evictor_of};
+ghost use Rattle.run_program.specs.Evictors.{HaveEvictors, evictor_of};
 
 use line_cache::{Choice, Seeded};
 use rcce_run::Crew;
@@ -21,7 +21,8 @@ pub fn crew_of<'s>(
 ) -> Result<Vec<Crew<'s, Choice>>, AllocError>
     requires ranks { setup.now.nue ≡ scripts.now.nue }
     requires communicators { setup.now.comms ≡ rules_of scripts.now.items }
-    ensures { IfOk result (λ crew. AreFresh scripts.now setup.now setup.now.nue crew.items) }
+    ensures fresh { IfOk result (λ crew. AreFresh scripts.now setup.now setup.now.nue crew.items) }
+    ensures evictors { IfOk result (λ crew. HaveEvictors evict crew.items) }
 {
     let mut crew = Vec::with_capacity(alloc, setup.nue() as usize)?;
     for number in 0..setup.nue() {

@@ -7,6 +7,7 @@ ghost use Rattle.scc_mesh.specs.Scenes.{IsNew, IsOpen};
 ghost use Rattle.rcce_run.specs.UeRuns.{AreFresh, AreLegal};
 ghost use Rattle.rcce_words.specs.CommandLine.{parse_command};
 ghost use Rattle.run_program.specs.Asking.{ChipTells};
+ghost use Rattle.run_program.specs.Evictors.{HaveEvictors};
 ghost use Rattle.run_program.specs.Loading.{Launches, Ran, asked_by};
 ghost use Rattle.run_program.specs.Program.{rccerun};
 ghost use Rattle.run_program.specs.Runs.{IsMadeOf, IsOver};
@@ -112,6 +113,7 @@ fn run_crew<R: Threads + Sync, G: Gate + Sync>(
 ) -> RunEnd
     requires chip { IsNew loaded.now.setup chip.old }
     requires fresh { AreFresh loaded.now.script loaded.now.setup loaded.now.setup.nue crew.old }
+    requires evictors { HaveEvictors loaded.now.job.evict crew.old }
     ensures over { IsOver (asked_by loaded.now) chip.new crew.new result }
     ensures legal { AreLegal chip.new }
 {
