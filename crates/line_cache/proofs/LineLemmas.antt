@@ -139,9 +139,6 @@ cache-push es e room s h = record {
   few = simp length-append (omega arith);
 }
 
-pub none_marked : (marks : List Bool) → IsMarked marks []
-none_marked marks = record { cache = record { distinct = tt; few = omega arith }; unmarked = λ line bare. refl }
-
 pub marked-remove : (marks : List Bool) (es : List Entry) (i : ℕ) → IsMarked marks es → IsMarked marks (remove es i)
 marked-remove marks es i s = record {
   cache = cache-remove es i s.cache;
