@@ -14,7 +14,7 @@ abbrev pub evictor_of : Option ℕ → ℕ → Choice
 evictor_of None rank = Never
 evictor_of (Some seed) rank = Seeded (record { generator = pcg32_of_seed (pcg32_seed 16 (seed + rank)); count = 0 })
 
--- the core of each member has the evictor of the seed and its rank: it answers what that one answers
+-- the core of each member answers now what the evictor of the seed and its rank answers, whatever number of lines is held
 pub record HaveEvictors (seed : Option ℕ) (crew : List (Member UeView)) : Type 0 where
   pub each : (rank : ℕ) (d : Member UeView) → rank < length crew
       → (slice_index_or crew rank d).worker.core.answers ≡ answers_of (choice_answer (evictor_of seed rank))
