@@ -30,6 +30,7 @@ pub mod NoteFacts
 pub mod OfferFacts
 pub mod PairFrames
 pub mod PairLaw
+pub mod PermissionLaws
 pub mod PhaseFacts
 pub mod PlaceMoves
 pub mod PortLaws

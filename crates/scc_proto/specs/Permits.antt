@@ -1,7 +1,7 @@
 -- Lists of moves, each permitted in turn: what a record permits, beside what it refuses.
 use Rattle.std.specs.Prelude.{◌≡◌, ℕ, Bool, true, ◌&&◌, List, [], ◌∷◌, ◌++◌}
 use Rattle.scc_proto.specs.Stages.{Record, blank}
-use Rattle.scc_proto.specs.Moves.{Move, RaiseSent, StoreHeap, after}
+use Rattle.scc_proto.specs.Moves.{Move, RaiseSent, after}
 use Rattle.scc_proto.specs.Permission.{permits}
 use Rattle.scc_proto.specs.Refusals.{drafts_line, drafts_words}
 
@@ -13,10 +13,6 @@ are_permitted size rec (move ∷ moves) = permits size move rec && are_permitted
 -- from the start these moves are permitted in turn, where a whole chunk has 32 bytes
 abbrev pub Permits : List Move → Type 0
 Permits moves = are_permitted 32 blank moves ≡ true
-
--- a store to a heap word
-abbrev pub stores_heap : List Move
-stores_heap = StoreHeap (record { core = 0; line = 225; word = 0 }) 1 ∷ []
 
 -- a message with this header line, and a first chunk of one line, raised at rank 1
 abbrev pub raises : (kind comm len post : ℕ) → List Move

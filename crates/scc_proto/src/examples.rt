@@ -1,15 +1,16 @@
 //! Small runs, event by event: each contract says to what the records come.
 
-ghost use Rattle.std.specs.Prelude.{◌≡◌, ℕ, ◌<◌, ◌^◌, [], ◌∷◌, ◌++◌, Some, None};
+ghost use Rattle.std.specs.Prelude.{◌≡◌, ℕ, ◌<◌, ◌^◌, [], ◌∷◌, ◌++◌, Some, None, replicate};
 ghost use Rattle.scc_base.specs.Events.{load_of, store_of};
 ghost use Rattle.scc_base.specs.Heads.{plain_head};
 ghost use Rattle.scc_base.specs.Calls.{Send, Recv, Post, Bar};
 ghost use Rattle.scc_proto.specs.Stages.{blank};
 ghost use Rattle.scc_proto.specs.Words.{IsRun, zeros};
 ghost use Rattle.scc_proto.specs.Histories.{IsPermittedRun, records_of};
-ghost use Rattle.scc_proto.specs.Passed.{open_call, passed_calls, slot_of};
+ghost use Rattle.scc_proto.specs.Passed.{open_of, open_call, passed_calls, slot_of};
 ghost use Rattle.scc_proto.specs.Ports.{MayMake, Did, record_in};
-ghost use Rattle.scc_proto.specs.Examples.{two_ranks, four_bytes, no_bytes, three_ranks, barrier_of_three, four_bytes_elsewhere, posts_four, takes_four, two_ranks_bits, one_byte_bits, byte_by_bits, two_chunks, two_chunks_bits, bytes_of, sends_four, begins_four, nested_ranks, two_meet, stores};
+ghost use Rattle.scc_proto.specs.Examples.{two_ranks, four_bytes, no_bytes, three_ranks, barrier_of_three, four_bytes_elsewhere, posts_four, takes_four, two_ranks_bits, one_byte_bits, byte_by_bits, two_chunks, two_chunks_bits, bytes_of, sends_four, begins_four, nested_ranks, two_meet, stores, moved};
+ghost use Rattle.scc_proto.specs.Refusals.{drafts_words, sends_first, takes_first};
 
 use crate::ports::Port;
 use scc_base::Place;
@@ -109,11 +110,15 @@ pub fn two_meet_twice()
     ensures member { (records_of nested_ranks (two_meet 1 ++ two_meet 0) 2).calls ≡ Bar 9 ∷ Bar 9 ∷ [] }
 {}
 
-/// A receive whose chunk is being taken is open, and so is a barrier that was entered; neither is passed.
+/// A receive whose chunk is being taken is open, and so is one between two chunks, a send between two, and a barrier that was
+/// entered; none of them is passed. What is only drafted is no open call.
 pub fn calls_are_open()
     ensures receive { open_call two_ranks (records_of two_ranks (sends_four ++ begins_four) 1) ≡ Some (Recv 0 (plain_head 4) []) }
     ensures not_received { passed_calls two_ranks (records_of two_ranks (sends_four ++ begins_four)) 1 ≡ [] }
     ensures not_sent { passed_calls two_ranks (records_of two_ranks (sends_four ++ begins_four)) 0 ≡ [] }
     ensures barrier { open_call nested_ranks (records_of nested_ranks (stores 2 2 98 1 1 ∷ []) 2) ≡ Some (Bar 9) }
+    ensures between { open_of 32 (moved 32 blank takes_first).stage ≡ Some (Recv 0 (plain_head 33) (7 ∷ replicate 31 0)) }
+    ensures sent_on { open_of 32 (moved 32 blank sends_first).stage ≡ Some (Send 1 (plain_head 33) (7 ∷ replicate 31 0)) }
+    ensures drafted { open_of 32 (moved 32 blank (drafts_words 7)).stage ≡ None }
     ensures not_met { passed_calls nested_ranks (records_of nested_ranks (stores 2 2 98 1 1 ∷ [])) 2 ≡ [] }
 {}

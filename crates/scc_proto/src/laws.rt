@@ -1,6 +1,6 @@
 //! Laws of legal lists of calls, and of words and records, each a function whose contract is the law.
 
-ghost use Rattle.std.specs.Prelude.{◌≡◌, ◌↔◌, ℕ, ◌<◌, ◌≤◌, true, false, List, ◌++◌, Option, None, is_some, ◌⊎◌, Contains, All};
+ghost use Rattle.std.specs.Prelude.{◌≡◌, ◌↔◌, ℕ, ◌<◌, ◌≤◌, true, false, List, ◌++◌, Option, None, is_some, Some, ◌⊎◌, Contains, All};
 ghost use Rattle.std.specs.Int.{bit_at};
 ghost use Rattle.std.specs.List.{list_all};
 ghost use Rattle.scc_base.specs.declared.events.Event.{Event};
@@ -8,23 +8,23 @@ ghost use Rattle.scc_base.specs.Events.{IsEvent, load_of, store_of, take_of};
 ghost use Rattle.scc_base.specs.Heads.{MessageHead, IsHead, IsPostHead};
 ghost use Rattle.scc_base.specs.Places.{WordAt, IsPlace};
 ghost use Rattle.scc_base.specs.Setups.{SetupView, IsSetup, setup_key};
-ghost use Rattle.scc_proto.specs.Stages.{Record, Idle, blank};
+ghost use Rattle.scc_proto.specs.Stages.{Part, Record, Idle, Drafting, Sending, Between, Taking, Barrier, blank};
 ghost use Rattle.scc_proto.specs.Words.{Memory, zeros, IsStep, memory_after, RankEvent, IsRun, HeapWord, IdleWord, SentFlags, ReadyFlags, are_peers, role_of, word_at};
-ghost use Rattle.scc_proto.specs.Records.{IsPermitted, IsHonest, record_after, record_from, record_of};
+ghost use Rattle.scc_proto.specs.Records.{chunk_of, IsPermitted, IsHonest, record_after, record_from, record_of};
 ghost use Rattle.scc_proto.specs.Like.{Like};
 ghost use Rattle.scc_proto.specs.Resting.{is_resting};
 ghost use Rattle.scc_proto.specs.Tables.{put};
 ghost use Rattle.scc_proto.specs.Histories.{records_of, memory_from, IsPermittedRun};
-ghost use Rattle.scc_proto.specs.Passed.{IsPassed, open_call, passed_calls, slot_of};
+ghost use Rattle.scc_proto.specs.Passed.{in_hand, IsPassed, open_call, passed_calls, slot_of};
 ghost use Rattle.scc_proto.specs.Views.{view_of, SameFlagWords};
 ghost use Rattle.scc_proto.specs.Singles.{IsMade};
 ghost use Rattle.scc_proto.specs.Soundness.{IsSound};
 ghost use Rattle.scc_proto.specs.PairMessages.{PairMessages};
 ghost use Rattle.scc_proto.specs.Agreement.{Agrees};
-ghost use Rattle.scc_base.specs.Calls.{DataCall};
+ghost use Rattle.scc_base.specs.Calls.{DataCall, Bar};
 ghost use Rattle.scc_base.specs.Runs.{Runs, EndsAt};
 ghost use Rattle.scc_proto.specs.Legality.{Outgoing, Standing, OwnStep, IsUsedUp, IsLegal, UsesUp, Grows, no_slots, slot_message};
-ghost use Rattle.scc_proto.specs.Messages.{is_head, is_post_head, sent_messages, received_messages, barriers_of};
+ghost use Rattle.scc_proto.specs.Messages.{Notes, Progress, message_of, send_to, recv_from, is_head, is_post_head, sent_messages, received_messages, barriers_of};
 
 /// Whether lists of calls are legal does not depend on the order in which their steps are taken.
 pub fn order_law()
@@ -143,10 +143,19 @@ pub fn heap_law()
         → (value ≡ 0) ⊎ ((r : ℕ) × (r < s.nue) × Contains (lists r) (store_of place value)) }
 {}
 
-/// The passed calls of a rank are its finished calls, or these and its open call; a rank in no call has none open.
+/// The passed calls of a rank are its finished calls, or these and its open call. Each stage has its open call: a send, a
+/// receive, between two chunks too, and a barrier; words that are drafted and not raised are no call yet.
 pub fn open_call_law()
     ensures passed { (s : SetupView) (records : ℕ → Record) (me : ℕ) → IsPassed (records me).calls (open_call s (records me)) (passed_calls s records me) }
     ensures idle { (s : SetupView) (rec : Record) → rec.stage ≡ Idle → open_call s rec ≡ None }
+    ensures drafting { (s : SetupView) (rec : Record) (header chunk : Notes) → rec.stage ≡ Drafting header chunk → open_call s rec ≡ None }
+    ensures sending { (s : SetupView) (rec : Record) (to : ℕ) (part : Part) (message : Progress) (chunk : Notes) → rec.stage ≡ Sending to part message chunk
+        → open_call s rec ≡ Some (send_to to (message_of (in_hand (chunk_of s) part message chunk))) }
+    ensures between { (s : SetupView) (rec : Record) (from : ℕ) (message : Progress) → rec.stage ≡ Between from message
+        → open_call s rec ≡ Some (recv_from from (message_of message)) }
+    ensures taking { (s : SetupView) (rec : Record) (from : ℕ) (message : Progress) (chunk : Notes) → rec.stage ≡ Taking from message chunk
+        → open_call s rec ≡ Some (recv_from from (message_of message)) }
+    ensures barrier { (s : SetupView) (rec : Record) (comm seen released : ℕ) → rec.stage ≡ Barrier comm seen released → open_call s rec ≡ Some (Bar comm) }
 {}
 
 /// Each finished call of a rank is one that it can make, with all its bytes.

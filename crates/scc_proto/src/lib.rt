@@ -9,6 +9,7 @@ pub mod laws;
 pub mod legal_examples;
 mod lone;
 mod numbers;
+pub mod permission_laws;
 pub mod permits;
 mod ports;
 pub mod refusals;

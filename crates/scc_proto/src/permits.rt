@@ -1,21 +1,10 @@
 //! What a record permits beside what it refuses, one condition a function: a stronger condition would refuse a list of these.
 
 ghost use Rattle.std.specs.Prelude.{[], ◌∷◌, ◌++◌};
-ghost use Rattle.scc_proto.specs.Moves.{DraftHeader, DraftChunk, RaiseSent, LookSent, ReadHeader, LowerSent, RaiseReady, LookReady, LowerReady, FlipGather, LookRelease};
+ghost use Rattle.scc_proto.specs.Moves.{DraftHeader, DraftChunk, RaiseSent, LookSent, ReadHeader, LowerSent, RaiseReady, LookReady, LowerReady, FlipGather};
 ghost use Rattle.scc_proto.specs.Records.{look_at};
 ghost use Rattle.scc_proto.specs.Refusals.{drafts_line, drafts_words, posts, sends_first, reads_plain, reads_head, begins_taking, reads_words, takes_first};
-ghost use Rattle.scc_proto.specs.Permits.{Permits, raises, stores_heap};
-
-/// A heap word is stored wherever nothing is drafted, no chunk is being taken and no barrier is open.
-pub fn heap_is_open()
-    ensures idle { Permits stores_heap }
-    ensures noted { Permits (reads_head ++ stores_heap) }
-    ensures sending { Permits (sends_first ++ stores_heap) }
-    ensures receiving { Permits (takes_first ++ stores_heap) }
-    ensures posted { Permits (posts ++ stores_heap) }
-    ensures answered { Permits (posts ++ LookReady (look_at 1 1) ∷ stores_heap) }
-    ensures passed { Permits (FlipGather 0 1 2 ∷ LookRelease 0 1 ∷ stores_heap) }
-{}
+ghost use Rattle.scc_proto.specs.Permits.{Permits, raises};
 
 /// While a posted message is on its way a barrier is entered and a message is taken, and `ready` is lowered in both.
 pub fn post_stands_aside()

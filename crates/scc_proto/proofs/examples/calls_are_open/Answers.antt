@@ -23,3 +23,14 @@ returns-clause-barrier c = refl
 pub returns-clause-not_met : goal.returns-clause-not_met
 unfolding act_of record_of has_all is_zero_from bytes_from key_of
 returns-clause-not_met c = refl
+
+pub returns-clause-between : goal.returns-clause-between
+unfolding has_all is_zero_from bytes_from
+returns-clause-between c = refl
+
+pub returns-clause-sent_on : goal.returns-clause-sent_on
+unfolding has_all is_zero_from bytes_from
+returns-clause-sent_on c = refl
+
+pub returns-clause-drafted : goal.returns-clause-drafted
+returns-clause-drafted c = refl

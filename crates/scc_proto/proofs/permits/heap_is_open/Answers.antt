@@ -1,7 +1,0 @@
-use Rattle.std.proofs.Common.{refl}
-use Rattle.scc_proto.specs.Messages.{has_all, bytes_from, is_zero_from}
-use Rattle.scc_proto.proofs.permits.heap_is_open.Goals as goal
-
-pub returns : goal.returns
-unfolding has_all is_zero_from bytes_from
-returns c = record { idle = refl; noted = refl; sending = refl; receiving = refl; posted = refl; answered = refl; passed = refl }
