@@ -14,7 +14,7 @@ use Rattle.scc_proto.specs.Registers.{RegisterAgrees}
 use Rattle.scc_proto.specs.Passed.{passed_calls, slot_of}
 use Rattle.scc_proto.specs.Legality.{IsLegal}
 
--- each record is one that permitted events make, and ranks that the run does not have made none
+-- each record of a rank of the run is consistent by itself, and that of any other number is blank
 abbrev pub RecordsAgree : SetupView → (ℕ → Record) → Type 0
 RecordsAgree s records = ((r : ℕ) → r < s.nue → IsConsistent s r (records r)) × ((r : ℕ) → s.nue ≤ r → records r ≡ blank)
 

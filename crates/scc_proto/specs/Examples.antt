@@ -138,40 +138,43 @@ unfoldable pub for_each : {A : Type 0} → (ℕ → A) → ℕ → List A
 for_each of zero = []
 for_each of (suc n) = for_each of n ++ of n ∷ []
 
--- rank 0 stores, or rank 1 loads, word k of the chunk buffer of rank 0
+-- rank 0 stores word k of its chunk buffer
 abbrev pub drafts_word : Layout → (ℕ → ℕ) → ℕ → RankEvent
 drafts_word layout word k = stores 0 0 (first_chunk layout + k / 4) (k % 4) (word k)
 
+-- rank 1 loads word k of the chunk buffer of rank 0
 abbrev pub loads_word : Layout → (ℕ → ℕ) → ℕ → RankEvent
 loads_word layout word k = loads 1 0 (first_chunk layout + k / 4) (k % 4) (word k)
 
--- the flags of a message from rank 0 to rank 1: rank 0 raises `sent`, and rank 1 lowers it
+-- rank 0 raises `sent` at rank 1
 abbrev pub raises_sent : Layout → List RankEvent
 raises_sent LineFlags = stores 0 1 1 0 1 ∷ []
 raises_sent BitFlags = changes 0 1 0 0 0 1
 
+-- rank 1 lowers `sent` of rank 0
 abbrev pub lowers_sent : Layout → List RankEvent
 lowers_sent LineFlags = stores 1 1 1 0 0 ∷ []
 lowers_sent BitFlags = changes 1 1 1 0 0 0
 
--- rank 1 raises `ready`, and rank 0 sees and lowers it
+-- rank 1 raises `ready` at rank 0
 abbrev pub raises_ready : Layout → List RankEvent
 raises_ready LineFlags = stores 1 0 50 0 1 ∷ []
 raises_ready BitFlags = changes 1 0 0 0 1 2
 
+-- rank 0 sees `ready` of rank 1 and lowers it
 abbrev pub lowers_ready : Layout → List RankEvent
 lowers_ready LineFlags = loads 0 0 50 0 1 ∷ stores 0 0 50 0 0 ∷ []
 lowers_ready BitFlags = loads 0 0 1 1 2 ∷ changes 0 0 0 2 1 0
 
--- a message of one byte more than a whole chunk goes from rank 0 to rank 1: the first chunk has any words, and the one
--- byte of the second one is 07. Rank 0 drafts the header and the first chunk; rank 1 sees it, loads the head and the
--- chunk, and answers; rank 0 drafts the second chunk, and so on.
+-- rank 0 drafts the header of a message of one byte more than a whole chunk
 abbrev pub drafts_head : Layout → List RankEvent
 drafts_head layout = stores 0 0 0 3 0 ∷ stores 0 0 0 2 (chunk_size layout + 1) ∷ stores 0 0 0 1 0 ∷ stores 0 0 0 0 0 ∷ []
 
+-- rank 0 raises that message at rank 1, which sees it, loads its head and lowers `sent`
 abbrev pub begins_first : Layout → List RankEvent
 begins_first layout = raises_sent layout ++ loads 1 1 1 0 1 ∷ loads 1 0 0 0 0 ∷ loads 1 0 0 1 0 ∷ loads 1 0 0 2 (chunk_size layout + 1) ∷ lowers_sent layout
 
+-- rank 0 sees the answer and sends the second chunk, whose one byte is 07, and rank 1 takes it
 abbrev pub goes_second : Layout → List RankEvent
 goes_second layout = lowers_ready layout
     ++ stores 0 0 (first_chunk layout) 3 0 ∷ stores 0 0 (first_chunk layout) 2 0 ∷ stores 0 0 (first_chunk layout) 1 0 ∷ stores 0 0 (first_chunk layout) 0 7
@@ -181,6 +184,8 @@ goes_second layout = lowers_ready layout
     ∷ raises_ready layout
     ++ lowers_ready layout
 
+-- a message of one byte more than a whole chunk goes from rank 0 to rank 1: the first chunk has these words, and the one
+-- byte of the second one is 07
 abbrev pub two_chunks_by : Layout → (ℕ → ℕ) → List RankEvent
 two_chunks_by layout word = drafts_head layout ++ (for_each (drafts_word layout word) (4 * chunk_lines layout)
     ++ (begins_first layout ++ (for_each (loads_word layout word) (4 * chunk_lines layout) ++ (raises_ready layout ++ goes_second layout))))
@@ -189,7 +194,7 @@ two_chunks_by layout word = drafts_head layout ++ (for_each (drafts_word layout 
 abbrev pub two_chunks : (ℕ → ℕ) → List RankEvent
 two_chunks word = two_chunks_by LineFlags word
 
--- the same by bit flags, with which two chunks have 6,625 bytes
+-- a message of 6,625 bytes by bit flags from rank 0 to rank 1, of two chunks, whatever its words are
 abbrev pub two_chunks_bits : (ℕ → ℕ) → List RankEvent
 two_chunks_bits word = two_chunks_by BitFlags word
 

@@ -22,12 +22,12 @@ abbrev pub records_from : SetupView → (ℕ → Record) → List RankEvent → 
 records_from s records [] = records
 records_from s records (e ∷ es) = records_from s (put records e.rank (record_after s e.rank (records e.rank) e.event)) es
 
--- the memory after all of them
+-- the memory after all events of a list
 abbrev pub memory_from : Memory → List RankEvent → Memory
 memory_from memory [] = memory
 memory_from memory (e ∷ es) = memory_from (memory_after memory e.event) es
 
--- each is an event of a rank of the run that the rank's record permits
+-- each event of a list in turn is one of a rank of the run that the rank's record permits
 abbrev pub IsPermittedRun : SetupView → (ℕ → Record) → List RankEvent → Type 0
 IsPermittedRun s records [] = Unit {0}
 IsPermittedRun s records (e ∷ es) = (e.rank < s.nue) × IsEvent e.event × IsPermitted s e.rank (records e.rank) e.event

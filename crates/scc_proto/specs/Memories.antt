@@ -11,10 +11,11 @@ word_number core line word = 1024 * core + 4 * line + word
 abbrev pub register_number : ℕ → ℕ
 register_number core = 49152 + core
 
+-- the chip has such a word
 abbrev pub is_word : ℕ → ℕ → ℕ → Bool
 is_word core line word = nat_lt core 48 && (nat_lt line 256 && nat_lt word 4)
 
--- what lies outside the chip is 0
+-- the memory whose words and registers have these values by their numbers; what lies outside the chip is 0
 unfoldable pub memory_of : List ℕ → Memory
 memory_of words = record {
   word = λ core line word. if is_word core line word then slice_index words (word_number core line word) else 0;

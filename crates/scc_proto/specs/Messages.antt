@@ -87,11 +87,11 @@ chunk_words size message = 4 * ((chunk_bytes size message + 31) / 32)
 abbrev pub is_last : ℕ → Progress → Bool
 is_last size message = nat_le message.head.len (size * suc message.chunks)
 
--- all words of its lines are noted
+-- all words of the lines of the chunk in hand are noted
 abbrev pub is_whole : ℕ → Progress → Notes → Bool
 is_whole size message chunk = has_all chunk (chunk_words size message)
 
--- the bytes of its last line past its end are zero
+-- the bytes of the last line of the chunk in hand past its end are zero
 abbrev pub is_padded : ℕ → Progress → Notes → Bool
 is_padded size message chunk = is_zero_from chunk (chunk_bytes size message) (8 * chunk_words size message - chunk_bytes size message)
 
@@ -103,12 +103,15 @@ with_chunk size message chunk = record message { chunks = suc message.chunks; by
 abbrev pub message_of : Progress → Message
 message_of message = record { head = message.head; bytes = message.bytes }
 
+-- the call that sends a message
 abbrev pub send_to : ℕ → Message → DataCall
 send_to to message = Send to message.head message.bytes
 
+-- the call that receives a message
 abbrev pub recv_from : ℕ → Message → DataCall
 recv_from from message = Recv from message.head message.bytes
 
+-- the call that posts a message
 abbrev pub post_to : ℕ → Message → DataCall
 post_to to message = Post to message.head message.bytes
 

@@ -14,7 +14,7 @@ in_hand size Filling message chunk = message
 in_hand size Raised message chunk = with_chunk size message chunk
 in_hand size Answered message chunk = with_chunk size message chunk
 
--- the call that a rank is in, with its bytes so far
+-- the call that a stage stands in, with its bytes so far: a draft that is not raised is none
 abbrev pub open_of : ℕ → Stage → Option DataCall
 open_of size (Sending to part message chunk) = Some (send_to to (message_of (in_hand size part message chunk)))
 open_of size (Between from message) = Some (recv_from from (message_of message))
@@ -22,7 +22,7 @@ open_of size (Taking from message chunk) = Some (recv_from from (message_of mess
 open_of size (Barrier comm seen released) = Some (Bar comm)
 open_of size stage = None
 
--- the call that a rank has begun and not finished
+-- the call that a rank is in, with its bytes so far: none where words are drafted and nothing of them is raised
 abbrev pub open_call : SetupView → Record → Option DataCall
 open_call s rec = open_of (chunk_of s) rec.stage
 

@@ -29,6 +29,7 @@ is_whole_header header = has_all header 4 && (is_head (head_of header) && is_pos
 abbrev pub says_head : Notes → Bool
 says_head header = has_all header 3 && is_head (head_of header)
 
+-- all words of the lines of the chunk in hand are drafted, with zeros past its end
 abbrev pub is_drafted : ℕ → Progress → Notes → Bool
 is_drafted size message chunk = is_whole size message chunk && is_padded size message chunk
 
@@ -51,16 +52,18 @@ abbrev pub has_taken : ℕ → ℕ → Stage → Bool
 has_taken size to (Taking from message chunk) = (from == to) && is_whole size message chunk
 has_taken size to stage = false
 
+-- a posted message to that rank is on its way, and its `ready` was seen
 abbrev pub is_answered_by : ℕ → Option OnItsWay → Bool
 is_answered_by by None = false
 is_answered_by by (Some post) = (post.to == by) && post.is_answered
 
--- `ready` is lowered once it was seen
+-- `ready` is lowered once it was seen: of the message that is being sent, or in no send of the posted one
 abbrev pub may_go_on : ℕ → Stage → Option OnItsWay → Bool
 may_go_on by (Sending to Answered message chunk) post = to == by
 may_go_on by (Sending to part message chunk) post = false
 may_go_on by stage post = is_answered_by by post
 
+-- nothing is open
 abbrev pub is_idle : Stage → Bool
 is_idle Idle = true
 is_idle stage = false
@@ -71,6 +74,7 @@ abbrev pub may_release : ℕ → ℕ → ℕ → ℕ → ℕ → Stage → Bool
 may_release comm place value last v (Barrier c seen released) = (c == comm) && ((seen == last) && ((place == suc released) && (value == v)))
 may_release comm place value last v stage = false
 
+-- nothing is noted
 abbrev pub is_empty : Notes → Bool
 is_empty [] = true
 is_empty (note ∷ notes) = false
@@ -82,6 +86,7 @@ leaves_heap (Sending to Filling message chunk) = is_empty chunk
 leaves_heap (Between from message) = true
 leaves_heap stage = false
 
+-- the record permits the move next, where a whole chunk has `size` bytes
 abbrev pub permits : ℕ → Move → Record → Bool
 permits size (DraftHeader k v) rec = is_none rec.post && drafts_header rec.stage
 permits size (DraftChunk k v) rec = is_none rec.post && drafts_chunk rec.stage

@@ -70,7 +70,7 @@ change_at lower raise s me owner new None = Misplaced
 change_at lower raise s me owner new (Some old) = if owner == me then move_at lower (lowered_below me old new s.nue)
     else (if raises_bit me old new then raise owner else Misplaced)
 
--- the flag words that a rank has noted under its hold of a core's register
+-- the word of `sent` flags that a rank has noted under its hold of a core's register
 abbrev pub sent_noted : Record → ℕ → Option ℕ
 sent_noted rec core = option_and_then (λ (flags : FlagWords). flags.sent) (rec.held core)
 

@@ -42,7 +42,7 @@ drafts_words word = DraftChunk 3 0 ∷ DraftChunk 2 0 ∷ DraftChunk 1 0 ∷ Dra
 abbrev pub raises_four : List Move
 raises_four = drafts_line 0 0 4 0 ++ (drafts_words 7 ++ RaiseSent 1 ∷ [])
 
--- and its `ready` is seen
+-- a message of four bytes, raised at rank 1, whose `ready` is seen
 abbrev pub sees_ready : List Move
 sees_ready = raises_four ++ LookReady (look_at 1 1) ∷ []
 
@@ -54,7 +54,7 @@ posts = drafts_line 0 0 4 1 ++ (drafts_words 7 ++ RaiseSent 1 ∷ [])
 abbrev pub sends_first : List Move
 sends_first = drafts_line 0 0 33 0 ++ (drafts_words 7 ++ RaiseSent 1 ∷ LookReady (look_at 1 1) ∷ LowerReady 1 ∷ [])
 
--- and the second is drafted
+-- the first chunk of 33 bytes is through to rank 1, and the second is drafted
 abbrev pub drafts_second : List Move
 drafts_second = sends_first ++ drafts_words 9
 
@@ -82,7 +82,7 @@ takes_first = reads_plain 0 33 ++ LowerSent 0 ∷ (reads_words 0 ++ RaiseReady 0
 abbrev pub sees_first : List Move
 sees_first = FlipGather 0 1 2 ∷ LookGather 0 1 1 1 ∷ []
 
--- and its second one, which is its last
+-- the root of three has flipped, and has seen both its members
 abbrev pub sees_all : List Move
 sees_all = sees_first ++ LookGather 0 2 2 1 ∷ []
 
@@ -90,7 +90,7 @@ sees_all = sees_first ++ LookGather 0 2 2 1 ∷ []
 abbrev pub drafts_empty : (rank core : ℕ) → List RankEvent
 drafts_empty rank core = stores rank core 0 3 0 ∷ stores rank core 0 2 0 ∷ stores rank core 0 1 0 ∷ stores rank core 0 0 0 ∷ []
 
--- a rank loads it from there
+-- a rank loads the header of a message without bytes from a core
 abbrev pub reads_empty : (rank core : ℕ) → List RankEvent
 reads_empty rank core = loads rank core 0 0 0 ∷ loads rank core 0 1 0 ∷ loads rank core 0 2 0 ∷ []
 
@@ -110,7 +110,7 @@ raises_empty = drafts_empty 0 7 ++ stores 0 40 1 0 1 ∷ []
 abbrev pub sees_bit : List RankEvent
 sees_bit = loads 0 0 1 0 2 ∷ reads_empty 0 1
 
--- and has lowered it under its register
+-- the same ranks: rank 0 has lowered that bit under its register
 abbrev pub takes_bit : List RankEvent
 takes_bit = sees_bit ++ takes 0 0 ∷ loads 0 0 1 0 2 ∷ stores 0 0 1 0 0 ∷ frees 0 0 ∷ []
 
@@ -118,7 +118,7 @@ takes_bit = sees_bit ++ takes 0 0 ∷ loads 0 0 1 0 2 ∷ stores 0 0 1 0 0 ∷ f
 abbrev pub holds_draft : List RankEvent
 holds_draft = drafts_empty 1 1 ++ takes 1 0 ∷ []
 
--- and has set its bit there
+-- the same ranks: rank 1 has a draft and the register of rank 0, and has set its bit there
 abbrev pub sets_bit : List RankEvent
 sets_bit = holds_draft ++ loads 1 0 1 0 0 ∷ stores 1 0 1 0 2 ∷ []
 

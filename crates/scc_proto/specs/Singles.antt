@@ -80,7 +80,7 @@ abbrev pub open_barriers : ℕ → Stage → ℕ
 open_barriers comm (Barrier c seen released) = if c == comm then 1 else 0
 open_barriers comm stage = 0
 
--- a record that a rank of the run can have, by itself
+-- what holds of the record of a rank of the run by itself, whatever the others are
 pub record IsConsistent (s : SetupView) (me : ℕ) (rec : Record) : Type 0 where
   pub stage : IsStage s me rec.stage
   pub post : IsPosted s me rec.stage rec.post

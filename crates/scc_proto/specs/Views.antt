@@ -27,10 +27,11 @@ abbrev pub flag_in : Layout → ℕ → FlagPlace → ℕ
 flag_in LineFlags word flag = word
 flag_in BitFlags word flag = bit_at word flag.bit
 
+-- the word in which a flag at a core stands
 abbrev pub word_of_flag : Memory → ℕ → FlagPlace → ℕ
 word_of_flag memory core flag = memory.word core flag.line flag.word
 
--- the words of a memory, so read
+-- the words of a memory, read by what they are for
 abbrev pub view_of : SetupView → Memory → View
 view_of s memory = record {
   sent = λ from to. flag_in s.layout (word_of_flag memory (host_of s.hosts to) (sent_at s.layout from)) (sent_at s.layout from);
@@ -41,33 +42,39 @@ view_of s memory = record {
   release = λ comm r. word_of_flag memory (host_of s.hosts r) (release_at s.layout comm);
 }
 
--- what a move of rank `me` does to the words
+-- what a move of rank `me` does to the `sent` flags
 abbrev pub sent_shown : ℕ → Move → (ℕ → ℕ → ℕ) → ℕ → ℕ → ℕ
 sent_shown me (RaiseSent to) sent = put_two sent me to 1
 sent_shown me (LowerSent from) sent = put_two sent from me 0
 sent_shown me move sent = sent
 
+-- what a move of rank `me` does to the `ready` flags
 abbrev pub ready_shown : ℕ → Move → (ℕ → ℕ → ℕ) → ℕ → ℕ → ℕ
 ready_shown me (RaiseReady to) ready = put_two ready to me 1
 ready_shown me (LowerReady by) ready = put_two ready me by 0
 ready_shown me move ready = ready
 
+-- what a move of rank `me` does to the header lines
 abbrev pub header_shown : ℕ → Move → (ℕ → ℕ → ℕ) → ℕ → ℕ → ℕ
 header_shown me (DraftHeader k v) header = put_two header me k v
 header_shown me move header = header
 
+-- what a move of rank `me` does to the chunk buffers
 abbrev pub chunk_shown : ℕ → Move → (ℕ → ℕ → ℕ) → ℕ → ℕ → ℕ
 chunk_shown me (DraftChunk k v) chunk = put_two chunk me k v
 chunk_shown me move chunk = chunk
 
+-- what a move of rank `me` does to the gather flags
 abbrev pub gather_shown : ℕ → Move → (ℕ → ℕ → ℕ) → ℕ → ℕ → ℕ
 gather_shown me (FlipGather comm value last) gather = put_two gather comm me value
 gather_shown me move gather = gather
 
+-- what a move of rank `me` does to the release flags
 abbrev pub release_shown : ℕ → Move → (ℕ → ℕ → ℕ) → ℕ → ℕ → ℕ
 release_shown me (WriteRelease comm to place value last) release = put_two release comm to value
 release_shown me move release = release
 
+-- what a move of rank `me` does to the words
 abbrev pub shown : ℕ → Move → View → View
 shown me move view = record {
   sent = sent_shown me move view.sent;

@@ -30,7 +30,7 @@ word_at memory place = memory.word place.core place.line place.word
 abbrev pub is_at : WordAt → ℕ → ℕ → ℕ → Bool
 is_at place core line word = (core == place.core) && ((line == place.line) && (word == place.word))
 
--- a load tells the word; a take has 1 where it found the register free, and 0 where it found it taken
+-- an access is a step: a load tells the word; a store and a free always are; a take has 1 where it found the register free, and 0 where it found it taken
 abbrev pub IsStepBy : Access → WordAt → ℕ → Memory → Type 0
 IsStepBy Load place value memory = word_at memory place ≡ value
 IsStepBy Store place value memory = Unit {0}
@@ -47,7 +47,7 @@ memory_by Free place value memory = record memory { register = put memory.regist
 abbrev pub IsStep : Memory → Event → Type 0
 IsStep memory e = IsStepBy e.access e.place e.value memory
 
--- the memory after it
+-- the memory after an event
 abbrev pub memory_after : Memory → Event → Memory
 memory_after memory e = memory_by e.access e.place e.value memory
 
@@ -56,7 +56,7 @@ pub record RankEvent : Type 0 where
   pub rank : ℕ
   pub event : Event
 
--- each event in turn is a step
+-- each event of a list in turn is a step of the memory before it
 abbrev pub IsRun : Memory → List RankEvent → Type 0
 IsRun memory [] = Unit {0}
 IsRun memory (e ∷ es) = IsStep memory e.event × IsRun (memory_after memory e.event) es
