@@ -6,8 +6,9 @@ use scc_base::{CoreId, Place, Rank, Setup};
 /// one event.
 ///
 /// A contract sees a port as its `sight`: whose port it is, and the list of its events. `stepped` says of
-/// an event of a seat that it was a step of the chip's memory, made after these events of the seat's rank. That
-/// does not change while the port lives.
+/// an event of a seat that it was a step as the port tells it, made after these events of the seat's rank: on the chip's
+/// ports and on `LonePort` a step of the chip's memory. The trait lays nothing on it, and it does not change while the
+/// port lives.
 pub trait Port {
     ghost use Rattle.std.specs.Prelude.{◌≡◌, ◌<◌, List, [], ◌∷◌, false};
     ghost use Rattle.scc_base.specs.Events.{load_of, store_of, take_of, free_of};
