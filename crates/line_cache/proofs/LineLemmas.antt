@@ -1,14 +1,14 @@
 -- Lists of entries: looking a line up, and that no line is held twice.
-use Rattle.std.proofs.Common.{◌≡◌, ◌≢◌, ℕ, zero, suc, ◌+◌, ◌<◌, Bool, true, false, cond, ◌==◌, List, [], ◌∷◌, ◌++◌, None, Some, length, get_or, take, drop, set, refl, ap, sym, subst, ◌∙◌, arith, drop-cons, slice_set, remove, append-nil, length-append, length-drop}
+use Rattle.std.proofs.Common.{◌≡◌, ◌≢◌, ℕ, zero, suc, ◌+◌, ◌<◌, Bool, true, false, cond, ◌==◌, List, [], ◌∷◌, ◌++◌, None, Some, length, get_or, take, drop, set, refl, ap, sym, subst, ◌∙◌, arith, drop-cons, slice_index, slice_set, remove, append-nil, length-append, length-drop}
 use Rattle.std.proofs.lemmas.List.{length-take}
 use Rattle.std.proofs.Math.Seq.{take-add}
 use Rattle.std.proofs.lemmas.Grind.{drop_more_same, get_or-set_at}
 use Rattle.std.proofs.lemmas.List.{get_or-set_other, take_more_set, drop-set-lt, map-append, drop_all, take_all}
 use Rattle.std.specs.List.{refill}
 use Rattle.std.proofs.lemmas.Bool.{cond_both, eq-eqb, eqb-true, and_parts, and_from}
-use Rattle.scc_base.specs.Places.{LineAt, WordAt, line_of_word, same_line}
+use Rattle.scc_base.specs.Places.{LineAt, WordAt, line_of_word, word_of_line, same_line}
 use Rattle.line_cache.specs.declared.cache.Entry.{Entry}
-use Rattle.line_cache.specs.Lines.{held, written, noted, AreDistinct, IsCache, IsMarked, most_lines}
+use Rattle.line_cache.specs.Lines.{held, written, noted, line_noted, AreDistinct, IsCache, IsMarked, most_lines}
 
 same_line-sym : (a b : LineAt) → same_line a b ≡ true → same_line b a ≡ true
 same_line-sym a b t =
@@ -117,6 +117,12 @@ noted_none [] p v h = refl
 noted_none (x ∷ xs) p v h =
     let n = not_held x xs (line_of_word p) h in
     rw (n.0, noted_none xs p v n.1) refl
+
+-- nor do the words of a line that is not held
+pub line_none : (es : List Entry) (line : LineAt) (words : List ℕ) → held es line ≡ None → line_noted es line words ≡ es
+line_none es line words h =
+    let word : (k v : ℕ) → noted es (word_of_line line k) v ≡ es = λ k v. noted_none es (word_of_line line k) v h in
+    rw (word 0 (slice_index words 0), word 1 (slice_index words 1), word 2 (slice_index words 2)) (word 3 (slice_index words 3))
 
 length-noted : (es : List Entry) (p : WordAt) (v : ℕ) → length (noted es p v) ≡ length es
 length-noted [] p v = refl

@@ -1,8 +1,8 @@
 -- The private lines of a core: the lines of message passing buffers that it holds, with their words, in the
 -- order in which they were brought in (SCC External Architecture Specification; the whole cache as one list
 -- of at most 512 lines is this project's profile).
-use Rattle.std.specs.Prelude.{◌≡◌, ℕ, ◌≤◌, Bool, false, ◌==◌, if◌then◌else◌, List, [], ◌∷◌, ◌++◌, Option, None, Some, length, drop, map, slice_index_or, slice_set}
-use Rattle.scc_base.specs.Places.{LineAt, WordAt, line_of_word, same_line}
+use Rattle.std.specs.Prelude.{◌≡◌, ℕ, ◌≤◌, Bool, false, ◌==◌, if◌then◌else◌, List, [], ◌∷◌, ◌++◌, Option, None, Some, length, drop, map, slice_index, slice_index_or, slice_set}
+use Rattle.scc_base.specs.Places.{LineAt, WordAt, line_of_word, word_of_line, same_line}
 use Rattle.line_cache.specs.declared.cache.Entry.{Entry}
 
 -- how many lines a cache holds at most
@@ -27,6 +27,15 @@ written e p v =
 -- the lines after a word was written at a place: it changes where its line is held, and nothing is brought in
 abbrev pub noted : List Entry → WordAt → ℕ → List Entry
 noted es p v = map (λ e. written e p v) es
+
+-- the lines after the four words of a line were written
+abbrev pub line_noted : List Entry → LineAt → List ℕ → List Entry
+line_noted es line words =
+    noted
+    (noted
+    (noted (noted es (word_of_line line 0) (slice_index words 0)) (word_of_line line 1) (slice_index words 1))
+    (word_of_line line 2) (slice_index words 2))
+    (word_of_line line 3) (slice_index words 3)
 
 -- no line is held twice
 abbrev pub AreDistinct : List Entry → Type 0

@@ -65,7 +65,7 @@ impl Model for Cache {
 
 impl Cache {
     ghost use Rattle.std.specs.Prelude.{◌≡◌, ◌<◌, ◌==◌, [], None, length, remove};
-    ghost use Rattle.line_cache.specs.Lines.{held, filled, noted, IsCache};
+    ghost use Rattle.line_cache.specs.Lines.{held, filled, noted, line_noted, IsCache};
 
     /// Nothing is held.
     pub fn new() -> Cache
@@ -122,6 +122,19 @@ impl Cache {
     {
         if self.marks[usize::from(place.line())] {
             note(self.entries.as_mut_slice(), place, value);
+        }
+    }
+
+    /// Notes the four words of a line that the core wrote, where it is held.
+    pub fn note_line(&mut self, line: Line, words: &[u64; 4])
+        ensures lines { self.new ≡ line_noted self.old line words.now }
+        ensures cache { IsCache self.new }
+    {
+        if self.marks[usize::from(line.line())] {
+            self.note_write(line.word(0), words[0]);
+            self.note_write(line.word(1), words[1]);
+            self.note_write(line.word(2), words[2]);
+            self.note_write(line.word(3), words[3]);
         }
     }
 

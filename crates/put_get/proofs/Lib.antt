@@ -7,3 +7,4 @@ pub mod TransferLemmas
 pub mod WorkLemmas
 pub mod FillLemmas
 pub mod SinceLemmas
+pub mod ReadLemmas

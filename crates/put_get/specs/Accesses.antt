@@ -1,9 +1,10 @@
 -- The events of whole lines: the loads of a line, and the stores of what leaves the write-combining buffer.
-use Rattle.std.specs.Prelude.{ℕ, true, false, if◌then◌else◌, List, [], ◌∷◌, ◌++◌, Option, None, Some, slice_index, slice_index_or}
+use Rattle.std.specs.Prelude.{ℕ, false, if◌then◌else◌, List, [], ◌∷◌, ◌++◌, Option, None, Some, slice_index, slice_index_or}
 use Rattle.scc_base.specs.Places.{LineAt, word_of_line}
 use Rattle.scc_base.specs.Events.{load_of, store_of}
 use Rattle.scc_base.specs.declared.events.Event.{Event}
 use Rattle.write_combine.specs.declared.combiner.Out.{Out}
+pub use Rattle.write_combine.specs.Combining.{whole_line}
 
 -- the loads of a line's words, in order
 abbrev pub loads_of : LineAt → List ℕ → List Event
@@ -24,14 +25,6 @@ stores_of_line o = store_of_word o 3 ++ (store_of_word o 2 ++ (store_of_word o 1
 abbrev pub stores_of : Option Out → List Event
 stores_of None = []
 stores_of (Some o) = stores_of_line o
-
--- a line of which all words were written
-abbrev pub whole_line : LineAt → List ℕ → Out
-whole_line line words = record {
-  line = line;
-  words = slice_index words 0 ∷ slice_index words 1 ∷ slice_index words 2 ∷ slice_index words 3 ∷ [];
-  mask = true ∷ true ∷ true ∷ true ∷ [];
-}
 
 -- each of these events was a step of the chip's memory, made after the own events before it
 abbrev pub WereSteps : (List Event → Event → Type 0) → List Event → List Event → Type 0

@@ -1,6 +1,7 @@
 -- What the calls of a core do to its private lines and to the shared words (SCC External Architecture
 -- Specification: reads through the cache, writes through it and the write-combining buffer).
 use Rattle.std.specs.Prelude.{◌≡◌, ℕ, suc, ◌<◌, List, Option, None, Some, length, remove, slice_index}
+pub use Rattle.line_cache.specs.Lines.{line_noted}
 use Rattle.scc_base.specs.Places.{LineAt, WordAt, line_of_word, word_of_line}
 use Rattle.scc_base.specs.declared.events.Event.{Event}
 use Rattle.scc_proto.specs.Ports.{Seat, Sight, Did}
@@ -67,15 +68,6 @@ pub record Writes (s : Sight) (c : Private) (p : WordAt) (v : ℕ) (t : Sight) (
 pub record Flushes (s : Sight) (c : Private) (t : Sight) (d : Private) : Type 0 where
   pub did : Did s (stores_of c.out) t
   pub is : d ≡ record c { out = None }
-
--- the cached lines after the four words of a line were written
-abbrev pub line_noted : List Entry → LineAt → List ℕ → List Entry
-line_noted es line words =
-    noted
-    (noted
-    (noted (noted es (word_of_line line 0) (slice_index words 0)) (word_of_line line 1) (slice_index words 1))
-    (word_of_line line 2) (slice_index words 2))
-    (word_of_line line 3) (slice_index words 3)
 
 -- a whole line was written: what the buffer held before was stored, and the line stands in the buffer
 pub record WritesLine (s : Sight) (c : Private) (line : LineAt) (words : List ℕ) (t : Sight) (d : Private) : Type 0 where

@@ -36,7 +36,7 @@ impl<V: Evict> Model for Core<V> {
 }
 
 impl<V: Evict> Core<V> {
-    ghost use Rattle.std.specs.Prelude.{◌≡◌, ◌↔◌, ℕ, List, [], Some, None, IsTrue};
+    ghost use Rattle.std.specs.Prelude.{◌≡◌, ◌↔◌, ℕ, List, [], Some, None, IsTrue, true};
     ghost use Rattle.scc_base.specs.Places.{line_of_word};
     ghost use Rattle.scc_base.specs.declared.events.Event.{Event};
     ghost use Rattle.scc_proto.specs.Ports.{MayMakeAll, record_in};
@@ -77,16 +77,19 @@ impl<V: Evict> Core<V> {
         self.cache.invalidate();
     }
 
-    /// Brings a line in. Then the evictor is asked once, and the entry that it names leaves.
-    fn bring(&mut self, line: Line, words: [u64; 4])
+    /// Brings a line in. Then the evictor is asked once, and the entry that it names leaves. Whether it named none.
+    fn bring(&mut self, line: Line, words: [u64; 4]) -> bool
         requires { held self.old.lines line ≡ None }
-        ensures { Fills self.old line words self.new }
+        ensures fills { Fills self.old line words self.new }
+        ensures kept { result ≡ true → self.new.evictions ≡ self.old.evictions }
     {
         self.cache.fill(line, words);
         let held = self.cache.len();
         if let Some(at) = self.evict.drop_one(held) {
             self.cache.drop_at(at);
+            return false;
         }
+        true
     }
 
     /// The words of a line, from the cache where it is held there.
@@ -118,11 +121,18 @@ impl<V: Evict> Core<V> {
         ensures reads { ReadsLine (P.sight port.old) self.old line result (P.sight port.new) self.new }
         ensures steps { MadeSteps P.stepped (P.sight port.old) (P.sight port.new) }
     {
-        let first = self.word_read(port, line.word(0));
+        if let Some(words) = self.cache.look(line) {
+            return words;
+        }
+        let words = load_line(port, line);
+        let kept = self.bring(line, words);
+        if kept {
+            return words;
+        }
         let second = self.word_read(port, line.word(1));
         let third = self.word_read(port, line.word(2));
         let fourth = self.word_read(port, line.word(3));
-        [first, second, third, fourth]
+        [words[0], second, third, fourth]
     }
 
     /// Writes a word. What the buffer hands out is stored.
@@ -144,10 +154,9 @@ impl<V: Evict> Core<V> {
         ensures writes { WritesLine (P.sight port.old) self.old line words.now (P.sight port.new) self.new }
         ensures steps { MadeSteps P.stepped (P.sight port.old) (P.sight port.new) }
     {
-        self.word_write(port, line.word(0), words[0]);
-        self.word_write(port, line.word(1), words[1]);
-        self.word_write(port, line.word(2), words[2]);
-        self.word_write(port, line.word(3), words[3]);
+        self.cache.note_line(line, words);
+        let out = self.combiner.write_line(line, words);
+        store_out(port, &out);
     }
 
     /// Stores what the buffer holds. It holds nothing afterwards.

@@ -1,6 +1,6 @@
 -- The write-combining buffer of a core: at most one line, of which some words were written (SCC External
 -- Architecture Specification). Which words were written is a list of four truths.
-use Rattle.std.specs.Prelude.{◌≡◌, ℕ, true, false, if◌then◌else◌, [], ◌∷◌, Option, None, Some, slice_set, IfSome}
+use Rattle.std.specs.Prelude.{◌≡◌, ℕ, true, false, if◌then◌else◌, List, [], ◌∷◌, Option, None, Some, slice_index, slice_set, IfSome}
 use Rattle.std.specs.List.{list_any}
 use Rattle.scc_base.specs.Places.{LineAt, WordAt, line_of_word, same_line}
 use Rattle.write_combine.specs.declared.combiner.Out.{Out}
@@ -21,7 +21,15 @@ with_word o word v = record {
   mask = slice_set o.mask word true;
 }
 
--- what leaves the buffer when a word of this line is written: a line that is another one
+-- a line of which all words were written
+abbrev pub whole_line : LineAt → List ℕ → Out
+whole_line line words = record {
+  line = line;
+  words = slice_index words 0 ∷ slice_index words 1 ∷ slice_index words 2 ∷ slice_index words 3 ∷ [];
+  mask = true ∷ true ∷ true ∷ true ∷ [];
+}
+
+-- what leaves the buffer when words of this line are written: a line that is another one
 abbrev pub handed_out : Option Out → LineAt → Option Out
 handed_out None line = None
 handed_out (Some o) line = if same_line o.line line then None else Some o

@@ -53,7 +53,7 @@ impl Model for Combiner {
 impl Combiner {
     ghost use Rattle.std.specs.Prelude.{◌≡◌, Some, None, is_none};
     ghost use Rattle.scc_base.specs.Places.{line_of_word};
-    ghost use Rattle.write_combine.specs.Combining.{handed_out, held_after, HoldsWord};
+    ghost use Rattle.write_combine.specs.Combining.{handed_out, held_after, whole_line, HoldsWord};
 
     /// It holds nothing.
     pub fn new() -> Combiner
@@ -75,23 +75,36 @@ impl Combiner {
         ensures held { self.new ≡ Some (held_after self.old place value) }
         ensures some_word { HoldsWord self.new }
     {
-        match self.flush() {
-            None => {
-                self.held = Some(Out::new(place, value));
-                None
-            }
-            Some(mut out) => {
-                if !out.line.is(place.line_at()) {
-                    self.held = Some(Out::new(place, value));
-                    return Some(out);
-                }
+        if let Some(out) = &mut self.held {
+            if out.line.is(place.line_at()) {
                 let word = usize::from(place.word());
                 out.words[word] = value;
                 out.mask[word] = true;
-                self.held = Some(out);
-                None
+                return None;
             }
         }
+        std::mem::replace(&mut self.held, Some(Out::new(place, value)))
+    }
+
+    /// Notes the four words of a line that a core wrote, and hands out the line that was held before if it is
+    /// another one.
+    pub fn write_line(&mut self, line: Line, words: &[u64; 4]) -> Option<Out>
+        ensures out { result ≡ handed_out self.old line }
+        ensures held { self.new ≡ Some (whole_line line words.now) }
+        ensures some_word { HoldsWord self.new }
+    {
+        let whole = Out {
+            line,
+            words: *words,
+            mask: [true; 4],
+        };
+        if let Some(out) = &mut self.held {
+            if out.line.is(line) {
+                *out = whole;
+                return None;
+            }
+        }
+        std::mem::replace(&mut self.held, Some(whole))
     }
 
     /// Hands out what is held. Nothing is held afterwards.

@@ -3,8 +3,8 @@ use Rattle.put_get.specs.Cores.{Private, Fills}
 use Rattle.put_get.proofs.CoreLemmas.{fills_dropped}
 use Rattle.put_get.proofs.cores.Core.bring.Goals as goal
 
-pub returns-in-Some : goal.returns-in-Some
-returns-in-Some g c =
+pub returns-in-Some-clause-fills : goal.returns-in-Some-clause-fills
+returns-in-Some-clause-fills g c =
     let len = c.len-held.ensures.value ∙ ap length c.fill.ensures.lines in
     subst (λ (x : Private). Fills x c.args.line c.args.words (record { lines = c.drop_at.new.self; out = c.self.inside.combiner; evictions = g.V.Evict.count c.drop_one.new.self; asked = g.V.Evict.asked c.drop_one.new.self; answers = g.V.Evict.answers c.drop_one.new.self }))
     c.self.view_is

@@ -9,4 +9,4 @@ returns-in-Some-clause-steps g c = steps_none g.P.Port.stepped (g.P.Port.sight c
 
 pub returns-clause-fetch : goal.returns-clause-fetch
 returns-clause-fetch g c =
-    Loaded (subst (λ (x : Private). held x.lines c.args.line ≡ None) c.self.view_is (sym c.look.ensures ∙ c.in_default.is)) (omega arith) c.load_line-words.ensures.did c.bring.ensures
+    Loaded (subst (λ (x : Private). held x.lines c.args.line ≡ None) c.self.view_is (sym c.look.ensures ∙ c.in_default.is)) (omega arith) c.load_line-words.ensures.did c.bring.ensures.fills

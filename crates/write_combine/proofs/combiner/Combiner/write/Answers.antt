@@ -2,8 +2,8 @@ use Rattle.std.proofs.Common.{arith}
 use Rattle.write_combine.proofs.Masks.{list_any-written}
 use Rattle.write_combine.proofs.combiner.Combiner.write.Goals as goal
 
-pub invariant_of-self-in-Some : goal.invariant_of-self-in-Some
-invariant_of-self-in-Some c = list_any-written c.in-Some.out.mask c.from-word.result (let v = c.word.ensures.valid.word_below in omega arith)
+pub invariant_of-self : goal.invariant_of-self
+invariant_of-self c = list_any-written c.in-Some.out.mask c.from-word.result (let v = c.word.ensures.valid.word_below in omega arith)
 
-pub returns-else-not-is-clause-some_word : goal.returns-else-not-is-clause-some_word
-returns-else-not-is-clause-some_word c = invariant_of-self-in-Some c
+pub returns-then-is-clause-some_word : goal.returns-then-is-clause-some_word
+returns-then-is-clause-some_word c = invariant_of-self c
