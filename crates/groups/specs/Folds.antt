@@ -22,6 +22,7 @@ bytes_in Long = 8
 abbrev pub value_of : Ty → List ℕ → ℤ
 value_of ty bytes = cast_signed (width_of ty) (from_le_bytes (width_of ty) bytes)
 
+-- a value of a type as its bytes, the lowest first
 abbrev pub bytes_of : Ty → ℤ → List ℕ
 bytes_of ty value = to_le_bytes (width_of ty) (cast_unsigned (width_of ty) value)
 

@@ -25,6 +25,7 @@ without_last [] = []
 without_last (part ∷ []) = if length part == 0 then [] else part ∷ []
 without_last (part ∷ next ∷ parts) = part ∷ without_last (next ∷ parts)
 
+-- the lines of a host file: behind its last line break stands no line
 abbrev pub file_lines : List ℕ → List (List ℕ)
 file_lines bytes = without_last (lines_of bytes)
 
@@ -33,6 +34,7 @@ file_lines bytes = without_last (lines_of bytes)
 abbrev pub without_end : List ℕ → List ℕ
 without_end text = take (length text - suffix_len is_ascii_whitespace text) text
 
+-- a text without the blanks at its two ends
 abbrev pub trimmed : List ℕ → List ℕ
 trimmed text = without_end (drop (prefix_len is_ascii_whitespace text) text)
 
@@ -78,6 +80,7 @@ read_lines before cores (line ∷ lines) = at_line (before + 1) (read_line cores
 abbrev pub host_at : ℕ → List ℕ → ℕ → ℕ
 host_at nue cores rank = if nat_lt rank nue then slice_index cores rank else slice_index cores 0
 
+-- the core of each of 48 ranks, of which the run has the first `nue`
 abbrev pub host_list : ℕ → List ℕ → List ℕ
 host_list nue cores = map (host_at nue cores) (range_with_len 0 48)
 

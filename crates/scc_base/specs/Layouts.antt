@@ -31,6 +31,7 @@ abbrev pub first_gather : Layout → ℕ
 first_gather LineFlags = 97
 first_gather BitFlags = 2
 
+-- the line of the release flag of communicator 0
 abbrev pub first_release : Layout → ℕ
 first_release LineFlags = 105
 first_release BitFlags = 10

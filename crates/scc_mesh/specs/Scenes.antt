@@ -25,6 +25,7 @@ pub record Scene : Type 0 where
 abbrev pub ChipView : Type 0
 ChipView = Option Scene
 
+-- the setup of a chip that is blank: no ranks
 abbrev pub no_setup : SetupView
 no_setup = record { nue = 0; layout = LineFlags; hosts = []; comms = [] }
 

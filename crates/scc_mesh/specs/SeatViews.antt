@@ -12,6 +12,7 @@ View = List (Option (List Event))
 abbrev pub known : View → ℕ → Option (List Event)
 known v r = slice_index_or v r None
 
+-- the events of a list that may be absent: none where it is
 abbrev pub list_or_none : Option (List Event) → List Event
 list_or_none None = []
 list_or_none (Some events) = events

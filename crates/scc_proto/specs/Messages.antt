@@ -20,6 +20,7 @@ abbrev pub noted : Notes → ℕ → Option ℕ
 noted [] k = None
 noted (note ∷ notes) k = if k == note.number then Some note.word else noted notes k
 
+-- one more word is noted, and counts before what was noted of the same word
 abbrev pub note_word : ℕ → ℕ → Notes → Notes
 note_word k v notes = record { number = k; word = v } ∷ notes
 

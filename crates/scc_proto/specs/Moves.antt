@@ -34,11 +34,13 @@ pub data Move : Type 0 where
 abbrev pub is_posted : Notes → Bool
 is_posted header = unwrap_or (noted header 3) 0 == 1
 
+-- a header word is drafted
 abbrev pub draft_header : ℕ → ℕ → Stage → Stage
 draft_header k v Idle = Drafting (note_word k v []) []
 draft_header k v (Drafting header chunk) = Drafting (note_word k v header) chunk
 draft_header k v stage = stage
 
+-- a chunk word is drafted, of a first chunk beside the header or of a later one
 abbrev pub draft_chunk : ℕ → ℕ → Stage → Stage
 draft_chunk k v Idle = Drafting [] (note_word k v [])
 draft_chunk k v (Drafting header chunk) = Drafting header (note_word k v chunk)
@@ -51,23 +53,28 @@ raise_sent to (Drafting header chunk) = if is_posted header then Idle else Sendi
 raise_sent to (Sending j Filling message chunk) = Sending to Raised message chunk
 raise_sent to stage = stage
 
+-- a word is loaded of the chunk that is being taken from this rank; any other load changes nothing
 abbrev pub read_chunk : ℕ → ℕ → ℕ → Stage → Stage
 read_chunk from k v (Taking i message chunk) = if i == from then Taking i message (note_word k v chunk) else Taking i message chunk
 read_chunk from k v stage = stage
 
+-- a first chunk is taken behind the header that was loaded, a later one behind the chunk before it
 abbrev pub lower_sent : ℕ → Notes → Stage → Stage
 lower_sent from header Idle = Taking from (begun (head_of header)) []
 lower_sent from header (Between i message) = Taking from message []
 lower_sent from header stage = stage
 
+-- the chunk is taken: the message is received with its last one, and else is between two chunks
 abbrev pub raise_ready : ℕ → Stage → Stage
 raise_ready size (Taking from message chunk) = if is_last size message then Idle else Between from (with_chunk size message chunk)
 raise_ready size stage = stage
 
+-- the sender sees that the raised chunk was taken
 abbrev pub look_ready : (ℕ → Bool) → Stage → Stage
 look_ready is_set (Sending to Raised message chunk) = if is_set to then Sending to Answered message chunk else Sending to Raised message chunk
 look_ready is_set stage = stage
 
+-- the chunk is through: the message is sent with its last one, and else its next chunk may be drafted
 abbrev pub lower_ready : ℕ → Stage → Stage
 lower_ready size (Sending to part message chunk) = if is_last size message then Idle else Sending to Filling (with_chunk size message chunk) []
 lower_ready size stage = stage
@@ -83,10 +90,12 @@ look_gather comm place value v (Barrier c seen released) =
     if (c == comm) && ((place == suc seen) && (value == v)) then Barrier c (suc seen) released else Barrier c seen released
 look_gather comm place value v stage = stage
 
+-- the root lets one more member go; with the last one its barrier is over
 abbrev pub write_release : ℕ → Stage → Stage
 write_release last (Barrier c seen released) = if suc released == last then Idle else Barrier c seen (suc released)
 write_release last stage = stage
 
+-- a member sees the value of the open barrier in its release flag, and its barrier is over
 abbrev pub look_release : ℕ → ℕ → ℕ → Stage → Stage
 look_release comm value v (Barrier c seen released) = if (c == comm) && (value == v) then Idle else Barrier c seen released
 look_release comm value v stage = stage
@@ -113,9 +122,11 @@ post_raised to (Drafting header chunk) post =
     if is_posted header then Some (record { to = to; head = head_of header; chunk = chunk; is_answered = false }) else post
 post_raised to stage post = post
 
+-- the sender of a posted message sees that it was taken
 abbrev pub post_answered : (ℕ → Bool) → OnItsWay → OnItsWay
 post_answered is_set post = record post { is_answered = if is_set post.to then true else post.is_answered }
 
+-- the posted message on its way after a move
 abbrev pub post_after : Move → Record → Option OnItsWay
 post_after (RaiseSent to) rec = post_raised to rec.stage rec.post
 post_after (LookReady is_set) rec = option_map (post_answered is_set) rec.post
@@ -129,10 +140,12 @@ notes_after (ReadHeader from k v) notes = put notes from (option_map (note_word 
 notes_after (LowerSent from) notes = put notes from None
 notes_after move notes = notes
 
+-- how often each own gather flag was flipped, after a move
 abbrev pub flips_after : Move → (ℕ → ℕ) → ℕ → ℕ
 flips_after (FlipGather comm value last) flips = put flips comm (suc (flips comm))
 flips_after move flips = flips
 
+-- the own stores to heap words, after a move
 abbrev pub heap_after : Move → List HeapStore → List HeapStore
 heap_after (StoreHeap place value) heap = heap ++ record { place = place; value = value } ∷ []
 heap_after move heap = heap
@@ -141,27 +154,33 @@ heap_after move heap = heap
 abbrev pub finished_if : Bool → DataCall → List DataCall → List DataCall
 finished_if is_finished call calls = if is_finished then calls ++ call ∷ [] else calls
 
+-- the calls after a raise of `sent`: a post is finished by it
 abbrev pub calls_raised : ℕ → ℕ → Stage → List DataCall → List DataCall
 calls_raised size to (Drafting header chunk) calls =
     finished_if (is_posted header) (post_to to (message_of (with_chunk size (begun (head_of header)) chunk))) calls
 calls_raised size to stage calls = calls
 
+-- the calls after a raise of `ready`: a receive is finished with its last chunk
 abbrev pub calls_received : ℕ → Stage → List DataCall → List DataCall
 calls_received size (Taking from message chunk) calls = finished_if (is_last size message) (recv_from from (message_of (with_chunk size message chunk))) calls
 calls_received size stage calls = calls
 
+-- the calls after a lowering of `ready`: a send is finished with its last chunk
 abbrev pub calls_sent : ℕ → Stage → List DataCall → List DataCall
 calls_sent size (Sending to part message chunk) calls = finished_if (is_last size message) (send_to to (message_of (with_chunk size message chunk))) calls
 calls_sent size stage calls = calls
 
+-- the calls after a root wrote a release flag: with the last one its barrier is finished
 abbrev pub calls_released : ℕ → Stage → List DataCall → List DataCall
 calls_released last (Barrier c seen released) calls = finished_if (suc released == last) (Bar c) calls
 calls_released last stage calls = calls
 
+-- the calls after a member's look at its release flag: its barrier is finished where the flag has the barrier's value
 abbrev pub calls_let_go : ℕ → ℕ → ℕ → Stage → List DataCall → List DataCall
 calls_let_go comm value v (Barrier c seen released) calls = finished_if ((c == comm) && (value == v)) (Bar c) calls
 calls_let_go comm value v stage calls = calls
 
+-- the finished calls after a move
 abbrev pub calls_after : ℕ → Move → Record → List DataCall
 calls_after size (RaiseSent to) rec = calls_raised size to rec.stage rec.calls
 calls_after size (RaiseReady to) rec = calls_received size rec.stage rec.calls

@@ -47,10 +47,11 @@ load_by s me value (ReleaseFlag comm owner) = if (owner == me) && not (leads s c
 load_by s me value HeapWord = NoMove
 load_by s me value IdleWord = NoMove
 
--- the word differs from the old one in this bit alone, which was clear and is set, or was set and is clear
+-- the word differs from the old one in this bit alone, which was clear and is set
 abbrev pub raises_bit : ℕ → ℕ → ℕ → Bool
 raises_bit b old new = (bit_at old b == 0) && (new == old + 2 ^ b)
 
+-- the word differs from the old one in this bit alone, which was set and is clear
 abbrev pub lowers_bit : ℕ → ℕ → ℕ → Bool
 lowers_bit b old new = (bit_at old b == 1) && (old == new + 2 ^ b)
 
@@ -59,6 +60,7 @@ abbrev pub lowered_below : ℕ → ℕ → ℕ → ℕ → Option ℕ
 lowered_below me old new zero = None
 lowered_below me old new (suc n) = if not (n == me) && lowers_bit n old new then Some n else lowered_below me old new n
 
+-- the move about the rank that was found; with none found the store has no place
 abbrev pub move_at : (ℕ → Move) → Option ℕ → Move
 move_at move None = Misplaced
 move_at move (Some j) = move j
@@ -105,6 +107,7 @@ pub data Act : Type 0 where
   Holding : (core : ℕ) → Act
   Freeing : (core : ℕ) → Act
 
+-- what a load is to the record: of bit flags under the own hold of their register it notes the word, else it is a move
 abbrev pub load_act : SetupView → ℕ → Record → WordAt → ℕ → Role → Act
 load_act s me rec place value (SentFlags owner) =
     if is_some (rec.held place.core) then NotingSent place.core value else Moving (load_by s me value (SentFlags owner))
@@ -112,11 +115,13 @@ load_act s me rec place value (ReadyFlags owner) =
     if is_some (rec.held place.core) then NotingReady place.core value else Moving (load_by s me value (ReadyFlags owner))
 load_act s me rec place value role = Moving (load_by s me value role)
 
+-- what a store is to the record: of bit flags it changes a noted word, else it is a move
 abbrev pub store_act : SetupView → ℕ → Record → WordAt → ℕ → Role → Act
 store_act s me rec place value (SentFlags owner) = ChangingSent place.core (store_by s me rec place value (SentFlags owner))
 store_act s me rec place value (ReadyFlags owner) = ChangingReady place.core (store_by s me rec place value (ReadyFlags owner))
 store_act s me rec place value role = Moving (store_by s me rec place value role)
 
+-- what an access to a place is to the record
 abbrev pub act_by : SetupView → ℕ → Record → Access → WordAt → ℕ → Act
 act_by s me rec Load place value = load_act s me rec place value (role_of s place)
 act_by s me rec Store place value = store_act s me rec place value (role_of s place)
@@ -127,15 +132,19 @@ act_by s me rec Free place value = Freeing place.core
 unfoldable pub act_of : SetupView → ℕ → Record → Event → Act
 act_of s me rec e = act_by s me rec e.access e.place e.value
 
+-- the word of `sent` flags is noted
 abbrev pub note_sent : ℕ → FlagWords → FlagWords
 note_sent value flags = record flags { sent = Some value }
 
+-- the word of `ready` flags is noted
 abbrev pub note_ready : ℕ → FlagWords → FlagWords
 note_ready value flags = record flags { ready = Some value }
 
+-- the word of `sent` flags was stored, and is noted no more
 abbrev pub forget_sent : FlagWords → FlagWords
 forget_sent flags = record flags { sent = None }
 
+-- the word of `ready` flags was stored, and is noted no more
 abbrev pub forget_ready : FlagWords → FlagWords
 forget_ready flags = record flags { ready = None }
 
@@ -153,6 +162,7 @@ after_act size (ChangingReady core move) rec = change_held forget_ready core (af
 after_act size (Holding core) rec = record rec { held = put rec.held core (Some (record { sent = None; ready = None })) }
 after_act size (Freeing core) rec = record rec { held = put rec.held core None }
 
+-- the record permits the act: a move that it permits, a take of a register that it does not hold, a free of one that it holds
 abbrev pub permits_act : ℕ → Act → Record → Bool
 permits_act size (Moving move) rec = permits size move rec
 permits_act size (ChangingSent core move) rec = permits size move rec
@@ -189,12 +199,12 @@ record_from s me rec (e ∷ es) = record_from s me (record_after s me rec e) es
 unfoldable pub record_of : SetupView → ℕ → List Event → Record
 record_of s me events = record_from s me blank events
 
--- a load of a word that is noted: a header word of a rank that was seen, or a chunk word of the message
--- that is being taken
+-- the value noted of a word of the chunk that is being taken from this rank
 abbrev pub noted_chunk : ℕ → ℕ → Stage → Option ℕ
 noted_chunk from k (Taking i message chunk) = if i == from then noted chunk k else None
 noted_chunk from k stage = None
 
+-- the value noted of the word that a load reads: a header word of a rank that was seen, or a chunk word
 abbrev pub noted_by : Move → Record → Option ℕ
 noted_by (ReadHeader from k value) rec = option_and_then (λ (header : Notes). noted header k) (rec.notes from)
 noted_by (ReadChunk from k value) rec = noted_chunk from k rec.stage

@@ -85,9 +85,11 @@ abbrev pub rank_below : ℕ → List ℕ → ℕ → Option ℕ
 rank_below zero hosts core = None
 rank_below (suc n) hosts core = if host_of hosts n == core then Some n else rank_below n hosts core
 
+-- the rank that runs on a core, if one does
 abbrev pub rank_on : SetupView → ℕ → Option ℕ
 rank_on s core = rank_below s.nue s.hosts core
 
+-- the rule is there
 abbrev pub is_present_rule : CommRule → Bool
 is_present_rule Absent = false
 is_present_rule World = true
@@ -102,16 +104,19 @@ is_present s comm = nat_lt comm 16 && is_present_rule (rule_of s.comms comm)
 abbrev pub are_peers : SetupView → ℕ → ℕ → Bool
 are_peers s i j = nat_lt i s.nue && (nat_lt j s.nue && not (i == j))
 
+-- the role, where two ranks may have messages; else the word is nobody's
 abbrev pub if_peers : SetupView → ℕ → ℕ → Role → Role
 if_peers s i j role = if are_peers s i j then role else IdleWord
 
--- the role of a word of one of the eight lines of a barrier's flags
+-- the communicator of a word in one of the eight lines of flags that begin with this line
 abbrev pub barrier_comm : ℕ → ℕ → ℕ → ℕ
 barrier_comm first line word = 8 * word + (line - first)
 
+-- the role, where the communicator has a rule; else the word is nobody's
 abbrev pub if_present : SetupView → ℕ → ℕ → Role → Role
 if_present s word comm role = if nat_lt word 2 && is_present s comm then role else IdleWord
 
+-- the role of a word among the lines of the barriers' flags
 abbrev pub barrier_role : SetupView → ℕ → ℕ → ℕ → Role
 barrier_role s owner line word = if nat_le (first_release s.layout) line
     then if_present s word (barrier_comm (first_release s.layout) line word) (ReleaseFlag (barrier_comm (first_release s.layout) line word) owner)
@@ -132,6 +137,7 @@ role_at s owner line word = if line == 0 then HeaderWord owner word
     else (if nat_lt line first_heap then ChunkWord owner (4 * (line - first_chunk s.layout) + word)
     else HeapWord)))
 
+-- the role of a word of the core of a rank, or of a core without one
 abbrev pub role_where : SetupView → Option ℕ → ℕ → ℕ → Role
 role_where s None line word = IdleWord
 role_where s (Some owner) line word = role_at s owner line word

@@ -41,10 +41,11 @@ lone_items ranks line first s =
     item_of (line + 5) ranks (stmt.End (first + 2)) ∷
     item_of (line + 6) ranks (stmt.Print 1 (form.Decimal ty.Long)) ∷ []
 
--- a message to the next rank of the ring, and one from the rank before
+-- a send of the first register to the next rank of the ring
 abbrev pub send_next : Stmt
 send_next = stmt.Send (peer.Plus 1) 0
 
+-- a receive of s bytes from the rank before, into the last register
 abbrev pub recv_last : ℕ → Stmt
 recv_last s = stmt.Recv (peer.Minus 1) 2 s
 

@@ -14,6 +14,7 @@ pub record Ended : Type 0 where
   pub printed : List Printed
   pub on_its_way : Option ℕ
 
+-- where a rank stands at the end: how its program ended, what it printed, and for whom its slot holds a message
 abbrev pub ended : Option Posted → Local → Ended
 ended slot u = record { end = end_of slot u; printed = u.printed; on_its_way = option_map (λ message. message.to) slot }
 

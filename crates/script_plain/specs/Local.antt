@@ -97,6 +97,7 @@ abbrev pub message_of : Local → ℕ → ℕ → ℕ → Posted
 message_of u line to reg =
     record { to = to; head = plain_head (min (length (register_at u reg)) 3584); bytes = register_at u reg; line = line }
 
+-- what an action is to a rank: a step of its own with what it holds afterwards, or a call
 abbrev pub next_by_act : Local → ℕ → Act → Next Local
 next_by_act u line (Set reg content) = Goes (gone_on_with u reg content)
 next_by_act u line (Apply op ty dst src) = Goes (gone_on_with u dst (folded op ty (register_at u dst) (register_at u src)))
@@ -118,9 +119,11 @@ abbrev pub prim_by_standing : Standing → List Prim → Option Prim
 prim_by_standing standing.Running left = slice_get left 0
 prim_by_standing (standing.Mismatched line from sent asked) left = None
 
+-- the primitive that comes next at a rank that was not stopped
 abbrev pub next_prim : Local → Option Prim
 next_prim u = prim_by_standing u.standing u.left
 
+-- what stands next at a rank: its next primitive, or the end of its program
 abbrev pub next_by_prim : Local → Option Prim → Next Local
 next_by_prim u None = Ends
 next_by_prim u (Some prim) = next_by_act u prim.line prim.act
@@ -148,10 +151,12 @@ abbrev pub end_by_slot : Option Posted → UeEnd
 end_by_slot None = ue_end.Finished
 end_by_slot (Some message) = ue_end.Waits message.line (call.Post message.to message.head)
 
+-- the end of a rank that was not stopped: it waits at the call that stands next, or behind its program by its slot
 abbrev pub end_by_prim : Option Posted → Local → Option Prim → UeEnd
 end_by_prim slot u None = end_by_slot slot
 end_by_prim slot u (Some prim) = waits_at prim.line (call_of (next_by_act u prim.line prim.act))
 
+-- the end of a rank: as its program goes on, or stopped by a message with another head
 abbrev pub end_by_standing : Option Posted → Local → Standing → UeEnd
 end_by_standing slot u standing.Running = end_by_prim slot u (slice_get u.left 0)
 end_by_standing slot u (standing.Mismatched line from sent asked) = ue_end.Mismatch line from sent asked
@@ -165,5 +170,6 @@ end_of slot u = end_by_standing slot u u.standing
 abbrev pub nobody : Local
 nobody = record { registers = []; accumulator = []; received = []; left = []; printed = []; standing = standing.Running }
 
+-- what a rank holds, by its number
 abbrev pub local_at : List Local → ℕ → Local
 local_at c rank = slice_index_or c rank nobody

@@ -19,6 +19,7 @@ line_of u = option_map_or (λ prim. prim.line) (next_prim u) 0
 abbrev pub line_at : {U : Type 0} → (U → ℕ) → Configuration U → ℕ → ℕ
 line_at line c i = option_map_or line (slice_get c.cells i) 0
 
+-- a message that came, with the ranks and lines of its two calls
 abbrev pub match_of : ℕ → ℕ → MessageHead → ℕ → ℕ → Match
 match_of from to head send_line recv_line =
     record { from = from; to = to; head = head; send_line = send_line; recv_line = recv_line }
@@ -37,6 +38,7 @@ brought_by line c i (Sends to head bytes after) = match_of i to head (line_at li
 brought_by line c i (Recvs from head take refuse) = taken i from head (line_at line c i) (slot_at c from)
 brought_by line c i (Bars comm after) = []
 
+-- the messages that the step of a rank brings: one, or none
 abbrev pub brought : {U : Type 0} → (U → Next U) → (U → ℕ) → Configuration U → ℕ → List Match
 brought next line c i = brought_by line c i (next_at next c i)
 

@@ -108,6 +108,7 @@ part_of o begun step.Fold = Fold o.op o.ty
 part_of o begun step.Accept = Accept o.dst
 part_of o begun step.Finish = Finish o.dst
 
+-- the step at which a collective call takes up its value
 abbrev pub is_begin : Step → Bool
 is_begin step.Begin = true
 is_begin _ = false
@@ -117,12 +118,15 @@ abbrev pub begins : List Step → Bool
 begins [] = false
 begins (step ∷ steps) = is_begin step
 
+-- the steps of a rank in a collective call: none where it has no part in it
 abbrev pub call_steps : SetupView → ℕ → Coll → List Step
 call_steps s rank c = if can_call s rank c then steps_of s rank c else []
 
+-- the actions of the steps of a collective call
 abbrev pub parts_of : Operands → List Step → List Act
 parts_of o steps = map (part_of o (begins steps)) steps
 
+-- the actions of a statement at a rank: those of its collective call, or its one own
 abbrev pub acts_by : SetupView → ℕ → Stmt → Option Collective → List Act
 acts_by s rank stmt None = option_to_list (single_of s.nue rank stmt)
 acts_by s rank stmt (Some call) = parts_of call.operands (call_steps s rank call.coll)
@@ -141,6 +145,7 @@ nesting_of (stmt.Repeat times end) = nesting.Opens times
 nesting_of (stmt.End start) = nesting.Closes
 nesting_of _ = nesting.Stays
 
+-- what an item does to the repeats of a rank: nothing where the item is not the rank's
 abbrev pub nesting_at : ℕ → Item → Nesting
 nesting_at rank item = if has_rank item.who rank then nesting_of item.stmt else nesting.Stays
 

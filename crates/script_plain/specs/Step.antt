@@ -30,6 +30,7 @@ with_cell c i after = record c { cells = slice_set c.cells i after }
 abbrev pub with_slot : {U : Type 0} → Configuration U → ℕ → Option Posted → Configuration U
 with_slot c i message = record c { slots = slice_set c.slots i message }
 
+-- two messages have the same kind, communicator and length
 abbrev pub same_head : MessageHead → MessageHead → Bool
 same_head sent asked = (sent.kind == asked.kind) && (sent.comm == asked.comm) && (sent.len == asked.len)
 

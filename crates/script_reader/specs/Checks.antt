@@ -39,6 +39,7 @@ some_rank nue (Some who) test = some_below nue (λ rank. has_rank who rank && te
 abbrev pub run_of : ℕ → List Item → SetupView
 run_of nue past = record { nue = nue; layout = layout.LineFlags; hosts = []; comms = rules_of (reverse past) }
 
+-- the communicator has no rule
 abbrev pub is_absent : CommRule → Bool
 is_absent rule.Absent = true
 is_absent _ = false
@@ -91,11 +92,11 @@ differs_from (rule.Mod parent k) (rule.Mod other l) = not (parent == other && k 
 differs_from (rule.Div parent k) (rule.Div other l) = not (parent == other && k == l)
 differs_from _ _ = true
 
--- UnknownComm: a communicator past the last one; in a split the world, one whose parent is not before it, and one that an
--- earlier line splits by another rule
+-- a split is of the world, has a parent that is not before it, or is of a communicator that an earlier line splits by another rule
 abbrev pub is_badly_split : SetupView → ℕ → CommRule → Bool
 is_badly_split run comm rule = comm == 0 || not (nat_lt (parent_of rule) comm) || differs_from (rule_of run.comms comm) rule
 
+-- UnknownComm: the statement names a communicator past the last of its version, or splits one wrongly
 abbrev pub is_unknown : Version → SetupView → Stmt → Bool
 is_unknown version run (stmt.Barrier comm) = nat_lt (last_comm version) comm
 is_unknown version run (stmt.Split comm rule) = nat_lt (last_comm version) comm || is_badly_split run comm rule
@@ -113,6 +114,7 @@ comm_needed (stmt.Reduce comm root op ty dst src) = comm
 comm_needed (stmt.Allreduce comm op ty dst src) = comm
 comm_needed _ = 0
 
+-- the statement splits this communicator
 abbrev pub is_split_of : Stmt → ℕ → Bool
 is_split_of (stmt.Split split rule) comm = split == comm
 is_split_of _ comm = false
@@ -135,6 +137,7 @@ has_no_parent run _ = false
 abbrev pub setting : ℕ → ℕ → Option Setting
 setting reg len = Some (record { reg = reg; len = len })
 
+-- the register that a statement sets at a rank, with its length
 abbrev pub set_by : SetupView → (ℕ → Option ℕ) → Stmt → ℕ → Option Setting
 set_by run had (stmt.Bytes reg bytes) rank = setting reg (length bytes)
 set_by run had (stmt.Fill reg len start) rank = setting reg len
@@ -145,6 +148,7 @@ set_by run had (stmt.Reduce comm root op ty dst src) rank = if is_at run comm ra
 set_by run had (stmt.Allreduce comm op ty dst src) rank = setting dst (unwrap_or (had src) 0)
 set_by run had _ rank = None
 
+-- the length that a setting gives a register, if it is this one's
 abbrev pub sets_to : Option Setting → ℕ → Option ℕ
 sets_to None reg = None
 sets_to (Some set) reg = if set.reg == reg then Some set.len else None
@@ -190,6 +194,7 @@ misfits run had (stmt.Reduce comm root op ty dst src) rank = is_ragged ty (had s
 misfits run had (stmt.Allreduce comm op ty dst src) rank = is_ragged ty (had src)
 misfits run had _ rank = false
 
+-- a register would get a second length, or has another one than the statement needs
 abbrev pub is_misshapen : SetupView → (ℕ → Option ℕ) → Stmt → ℕ → Bool
 is_misshapen run had stmt rank = resizes had (set_by run had stmt rank) || misfits run had stmt rank
 
@@ -197,6 +202,7 @@ is_misshapen run had stmt rank = resizes had (set_by run had stmt rank) || misfi
 abbrev pub turns_in : List Open → ℕ
 turns_in repeats = option_map_or (λ r. r.turns) (slice_get repeats (length repeats - 1)) 1
 
+-- the repeats that are open behind a statement, the outermost one first
 abbrev pub opened : Stmt → ℕ → List Open → List Open
 opened (stmt.Repeat times end) place repeats = repeats ++ (record { start = place; turns = turns_in repeats * times }) ∷ []
 opened (stmt.End start) place repeats = take (length repeats - 1) repeats
@@ -227,6 +233,7 @@ has_root run rank (coll.Bcast comm root len) = has_place run comm rank root
 has_root run rank (coll.Reduce comm root len) = has_place run comm rank root
 has_root run rank (coll.Allreduce comm len) = true
 
+-- how many steps a collective call has at a rank
 abbrev pub steps_in : SetupView → ℕ → Coll → ℕ
 steps_in run rank call = if is_known run (comm_of call) && has_root run rank call then length (steps_of run rank call) else 0
 

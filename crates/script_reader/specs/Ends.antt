@@ -10,6 +10,7 @@ abbrev pub with_end : List Item → ℕ → ℕ → Item → Stmt → List Item
 with_end items start place item (stmt.Repeat times end) = slice_set items start (record item { stmt = stmt.Repeat times place })
 with_end items start place item _ = items
 
+-- a repeat's `end` is told to its `repeat`, if the item there is one
 abbrev pub ended : List Item → ℕ → ℕ → List Item
 ended items start place = option_map_or (λ item. with_end items start place item item.stmt) (slice_get items start) items
 
@@ -18,6 +19,7 @@ abbrev pub told : List Item → ℕ → Stmt → List Item
 told items place (stmt.End start) = ended items start place
 told items place _ = items
 
+-- what the item at a place tells an earlier one: an `end` tells its `repeat`
 abbrev pub told_at : List Item → ℕ → List Item
 told_at items place = option_map_or (λ item. told items place item.stmt) (slice_get items place) items
 

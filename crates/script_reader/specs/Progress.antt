@@ -60,6 +60,7 @@ register_of names name = position_or_len (λ other. bytes_eq other name) names
 abbrev pub with_name : List (List ℕ) → List ℕ → List (List ℕ)
 with_name names name = if register_of names name == length names then names ++ name ∷ [] else names
 
+-- a name is known from here on
 abbrev pub named : Progress → List ℕ → Progress
 named p name = record p { names = with_name p.names name }
 
@@ -113,6 +114,7 @@ place line p stmt = do
 abbrev pub rank_said : ℕ → ℕ → Result ℕ FaultKind
 rank_said nue number = if nat_lt number nue then Ok number else Err kind.RankRange
 
+-- the peer that was said: a number is a rank of the run
 abbrev pub peer_in : ℕ → PeerSaid → Result Peer FaultKind
 peer_in nue (peer.Abs rank) = do
   rank ← rank_said nue rank
@@ -124,6 +126,7 @@ peer_in nue (peer.Minus down) = Ok (to.Minus down)
 abbrev pub small : ℕ → ℕ
 small number = min number 255
 
+-- the rule of a split by its colour, its parent and its number of parts
 abbrev pub rule_said : Colour → ℕ → ℕ → CommRule
 rule_said colour.Mod parent parts = rule.Mod parent parts
 rule_said colour.Div parent parts = rule.Div parent parts
@@ -132,6 +135,7 @@ rule_said colour.Div parent parts = rule.Div parent parts
 abbrev pub open_section : Progress → Who → Result Progress FaultKind
 open_section p who = if length (open_of (past p)) == 0 then Ok (record p { section = Some who }) else Err kind.UnclosedRepeat
 
+-- what is read after the head of a section, which opens it
 abbrev pub after_section : Progress → Section → Result Progress FaultKind
 after_section p section.All = open_section p ranks.All
 after_section p section.Even = open_section p ranks.Even
@@ -141,6 +145,7 @@ after_section p (section.Span first last) = do
   last ← rank_said p.nue last
   if nat_lt last first then Err kind.RankRange else open_section p (ranks.Span first last)
 
+-- what is read after a statement of the rank's own: its item, or why it is refused
 abbrev pub after_local : ℕ → Progress → Local → Result Progress FaultKind
 after_local line p (local.Bytes name bytes) = place line (named p name) (stmt.Bytes (register_of p.names name) bytes)
 after_local line p (local.Fill name len start) = place line (named p name) (stmt.Fill (register_of p.names name) len start)
@@ -149,6 +154,7 @@ after_local line p (local.Apply op ty dst src) =
     place line (named (named p dst) src) (stmt.Apply op ty (register_of p.names dst) (register_of (named p dst).names src))
 after_local line p (local.Print name form) = place line (named p name) (stmt.Print (register_of p.names name) form)
 
+-- what is read after a statement of a message: its item, or why it is refused
 abbrev pub after_message : ℕ → Progress → Message → Result Progress FaultKind
 after_message line p (message.Send peer name) = do
   peer ← peer_in p.nue peer
@@ -160,6 +166,7 @@ after_message line p (message.Recv peer name len) = do
   peer ← peer_in p.nue peer
   place line (named p name) (stmt.Recv peer (register_of p.names name) len)
 
+-- what is read after a statement of a group: its item, or why it is refused
 abbrev pub after_group : ℕ → Progress → Collective → Result Progress FaultKind
 after_group line p (group.Barrier comm) = place line p (stmt.Barrier (small comm))
 after_group line p (group.Split comm parent colour parts) = place line p (stmt.Split (small comm) (rule_said colour (small parent) parts))

@@ -19,6 +19,7 @@ abbrev pub is_number : Option ℕ → ℕ → Bool
 is_number None wanted = false
 is_number (Some number) wanted = number == wanted
 
+-- the words of the first line that asks for version 2
 abbrev pub says_two : List (List ℕ) → Bool
 says_two (first ∷ number ∷ []) = bytes_eq first (codes "rcce") && is_number (number_of number) 2
 says_two _ = false

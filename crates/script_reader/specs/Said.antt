@@ -30,15 +30,19 @@ use Rattle.script_reader.specs.Words.{bytes_of, is_name, number_of, value_of_wor
 abbrev pub number_said : List ℕ → Result ℕ FaultKind
 number_said word = ok_or (number_of word) kind.BadNumber
 
+-- a number within two bounds
 abbrev pub from_range : ℕ → ℕ → ℕ → Result ℕ FaultKind
 from_range low high number = if nat_le low number && nat_le number high then Ok number else Err kind.BadNumber
 
+-- a number within two bounds, as a word
 abbrev pub range_said : ℕ → ℕ → List ℕ → Result ℕ FaultKind
 range_said low high word = number_said word >>= from_range low high
 
+-- bytes in hex
 abbrev pub hex_said : List ℕ → Result (List ℕ) FaultKind
 hex_said word = ok_or (bytes_of word) kind.BadHex
 
+-- the name of a register
 abbrev pub name_said : List ℕ → Result (List ℕ) FaultKind
 name_said word = if is_name word then Ok word else Err kind.BadName
 
@@ -49,6 +53,7 @@ type_said word =
     else if bytes_eq word (codes "long") then Ok ty.Long
     else Err kind.UnknownStatement
 
+-- the name of a fold
 abbrev pub operation_said : List ℕ → Result Op FaultKind
 operation_said word =
     if bytes_eq word (codes "sum") then Ok op.Sum
@@ -57,12 +62,14 @@ operation_said word =
     else if bytes_eq word (codes "prod") then Ok op.Prod
     else Err kind.UnknownStatement
 
+-- the word `mod` or `div`
 abbrev pub colour_said : List ℕ → Result Colour FaultKind
 colour_said word =
     if bytes_eq word (codes "mod") then Ok colour.Mod
     else if bytes_eq word (codes "div") then Ok colour.Div
     else Err kind.UnknownStatement
 
+-- the word `of`
 abbrev pub of_said : List ℕ → Result Bool FaultKind
 of_said word = if bytes_eq word (codes "of") then Ok true else Err kind.UnknownStatement
 
@@ -98,11 +105,13 @@ span_said first last = do
 abbrev pub dash_of : List ℕ → ℕ
 dash_of word = position_or_len (λ b. b == 45) word
 
+-- the ranks of a section: one, or two with a dash between them
 abbrev pub ranks_said : List ℕ → Result Said FaultKind
 ranks_said word =
     if dash_of word == length word then span_said word word
     else span_said (take (dash_of word) word) (drop (dash_of word + 1) word)
 
+-- the words behind `ue`
 abbrev pub ue_said : List (List ℕ) → Result Said FaultKind
 ue_said (ranks ∷ []) = ranks_said ranks
 ue_said _ = Err kind.WrongCount
@@ -122,6 +131,7 @@ values_named type name values = do
   name ← name_said name
   Ok (said.Local (local.Bytes name bytes))
 
+-- the words behind `ints` or `longs`: a name, and one value at least
 abbrev pub numbers_said : Ty → List (List ℕ) → Result Said FaultKind
 numbers_said type [] = Err kind.WrongCount
 numbers_said type (name ∷ values) = if length values == 0 then Err kind.WrongCount else values_named type name values
@@ -134,6 +144,7 @@ fill_words name len start = do
   name ← name_said name
   Ok (said.Local (local.Fill name len start))
 
+-- the words behind `fill`
 abbrev pub fill_said : List (List ℕ) → Result Said FaultKind
 fill_said (name ∷ len ∷ start ∷ []) = fill_words name len start
 fill_said _ = Err kind.WrongCount
@@ -155,6 +166,7 @@ apply_words operation type dst src = do
   src ← name_said src
   Ok (said.Local (local.Apply operation type dst src))
 
+-- the words behind `apply`
 abbrev pub apply_said : List (List ℕ) → Result Said FaultKind
 apply_said (operation ∷ type ∷ dst ∷ src ∷ []) = apply_words operation type dst src
 apply_said _ = Err kind.WrongCount
@@ -165,12 +177,14 @@ hex_print_said name = do
   name ← name_said name
   Ok (said.Local (local.Print name form.Hex))
 
+-- the words behind `print`, with a type
 abbrev pub typed_print_said : List ℕ → List ℕ → Result Said FaultKind
 typed_print_said type name = do
   type ← type_said type
   name ← name_said name
   Ok (said.Local (local.Print name (form.Decimal type)))
 
+-- the words behind `print`: a name, with a type before it or none
 abbrev pub print_said : List (List ℕ) → Result Said FaultKind
 print_said (name ∷ []) = hex_print_said name
 print_said (type ∷ name ∷ []) = typed_print_said type name
@@ -183,6 +197,7 @@ send_words peer name = do
   name ← name_said name
   Ok (said.Message (message.Send peer name))
 
+-- the words behind `send`
 abbrev pub send_said : List (List ℕ) → Result Said FaultKind
 send_said (peer ∷ name ∷ []) = send_words peer name
 send_said _ = Err kind.WrongCount
@@ -194,6 +209,7 @@ post_words peer name = do
   name ← name_said name
   Ok (said.Message (message.Post peer name))
 
+-- the words behind `post`
 abbrev pub post_said : List (List ℕ) → Result Said FaultKind
 post_said (peer ∷ name ∷ []) = post_words peer name
 post_said _ = Err kind.WrongCount
@@ -206,6 +222,7 @@ recv_words peer name len = do
   name ← name_said name
   Ok (said.Message (message.Recv peer name len))
 
+-- the words behind `recv`
 abbrev pub recv_said : List (List ℕ) → Result Said FaultKind
 recv_said (peer ∷ name ∷ len ∷ []) = recv_words peer name len
 recv_said _ = Err kind.WrongCount
@@ -251,6 +268,7 @@ bcast_words comm root name len = do
   name ← name_said name
   Ok (said.Collective (group.Bcast comm root name len))
 
+-- the words behind `bcast`
 abbrev pub bcast_said : List (List ℕ) → Result Said FaultKind
 bcast_said (comm ∷ root ∷ name ∷ len ∷ []) = bcast_words comm root name len
 bcast_said _ = Err kind.WrongCount
@@ -266,6 +284,7 @@ reduce_words comm root operation type dst src = do
   src ← name_said src
   Ok (said.Collective (group.Reduce comm root operation type dst src))
 
+-- the words behind `reduce`
 abbrev pub reduce_said : List (List ℕ) → Result Said FaultKind
 reduce_said (comm ∷ root ∷ operation ∷ type ∷ dst ∷ src ∷ []) = reduce_words comm root operation type dst src
 reduce_said _ = Err kind.WrongCount
@@ -280,6 +299,7 @@ allreduce_words comm operation type dst src = do
   src ← name_said src
   Ok (said.Collective (group.Allreduce comm operation type dst src))
 
+-- the words behind `allreduce`
 abbrev pub allreduce_said : List (List ℕ) → Result Said FaultKind
 allreduce_said (comm ∷ operation ∷ type ∷ dst ∷ src ∷ []) = allreduce_words comm operation type dst src
 allreduce_said _ = Err kind.WrongCount

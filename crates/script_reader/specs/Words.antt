@@ -27,6 +27,7 @@ abbrev pub lines_before : List (List ℕ) → ℕ → Option (List ℕ) → ℕ
 lines_before lines others None = 0
 lines_before lines others (Some last) = if length last == 0 then others else length lines
 
+-- how many lines a file has
 abbrev pub line_count : List (List ℕ) → ℕ
 line_count lines = lines_before lines (length lines - 1) (slice_get lines (length lines - 1))
 
@@ -66,6 +67,7 @@ abbrev pub bytes_above : Ty → ℕ → List ℕ
 bytes_above ty.Int size = to_le_bytes w32 size
 bytes_above ty.Long size = to_le_bytes w64 size
 
+-- the bytes of a number of a type that lies so far below zero
 abbrev pub bytes_below : Ty → ℕ → List ℕ
 bytes_below ty.Int size = to_le_bytes w32 ((2 ^ 32 - size) % 2 ^ 32)
 bytes_below ty.Long size = to_le_bytes w64 ((2 ^ 64 - size) % 2 ^ 64)
@@ -77,6 +79,7 @@ value_of_word ty word =
     then option_map (bytes_below ty) (decimal_of 20 (greatest ty + 1) (drop 1 word))
     else option_map (bytes_above ty) (decimal_of 20 (greatest ty) word)
 
+-- a letter, a digit or an underscore
 abbrev pub is_name_byte : ℕ → Bool
 is_name_byte b = is_ascii_alphabetic b || is_ascii_digit b || b == 95
 
