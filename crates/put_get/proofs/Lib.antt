@@ -8,3 +8,4 @@ pub mod WorkLemmas
 pub mod FillLemmas
 pub mod SinceLemmas
 pub mod ReadLemmas
+pub mod HeapLemmas
