@@ -1,6 +1,7 @@
--- A log has exactly one verdict.
-use Rattle.std.proofs.Common.{◌≡◌, ◌≢◌, ◌⊎◌, ℕ, zero, suc, ◌+◌, ◌<◌, ◌≤◌, true, false, List, [], ◌∷◌, ◌++◌, length, None, inl, inr, ⊎_elim, refl, sym, ◌∙◌, ap, subst, length-append, arith}
+-- A log has exactly one verdict, and a function tells it of each log that a file may have.
+use Rattle.std.proofs.Common.{◌≡◌, ◌≢◌, ◌⊎◌, ℕ, zero, suc, ◌+◌, ◌<◌, ◌≤◌, true, false, List, [], ◌∷◌, ◌++◌, length, take, None, inl, inr, ⊎_elim, refl, sym, ◌∙◌, ap, subst, length-append, arith}
 use Rattle.std.proofs.lemmas.Bool.{cases_lt, cases_order}
+use Rattle.std.proofs.lemmas.List.{get_or_past, length-take, take_all}
 use Rattle.scc_base.specs.Calls.{DataCall}
 use Rattle.scc_base.specs.Communicators.{key_of}
 use Rattle.scc_base.specs.Runs.{Runs, EndsAt}
@@ -12,7 +13,8 @@ use Rattle.rcce_audit.specs.declared.verdicts.Verdict.{Verdict}
 use Rattle.rcce_audit.specs.declared.verdicts.Verdict.TheVariants as verdict
 use Rattle.rcce_audit.specs.Logs.{LogView, calls_of}
 use Rattle.rcce_audit.specs.Standings.{count_left}
-use Rattle.rcce_audit.specs.Verdicts.{Tells, IsVerdict}
+use Rattle.rcce_audit.specs.Texts.{IsFileLog}
+use Rattle.rcce_audit.specs.Verdicts.{IsJudge, Tells, IsVerdict}
 use Rattle.rcce_audit.proofs.StandingLemmas.{no_step, one_end_told, own_fewer}
 
 -- two verdicts of one standing
@@ -132,3 +134,25 @@ verdict_found log none =
       where
         left_none : (f : Standing) (n : ℕ) → Runs (OwnStep log.nue (key_of log.comms)) (EndsAt (OwnStep log.nue (key_of log.comms)) f) n (record { calls = calls_of log; slots = λ k. None }) → (k : ℕ) → calls_of log k ≡ [] → f.calls k ≡ []
         left_none f n run k nothing = let used = used_up log.nue (key_of log.comms) n _ f run k in none_behind used.0 (f.calls k) (sym used.1 ∙ nothing)
+
+-- ---- a judge
+
+-- a log with the lists of ranks 0 to 47 alone
+abbrev cut : LogView → LogView
+cut log = record log { lists = take 48 log.lists }
+
+cut_ends : (log : LogView) (k : ℕ) → 48 ≤ k → calls_of (cut log) k ≡ []
+cut_ends log k past =
+    let short = length-take 48 log.lists in
+    get_or_past (take 48 log.lists) k [] (omega (arith, short, past))
+
+abbrev judged : (log : LogView) → (v : Verdict) × IsVerdict (cut log) v
+judged log = verdict_found (cut log) (cut_ends log)
+
+pub judge_is : (judge : LogView → Verdict) × IsJudge judge
+judge_is = (
+  λ log. (judged log).0,
+  λ log is.
+      let ranks = is.written.ranks in
+      subst (λ (lists : List (List DataCall)). IsVerdict (record log { lists = lists }) (judged log).0) (take_all 48 log.lists (omega (arith, ranks))) (judged log).1,
+)

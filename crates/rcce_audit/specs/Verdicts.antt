@@ -7,6 +7,7 @@ use Rattle.scc_proto.specs.Legality.{Outgoing, Standing, OwnStep, IsLegal, no_sl
 use Rattle.rcce_audit.specs.declared.verdicts.Verdict.{Verdict}
 use Rattle.rcce_audit.specs.declared.verdicts.Verdict.TheVariants as verdict
 use Rattle.rcce_audit.specs.Logs.{LogView, calls_of}
+use Rattle.rcce_audit.specs.Texts.{IsFileLog}
 
 -- the calls of a log are legal: from empty slots the steps of legality use them up wholly. Slots may be full at the end
 abbrev pub IsLegalLog : LogView → Type 0
@@ -32,3 +33,7 @@ Tells calls (verdict.No rank call) e = IsFirstLeft calls e rank call
 -- the verdict of a log: what the standing tells at which its steps end
 abbrev pub IsVerdict : LogView → Verdict → Type 0
 IsVerdict log v = (e : Standing) × EndsIn log e × Tells (calls_of log) v e
+
+-- a function that tells the verdict of each log that a file may have
+abbrev pub IsJudge : (LogView → Verdict) → Type 0
+IsJudge judge = (log : LogView) → IsFileLog log → IsVerdict log (judge log)

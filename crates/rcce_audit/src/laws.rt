@@ -6,7 +6,7 @@ ghost use Rattle.rcce_audit.specs.Logs.{IsLog, LogView, calls_of};
 ghost use Rattle.rcce_audit.specs.Sizes.{AreFew};
 ghost use Rattle.rcce_audit.specs.Texts.{IsFileLog, log_text};
 ghost use Rattle.rcce_audit.specs.declared.verdicts.Verdict.{Verdict};
-ghost use Rattle.rcce_audit.specs.Verdicts.{IsVerdict};
+ghost use Rattle.rcce_audit.specs.Verdicts.{IsJudge, IsVerdict};
 
 /// The text of a log and its reading are inverse to each other: a text that says a log is the text of that log, and the
 /// text of a log says the log.
@@ -22,8 +22,9 @@ pub fn size_law()
     ensures fits { (log : LogView) → IsLog log → ((r : ℕ) → AreFew (calls_of log r)) → IsFileLog log }
 {}
 
-/// A log has one verdict.
+/// A log has one verdict, and some function tells the verdict of each log that a file may have.
 pub fn verdict_law()
     ensures once { (log : LogView) (v w : Verdict) → IsVerdict log v → IsVerdict log w → v ≡ w }
     ensures found { (log : LogView) → ((k : ℕ) → 48 ≤ k → calls_of log k ≡ []) → (v : Verdict) × IsVerdict log v }
+    ensures judge { (judge : LogView → Verdict) × IsJudge judge }
 {}
