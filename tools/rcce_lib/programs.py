@@ -1,0 +1,107 @@
+"""Finds the proved programs and runs them; what they complain of becomes a stop of the command."""
+from __future__ import annotations
+
+import os
+import re
+import subprocess
+from dataclasses import dataclass, field
+
+from rcce_lib.kinds import SCRIPT, wanted
+from rcce_lib.progress import Progress
+from rcce_lib.stops import Failure, Fault, Refused, Stop
+
+HERE = os.path.dirname(os.path.dirname(os.path.realpath(__file__)))
+# where the programs stand beside the modules: installed, and in the repository
+PLACES = (".", "..", "../bin", "../../bin", "../libexec", "../libexec/rcce")
+# what a program ends with that ran a script or judged a log: all is well, or it is not
+ANSWERS = (0, 3)
+
+
+def find_program(name: str) -> str:
+    """The path of a program: in the folder that RCCE_PROGRAMS names, else beside this command."""
+    given = os.environ.get("RCCE_PROGRAMS")
+    folders = [given] if given else [os.path.join(HERE, place) for place in PLACES]
+    for folder in folders:
+        path = os.path.normpath(os.path.join(folder, name))
+        if os.path.isfile(path) and os.access(path, os.X_OK):
+            return os.path.abspath(path)
+    where = f"the folder of RCCE_PROGRAMS, {given}" if given else f"the folders beside {HERE}"
+    raise Failure(f"the program {name} is not in {where}")
+
+
+def version() -> str:
+    """The version of the command: what the file VERSION beside it says."""
+    for place in (".", "..", "../share/rcce", "../../share/rcce"):
+        try:
+            with open(os.path.join(HERE, place, "VERSION"), encoding="ascii") as file:
+                return file.read().strip()
+        except OSError:
+            continue
+    return "0.1.0"
+
+
+@dataclass(frozen=True)
+class Ran:
+    """A run of a program that gave an answer."""
+
+    program: str
+    out: str
+    err: list[str]
+    status: int
+
+
+@dataclass
+class Programs:
+    """Runs the programs, and keeps which file the user calls how: `files` has by its path a name and a source of kinds."""
+
+    progress: Progress
+    files: dict[str, tuple[str, str]] = field(default_factory=dict)
+    notes: list[str] = field(default_factory=list)
+
+    def name(self, path: str) -> str:
+        """How the user calls a file."""
+        return self.files.get(path, (path, ""))[0]
+
+    def run(self, program: str, *words: str, stream: bool = False) -> Ran:
+        """The answer of a program; its output goes straight on where it is to be streamed."""
+        path = find_program(program)
+        self.progress.doing = " ".join([program, *map(self.name, words)])
+        try:
+            ran = subprocess.run(
+                [path, *words],
+                stdin=subprocess.DEVNULL,
+                stdout=None if stream else subprocess.PIPE,
+                stderr=subprocess.PIPE,
+                encoding="utf-8",
+                errors="surrogateescape",
+            )
+        except OSError as error:
+            raise Failure(f"{path} does not start: {error.strerror}") from error
+        self.progress.doing = f"reading what {program} says"
+        lines = ran.stderr.splitlines()
+        if ran.returncode not in ANSWERS:
+            raise self._stop(program, ran.returncode, lines)
+        own = [line for line in lines if _is_own(program, line)]
+        self.notes += [line for line in lines if line not in own]
+        return Ran(program, ran.stdout or "", own, ran.returncode)
+
+    def _stop(self, program: str, status: int, lines: list[str]) -> Stop:
+        """What a status that is no answer comes to."""
+        last = lines[-1] if lines else ""
+        told = last.startswith(f"{program}: ")
+        said = last.removeprefix(f"{program}: ")
+        if status == 2 and told and (found := re.fullmatch(r"(.*) line (\d+): (\w+)", said)):
+            name, source = self.files.get(found[1], (found[1], SCRIPT))
+            return Refused(Fault(name, int(found[2]), found[3], wanted(found[3], source)))
+        if status == 5 and told and (found := re.fullmatch(r"(.*): (absent|read fault)", said)):
+            return Stop(f"{self.name(found[1])}: {found[2]}", 5)
+        if status in (1, 4) and told:
+            return Stop(last, status)
+        if status == 6:
+            return Stop(f"{program}: a write failed", 6)
+        return Failure(f"{program} ended with status {status}" + (f": {last}" if last else ""))
+
+
+def _is_own(program: str, line: str) -> bool:
+    """Whether a line beside an answer is the program's own, and no note of the script that starts it."""
+    return not line.startswith((f"{program}: ", "build: ")) or line == "rccemesh: not finished"

@@ -1,0 +1,200 @@
+"""The words of the command: what each subcommand takes, and which part of it answers."""
+from __future__ import annotations
+
+import argparse
+import os
+import sys
+from typing import Callable, NoReturn
+
+from rcce_lib.inputs import Given, Scratch, read
+from rcce_lib.progress import Progress
+from rcce_lib.programs import Programs, version
+from rcce_lib.shown import Paint, say, say_object
+from rcce_lib.stops import OWN_FAILURE, Refused, Stop
+
+EPILOG = """FILE - is standard input. Where -nue is left out, the number of UEs is the one that the first line of the script
+names, as those of examples/ do: # rccerun -nue 2 hello.rcce. A fault is told as FILE:LINE: KIND: what is wanted, and rcce
+explain KIND has an example. Status: 0 all is well; 1 wrong words of a program, or rcce grade finds a difference; 2 a file is
+refused, or wrong words of rcce; 3 a UE does not finish, or a log is not legal; 4 no memory; 5 a file is absent or can't be
+read; 6 a write failed; 70 rcce itself failed."""
+
+
+def number(least: int, most: int) -> Callable[[str], int]:
+    """A reader of numbers of 1 to 10 digits within a range."""
+
+    def read_number(word: str) -> int:
+        if not (word.isascii() and word.isdigit() and len(word) <= 10 and least <= int(word) <= most):
+            raise argparse.ArgumentTypeError(f"a number from {least} to {most} is wanted, not {word!r}")
+        return int(word)
+
+    return read_number
+
+
+class Parser(argparse.ArgumentParser):
+    """A parser that tells wrong words in one line."""
+
+    def error(self, message: str) -> NoReturn:
+        self.exit(2, f"{self.prog}: {message} ({self.prog} --help tells the words)\n")
+
+
+class Work:
+    """What a subcommand works with: its words, the programs, and the files that it reads."""
+
+    def __init__(self, words: argparse.Namespace, parser: argparse.ArgumentParser, progress: Progress, scratch: Scratch) -> None:
+        self.words = words
+        self.parser = parser
+        self.scratch = scratch
+        self.programs = Programs(progress)
+        self.paint = Paint(sys.stdout)
+
+    def read(self, name: str) -> Given:
+        """A file that the user names."""
+        return read(name, self.scratch)
+
+    def script(self) -> tuple[Given, int]:
+        """The script and its number of UEs."""
+        given = self.read(self.words.script)
+        ues = self.words.nue or given.named_ues()
+        if not ues:
+            self.parser.error("-nue N is missing, and the first line of the script does not name it")
+        return given, ues
+
+    def answer(self, found: dict[str, object], text_of: Callable[[dict[str, object], Paint], str]) -> int:
+        """Writes an answer, as JSON or as text, and gives its status."""
+        if self.words.json:
+            say_object(found)
+        else:
+            say(text_of(found, self.paint))
+        return int(found["status"])  # type: ignore[call-overload]
+
+
+def do_run(work: Work) -> int:
+    from rcce_lib import running
+
+    asked = work.words
+    if asked.gen is not None:
+        if asked.script or asked.f or asked.bits or asked.evict is not None or asked.serial is not None:
+            work.parser.error("-gen takes no script and no option but -nue")
+        ues, words, name = asked.nue or work.parser.error("-nue N is missing"), ["-gen", str(asked.gen)], None
+    else:
+        if not asked.script:
+            work.parser.error("a script is missing")
+        script, ues = work.script()
+        words, name = _run_words(work, script), script.name
+    words = ["-nue", str(ues), *words]
+    if asked.json:
+        return work.answer(running.run_object(work.programs, words, name, ues), lambda found, paint: "")
+    return running.run(work.programs, words)
+
+
+def _run_words(work: Work, script: Given) -> list[str]:
+    """The options of a run, and its script."""
+    asked = work.words
+    words = ["-bits"] if asked.bits else []
+    for option in ("evict", "serial"):
+        if getattr(asked, option) is not None:
+            words += [f"-{option}", str(getattr(asked, option))]
+    if asked.f:
+        hosts = work.read(asked.f)
+        work.programs.files[hosts.path] = hosts.name, "host file"
+        words += ["-f", hosts.path]
+    work.programs.files[script.path] = script.name, "script"
+    return [*words, script.path]
+
+
+def do_why(work: Work) -> int:
+    from rcce_lib import joined, why
+
+    return work.answer(why.explain(joined.ask(work.programs, *work.script())), why.text_of)
+
+
+def do_sum(work: Work) -> int:
+    from rcce_lib import joined, sums
+
+    return work.answer(sums.count(joined.ask(work.programs, *work.script())), sums.text_of)
+
+
+def build_parser() -> Parser:
+    """The parser of all words."""
+    about = "Runs and explains scripts of RCCE by the proved programs of this repository."
+    top = Parser("rcce", description=about, epilog=EPILOG, allow_abbrev=False)
+    top.add_argument("--version", action="version", version=f"rcce {version()}")
+    subs = top.add_subparsers(metavar="COMMAND", required=True)
+
+    def add(name: str, about: str, does: Callable[[Work], int], script: bool = True) -> argparse.ArgumentParser:
+        sub = subs.add_parser(name, help=about, description=about[0].upper() + about[1:] + ".", epilog=EPILOG, allow_abbrev=False)
+        sub.set_defaults(does=does, parser=sub)
+        sub.add_argument("--version", action="version", version=f"rcce {version()}")
+        sub.add_argument("--json", action="store_true", help="write one object as JSON (docs/TOOLS.md has its fields)")
+        sub.add_argument("--quiet", action="store_true", help="do not tell that long work goes on")
+        if script:
+            sub.add_argument("-nue", metavar="N", type=number(1, 48), help="how many UEs there are, 1 to 48")
+            sub.add_argument("script", metavar="SCRIPT", help="the script, or - for standard input")
+        return sub
+
+    add_run(add("run", "run a script over the chip and print what its UEs print", do_run, script=False))
+    add("why", "tell why a script does not finish: who waits for whom, where, and what would help", do_why)
+    add("sum", "count the messages, bytes, barriers and the longest chain of messages of a script", do_sum)
+    return top
+
+
+def add_run(sub: argparse.ArgumentParser) -> None:
+    """The options of a run."""
+    sub.add_argument("-nue", metavar="N", type=number(1, 48), help="how many UEs there are, 1 to 48")
+    sub.add_argument("-f", metavar="HOSTS", help="a file with the core of each rank")
+    sub.add_argument("-evict", metavar="S", type=number(0, 2**32 - 1), help="let cached lines leave at random, drawn from the seed S")
+    sub.add_argument("-serial", metavar="S", type=number(0, 2**32 - 1), help="run all UEs on one thread, in an order drawn from S")
+    sub.add_argument("-bits", action="store_true", help="take one-bit flags under test-and-set registers")
+    sub.add_argument("-gen", metavar="S", type=number(0, 65535), help="run a script that is made of the number S")
+    sub.add_argument("script", metavar="SCRIPT", nargs="?", help="the script, or - for standard input")
+
+
+def main(argv: list[str]) -> int:
+    """Does what the words ask, and gives the status."""
+    parser = build_parser()
+    for word in argv:
+        # argparse would read it as -f with a file's name
+        if word.startswith("-f") and word != "-f":
+            parser.error(f"unrecognized arguments: {word}")
+    words = parser.parse_args(argv)
+    scratch = Scratch()
+    try:
+        with Progress(words.quiet) as progress:
+            work = Work(words, words.parser, progress, scratch)
+            try:
+                status = words.does(work)
+            finally:
+                for note in work.programs.notes:
+                    print(note, file=sys.stderr)
+        sys.stdout.flush()
+        return status
+    except Stop as stop:
+        return stopped(stop, words)
+    except KeyboardInterrupt:
+        print("rcce: interrupted", file=sys.stderr)
+        return 130
+    except OSError as error:
+        return write_failed(error)
+    finally:
+        scratch.close()
+
+
+def stopped(stop: Stop, words: argparse.Namespace) -> int:
+    """Tells why there is no answer: on standard error, and with --json as an object too."""
+    if words.json:
+        found: dict[str, object] = {"status": stop.status, "error": stop.line}
+        if isinstance(stop, Refused):
+            found["fault"] = vars(stop.fault)
+        say_object(found)
+    print(Paint(sys.stderr)("bad", stop.line), file=sys.stderr)
+    return stop.status
+
+
+def write_failed(error: OSError) -> int:
+    """A write failed: nothing more is written."""
+    # what is still held back would fail again when the interpreter ends
+    os.dup2(os.open(os.devnull, os.O_WRONLY), 1)
+    if isinstance(error, BrokenPipeError):
+        return 6
+    print(f"rcce: {error.strerror}", file=sys.stderr)
+    return 6 if error.filename is None else OWN_FAILURE
