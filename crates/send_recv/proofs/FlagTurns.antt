@@ -28,7 +28,8 @@ use Rattle.send_recv.specs.Steps.{own_core, core_of, sent_flag}
 use Rattle.sync_flags.specs.Tries.{AtRegister, tries_at, all_vain, Tried, NoTry, Fruitful}
 use Rattle.send_recv.specs.Tries.{aim_of, aim_at}
 use Rattle.send_recv.specs.Turns.{KeepsAllButMessages}
-use Rattle.send_recv.proofs.LookTurn.{Turns, stands_after}
+use Rattle.send_recv.specs.Ranks.{receiving}
+use Rattle.send_recv.proofs.LookTurn.{recv_does, Turns, stands_after}
 use Rattle.send_recv.proofs.HeadTurn.{post_kept}
 use Rattle.send_recv.proofs.FlagMoves.{may_lower, sent_is_lowered}
 use Rattle.send_recv.proofs.ChangeFacts.{change_facts}
@@ -193,6 +194,7 @@ lower_goes b s t c d op bytes lines valid r lower changes =
       turned = record {
         events = facts.events;
         did = facts.did;
+        does = recv_does (receiving s c op bytes) Lower true t d lower changes;
         tried = went_on layout (recv_spot s.seat op) (own_core s.seat) facts.events
             (λ e. ap (λ (st : RecvStage). spot_by layout (own_core s.seat) (core_of s.seat op.from) op.from st) lower ∙ spot_lower_lines layout (own_core s.seat) (core_of s.seat op.from) op.from e)
             (at_lower s.seat op lower) facts.tries facts.vain;

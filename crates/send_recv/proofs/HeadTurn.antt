@@ -35,7 +35,8 @@ use Rattle.send_recv.proofs.NotedReads.{HasWords, line_notes}
 use Rattle.send_recv.proofs.Sources.{with_header, header_source, IsNotedHeader, header_condition}
 use Rattle.send_recv.proofs.LineReads.{NoTries, reads_whole, read_elsewhere}
 use Rattle.send_recv.proofs.TryLemmas.{le_self}
-use Rattle.send_recv.proofs.LookTurn.{Turns, stands_after}
+use Rattle.send_recv.specs.Ranks.{receiving}
+use Rattle.send_recv.proofs.LookTurn.{recv_does, Turns, stands_after}
 
 -- what is there may be put
 pub put_self : {A : Type 0} (table : ℕ → A) (i : ℕ) (x : A) → table i ≡ x → table ≡ put table i x
@@ -183,6 +184,7 @@ head_turn s t c d op now bytes words answer valid r header sound reads (Same e n
       turned = record {
         events = ev.events;
         did = ev.did;
+        does = recv_does (receiving s c op bytes) Header true t d header (words, reads);
         tried = NoTry (ap (λ (o : Option Spot). aim_at s.seat.setup.layout o) (at_header s.seat op header)) refl;
         freed = ev.tries.freed;
         elsewhere = λ at spot ne. head_elsewhere s.seat op ev.events at valid r.peers ev.tries spot;
@@ -226,6 +228,7 @@ head_turn s t c d op now bytes words answer valid r header sound reads (Differs 
       turned = record {
         events = ev.events;
         did = ev.did;
+        does = recv_does (receiving s c op bytes) Header true t d header (words, reads);
         tried = NoTry (ap (λ (o : Option Spot). aim_at s.seat.setup.layout o) (at_header s.seat op header)) refl;
         freed = ev.tries.freed;
         elsewhere = λ at spot ne. head_elsewhere s.seat op ev.events at valid r.peers ev.tries spot;

@@ -28,7 +28,8 @@ use Rattle.sync_flags.specs.Tries.{NoTry}
 use Rattle.send_recv.specs.Tries.{aim_at}
 use Rattle.send_recv.specs.Turns.{KeepsAllButMessages, LastHeld}
 use Rattle.send_recv.proofs.LineReads.{reads_whole, read_elsewhere}
-use Rattle.send_recv.proofs.LookTurn.{Turns, holds_kept}
+use Rattle.send_recv.specs.Ranks.{receiving}
+use Rattle.send_recv.proofs.LookTurn.{recv_does, Turns, holds_kept}
 use Rattle.send_recv.proofs.HeadTurn.{peer_below, post_kept}
 use Rattle.send_recv.proofs.LinesTurn.{taken_line}
 
@@ -178,6 +179,7 @@ lines_by b s t c d op i bytes after words next valid r stage reads same put befo
       turned = record {
         events = ev.events;
         did = ev.did;
+        does = recv_does (receiving s c op bytes) (Lines i) true t d stage (words, reads);
         tried = NoTry (ap (λ (st : RecvStage). aim_at layout (spot_by layout (own_core s.seat) (core_of s.seat op.from) op.from st)) stage
             ∙ ap (λ (o : Option Spot). aim_at layout o) (spot_lines layout (own_core s.seat) (core_of s.seat op.from) op.from i)) refl;
         freed = ev.tries.freed;

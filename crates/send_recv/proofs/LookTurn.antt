@@ -24,10 +24,10 @@ use Rattle.send_recv.specs.declared.answers.RecvTurn.TheVariants.{Moved, Waiting
 use Rattle.send_recv.specs.Chunks.{chunk_count, chunk_start, chunk_len, lines_from}
 use Rattle.send_recv.specs.Flags.{Looks}
 use Rattle.send_recv.specs.Ops.{RecvAt, is_received}
-use Rattle.send_recv.specs.Receiving.{IsAtStage, IsReceiving, RecvStands, RecvTurned, between, progress_at, spot_by, recv_spot, recv_left, recv_left_by, lines_now, lines_left, lines_left_by, flag_lines, is_look, filled_to, filled_by}
+use Rattle.send_recv.specs.Receiving.{IsAtStage, IsReceiving, RecvStands, RecvDoes, RecvTurned, between, progress_at, spot_by, recv_spot, recv_left, recv_left_by, lines_now, lines_left, lines_left_by, flag_lines, is_look, filled_to, filled_by}
 use Rattle.send_recv.specs.Steps.{own_core, core_of, sent_flag, flag_spot, after_look, recv_or_waits}
 use Rattle.send_recv.specs.Turns.{HoldsNone, IsSamePost, KeepsAllButMessages}
-use Rattle.send_recv.specs.Ranks.{receiving}
+use Rattle.send_recv.specs.Ranks.{Receiver, receiving}
 use Rattle.send_recv.proofs.LookLemmas.{IsLooked, looks_at_sent}
 use Rattle.send_recv.proofs.TryLemmas.{look_tried, sent_spot, look_elsewhere, le_self, sent_word, look_held}
 use Rattle.put_get.proofs.FillLemmas.{fills_out, fills_evictions}
@@ -90,6 +90,10 @@ at_look seat op look =
 
 -- ---- the turn
 
+-- what a turn did, where its stage is known
+pub recv_does : (old : Receiver) (stage : RecvStage) (done : Bool) (t : Sight) (d : Private) → old.op.stage ≡ stage → RecvDoes old stage done t d → RecvDoes old old.op.stage done t d
+recv_does old stage done t d is does = subst (λ (st : RecvStage). RecvDoes old st done t d) (sym is) does
+
 -- what the stages of a receive that follow a look without a message word in between need
 pub stands_after : (seat : Seat) (rec new : Record) (c d : Private) (op now : RecvAt) (bytes : List ℕ) → IsReceiving seat rec c op bytes → now.from ≡ op.from → now.head ≡ op.head → now.chunk ≡ op.chunk
     → d.out ≡ None → new.held ≡ rec.held → IsAtStage seat new d now bytes now.stage → IsReceiving seat new d now bytes
@@ -126,6 +130,7 @@ look_waits s t c d op bytes valid r look looks =
       turned = record {
         events = loads_of (line_of_word (flag_word (own_core s.seat) (sent_flag s.seat op.from))) looks.words;
         did = looks.looks.did;
+        does = recv_does (receiving s c op bytes) Look false t d look looks;
         tried = look_tried s.seat.setup.layout (own_core s.seat) (sent_flag s.seat op.from) looks.words false (recv_spot s.seat op) (sent_word s.seat.setup.layout op.from) looks.is
             (at_look s.seat op look) (sent_spot s.seat.setup.layout (own_core s.seat) op.from);
         freed = refl;
@@ -208,6 +213,7 @@ look_finds s t c d op bytes b first valid r look looks =
       turned = record {
         events = loads_of (line_of_word (flag_word (own_core s.seat) (sent_flag s.seat op.from))) looks.words;
         did = looks.looks.did;
+        does = recv_does (receiving s c op bytes) Look true t d look looks;
         tried = look_tried s.seat.setup.layout (own_core s.seat) (sent_flag s.seat op.from) looks.words true (recv_spot s.seat op) (sent_word s.seat.setup.layout op.from) looks.is
             (at_look s.seat op look) (sent_spot s.seat.setup.layout (own_core s.seat) op.from);
         freed = refl;

@@ -25,12 +25,13 @@ use Rattle.send_recv.specs.declared.answers.RecvTurn.TheVariants.{Moved, Waiting
 use Rattle.send_recv.specs.Chunks.{chunk_count, chunk_start, chunk_len, lines_from, is_last_chunk}
 use Rattle.send_recv.specs.Flags.{Changes, ChangesBy, Missed, Changed}
 use Rattle.send_recv.specs.Ops.{RecvAt, is_received}
-use Rattle.send_recv.specs.Receiving.{IsReceiving, RecvStands, lines_now, spot_by, recv_spot, recv_left, recv_left_by, lines_left, lines_left_by, flag_lines, is_look, filled_to, filled_by}
+use Rattle.send_recv.specs.Receiving.{IsReceiving, RecvStands, RecvDoes, lines_now, spot_by, recv_spot, recv_left, recv_left_by, lines_left, lines_left_by, flag_lines, is_look, filled_to, filled_by}
 use Rattle.send_recv.specs.Steps.{own_core, core_of, sent_flag, ready_flag, after_lower, after_raise, recv_or_waits, raise_answer}
 use Rattle.sync_flags.specs.Tries.{AtRegister, tries_at, all_vain, Tried, Vain}
 use Rattle.send_recv.specs.Tries.{aim_at}
 use Rattle.send_recv.specs.Turns.{HoldsNoneBy, KeepsAllButMessages}
-use Rattle.send_recv.proofs.LookTurn.{Turns, stands_after, holds_kept}
+use Rattle.send_recv.specs.Ranks.{receiving}
+use Rattle.send_recv.proofs.LookTurn.{recv_does, Turns, stands_after, holds_kept}
 use Rattle.send_recv.proofs.HeadTurn.{post_kept}
 use Rattle.send_recv.proofs.TryLemmas.{le_self}
 use Rattle.send_recv.proofs.FlagMoves.{ready_is_raised}
@@ -62,8 +63,8 @@ still_work : (events a b x z : ℕ) → events + 4 * a ≤ 4 * b + 4 * 0 → eve
 still_work events a b x z le = omega (arith, le)
 
 register_waits : (s t : Sight) (c d : Private) (op : RecvAt) (bytes : List ℕ) (core : ℕ) (flag : FlagPlace) (set : Bool) → IsSetup s.seat.setup → RecvStands s c op bytes → IsFlagWord s.seat.setup core flag
-    → (s.seat.setup.layout ≡ BitFlags → recv_spot s.seat op ≡ Some (Register core)) → Changes s c core flag set false t d → Turns s c op bytes t d op bytes (Waiting (Register core))
-register_waits s t c d op bytes core flag set valid r plain spot changes =
+    → (s.seat.setup.layout ≡ BitFlags → recv_spot s.seat op ≡ Some (Register core)) → Changes s c core flag set false t d → RecvDoes (receiving s c op bytes) op.stage false t d → Turns s c op bytes t d op bytes (Waiting (Register core))
+register_waits s t c d op bytes core flag set valid r plain spot changes does =
     let layout = s.seat.setup.layout in
     let m = missed_by layout s t c d core flag set valid r.hands changes in
     let facts = change_facts layout s t c d core flag set false r.empty changes in
@@ -79,6 +80,7 @@ register_waits s t c d op bytes core flag set valid r plain spot changes =
       turned = record {
         events = facts.events;
         did = facts.did;
+        does = does;
         tried = waits_tried layout (recv_spot s.seat op) core facts.events spot facts.tries facts.vain facts.lines;
         freed = facts.freed;
         elsewhere = λ at other ne. change_elsewhere layout (recv_spot s.seat op) core facts.events spot facts.elsewhere at ne;
@@ -106,7 +108,7 @@ pub lower_turn : (gone : Bool) (s t : Sight) (c d : Private) (op : RecvAt) (byte
 lower_turn true s t c d op bytes valid r lower changes = lower_goes (lines_now (chunk_of s.seat.setup) op == 0) s t c d op bytes refl valid r lower changes
 lower_turn false s t c d op bytes valid r lower changes = register_waits s t c d op bytes (own_core s.seat) (sent_flag s.seat op.from) false valid r
     (sent_is_flag s.seat valid op.from s.seat.rank (peers_swap s.seat.setup s.seat.rank op.from r.peers))
-    (at_lower s.seat op lower) changes
+    (at_lower s.seat op lower) changes (recv_does (receiving s c op bytes) Lower false t d lower changes)
 
 -- ---- raising `ready`
 
@@ -183,6 +185,7 @@ raise_last s t c d op bytes last valid r raise changes =
       turned = record {
         events = facts.events;
         did = facts.did;
+        does = recv_does (receiving s c op bytes) Raise true t d raise changes;
         tried = went_on layout (recv_spot s.seat op) (core_of s.seat op.from) facts.events
             (λ e. spot_raise s.seat op raise ∙ spot_raise_lines layout (own_core s.seat) (core_of s.seat op.from) op.from e)
             (at_raise s.seat op raise) facts.tries facts.vain;
@@ -237,6 +240,7 @@ raise_next s t c d op bytes more valid r raise changes =
       turned = record {
         events = facts.events;
         did = facts.did;
+        does = recv_does (receiving s c op bytes) Raise true t d raise changes;
         tried = went_on layout (recv_spot s.seat op) (core_of s.seat op.from) facts.events
             (λ e. spot_raise s.seat op raise ∙ spot_raise_lines layout (own_core s.seat) (core_of s.seat op.from) op.from e)
             (at_raise s.seat op raise) facts.tries facts.vain;
@@ -284,4 +288,4 @@ pub raise_turn : (gone : Bool) (s t : Sight) (c d : Private) (op : RecvAt) (byte
 raise_turn true s t c d op bytes valid r raise changes = raise_by (is_last_chunk (chunk_of s.seat.setup) op.head.len op.chunk) s t c d op bytes refl valid r raise changes
 raise_turn false s t c d op bytes valid r raise changes = register_waits s t c d op bytes (core_of s.seat op.from) (ready_flag s.seat s.seat.rank) true valid r
     (ready_is_flag s.seat valid op.from s.seat.rank (peers_swap s.seat.setup s.seat.rank op.from r.peers))
-    (at_raise s.seat op raise) changes
+    (at_raise s.seat op raise) changes (recv_does (receiving s c op bytes) Raise false t d raise changes)

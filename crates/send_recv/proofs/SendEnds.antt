@@ -1,5 +1,5 @@
 -- The turn of a send that is one of the slot before it, and that of a send at its end.
-use Rattle.std.proofs.Common.{◌≡◌, ◌≢◌, ℕ, ◌+◌, ◌-◌, ◌*◌, true, false, if◌then◌else◌, List, [], ◌∷◌, ◌++◌, Option, Some, None, refl, sym, ◌∙◌, ap, subst, arith, append-nil}
+use Rattle.std.proofs.Common.{◌≡◌, ◌≢◌, ℕ, ◌+◌, ◌-◌, ◌*◌, Bool, true, false, if◌then◌else◌, List, [], ◌∷◌, ◌++◌, Option, Some, None, refl, sym, ◌∙◌, ap, subst, arith, append-nil}
 use Rattle.scc_base.specs.Calls.{Send, Post}
 use Rattle.scc_base.specs.declared.events.Spot.{Spot}
 use Rattle.scc_base.specs.declared.events.Turn.{Turn}
@@ -15,14 +15,14 @@ use Rattle.send_recv.specs.declared.stages.SendStage.{SendStage}
 use Rattle.send_recv.specs.declared.stages.SendStage.TheVariants.{Header, Finished}
 use Rattle.send_recv.specs.Chunks.{chunk_count, lines_from}
 use Rattle.send_recv.specs.Ops.{SendAt, SlotAt, is_sent, slot_left}
-use Rattle.send_recv.specs.Sending.{SlotStands, SlotTurned, SlotMeans, IsAtSendStage, IsSending, SendStands, SendTurned, SendMeans, of_chunk, send_spot_by, slot_spot}
-use Rattle.send_recv.specs.Steps.{own_core, core_of}
+use Rattle.send_recv.specs.Sending.{SlotStands, SlotTurned, SlotMeans, IsAtSendStage, IsSending, SendStands, SendTurned, SendMeans, SlotDoes, StartDoes, of_chunk, send_spot_by, slot_spot}
+use Rattle.send_recv.specs.Steps.{own_core, core_of, moves_on}
 use Rattle.sync_flags.specs.Tries.{Tried, NoTry}
 use Rattle.send_recv.specs.Tries.{aim_at}
 use Rattle.send_recv.specs.Turns.{LoadsLines, NoLoad, lines_for_try, waits_at}
-use Rattle.send_recv.specs.Ranks.{sending, with_slot}
+use Rattle.send_recv.specs.Ranks.{Sender, sending, with_slot}
 use Rattle.send_recv.proofs.LookTurn.{holds_kept}
-use Rattle.send_recv.proofs.SendFacts.{SendTurns, at_stage, left_at, spot_at}
+use Rattle.send_recv.proofs.SendFacts.{SendTurns, send_does, at_stage, left_at, spot_at}
 use Rattle.send_recv.proofs.SendWork.{none_work}
 use Rattle.send_recv.proofs.SendWaits.{no_stores}
 
@@ -47,6 +47,11 @@ slot_means s t c d op slot now bytes (Waiting spot) header full turned =
     (refl, turned.means, record { stage = turned.stage; post = turned.post (ap (λ (x : SlotAt). x.to) turned.means); rest = turned.rest; calls = turned.calls })
 slot_means s t c d op slot now bytes Done header full turned = absurd (full turned.means.0)
 
+-- a full slot's turn comes first
+slot_first : (old : Sender) (done : Bool) (t : Sight) (d : Private) (to : Option ℕ) → to ≢ None → SlotDoes (with_slot old.sight old.core old.slot) done t d → StartDoes old to done t d
+slot_first old done t d None full does = absurd (full refl)
+slot_first old done t d (Some to) full does = does
+
 pub slot_turn : (s t : Sight) (c d : Private) (op : SendAt) (slot now : SlotAt) (bytes : List ℕ) (answer : Turn) → SendStands s c op slot bytes → op.stage ≡ Header → slot.to ≢ None → SlotStands t.seat (record_in t) now
     → SlotTurned (with_slot s c slot) (with_slot t d now) answer → SendTurns s c op slot bytes t d op now answer
 slot_turn s t c d op slot now bytes answer r header full stands turned =
@@ -68,6 +73,7 @@ slot_turn s t c d op slot now bytes answer r header full stands turned =
       turned = record {
         events = turned.events;
         did = turned.did;
+        does = send_does (sending s c op slot bytes) Header (moves_on answer) (moves_on answer) t d header refl (slot_first (sending s c op slot bytes) (moves_on answer) t d slot.to full turned.does);
         tried = subst (λ (spot : Option Spot). Tried (aim_at layout spot) turned.events (waits_at answer)) (sym (spot_at s.seat op slot Header header)) turned.tried;
         freed = turned.freed;
         ends = λ done open_before aim n. absurd (full (subst (λ (a : Turn). SlotMeans slot now a) done turned.means).0);
@@ -94,6 +100,7 @@ finished_turn s c op slot bytes finished =
     record {
       events = [];
       did = did_nothing s;
+      does = send_does (sending s c op slot bytes) Finished true true s c finished refl (refl, refl);
       tried = NoTry (ap (λ (o : Option Spot). aim_at s.seat.setup.layout o) (spot_at s.seat op slot Finished finished ∙ spot_finished s.seat.setup.layout (own_core s.seat) (core_of s.seat op.to) op.to (slot_spot s.seat slot))) refl;
       freed = refl;
       ends = λ done unsent aim n. absurd (cc (sym sent ∙ unsent));

@@ -11,15 +11,19 @@ use Rattle.send_recv.specs.declared.stages.SendStage.{SendStage}
 use Rattle.send_recv.specs.declared.stages.SendStage.TheVariants.{Flush, Raise}
 use Rattle.send_recv.specs.Chunks.{chunk_count, lines_from, chunk_lines_of}
 use Rattle.send_recv.specs.Ops.{SendAt, SlotAt, slot_left}
-use Rattle.send_recv.specs.Sending.{SlotStands, HasDrafted, First, Later, HasNoLines, DraftedBefore, IsBeforeRaise, IsAtSendStage, IsSending, SendStands, SendTurned, lines_in_hand, waiting, of_chunk, from_raise, send_left, send_left_by, send_spot, send_spot_by, slot_spot, was_answered}
+use Rattle.send_recv.specs.Sending.{SlotStands, HasDrafted, First, Later, HasNoLines, DraftedBefore, IsBeforeRaise, IsAtSendStage, IsSending, SendStands, SendDoes, SendTurned, lines_in_hand, waiting, of_chunk, from_raise, send_left, send_left_by, send_spot, send_spot_by, slot_spot, was_answered}
 use Rattle.send_recv.specs.Steps.{own_core, core_of, before_raise}
-use Rattle.send_recv.specs.Ranks.{sending}
+use Rattle.send_recv.specs.Ranks.{Sender, sending}
 use Rattle.send_recv.proofs.LookTurn.{holds_kept}
 
 -- a turn of a send, and where it stands afterwards
 pub record SendTurns (s : Sight) (c : Private) (op : SendAt) (slot : SlotAt) (bytes : List ℕ) (t : Sight) (d : Private) (now : SendAt) (after : SlotAt) (answer : Turn) : Type 0 where
   pub stands : SendStands t d now after bytes
   pub turned : SendTurned (sending s c op slot bytes) (sending t d now after bytes) answer
+
+-- what a turn did, where its stage is known, and whether it was done
+pub send_does : (old : Sender) (stage : SendStage) (done known : Bool) (t : Sight) (d : Private) → old.op.stage ≡ stage → done ≡ known → SendDoes old stage known t d → SendDoes old old.op.stage done t d
+send_does old stage done known t d is same does = subst (λ b. SendDoes old old.op.stage b t d) (sym same) (subst (λ (st : SendStage). SendDoes old st known t d) (sym is) does)
 
 pub slot_kept : (seat : Seat) (rec new : Record) (slot : SlotAt) → new.post ≡ rec.post → SlotStands seat rec slot → SlotStands seat new slot
 slot_kept seat rec new slot same h = record {

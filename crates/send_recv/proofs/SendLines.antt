@@ -26,7 +26,8 @@ use Rattle.sync_flags.specs.Tries.{NoTry}
 use Rattle.send_recv.specs.Tries.{aim_at}
 use Rattle.send_recv.specs.Turns.{NoLoad}
 use Rattle.send_recv.proofs.WaitingOut.{waiting_loads, waiting_freed}
-use Rattle.send_recv.proofs.SendFacts.{SendTurns, slot_kept, stands_at, at_stage, drafted_as, at_end, left_end, left_flush, left_at, now_within, spot_at}
+use Rattle.send_recv.specs.Ranks.{sending}
+use Rattle.send_recv.proofs.SendFacts.{SendTurns, send_does, slot_kept, stands_at, at_stage, drafted_as, at_end, left_end, left_flush, left_at, now_within, spot_at}
 use Rattle.send_recv.proofs.SendWrites.{stored_waiting, may_store, line_is_other, only_drafts}
 use Rattle.send_recv.proofs.SendWork.{none_work}
 
@@ -109,6 +110,7 @@ line_by b s t c d op slot bytes i next valid r stage w =
       turned = record {
         events = stores_of (waiting s.seat op bytes i);
         did = l.did;
+        does = send_does (sending s c op slot bytes) (Lines i) true true t d stage refl w;
         tried = NoTry (ap (λ (o : Option Spot). aim_at layout o) (spot_at s.seat op slot (Lines i) stage ∙ spot_lines layout (own_core s.seat) (core_of s.seat op.to) op.to i (slot_spot s.seat slot))) refl;
         freed = waiting_freed s.seat op bytes i;
         rests = λ spot e. absurd (cc);
@@ -159,6 +161,7 @@ flush_turn s t c d op slot bytes valid r flush w =
       turned = record {
         events = stores_of (waiting s.seat op bytes lines);
         did = l.did;
+        does = send_does (sending s c op slot bytes) Flush true true t d flush refl w;
         tried = NoTry (ap (λ (o : Option Spot). aim_at layout o) (spot_at s.seat op slot Flush flush ∙ spot_flush layout (own_core s.seat) (core_of s.seat op.to) op.to (slot_spot s.seat slot))) refl;
         freed = waiting_freed s.seat op bytes lines;
         rests = λ spot e. absurd (cc);

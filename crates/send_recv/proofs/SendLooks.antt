@@ -26,7 +26,7 @@ use Rattle.send_recv.specs.Ops.{SendAt, SlotAt, is_sent}
 use Rattle.send_recv.specs.Receiving.{progress_at}
 use Rattle.send_recv.specs.Sending.{SlotStands, IsAtSendStage, IsSending, SendStands, SendMeans, lines_in_hand, of_chunk, send_spot, send_spot_by, slot_spot}
 use Rattle.send_recv.specs.Ranks.{sending}
-use Rattle.send_recv.specs.Steps.{own_core, core_of, ready_flag, flag_spot, after_seen, moved_or_waits}
+use Rattle.send_recv.specs.Steps.{moves_on, own_core, core_of, ready_flag, flag_spot, after_seen, moved_or_waits}
 use Rattle.send_recv.specs.Tries.{aim_at}
 use Rattle.send_recv.specs.Turns.{IsAtRest}
 use Rattle.send_recv.proofs.LookLemmas.{looks_at_ready}
@@ -34,8 +34,8 @@ use Rattle.send_recv.proofs.LookTurn.{holds_kept, looked_post, looked_rest, look
 use Rattle.send_recv.proofs.TryLemmas.{look_tried, ready_spot, ready_word, look_held}
 use Rattle.put_get.proofs.FillLemmas.{fills_out, fills_evictions}
 use Rattle.send_recv.proofs.DraftNone.{look_drafts_none}
-use Rattle.send_recv.proofs.SlotTurns.{tried_by, look_only}
-use Rattle.send_recv.proofs.SendFacts.{SendTurns, slot_kept, stands_at, at_stage, left_at, spot_at}
+use Rattle.send_recv.proofs.SlotTurns.{moved_is, tried_by, look_only}
+use Rattle.send_recv.proofs.SendFacts.{SendTurns, send_does, slot_kept, stands_at, at_stage, left_at, spot_at}
 use Rattle.send_recv.proofs.SendWork.{look_work}
 use Rattle.send_recv.proofs.SendWaits.{no_stores}
 
@@ -131,6 +131,7 @@ look_turn found s t c d op slot bytes valid r look looks =
       turned = record {
         events = loads_of (line_of_word (flag_word own flag)) looks.words;
         did = looks.looks.did;
+        does = send_does (sending s c op slot bytes) Look (moves_on (moved_or_waits found (flag_spot own flag))) found t d look (moved_is found (flag_spot own flag)) looks;
         tried = tried_by found (flag_spot own flag) (aim_at layout (send_spot s.seat op slot)) _
             (look_tried layout own flag looks.words found (send_spot s.seat op slot) (ready_word layout op.to) looks.is spot (ready_spot layout own op.to));
         freed = refl;

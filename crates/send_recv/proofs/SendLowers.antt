@@ -29,7 +29,7 @@ use Rattle.send_recv.specs.Ops.{SendAt, SlotAt, is_sent}
 use Rattle.send_recv.specs.Receiving.{progress_at}
 use Rattle.send_recv.specs.Sending.{IsSending, SendStands, SendMeans, HasDrafted, Later, HasNoLines, IsUp, header_words, lines_in_hand, own_line, of_chunk, send_spot, send_spot_by, slot_spot}
 use Rattle.send_recv.specs.Ranks.{sending}
-use Rattle.send_recv.specs.Steps.{own_core, core_of, ready_flag, after_through, through_answer}
+use Rattle.send_recv.specs.Steps.{moves_on, own_core, core_of, ready_flag, after_through, through_answer}
 use Rattle.sync_flags.specs.Tries.{Tried}
 use Rattle.send_recv.specs.Tries.{aim_at}
 use Rattle.send_recv.specs.Turns.{OnlyTries, waits_at}
@@ -41,7 +41,7 @@ use Rattle.send_recv.proofs.SlotMoves.{may_lower_ready, ready_is_lowered}
 use Rattle.send_recv.proofs.DraftNone.{ready_is_flag, change_drafts_none}
 use Rattle.send_recv.proofs.DraftNotes.{no_lines}
 use Rattle.send_recv.proofs.DraftWhole.{AreBytes, as_receive, drafted_read}
-use Rattle.send_recv.proofs.SendFacts.{SendTurns, slot_kept, stands_at, at_stage, left_at, spot_at}
+use Rattle.send_recv.proofs.SendFacts.{SendTurns, send_does, slot_kept, stands_at, at_stage, left_at, spot_at}
 use Rattle.send_recv.proofs.SendWork.{change_work}
 use Rattle.send_recv.proofs.SendWaits.{no_stores, register_waits}
 
@@ -185,6 +185,10 @@ no_wait : (b : Bool) → waits_at (next_answer b) ≡ None
 no_wait true = refl
 no_wait false = refl
 
+goes_on : (b : Bool) → moves_on (next_answer b) ≡ true
+goes_on true = refl
+goes_on false = refl
+
 never_waits : (b : Bool) (spot : Spot) (P : Type 0) → next_answer b ≡ Waiting spot → P
 never_waits true spot P e = absurd (cc)
 never_waits false spot P e = absurd (cc)
@@ -204,6 +208,7 @@ lower_goes b s t c d op slot bytes last valid small r lower changes =
       turned = record {
         events = facts.events;
         did = facts.did;
+        does = send_does (sending s c op slot bytes) Lower (moves_on (next_answer b)) true t d lower (goes_on b) changes;
         tried = subst (λ (w : Option Spot). Tried (aim_at layout (send_spot s.seat op slot)) facts.events w) (sym (no_wait b))
             (went_on layout (send_spot s.seat op slot) own facts.events
             (λ e. spot_at s.seat op slot Lower lower ∙ spot_lines layout own (core_of s.seat op.to) op.to (slot_spot s.seat slot) e)
@@ -231,6 +236,7 @@ lower_by false b s t c d op slot bytes last valid small r lower changes =
     let at = at_stage s.seat (record_in s) c op slot bytes Lower r lower in
     register_waits s t c d op slot bytes (own_core s.seat) (ready_flag s.seat op.to) false valid r at.2 (ready_is_flag s.seat valid s.seat.rank op.to r.peers)
     (λ e. spot_at s.seat op slot Lower lower ∙ spot_bits s.seat.setup.layout (own_core s.seat) (core_of s.seat op.to) op.to (slot_spot s.seat slot) e) changes
+    (send_does (sending s c op slot bytes) Lower false false t d lower refl changes)
 
 pub lower_turn : (gone : Bool) (s t : Sight) (c d : Private) (op : SendAt) (slot : SlotAt) (bytes : List ℕ) → IsSetup s.seat.setup → AreBytes bytes → SendStands s c op slot bytes → op.stage ≡ Lower
     → Changes s c (own_core s.seat) (ready_flag s.seat op.to) false gone t d

@@ -27,7 +27,7 @@ use Rattle.send_recv.specs.Ops.{SendAt, SlotAt, is_sent}
 use Rattle.send_recv.specs.Receiving.{flag_lines}
 use Rattle.send_recv.specs.Sending.{SlotStands, IsBeforeRaise, IsAtSendStage, IsSending, SendStands, SendMeans, own_line, header_words, lines_in_hand, waiting, of_chunk, from_raise, send_spot, send_spot_by, slot_spot}
 use Rattle.send_recv.specs.Ranks.{sending}
-use Rattle.send_recv.specs.Steps.{own_core, core_of, sent_flag, after_sent, sent_answer, slot_sent}
+use Rattle.send_recv.specs.Steps.{moves_on, own_core, core_of, sent_flag, after_sent, sent_answer, slot_sent}
 use Rattle.sync_flags.specs.Tries.{Aim, AtFlag, AtWord, AtRegister, tries_at, all_vain, changing_after, vain_from, Tried}
 use Rattle.sync_flags.proofs.VainLemmas.{vain-append}
 use Rattle.sync_flags.proofs.RowLemmas.{changing-append}
@@ -37,7 +37,7 @@ use Rattle.send_recv.proofs.ChangeFacts.{change_facts}
 use Rattle.send_recv.proofs.FlagTurns.{went_on}
 use Rattle.send_recv.proofs.DraftNone.{IsFlagWord, sent_is_flag, store_drafts_none, drafts_none_by}
 use Rattle.send_recv.proofs.DraftWhole.{AreBytes}
-use Rattle.send_recv.proofs.SendFacts.{SendTurns, slot_kept, stands_at, at_stage, left_at, spot_at}
+use Rattle.send_recv.proofs.SendFacts.{SendTurns, send_does, slot_kept, stands_at, at_stage, left_at, spot_at}
 use Rattle.send_recv.proofs.SendMoves.{SentRaised, sent_is_raised}
 use Rattle.send_recv.proofs.SendRaises.{offered, posted_now}
 use Rattle.send_recv.proofs.WaitingOut.{waiting_freed}
@@ -184,6 +184,10 @@ no_wait : (b : Bool) → waits_at (next_answer b) ≡ None
 no_wait true = refl
 no_wait false = refl
 
+goes_on : (b : Bool) → moves_on (next_answer b) ≡ true
+goes_on true = refl
+goes_on false = refl
+
 never_waits : (b : Bool) (spot : Spot) (P : Type 0) → next_answer b ≡ Waiting spot → P
 never_waits true spot P e = absurd (cc)
 never_waits false spot P e = absurd (cc)
@@ -203,6 +207,7 @@ raise_goes b s t c d op slot bytes posts valid small r raise changes =
       turned = record {
         events = facts.events;
         did = facts.did;
+        does = send_does (sending s c op slot bytes) Raise (moves_on (next_answer b)) true t d raise (goes_on b) changes;
         tried = subst (λ (w : Option Spot). Tried (aim_at layout (send_spot s.seat op slot)) facts.events w) (sym (no_wait b))
             (went_on layout (send_spot s.seat op slot) core facts.events
             (λ e. spot_at s.seat op slot Raise raise ∙ spot_lines layout (own_core s.seat) core op.to (slot_spot s.seat slot) e)
@@ -237,6 +242,7 @@ raise_by false b s t c d op slot bytes posts valid small r raise changes =
     register_waits s t c d op slot bytes core (sent_flag s.seat s.seat.rank) true valid r (empty_by layout s t c d op bytes core (sent_flag s.seat s.seat.rank) at.1 changes)
     (sent_is_flag s.seat valid s.seat.rank op.to r.peers)
     (λ e. spot_at s.seat op slot Raise raise ∙ spot_bits layout (own_core s.seat) core op.to (slot_spot s.seat slot) e) changes
+    (send_does (sending s c op slot bytes) Raise false false t d raise refl changes)
 
 pub raise_turn : (gone : Bool) (s t : Sight) (c d : Private) (op : SendAt) (slot : SlotAt) (bytes : List ℕ) → IsSetup s.seat.setup → AreBytes bytes → SendStands s c op slot bytes → op.stage ≡ Raise
     → Changes s c (core_of s.seat op.to) (sent_flag s.seat s.seat.rank) true gone t d

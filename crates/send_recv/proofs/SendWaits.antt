@@ -14,7 +14,8 @@ use Rattle.put_get.specs.Cores.{Private}
 use Rattle.put_get.specs.Transfers.{load_count}
 use Rattle.send_recv.specs.Flags.{Changes}
 use Rattle.send_recv.specs.Ops.{SendAt, SlotAt}
-use Rattle.send_recv.specs.Sending.{IsSending, SendStands, send_spot}
+use Rattle.send_recv.specs.Sending.{IsSending, SendStands, SendDoes, send_spot}
+use Rattle.send_recv.specs.Ranks.{sending}
 use Rattle.send_recv.specs.Turns.{KeepsAllButMessages, StoresFromBuffer, is_no_draft}
 use Rattle.send_recv.proofs.HeadTurn.{post_kept}
 use Rattle.send_recv.proofs.ChangeFacts.{change_facts}
@@ -28,8 +29,8 @@ pub no_stores : (setup : SetupView) (c : Private) (events : List Event) → list
 no_stores setup c events none = record { front = []; rest = events; is = refl; none_or_all = inl refl; no_draft = none }
 
 pub register_waits : (s t : Sight) (c d : Private) (op : SendAt) (slot : SlotAt) (bytes : List ℕ) (core : ℕ) (flag : FlagPlace) (set : Bool) → IsSetup s.seat.setup → SendStands s c op slot bytes → c.out ≡ None → IsFlagWord s.seat.setup core flag
-    → (s.seat.setup.layout ≡ BitFlags → send_spot s.seat op slot ≡ Some (Register core)) → Changes s c core flag set false t d → SendTurns s c op slot bytes t d op slot (Waiting (Register core))
-register_waits s t c d op slot bytes core flag set valid r empty plain spot changes =
+    → (s.seat.setup.layout ≡ BitFlags → send_spot s.seat op slot ≡ Some (Register core)) → Changes s c core flag set false t d → SendDoes (sending s c op slot bytes) op.stage false t d → SendTurns s c op slot bytes t d op slot (Waiting (Register core))
+register_waits s t c d op slot bytes core flag set valid r empty plain spot changes does =
     let layout = s.seat.setup.layout in
     let m = missed_by layout s t c d core flag set valid r.hands changes in
     let facts = change_facts layout s t c d core flag set false empty changes in
@@ -44,6 +45,7 @@ register_waits s t c d op slot bytes core flag set valid r empty plain spot chan
       turned = record {
         events = facts.events;
         did = facts.did;
+        does = does;
         tried = waits_tried layout (send_spot s.seat op slot) core facts.events spot facts.tries facts.vain facts.lines;
         freed = facts.freed;
         ends = λ e. absurd (cc);

@@ -23,13 +23,14 @@ use Rattle.send_recv.specs.declared.stages.SendStage.TheVariants.{Header, Lines}
 use Rattle.send_recv.specs.Bytes.{words_at}
 use Rattle.send_recv.specs.Chunks.{chunk_count, chunk_start, lines_from}
 use Rattle.send_recv.specs.Ops.{SendAt, SlotAt, is_sent, slot_left, slot_left_by}
-use Rattle.send_recv.specs.Sending.{IsAtSendStage, IsSending, SendStands, HasDrafted, HasNoLines, DraftedBefore, own_line, header_words, lines_in_hand, waiting, of_chunk, send_left, send_spot_by, slot_spot_by}
+use Rattle.send_recv.specs.Sending.{IsAtSendStage, IsSending, SendStands, StartDoes, HasDrafted, HasNoLines, DraftedBefore, own_line, header_words, lines_in_hand, waiting, of_chunk, send_left, send_spot_by, slot_spot_by}
 use Rattle.send_recv.specs.Steps.{own_core, core_of, line_at, before_raise, after_header}
 use Rattle.sync_flags.specs.Tries.{NoTry}
 use Rattle.send_recv.specs.Tries.{aim_at}
 use Rattle.send_recv.specs.Turns.{StoresFromBuffer, NoLoad}
 use Rattle.send_recv.proofs.WaitingOut.{waiting_out}
-use Rattle.send_recv.proofs.SendFacts.{SendTurns, slot_kept, stands_at, at_stage, no_post, before_as, at_end, left_end, left_at, spot_at}
+use Rattle.send_recv.specs.Ranks.{Sender, sending}
+use Rattle.send_recv.proofs.SendFacts.{SendTurns, send_does, slot_kept, stands_at, at_stage, no_post, before_as, at_end, left_end, left_at, spot_at}
 use Rattle.send_recv.proofs.SendWork.{none_work}
 
 -- ---- the line that waited was stored
@@ -131,6 +132,10 @@ header_open : (b : Bool) (layout : Layout) → is_sent (header_next b layout) �
 header_open true layout = raise_open layout
 header_open false layout = refl
 
+-- the header line is written where the slot is empty
+first_line : (old : Sender) (t : Sight) (d : Private) (to : Option ℕ) → to ≡ None → StartDoes old None true t d → StartDoes old to true t d
+first_line old t d to empty does = subst (λ (o : Option ℕ). StartDoes old o true t d) (sym empty) does
+
 header_by : (b : Bool) (s t : Sight) (c d : Private) (op : SendAt) (slot : SlotAt) (bytes : List ℕ) → (lines_in_hand (chunk_of s.seat.setup) op == 0) ≡ b → SendStands s c op slot bytes → op.stage ≡ Header → slot.to ≡ None
     → WritesLine s c (line_at s.seat s.seat.rank 0) (header_words op.head op.posted) t d → SendTurns s c op slot bytes t d (record op { stage = header_next b s.seat.setup.layout }) slot Moved
 header_by b s t c d op slot bytes lines r header empty w =
@@ -153,6 +158,7 @@ header_by b s t c d op slot bytes lines r header empty w =
       turned = record {
         events = [];
         did = did;
+        does = send_does (sending s c op slot bytes) Header true true t d header refl (first_line (sending s c op slot bytes) t d slot.to empty w);
         tried = NoTry (ap (λ (o : Option Spot). aim_at layout o) (spot_at s.seat op slot Header header ∙ spot_empty layout (own_core s.seat) (core_of s.seat op.to) op.to slot empty)) refl;
         freed = refl;
         rests = λ spot e. refl;

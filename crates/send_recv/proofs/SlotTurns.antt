@@ -27,12 +27,12 @@ use Rattle.put_get.specs.Cores.{Private}
 use Rattle.put_get.specs.Transfers.{load_count}
 use Rattle.send_recv.specs.Flags.{Looks, Changes, MayChange}
 use Rattle.send_recv.specs.Ops.{SlotAt, slot_left, slot_left_by}
-use Rattle.send_recv.specs.Sending.{SlotStands, SlotTurned, SlotMeans, slot_spot, slot_spot_by, was_answered}
-use Rattle.send_recv.specs.Steps.{own_core, ready_flag, flag_spot, slot_seen, slot_lowered, moved_or_waits}
+use Rattle.send_recv.specs.Sending.{SlotStands, SlotTurned, SlotMeans, SlotDoes, SlotDoesBy, slot_spot, slot_spot_by, was_answered}
+use Rattle.send_recv.specs.Steps.{moves_on, own_core, ready_flag, flag_spot, slot_seen, slot_lowered, moved_or_waits}
 use Rattle.sync_flags.specs.Tries.{Aim, Tried, NoTry}
 use Rattle.send_recv.specs.Tries.{aim_at}
 use Rattle.send_recv.specs.Turns.{HoldsNone, OnlyTries, NoLoad, waits_at}
-use Rattle.send_recv.specs.Ranks.{with_slot}
+use Rattle.send_recv.specs.Ranks.{SlotHolder, with_slot}
 use Rattle.send_recv.proofs.SlotApart.{is_apart, apart_in}
 use Rattle.send_recv.proofs.SlotMoves.{may_lower_ready, ready_is_lowered}
 use Rattle.send_recv.proofs.DraftNone.{ready_is_flag, look_drafts_none, change_drafts_none}
@@ -105,6 +105,16 @@ same_to : (q : ℕ → Bool) (post : Option OnItsWay) → option_map (λ (p : On
 same_to q None = refl
 same_to q (Some p) = refl
 
+-- what a turn did, where the slot is known, and whether it was done
+slot_does : (old : SlotHolder) (to : Option ℕ) (seen done known : Bool) (t : Sight) (d : Private) → old.slot.to ≡ to → old.slot.seen ≡ seen → done ≡ known → SlotDoesBy old.sight old.core to seen known t d → SlotDoes old done t d
+slot_does old to seen done known t d at is same does =
+    subst (λ b. SlotDoes old b t d) (sym same) (subst (λ (o : Option ℕ). SlotDoesBy old.sight old.core o old.slot.seen known t d) (sym at) (subst (λ b. SlotDoesBy old.sight old.core to b known t d) (sym is) does))
+
+-- a look moves exactly where it found the flag set
+pub moved_is : (found : Bool) (spot : Spot) → moves_on (moved_or_waits found spot) ≡ found
+moved_is true spot = refl
+moved_is false spot = refl
+
 -- ---- no message on its way
 
 spot_none : (layout : Layout) (own : ℕ) (seen : Bool) → slot_spot_by layout own None seen ≡ None
@@ -120,6 +130,7 @@ nothing_turn s c slot none empty =
     record {
       events = [];
       did = did_nothing s;
+      does = slot_does (with_slot s c slot) None slot.seen true true s c none refl refl (refl, refl);
       tried = NoTry (ap (λ (o : Option ℕ). aim_at layout (slot_spot_by layout (own_core s.seat) o slot.seen)) none ∙ ap (λ (o : Option Spot). aim_at layout o) (spot_none layout (own_core s.seat) slot.seen)) refl;
       freed = refl;
       rests = λ spot e. refl;
@@ -198,6 +209,7 @@ slot_look_turn found s t c d slot to valid h empty hands full unseen looks =
       turned = record {
         events = loads_of (line_of_word (flag_word own flag)) looks.words;
         did = looks.looks.did;
+        does = slot_does (with_slot s c slot) (Some to) false (moves_on (moved_or_waits found (flag_spot own flag))) found t d full unseen (moved_is found (flag_spot own flag)) looks;
         tried = tried_by found (flag_spot own flag) (aim_at layout (slot_spot s.seat slot)) _
             (look_tried layout own flag looks.words found (slot_spot s.seat slot) (ready_word layout to) looks.is spot (ready_spot layout own to));
         freed = refl;
@@ -262,6 +274,7 @@ lower_goes s t c d slot to valid h empty hands full seen changes =
       turned = record {
         events = facts.events;
         did = facts.did;
+        does = slot_does (with_slot s c slot) (Some to) true true true t d full seen refl changes;
         tried = went_on layout (slot_spot s.seat slot) own facts.events (λ e. spot_seen s.seat slot to full seen ∙ spot_lines layout own to e) (λ e. spot_seen s.seat slot to full seen ∙ spot_bits layout own to e) facts.tries facts.vain;
         freed = facts.freed;
         rests = λ spot e. absurd (cc);
@@ -293,6 +306,7 @@ lower_waits s t c d slot to valid h empty hands full seen changes =
       turned = record {
         events = facts.events;
         did = facts.did;
+        does = slot_does (with_slot s c slot) (Some to) true false false t d full seen refl changes;
         tried = waits_tried layout (slot_spot s.seat slot) own facts.events (λ e. spot_seen s.seat slot to full seen ∙ spot_bits layout own to e) facts.tries facts.vain facts.lines;
         freed = facts.freed;
         rests = λ spot e. facts.rests refl;

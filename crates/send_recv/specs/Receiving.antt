@@ -20,7 +20,7 @@ use Rattle.scc_proto.specs.Words.{are_peers}
 use Rattle.scc_proto.specs.Records.{chunk_of}
 use Rattle.scc_proto.specs.Ports.{Seat, Sight, Did, record_in}
 use Rattle.line_cache.specs.declared.cache.Entry.{Entry}
-use Rattle.put_get.specs.Cores.{Private}
+use Rattle.put_get.specs.Cores.{Private, ReadsLine}
 use Rattle.send_recv.specs.declared.stages.RecvStage.{RecvStage}
 use Rattle.send_recv.specs.declared.stages.RecvStage.TheVariants.{Look, Header, Lower, Lines, Raise, Finished}
 use Rattle.send_recv.specs.declared.answers.RecvTurn.{RecvTurn}
@@ -29,7 +29,8 @@ use Rattle.send_recv.specs.Chunks.{chunk_count, chunk_start, chunk_len, chunk_li
 use Rattle.send_recv.specs.Ops.{RecvAt, is_received}
 use Rattle.send_recv.specs.Ranks.{Receiver}
 use Rattle.sync_flags.specs.Tries.{Tried, tries_at, changing_after}
-use Rattle.send_recv.specs.Sights.{chunk_at, layout_at}
+use Rattle.send_recv.specs.Sights.{chunk_at, layout_at, header_line, chunk_line, LooksForSent, LowersSent, RaisesReady}
+use Rattle.send_recv.specs.Steps.{cleared, before_line, goes_on}
 use Rattle.send_recv.specs.Tries.{aim_of, aim_at}
 use Rattle.send_recv.specs.Turns.{HoldsNone, IsSamePost, KeepsAllButMessages, IsAtRest, OnlyTries, is_no_draft, LastHeld, LoadsLines}
 
@@ -189,10 +190,22 @@ filled_by start len stage rest = start
 abbrev pub filled_to : ℕ → RecvAt → ℕ
 filled_to size op = filled_by (chunk_start size op.chunk) op.head.len op.stage (chunk_len size op.head.len op.chunk)
 
+-- what each stage does: it looks at one flag, reads one line, changes one flag, or does nothing; the look or the
+-- change is done where the flag was found set, or its register free
+abbrev pub RecvDoes : Receiver → RecvStage → (done : Bool) → Sight → Private → Type 0
+RecvDoes old Look done t d = LooksForSent old.sight old.core old.op.from done t d
+RecvDoes old Header done t d = (words : List ℕ) × ReadsLine old.sight (cleared old.core) (header_line old.sight old.op.from) words t d
+RecvDoes old Lower done t d = LowersSent old.sight old.core old.op.from done t d
+RecvDoes old (Lines i) done t d = (words : List ℕ) × ReadsLine old.sight (before_line i old.core) (chunk_line old.sight old.op.from i) words t d
+RecvDoes old Raise done t d = RaisesReady old.sight old.core old.op.from done t d
+RecvDoes old Finished done t d = (t ≡ old.sight) × (d ≡ old.core)
+
 -- one turn of a receive
 pub record RecvTurned (old now : Receiver) (answer : RecvTurn) : Type 0 where
   pub events : List Event
   pub did : Did old.sight events now.sight
+  -- what its stage does, and nothing else
+  pub does : RecvDoes old old.op.stage (goes_on answer) now.sight now.core
   -- it waits exactly where its one try was vain
   pub tried : Tried (aim_at (layout_at old.sight) (recv_spot old.sight.seat old.op)) events (recv_waits answer)
   -- it has freed the register that it took

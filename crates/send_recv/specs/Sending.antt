@@ -22,16 +22,17 @@ use Rattle.scc_proto.specs.Records.{chunk_of}
 use Rattle.scc_proto.specs.Ports.{Seat, Sight, Did, record_in}
 use Rattle.write_combine.specs.declared.combiner.Out.{Out}
 use Rattle.put_get.specs.Accesses.{whole_line}
-use Rattle.put_get.specs.Cores.{Private}
+use Rattle.put_get.specs.Cores.{Private, WritesLine, Flushes}
 use Rattle.send_recv.specs.declared.stages.SendStage.{SendStage}
 use Rattle.send_recv.specs.declared.stages.SendStage.TheVariants.{Header, Lines, Flush, Raise, Look, Lower, Finished}
 use Rattle.send_recv.specs.Bytes.{word_at, words_at}
 use Rattle.send_recv.specs.Chunks.{chunk_count, chunk_start, chunk_lines_of, lines_from}
 use Rattle.send_recv.specs.Ops.{SendAt, SlotAt, is_sent, slot_left}
-use Rattle.send_recv.specs.Ranks.{Sender, SlotHolder}
+use Rattle.send_recv.specs.Ranks.{Sender, SlotHolder, with_slot}
 use Rattle.send_recv.specs.Receiving.{progress_at}
 use Rattle.sync_flags.specs.Tries.{Aim, Tried, vain_from, changing_after}
-use Rattle.send_recv.specs.Sights.{chunk_at, layout_at}
+use Rattle.send_recv.specs.Sights.{chunk_at, layout_at, own_header_line, own_chunk_line, words_of_line, LooksForReady, RaisesSent, LowersReady}
+use Rattle.send_recv.specs.Steps.{moves_on}
 use Rattle.send_recv.specs.Tries.{aim_at}
 use Rattle.send_recv.specs.Turns.{HoldsNone, IsSamePost, KeepsAllButMessages, IsAtRest, OnlyTries, is_no_draft, LastHeld, LoadsLines, StoresFromBuffer, lines_for_try, waits_at}
 
@@ -68,10 +69,23 @@ SlotMeans slot now turn.Moved = (slot_left slot ≡ slot_left now + 1) × IsSame
 SlotMeans slot now (turn.Waiting spot) = now ≡ slot
 SlotMeans slot now turn.Done = (slot.to ≡ None) × (now ≡ slot)
 
+-- what a turn of a slot does, by its target and whether `ready` was seen: it looks at `ready`, then lowers it; the
+-- look or the change is done where the flag was found set, or its register free
+abbrev pub SlotDoesBy : Sight → Private → (to : Option ℕ) → (seen : Bool) → (done : Bool) → Sight → Private → Type 0
+SlotDoesBy s c None seen done t d = (t ≡ s) × (d ≡ c)
+SlotDoesBy s c (Some to) false done t d = LooksForReady s c to done t d
+SlotDoesBy s c (Some to) true done t d = LowersReady s c to done t d
+
+-- what a turn of a slot does
+abbrev pub SlotDoes : SlotHolder → (done : Bool) → Sight → Private → Type 0
+SlotDoes old done t d = SlotDoesBy old.sight old.core old.slot.to old.slot.seen done t d
+
 -- one turn of a slot
 pub record SlotTurned (old now : SlotHolder) (answer : Turn) : Type 0 where
   pub events : List Event
   pub did : Did old.sight events now.sight
+  -- its look or its change of a flag, and nothing else
+  pub does : SlotDoes old (moves_on answer) now.sight now.core
   pub tried : Tried (aim_at (layout_at old.sight) (slot_spot old.sight.seat old.slot)) events (waits_at answer)
   -- it has freed the register that it took
   pub freed : changing_after false events ≡ false
@@ -232,10 +246,28 @@ SendMeans old now turn.Done = (now.op.stage ≡ Finished) × (now.slot ≡ slot_
     × ((record_in now.sight).calls ≡ (record_in old.sight).calls ++ send_call old.op old.bytes)
     × (old.op.posted ≡ false → is_sent old.op.stage ≡ false → now.slot.to ≡ None)
 
+-- what a send does at its start: while the slot is full, the slot's turn; then it writes its header line
+abbrev pub StartDoes : Sender → (slot : Option ℕ) → (done : Bool) → Sight → Private → Type 0
+StartDoes old (Some to) done t d = SlotDoes (with_slot old.sight old.core old.slot) done t d
+StartDoes old None done t d = WritesLine old.sight old.core (own_header_line old.sight) (header_words old.op.head old.op.posted) t d
+
+-- what each stage does: it writes one line, stores what waits in the buffer, looks at one flag, changes one flag, or
+-- does nothing; the look or the change is done where the flag was found set, or its register free
+abbrev pub SendDoes : Sender → SendStage → (done : Bool) → Sight → Private → Type 0
+SendDoes old Header done t d = StartDoes old old.slot.to done t d
+SendDoes old (Lines i) done t d = WritesLine old.sight old.core (own_chunk_line old.sight i) (words_of_line old.bytes old.sight old.op.chunk i) t d
+SendDoes old Flush done t d = Flushes old.sight old.core t d
+SendDoes old Raise done t d = RaisesSent old.sight old.core old.op.to done t d
+SendDoes old Look done t d = LooksForReady old.sight old.core old.op.to done t d
+SendDoes old Lower done t d = LowersReady old.sight old.core old.op.to done t d
+SendDoes old Finished done t d = (t ≡ old.sight) × (d ≡ old.core)
+
 -- one turn of a send or of a post
 pub record SendTurned (old now : Sender) (answer : Turn) : Type 0 where
   pub events : List Event
   pub did : Did old.sight events now.sight
+  -- what its stage does, and nothing else
+  pub does : SendDoes old old.op.stage (moves_on answer) now.sight now.core
   -- it waits exactly where its one try was vain
   pub tried : Tried (aim_at (layout_at old.sight) (send_spot old.sight.seat old.op old.slot)) events (waits_at answer)
   -- it has freed the register that it took

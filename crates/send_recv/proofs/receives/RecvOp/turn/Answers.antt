@@ -1,4 +1,4 @@
-use Rattle.std.proofs.Common.{◌≡◌, false, List, [], Option, Some, None, sym, ◌∙◌, ap, subst, refl, arith, append-nil, ℕ}
+use Rattle.std.proofs.Common.{◌≡◌, true, false, List, [], Option, Some, None, sym, ◌∙◌, ap, subst, refl, arith, append-nil, ℕ}
 use Rattle.scc_base.specs.declared.events.Spot.{Spot}
 use Rattle.scc_base.specs.declared.layouts.Layout.{Layout}
 use Rattle.scc_base.specs.declared.layouts.Layout.TheVariants.{LineFlags, BitFlags}
@@ -17,7 +17,7 @@ use Rattle.send_recv.specs.declared.stages.RecvStage.TheVariants.{Finished}
 use Rattle.send_recv.specs.declared.answers.RecvTurn.{RecvTurn}
 use Rattle.send_recv.specs.declared.answers.RecvTurn.TheVariants.{Moved, Waiting, Done, Mismatch}
 use Rattle.send_recv.specs.Ranks.{receiving}
-use Rattle.send_recv.proofs.LookTurn.{Turns, look_turn}
+use Rattle.send_recv.proofs.LookTurn.{Turns, recv_does, look_turn}
 use Rattle.send_recv.proofs.HeadTurn.{head_turn, post_itself}
 use Rattle.send_recv.proofs.LinesMove.{lines_turn}
 use Rattle.send_recv.proofs.FlagTurns.{may_lower_turn}
@@ -54,6 +54,7 @@ finished_turn : (s : Sight) (c : Private) (op : RecvAt) (bytes : List ℕ) → o
 finished_turn s c op bytes finished = record {
   events = [];
   did = did_nothing s;
+  does = recv_does (receiving s c op bytes) Finished true s c finished (refl, refl);
   tried = NoTry (ap (λ (st : RecvStage). aim_at s.seat.setup.layout (spot_by s.seat.setup.layout (own_core s.seat) (core_of s.seat op.from) op.from st)) finished
       ∙ ap (λ (o : Option Spot). aim_at s.seat.setup.layout o) (spot_finished s.seat.setup.layout (own_core s.seat) (core_of s.seat op.from) op.from)) refl;
   freed = refl;
