@@ -111,6 +111,7 @@ module _ (m : MoreAt) (s t : Sight) (c d : Private) (call : PieceCall) (op next 
       turned = record {
         events = r.events;
         did = r.did;
+        does = r.does;
         tried = r.tried;
         freed = r.freed;
         rests = λ spot same. absurd (cc);
@@ -133,6 +134,7 @@ module _ (m : MoreAt) (s t : Sight) (c d : Private) (call : PieceCall) (op next 
       turned = record {
         events = r.events;
         did = r.did;
+        does = r.does;
         tried = r.tried;
         freed = r.freed;
         rests = λ at same. r.rests spot refl;
@@ -152,6 +154,7 @@ module _ (m : MoreAt) (s t : Sight) (c d : Private) (call : PieceCall) (op next 
       turned = record {
         events = r.events;
         did = r.did;
+        does = r.does;
         tried = r.tried;
         freed = r.freed;
         rests = λ spot same. absurd (cc);
@@ -180,6 +183,7 @@ module _ (m : MoreAt) (s t : Sight) (c d : Private) (call : PieceCall) (op next 
       turned = record {
         events = r.events;
         did = r.did;
+        does = r.does;
         tried = r.tried;
         freed = r.freed;
         rests = λ spot same. absurd (cc);

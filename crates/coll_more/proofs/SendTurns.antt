@@ -69,6 +69,7 @@ module _ (m : MoreAt) (s t : Sight) (c d : Private) (call : PieceCall) (op next 
       turned = record {
         events = r.events;
         did = r.did;
+        does = r.does;
         tried = r.tried;
         freed = r.freed;
         rests = λ spot same. absurd (cc);
@@ -92,6 +93,7 @@ module _ (m : MoreAt) (s t : Sight) (c d : Private) (call : PieceCall) (op next 
       turned = record {
         events = r.events;
         did = r.did;
+        does = r.does;
         tried = r.tried;
         freed = r.freed;
         rests = λ at same. r.rests spot refl;
@@ -116,6 +118,7 @@ module _ (m : MoreAt) (s t : Sight) (c d : Private) (call : PieceCall) (op next 
       turned = record {
         events = r.events;
         did = r.did;
+        does = r.does;
         tried = r.tried;
         freed = r.freed;
         rests = λ spot same. absurd (cc);

@@ -42,6 +42,7 @@ module _ (m : MoreAt) (s : Sight) (c : Private) (slot : SlotAt) (src dst : List 
     turned = record {
       events = [];
       did = did_nothing s;
+      does = (refl, refl);
       tried = NoTry refl refl;
       freed = refl;
       rests = λ spot same. refl;
@@ -67,6 +68,7 @@ module _ (m : MoreAt) (s : Sight) (c : Private) (slot : SlotAt) (src dst : List 
     turned = record {
       events = [];
       did = did_nothing s;
+      does = (refl, refl);
       tried = NoTry refl refl;
       freed = refl;
       rests = λ spot same. refl;
@@ -130,6 +132,7 @@ module _ (m : MoreAt) (s : Sight) (c : Private) (slot : SlotAt) (src dst : List 
       turned = record {
         events = [];
         did = did_nothing s;
+        does = (refl, refl);
         tried = NoTry refl refl;
         freed = refl;
         rests = λ spot same. refl;

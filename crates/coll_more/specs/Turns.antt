@@ -7,21 +7,24 @@ use Rattle.scc_base.specs.declared.events.Event.{Event}
 use Rattle.scc_base.specs.declared.events.Spot.{Spot}
 use Rattle.scc_base.specs.declared.layouts.Layout.{Layout}
 use Rattle.scc_proto.specs.Messages.{Notes}
-use Rattle.scc_proto.specs.Ports.{Did, Seat, record_in}
+use Rattle.scc_proto.specs.Ports.{Did, Seat, Sight, record_in}
 use Rattle.scc_proto.specs.Records.{chunk_of}
 use Rattle.scc_proto.specs.Resting.{is_resting}
 use Rattle.scc_proto.specs.Stages.{Record}
+use Rattle.put_get.specs.Cores.{Private}
 use Rattle.send_recv.specs.Chunks.{message_bound}
 use Rattle.send_recv.specs.Ops.{SlotAt}
-use Rattle.send_recv.specs.Receiving.{SaysHead, recv_left, recv_spot, recv_waits}
-use Rattle.send_recv.specs.Sending.{send_left, send_spot}
+use Rattle.send_recv.specs.Ranks.{receiving, sending}
+use Rattle.send_recv.specs.Receiving.{RecvDoes, SaysHead, recv_left, recv_spot, recv_waits}
+use Rattle.send_recv.specs.Sending.{SendDoes, send_left, send_spot}
 use Rattle.send_recv.specs.Sights.{layout_at}
+use Rattle.send_recv.specs.Steps.{goes_on}
 use Rattle.send_recv.specs.Tries.{aim_at}
 use Rattle.send_recv.specs.Turns.{IsAtRest, KeepsAllButMessages, LastHeld, OnlyTries, StoresFromBuffer}
 use Rattle.send_recv.specs.declared.answers.RecvTurn.{RecvTurn}
 use Rattle.send_recv.specs.declared.answers.RecvTurn.TheVariants as turn
 use Rattle.sync_flags.specs.Tries.{Aim, Tried, changing_after}
-use Rattle.coll_more.specs.Ops.{MoreAt, Participant, table_of}
+use Rattle.coll_more.specs.Ops.{MoreAt, Participant, bytes_of, table_of, window}
 use Rattle.coll_more.specs.Standing.{MoreStands}
 use Rattle.coll_more.specs.declared.kinds.PieceCall.{PieceCall}
 use Rattle.coll_more.specs.declared.ops.Stage.{Stage}
@@ -87,11 +90,20 @@ MoreMeans old now turn.Done = (now.op ≡ old.op) × (now.slot ≡ old.slot) × 
     × (is_over old.sight.seat old.op ≡ true)
 MoreMeans old now (turn.Mismatch sent) = IsStill old now × (is_over old.sight.seat old.op ≡ false) × MetOther (record_in now.sight) sent old.op.stage
 
+-- what a turn does, by what comes next: what the message in hand does; a copy and a message that begins make no event
+abbrev pub MoreDoes : Participant → Stage → (done : Bool) → Sight → Private → Type 0
+MoreDoes old Own done t d = (t ≡ old.sight) × (d ≡ old.core)
+MoreDoes old Between done t d = (t ≡ old.sight) × (d ≡ old.core)
+MoreDoes old (Sending call send) done t d = SendDoes (sending old.sight old.core send old.slot (bytes_of call old.src old.dst)) send.stage done t d
+MoreDoes old (Receiving call receive) done t d = RecvDoes (receiving old.sight old.core receive (window call.first call.len old.dst)) receive.stage done t d
+
 -- one turn of a collective call: what it did, and what it came to
 pub record MoreTurned (old now : Participant) (answer : RecvTurn) : Type 0 where
   pub events : List Event
   -- each event was permitted
   pub did : Did old.sight events now.sight
+  -- what its message does, and nothing else
+  pub does : MoreDoes old old.op.stage (goes_on answer) now.sight now.core
   -- it waits exactly where its one try was vain, at the spot of its message
   pub tried : Tried (aim_by old.sight.seat old.slot old.op.stage) events (recv_waits answer)
   -- it has freed the register that it took
