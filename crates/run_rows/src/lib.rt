@@ -18,6 +18,8 @@ mod logs;
 #[cfg(test)]
 mod meetings;
 #[cfg(test)]
+mod open_sends;
+#[cfg(test)]
 mod runs;
 #[cfg(test)]
 mod scripts;

@@ -1,9 +1,9 @@
-//! What no clause says: that the ranks take their turns at the same time.
+//! What no clause says: that the ranks take their turns at the same time, and that each passes its gate once in a round, before them.
 
 ghost use Rattle.std.specs.Prelude.{None, []};
 
 use crate::evictors::PerRank;
-use crate::runs::{FOUR_ARRIVE, comes_to};
+use crate::runs::{NO_MESSAGES, Row, TWO_PAIRS, comes_to};
 use line_cache::{Evict, Never};
 use rcce_run::{Gate, Mode, Open};
 use scc_base::{Layout, Rank};
@@ -11,10 +11,13 @@ use std::alloc::Global;
 use std::sync::atomic::{AtomicU64, Ordering};
 use std::thread::Threads;
 
-/// How often a rank looks for the other one.
+/// How many ranks there are.
+const RANKS: usize = 4;
+
+/// How often a rank looks for the other ones.
 const LOOKS: u64 = 50_000_000;
 
-/// A place where two threads meet: how many have come to it, and how many waited there in vain.
+/// A place where the threads of all ranks meet: how many have come to it, and how many waited there in vain.
 #[derive(Drop)]
 struct Meeting {
     came: AtomicU64,
@@ -29,20 +32,25 @@ impl Meeting {
         }
     }
 
-    /// Comes, and waits until two have come.
+    /// Whether all have come.
+    fn is_full(&self) -> bool {
+        self.came.load(Ordering::SeqCst) >= RANKS as u64
+    }
+
+    /// Comes, and waits until all have come.
     fn wait(&self) {
         self.came.fetch_add(1, Ordering::SeqCst);
         for _ in 0..LOOKS {
-            if self.came.load(Ordering::SeqCst) > 1 {
+            if self.is_full() {
                 return;
             }
         }
         self.missed.fetch_add(1, Ordering::SeqCst);
     }
 
-    /// Whether two have come, and none waited in vain.
+    /// Whether all have come, and none waited in vain.
     fn was_held(&self) -> bool {
-        self.came.load(Ordering::SeqCst) > 1 && self.missed.load(Ordering::SeqCst) == 0
+        self.is_full() && self.missed.load(Ordering::SeqCst) == 0
     }
 }
 
@@ -53,7 +61,7 @@ impl Gate for Meeting {
     }
 }
 
-/// An evictor that drops nothing, and that waits for the other rank's at its first question.
+/// An evictor that drops nothing, and that waits for those of the other ranks at its first question.
 #[derive(Drop)]
 struct Meets<'a> {
     meeting: &'a Meeting,
@@ -87,30 +95,130 @@ impl<'a> PerRank for Meets<'a> {
     }
 }
 
-/// Whether four bytes arrive by two ranks that meet.
-fn meet<V: PerRank + Send, G: Gate + Sync, R: Threads + Sync>(
+/// Whether a script of four ranks comes to what its row says, with its ranks in threads.
+fn comes<V: PerRank + Send, G: Gate + Sync, R: Threads + Sync>(
     rt: &R,
     alloc: Global,
+    row: &Row<'_>,
     like: &V,
     gate: &G,
-    meeting: &Meeting,
 ) -> bool {
     let layout = Layout::LineFlags;
-    comes_to(rt, alloc, layout, FOUR_ARRIVE, like, Mode::Threads, gate) && meeting.was_held()
+    comes_to(rt, alloc, layout, row, like, Mode::Threads, gate)
 }
 
 #[test]
-fn two_ranks_wait_for_each_other_at_the_gate(rt: HostRuntime) {
+fn four_ranks_wait_for_each_other_at_the_gate(rt: HostRuntime) {
     let meeting = Meeting::new();
-    assert!(rt; meet(&rt, rt.alloc(), &Never, &meeting, &meeting));
+    assert!(rt; comes(&rt, rt.alloc(), TWO_PAIRS, &Never, &meeting) && meeting.was_held());
 }
 
 #[test]
-fn two_ranks_wait_for_each_other_inside_their_turns(rt: HostRuntime) {
+fn four_ranks_wait_for_each_other_inside_their_turns(rt: HostRuntime) {
     let meeting = Meeting::new();
     let meets = Meets {
         meeting: &meeting,
         was_asked: false,
     };
-    assert!(rt; meet(&rt, rt.alloc(), &meets, &Open, &meeting));
+    assert!(rt; comes(&rt, rt.alloc(), TWO_PAIRS, &meets, &Open) && meeting.was_held());
+}
+
+/// How often each rank has passed the gate, and how often one's evictor was asked before that.
+#[derive(Drop)]
+struct Passes {
+    counts: [AtomicU64; RANKS],
+    early: AtomicU64,
+}
+
+impl Passes {
+    fn new() -> Passes {
+        Passes {
+            counts: [
+                AtomicU64::new(0),
+                AtomicU64::new(0),
+                AtomicU64::new(0),
+                AtomicU64::new(0),
+            ],
+            early: AtomicU64::new(0),
+        }
+    }
+
+    /// Whether each rank has passed so often.
+    fn are_all(&self, wanted: u64) -> bool {
+        for at in 0..RANKS {
+            if self.counts[at].load(Ordering::SeqCst) != wanted {
+                return false;
+            }
+        }
+        true
+    }
+
+    /// Notes where a rank's evictor is asked before the rank has passed.
+    fn ask(&self, rank: u8) {
+        let at = rank as usize;
+        if at >= RANKS || self.counts[at].load(Ordering::SeqCst) == 0 {
+            self.early.fetch_add(1, Ordering::SeqCst);
+        }
+    }
+
+    /// Whether no rank took turns before it passed.
+    fn came_first(&self) -> bool {
+        self.early.load(Ordering::SeqCst) == 0
+    }
+}
+
+impl Gate for Passes {
+    fn pass(&self, rank: Rank) {
+        let at = rank.number() as usize;
+        if at < RANKS {
+            self.counts[at].fetch_add(1, Ordering::SeqCst);
+        }
+    }
+}
+
+/// An evictor that drops nothing, and that looks at its questions whether its rank has passed.
+#[derive(Drop)]
+struct Looks<'a> {
+    passes: &'a Passes,
+    rank: u8,
+}
+
+impl<'a> Evict for Looks<'a> {
+    ghost count = { λ _. 0 };
+
+    ghost asked = { λ _. None };
+
+    ghost answers = { λ _. [] };
+
+    fn drop_one(&mut self, held: usize) -> Option<usize> {
+        let _ = held;
+        self.passes.ask(self.rank);
+        None
+    }
+}
+
+impl<'a> PerRank for Looks<'a> {
+    fn for_rank(&self, rank: u8) -> Looks<'a> {
+        Looks {
+            passes: self.passes,
+            rank,
+        }
+    }
+}
+
+/// A script that sends nothing is over in one round.
+#[test]
+fn each_rank_passes_the_gate_once_in_a_round(rt: HostRuntime) {
+    let passes = Passes::new();
+    assert!(rt; comes(&rt, rt.alloc(), NO_MESSAGES, &Never, &passes) && passes.are_all(1));
+}
+
+#[test]
+fn each_rank_passes_the_gate_before_its_turns(rt: HostRuntime) {
+    let passes = Passes::new();
+    let looks = Looks {
+        passes: &passes,
+        rank: 0,
+    };
+    assert!(rt; comes(&rt, rt.alloc(), TWO_PAIRS, &looks, &passes) && passes.came_first());
 }

@@ -24,14 +24,38 @@ pub(crate) struct Row<'a> {
 }
 
 /// Rank 0 sends four bytes to rank 1, which prints them.
-pub(crate) const FOUR_ARRIVE: &Row<'static> = &Row {
+const FOUR_ARRIVE: &Row<'static> = &Row {
     script: FOUR_BYTES,
     end: RunEnd::Finished,
     ranks: &[(End::Finished, &[]), (End::Finished, &[&[1, 2, 3, 4]])],
 };
 
+/// Rank 0 sends four bytes to rank 1, and rank 2 to rank 3.
+pub(crate) const TWO_PAIRS: &Row<'static> = &Row {
+    script: b"even\nbytes x 01020304\nsend +1 x\nodd\nrecv -1 y 4\nprint y\n",
+    end: RunEnd::Finished,
+    ranks: &[
+        (End::Finished, &[]),
+        (End::Finished, &[&[1, 2, 3, 4]]),
+        (End::Finished, &[]),
+        (End::Finished, &[&[1, 2, 3, 4]]),
+    ],
+};
+
+/// Four ranks print.
+pub(crate) const NO_MESSAGES: &Row<'static> = &Row {
+    script: b"all\nbytes x 07\nprint x\n",
+    end: RunEnd::Finished,
+    ranks: &[
+        (End::Finished, &[&[7]]),
+        (End::Finished, &[&[7]]),
+        (End::Finished, &[&[7]]),
+        (End::Finished, &[&[7]]),
+    ],
+};
+
 /// A member for each rank, with an evictor like this one.
-fn crew_of<'s, V: PerRank>(
+pub(crate) fn crew_of<'s, V: PerRank>(
     alloc: Global,
     scripts: &'s Scripts,
     setup: &Setup,

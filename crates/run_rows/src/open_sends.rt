@@ -1,0 +1,113 @@
+//! What a run leaves in the chip's words where the rank that a message is for does not take it.
+
+ghost use Rattle.std.specs.Prelude.{◌≡◌, ◌<◌, ◌×◌, IfOk};
+ghost use Rattle.scc_mesh.specs.Scenes.{IsWhole, about_in};
+ghost use Rattle.script_reader.specs.Script.{rules_of};
+
+use crate::runs::crew_of;
+use crate::scripts::{FOUR_BYTES, chip_with, setup_of};
+use line_cache::Never;
+use rcce_run::{Mode, Open, run};
+use scc_base::{Layout, Place, Rank, Setup};
+use scc_mesh::Chip;
+use scc_proto::Port;
+use script_reader::{Scripts, read_script};
+use std::alloc::{AllocError, Global};
+use std::thread::Threads;
+
+/// The chip of a script behind its run.
+fn chip_after<R: Threads + Sync>(
+    rt: &R,
+    alloc: Global,
+    scripts: &Scripts,
+    setup: &Setup,
+    mode: Mode,
+) -> Result<Chip, AllocError>
+    requires ranks { setup.now.nue ≡ scripts.now.nue }
+    requires communicators { setup.now.comms ≡ rules_of scripts.now.items }
+    ensures whole { IfOk result (λ chip. IsWhole chip) }
+    ensures about { IfOk result (λ chip. about_in chip ≡ setup.now) }
+{
+    let mut chip = chip_with(alloc, setup)?;
+    let mut crew = crew_of(alloc, scripts, setup, &Never)?;
+    run(rt, &mut chip, crew.as_mut_slice(), mode, &Open);
+    Ok(chip)
+}
+
+/// What tells of a message of rank 0 to rank 1, and of a call that has it open: the word of the flag `sent` at the core of rank 1 and
+/// that of `ready` at the core of rank 0, the header, and the first word of the bytes.
+fn words_of<P: Port>(port: &mut P) -> [u64; 7]
+    requires two { 1 < (P.sight port.old).seat.setup.nue }
+{
+    let setup = port.setup();
+    let layout = setup.layout();
+    let (sender, receiver) = (setup.core_of(Rank::of(0)), setup.core_of(Rank::of(1)));
+    [
+        port.load(layout.sent(Rank::of(0)).place(receiver)),
+        port.load(layout.ready(Rank::of(1)).place(sender)),
+        port.load(Place::new(sender, 0, 0)),
+        port.load(Place::new(sender, 0, 1)),
+        port.load(Place::new(sender, 0, 2)),
+        port.load(Place::new(sender, 0, 3)),
+        port.load(Place::new(sender, layout.first_chunk_line(), 0)),
+    ]
+}
+
+/// These words behind a run of a script for two ranks.
+fn words_after<R: Threads + Sync>(
+    rt: &R,
+    alloc: Global,
+    scripts: &Scripts,
+    layout: Layout,
+    mode: Mode,
+) -> Result<Option<[u64; 7]>, AllocError>
+    requires two { scripts.now.nue ≡ 2 }
+{
+    let Some(setup) = setup_of(scripts, layout, true) else {
+        return Ok(None);
+    };
+    let mut chip = chip_after(rt, alloc, scripts, &setup, mode)?;
+    let _ = chip.setup().nue();
+    Ok(Some(words_of(&mut chip.port(Rank::of(0)))))
+}
+
+/// Whether a script for two ranks leaves these words in both layouts and modes.
+fn leaves<R: Threads + Sync>(rt: &R, alloc: Global, text: &[u8], words: [u64; 7]) -> bool {
+    let Ok(scripts) = read_script(alloc, text, 2) else {
+        return false;
+    };
+    for layout in &[Layout::LineFlags, Layout::BitFlags] {
+        for mode in &[Mode::Serial(1), Mode::Threads] {
+            match words_after(rt, alloc, &scripts, *layout, *mode) {
+                Ok(Some(left)) if left == words => {}
+                _ => return false,
+            }
+        }
+    }
+    true
+}
+
+/// The header of a plain message of four bytes, and its bytes as a word.
+const TAKEN: [u64; 7] = [0, 0, 0, 0, 4, 0, 0x0403_0201];
+
+/// The same with the flag `sent` raised.
+const OPEN: [u64; 7] = [1, 0, 0, 0, 4, 0, 0x0403_0201];
+
+#[test]
+fn a_send_that_was_received_is_not_open_on_the_chip(rt: HostRuntime) {
+    assert!(rt; leaves(&rt, rt.alloc(), FOUR_BYTES, TAKEN));
+}
+
+const NEVER_RECEIVED: &[u8] = b"ue 0\nbytes x 01020304\nsend 1 x\nue 1\nbytes y 05\n";
+
+#[test]
+fn a_send_that_is_never_received_is_open_on_the_chip(rt: HostRuntime) {
+    assert!(rt; leaves(&rt, rt.alloc(), NEVER_RECEIVED, OPEN));
+}
+
+const OF_ANOTHER_LENGTH: &[u8] = b"ue 0\nbytes x 01020304\nsend 1 x\nue 1\nrecv 0 y 3\n";
+
+#[test]
+fn a_send_that_is_refused_is_open_on_the_chip(rt: HostRuntime) {
+    assert!(rt; leaves(&rt, rt.alloc(), OF_ANOTHER_LENGTH, OPEN));
+}
