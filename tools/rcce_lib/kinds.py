@@ -48,7 +48,7 @@ def _script(name: str, rule: str, wanted: str, before: str, wrong: str, right: s
 SCRIPT_KINDS = [
     _script("NotText", "a byte outside a comment is no blank and no printable character",
             "blanks and the printable characters of ASCII alone, outside comments", "ue 0", "ints x \u22125", "ints x -5"),
-    _script("UnknownStatement", "the first word is none of the language, or is rcce past its place, or a fixed word is wrong",
+    _script("UnknownStatement", "the first word is none of docs/SCRIPTS.md, or is rcce past its place, or a fixed word is wrong",
             "a statement of docs/SCRIPTS.md, with its fixed words", "ue 0", "receive 1 y 4", "recv 1 y 4"),
     _script("WrongCount", "the line has another number of words than the statement",
             "as many words as the statement has", "ue 0", "recv 1 y", "recv 1 y 4"),
@@ -58,7 +58,7 @@ SCRIPT_KINDS = [
             "two hex digits for each byte, or - for no bytes", "ue 0", "bytes x 012", "bytes x 0102"),
     _script("BadName", "a name is not of its form",
             "a name of 1 to 16 letters, digits or underscores that begins with a letter", "ue 0", "bytes 2x 00", "bytes x2 00"),
-    _script("RankRange", "a rank is N or more, or A is above B, or ROOT is not below the size of the group",
+    _script("RankRange", "a rank is N or more, or A is above B, or ROOT is not below the size of the group (where COMM is 0 or an earlier line splits it)",
             "ranks below the number of UEs, A not above B, ROOT below the size of the group", "", "ue 2", "ue 1"),
     _script("SelfMessage", "PEER is the UE itself",
             "another UE than the one that has the statement", "ue 0|bytes x 00", "send 0 x", "send 1 x"),
@@ -104,7 +104,7 @@ LOG_KINDS = [
          ["rcce log 02"], ["rcce log 2"]),
     Kind("BadComm", LOG, "a line that begins with comm is no split of its form, or stands out of its place",
          "comm NUMBER PARENT mod|div PARTS before all calls, with rising numbers and a parent that is there", ["comm 2 0 rest 2"], ["comm 2 0 mod 2"], before=["rcce log 4"]),
-    Kind("BadCall", LOG, "any other line is no call of its form, or stands out of its place",
+    Kind("BadCall", LOG, "a line that does not begin with comm is no call of its form, or stands out of its place",
          "R send|recv J KIND C LEN HEX, R post J plain 0 LEN HEX or R bar C, by rank, with single blanks and lower-case hex",
          ["0 send 1 plain 0 2 01"], ["0 send 1 plain 0 1 01"], before=["rcce log 2"]),
 ]

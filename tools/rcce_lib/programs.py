@@ -6,7 +6,7 @@ import re
 import subprocess
 from dataclasses import dataclass, field
 
-from rcce_lib.kinds import SCRIPT, wanted
+from rcce_lib.kinds import NO_LOG, SCRIPT, wanted
 from rcce_lib.progress import Progress
 from rcce_lib.stops import Failure, Fault, Refused, Stop
 
@@ -92,7 +92,9 @@ class Programs:
         said = last.removeprefix(f"{program}: ")
         if status == 2 and told and (found := re.fullmatch(r"(.*) line (\d+): (\w+)", said)):
             name, source = self.files.get(found[1], (found[1], SCRIPT))
-            return Refused(Fault(name, int(found[2]), found[3], wanted(found[3], source)))
+            # a script that is too long for a log is refused at its line 0, as one that is too long for a file
+            what = NO_LOG if (program, source, found[2]) == ("rcceaudit", SCRIPT, "0") else wanted(found[3], source)
+            return Refused(Fault(name, int(found[2]), found[3], what))
         if status == 5 and told and (found := re.fullmatch(r"(.*): (absent|read fault)", said)):
             return Stop(f"{self.name(found[1])}: {found[2]}", 5)
         if status in (1, 4) and told:

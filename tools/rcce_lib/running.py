@@ -1,7 +1,6 @@
 """rcce run: a script over the chip, as rccerun runs it."""
 from __future__ import annotations
 
-import dataclasses
 import sys
 
 from rcce_lib.programs import Programs
@@ -11,8 +10,8 @@ from rcce_lib.texts import Halt, read_halts, read_printed
 def halt_object(halt: Halt) -> dict[str, object]:
     """Where a rank stands, as an object."""
     found: dict[str, object] = {"ue": halt.rank, "line": halt.line, "at": halt.verb, "peer": halt.peer, "communicator": halt.comm}
-    found["message"] = dataclasses.asdict(halt.head) if halt.head else None
-    found["asked"] = dataclasses.asdict(halt.asked) if halt.asked else None
+    found["message"] = halt.head._asdict() if halt.head else None
+    found["asked"] = halt.asked._asdict() if halt.asked else None
     return found
 
 

@@ -3,6 +3,8 @@ from __future__ import annotations
 
 import re
 from dataclasses import dataclass
+from functools import lru_cache
+from typing import NamedTuple
 
 from rcce_lib.stops import Failure
 
@@ -19,8 +21,7 @@ VERDICT = re.compile(r"not legal: ue (\d+) call (\d+)")
 GENERATED = re.compile(r"gen (\d+) ues (\d+) sends (\d+) bytes (\d+) sum (\d+)")
 
 
-@dataclass(frozen=True)
-class Head:
+class Head(NamedTuple):
     """The kind of a message, its communicator and its length in bytes."""
 
     kind: str
@@ -44,8 +45,7 @@ class Halt:
     comm: int | None = None
 
 
-@dataclass(frozen=True)
-class Message:
+class Message(NamedTuple):
     """A message that came (rccecheck)."""
 
     sender: int
@@ -86,6 +86,7 @@ def lines_of(program: str, text: str) -> list[str]:
     return text.split("\n")[:-1]
 
 
+@lru_cache(maxsize=4096)
 def head_of(words: tuple[str, ...]) -> Head:
     """A head by its three words."""
     return Head(words[0], int(words[1]), int(words[2]))

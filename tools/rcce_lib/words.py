@@ -4,6 +4,7 @@ from __future__ import annotations
 import argparse
 import os
 import sys
+import traceback
 from typing import Callable, NoReturn
 
 from rcce_lib.inputs import Given, Scratch, read
@@ -114,6 +115,90 @@ def do_sum(work: Work) -> int:
     return work.answer(sums.count(joined.ask(work.programs, *work.script())), sums.text_of)
 
 
+def do_mesh(work: Work) -> int:
+    from rcce_lib import mesh
+
+    return work.answer(mesh_load(work), mesh.text_of)
+
+
+def mesh_load(work: Work) -> dict[str, object]:
+    """What the links carry, on the cores that a host file or a list names."""
+    from rcce_lib import joined, mesh
+
+    script, ues = work.script()
+    cores = work.words.at
+    if work.words.f:
+        cores = mesh.cores_of(work.programs, work.read(work.words.f), read(os.devnull, work.scratch), ues)
+    if cores and len(cores) != ues:
+        work.parser.error(f"-at names {len(cores)} cores for {ues} UEs")
+    return mesh.load(joined.ask(work.programs, script, ues), cores)
+
+
+def do_draw(work: Work) -> int:
+    from rcce_lib import drawing, joined, why
+
+    asked = work.words
+    if asked.picture == "mesh":
+        picture = drawing.Mesh(mesh_load(work))
+    else:
+        told = joined.ask(work.programs, *work.script())
+        picture = drawing.Waits(why.explain(told)) if asked.picture == "waits" else drawing.Messages(told)
+    form = asked.form or drawing.form_of(asked.o, sys.stdout.isatty())
+    if form == "dot" and asked.picture != "waits":
+        work.parser.error("dot is a form of waits alone")
+    text = {"svg": picture.svg, "text": picture.text, "dot": picture.dot}[form]()
+    if asked.json:
+        say_object({"command": "draw", "picture": asked.picture, "form": form, "status": picture.status, "text": text})
+    elif asked.o:
+        write(asked.o, text)
+    else:
+        say(text.removesuffix("\n"))
+    return picture.status
+
+
+def write(name: str, text: str) -> None:
+    """Writes a file that the user names."""
+    try:
+        with open(name, "w", encoding="utf-8") as file:
+            file.write(text)
+    except OSError as error:
+        raise Stop(f"{name}: {error.strerror}", 6) from error
+
+
+def do_log(work: Work) -> int:
+    from rcce_lib import auditing
+
+    script, ues = work.script()
+    work.programs.files[script.path] = script.name, "script"
+    ran = work.programs.run("rcceaudit", "-log", "-nue", str(ues), script.path, stream=not work.words.json)
+    if work.words.json:
+        say_object(auditing.log_object(script.name, ran.out, ran.status))
+    return ran.status
+
+
+def do_audit(work: Work) -> int:
+    from rcce_lib import auditing
+
+    return work.answer(auditing.audit(work.programs, work.scratch, work.read(work.words.log)), auditing.text_of)
+
+
+def do_grade(work: Work) -> int:
+    from rcce_lib import grading
+
+    asked = work.words
+    found = grading.grade(work.programs, work.scratch, asked.folder, asked.wanted or asked.folder, asked.nue)
+    return work.answer(found, grading.text_of)
+
+
+def do_explain(work: Work) -> int:
+    from rcce_lib import explained
+
+    found = explained.explain(work.words.kind)
+    if not found["kinds"]:
+        work.parser.error(f"no kind is called {work.words.kind}; rcce explain alone lists all")
+    return work.answer(found, explained.text_of)
+
+
 def build_parser() -> Parser:
     """The parser of all words."""
     about = "Runs and explains scripts of RCCE by the proved programs of this repository."
@@ -128,25 +213,64 @@ def build_parser() -> Parser:
         sub.add_argument("--json", action="store_true", help="write one object as JSON (docs/TOOLS.md has its fields)")
         sub.add_argument("--quiet", action="store_true", help="do not tell that long work goes on")
         if script:
-            sub.add_argument("-nue", metavar="N", type=number(1, 48), help="how many UEs there are, 1 to 48")
-            sub.add_argument("script", metavar="SCRIPT", help="the script, or - for standard input")
+            add_script(sub)
         return sub
 
     add_run(add("run", "run a script over the chip and print what its UEs print", do_run, script=False))
     add("why", "tell why a script does not finish: who waits for whom, where, and what would help", do_why)
     add("sum", "count the messages, bytes, barriers and the longest chain of messages of a script", do_sum)
+    add_cores(add("mesh", "map what the links of the chip's mesh carry", do_mesh))
+    add_draw(add("draw", "draw who waits for whom, the messages or the mesh", do_draw, script=False))
+    add("log", "print the log of a run's calls", do_log)
+    audit = add("audit", "tell whether a log is legal, and why it is not", do_audit, script=False)
+    audit.add_argument("log", metavar="LOG", help="the log, or - for standard input")
+    grade = add("grade", "run the scripts of a folder and compare with stored outputs", do_grade, script=False)
+    grade.add_argument("-nue", metavar="N", type=number(1, 48), help="how many UEs there are, for all scripts")
+    grade.add_argument("--wanted", metavar="FOLDER", help="the folder of the stored outputs, if it is another one")
+    grade.add_argument("folder", metavar="FOLDER", help="the folder with each NAME.rcce, and NAME.out and NAME.err")
+    explain = add("explain", "tell the rule of a kind of fault, a wrong line and the right one", do_explain, script=False)
+    explain.add_argument("kind", metavar="KIND", nargs="?", help="the kind, in any case; without it all are listed")
     return top
+
+
+def add_script(sub: argparse.ArgumentParser, need: str | None = None) -> None:
+    """The number of UEs and the script."""
+    sub.add_argument("-nue", metavar="N", type=number(1, 48), help="how many UEs there are, 1 to 48")
+    sub.add_argument("script", metavar="SCRIPT", nargs=need, help="the script, or - for standard input")
+
+
+def add_cores(sub: argparse.ArgumentParser) -> None:
+    """The cores of the ranks."""
+    cores = sub.add_mutually_exclusive_group()
+    cores.add_argument("-at", metavar="LIST", type=core_list, help="the core of each rank, with commas between; else rank r is on core r")
+    cores.add_argument("-f", metavar="HOSTS", help="a file with the core of each rank")
+
+
+def core_list(word: str) -> list[int]:
+    """A list of different cores with commas between."""
+    cores = [number(0, 47)(part) for part in word.split(",")]
+    if len(set(cores)) != len(cores):
+        raise argparse.ArgumentTypeError(f"different cores are wanted, not {word!r}")
+    return cores
+
+
+def add_draw(sub: argparse.ArgumentParser) -> None:
+    """The picture, its form and where it goes."""
+    sub.add_argument("picture", choices=("waits", "messages", "mesh"), help="what is drawn")
+    add_script(sub)
+    add_cores(sub)
+    sub.add_argument("-o", metavar="FILE", help="the file that is written, of the form that its ending names (.svg, .txt, .dot)")
+    sub.add_argument("--form", choices=("svg", "text", "dot"), help="the form; else text on a terminal and svg elsewhere; dot is for waits")
 
 
 def add_run(sub: argparse.ArgumentParser) -> None:
     """The options of a run."""
-    sub.add_argument("-nue", metavar="N", type=number(1, 48), help="how many UEs there are, 1 to 48")
+    add_script(sub, "?")
     sub.add_argument("-f", metavar="HOSTS", help="a file with the core of each rank")
     sub.add_argument("-evict", metavar="S", type=number(0, 2**32 - 1), help="let cached lines leave at random, drawn from the seed S")
     sub.add_argument("-serial", metavar="S", type=number(0, 2**32 - 1), help="run all UEs on one thread, in an order drawn from S")
     sub.add_argument("-bits", action="store_true", help="take one-bit flags under test-and-set registers")
     sub.add_argument("-gen", metavar="S", type=number(0, 65535), help="run a script that is made of the number S")
-    sub.add_argument("script", metavar="SCRIPT", nargs="?", help="the script, or - for standard input")
 
 
 def main(argv: list[str]) -> int:
@@ -175,6 +299,11 @@ def main(argv: list[str]) -> int:
         return 130
     except OSError as error:
         return write_failed(error)
+    except Exception:
+        # a status that no program has, and what whoever mends it wants to see
+        traceback.print_exc()
+        print("rcce: this is a fault of rcce itself", file=sys.stderr)
+        return OWN_FAILURE
     finally:
         scratch.close()
 
