@@ -13,7 +13,7 @@ use Rattle.std.proofs.lemmas.Option.{same_Some}
 use Rattle.script_plain.specs.declared.ends.UeEnd.{UeEnd}
 use Rattle.script_plain.specs.declared.ends.UeEnd.TheVariants as ue_end
 use Rattle.script_plain.specs.Ends.{Ended, ended_at}
-use Rattle.check_program.specs.declared.cause.Cause.TheVariants as cause
+use Rattle.check_program.specs.declared.causes.Cause.TheVariants as cause
 use Rattle.check_program.specs.Waiting.{HasRefused, IsCause, ReachesIn, cause_at, cause_of, is_waiting, least_walked, stepped, stopped_by, walked}
 
 module _ (next : ℕ → Option ℕ) where

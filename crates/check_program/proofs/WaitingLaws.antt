@@ -18,7 +18,7 @@ use Rattle.script_plain.proofs.PlainLaws.{length-plain_end}
 use Rattle.script_plain.proofs.RestLaws.{ends_length}
 use Rattle.script_reader.specs.Script.{Script}
 use Rattle.check_program.specs.Waiting.{cause_at, cause_of, first_from, found_at, is_absent_from, is_waiting, least_walked, trouble_of, waits_by_call, waits_by_end, waits_for, walked}
-use Rattle.check_program.specs.declared.cause.Cause.{Cause}
+use Rattle.check_program.specs.declared.causes.Cause.{Cause}
 use Rattle.check_program.specs.declared.trouble.Found.{Found}
 use Rattle.check_program.specs.declared.trouble.Trouble.{Trouble}
 

@@ -3,8 +3,8 @@ use Rattle.std.specs.Prelude.{ℕ, List, [], ◌∷◌, ◌++◌, codes, decimal
 use Rattle.rcce_io.specs.Sending.{joined}
 use Rattle.scc_base.specs.Heads.{kind_at, kind_text}
 use Rattle.script_plain.specs.declared.matches.Match.{Match}
-use Rattle.check_program.specs.declared.cause.Cause.{Cause}
-use Rattle.check_program.specs.declared.cause.Cause.TheVariants as cause
+use Rattle.check_program.specs.declared.causes.Cause.{Cause}
+use Rattle.check_program.specs.declared.causes.Cause.TheVariants as cause
 use Rattle.check_program.specs.declared.trouble.Found.{Found}
 use Rattle.check_program.specs.declared.trouble.Trouble.{Trouble}
 use Rattle.check_program.specs.declared.trouble.Trouble.TheVariants as trouble

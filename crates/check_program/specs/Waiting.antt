@@ -9,8 +9,8 @@ use Rattle.script_plain.specs.declared.ends.UeEnd.{UeEnd}
 use Rattle.script_plain.specs.declared.ends.UeEnd.TheVariants as ue_end
 use Rattle.script_plain.specs.Ends.{Ended, ended_at}
 use Rattle.script_plain.specs.HeldUp.{ended_at_barrier}
-use Rattle.check_program.specs.declared.cause.Cause.{Cause}
-use Rattle.check_program.specs.declared.cause.Cause.TheVariants as cause
+use Rattle.check_program.specs.declared.causes.Cause.{Cause}
+use Rattle.check_program.specs.declared.causes.Cause.TheVariants as cause
 use Rattle.check_program.specs.declared.trouble.Found.{Found}
 use Rattle.check_program.specs.declared.trouble.Trouble.{Trouble}
 use Rattle.check_program.specs.declared.trouble.Trouble.TheVariants as trouble

@@ -1,7 +1,7 @@
 //! `rccecheck`: says which messages of a script come, and who waits for whom where it does not finish.
 #![tactic(auto)]
 
-mod cause;
+mod causes;
 mod launcher;
 mod lines;
 mod report;
@@ -9,4 +9,7 @@ mod trouble;
 mod waiting;
 mod walking;
 
+pub use causes::Cause;
 pub use launcher::rccecheck;
+pub use waiting::waits_for;
+pub use walking::cause;

@@ -3,7 +3,7 @@
 ghost use Rattle.std.specs.Prelude.{◌≡◌};
 ghost use Rattle.check_program.specs.Texts.{cause_name, cause_rank};
 
-use crate::cause::Cause;
+use crate::causes::Cause;
 use crate::trouble::{Found, Trouble};
 use outcomes::Piece::{Number, Text};
 use rcce_io::{Sink, TextSource, WriteFault, write_texts};

@@ -4,7 +4,7 @@ ghost use Rattle.std.specs.Prelude.{◌≡◌, ◌<◌, IfOk};
 ghost use Rattle.script_plain.specs.Meaning.{keys_of, plain_ends};
 ghost use Rattle.check_program.specs.Waiting.{all_found, cause_of, trouble_by_waits, trouble_of, waits_for};
 
-use crate::cause::Cause;
+use crate::causes::Cause;
 use crate::waiting::waits_for;
 use crate::walking::cause;
 use scc_base::Rank;

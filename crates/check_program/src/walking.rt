@@ -6,7 +6,7 @@ ghost use Rattle.script_plain.specs.Ends.{ended_at};
 ghost use Rattle.script_plain.specs.Meaning.{keys_of, plain_ends};
 ghost use Rattle.check_program.specs.Waiting.{IsCause, cause_of, is_waiting, least_walked, stopped_by, waits_for, walked};
 
-use crate::cause::Cause;
+use crate::causes::Cause;
 use crate::waiting::waits_for;
 use scc_base::Rank;
 use script_plain::{End, UeEnd, ends_are_explained};

@@ -1,7 +1,7 @@
 use Rattle.std.proofs.Common.{◌≡◌, ◌∙◌, ℕ, Option, Some, ap, length, sym, arith}
 use Rattle.script_plain.specs.Meaning.{keys_of, plain_ends}
 use Rattle.check_program.specs.Waiting.{cause_at, least_walked, waits_for}
-use Rattle.check_program.specs.declared.cause.Cause.TheVariants as cause
+use Rattle.check_program.specs.declared.causes.Cause.TheVariants as cause
 use Rattle.check_program.proofs.CauseLaws.{answer_means}
 use Rattle.check_program.proofs.WaitingLaws.{cause_is, many}
 use Rattle.check_program.proofs.walking.cause.Goals as goal
