@@ -19,6 +19,7 @@ use Rattle.scc_proto.proofs.Tests.{same_or_other, peers_are}
 use Rattle.script_plain.specs.declared.posts.Posted.{Posted}
 use Rattle.script_plain.specs.Next.{Next, call_of}
 use Rattle.script_plain.specs.Next.Next.{Ends, Goes, Posts, Sends, Recvs, Bars}
+use Rattle.rcce_run.specs.Scripts.{NoneDrafts}
 use Rattle.rcce_run.specs.Sweep.{TakeWaits, IsLooking, BarWaits, AtRoot, AtMember, Vain, Swept}
 use Rattle.rcce_run.proofs.Refusals.{posting, sending}
 
@@ -155,3 +156,31 @@ module _ {U : Type 0} (next : U → Next U) (s : SetupView) (memory : Memory) (r
           ap (λ (h : _). Some (call.Send to h)) (sym raise.head_is) ∙ ap (λ (x : DataCall). Some (calls.call_of x)) opened
       by (Recvs from head take refuse) vain = absurd (by_looking from (records k).stage refl vain vain.stage)
       by (Bars comm after) vain = by_bar comm vain
+
+  -- a rank with no open call is in the midst of nothing
+  pub none_drafts : NoneDrafts s records
+  none_drafts k low none = by (next (states k)) (sw.vain k low)
+    where
+      closed : (st : Stage) → (records k).stage ≡ st → open_of (chunk_of s) st ≡ None
+      closed st at = ap (open_of (chunk_of s)) (sym at) ∙ none
+
+      by_looking : (from : ℕ) (st : Stage) → (records k).stage ≡ st → IsLooking from st → (records k).stage ≡ Idle
+      by_looking from Idle at looks = at
+      by_looking from (Drafting header chunk) at looks = absurd looks
+      by_looking from (Sending to part message chunk) at looks = absurd looks
+      by_looking from (Between i message) at looks = absurd (let some = closed (Between i message) at in cc (some))
+      by_looking from (Taking i message chunk) at looks = absurd looks
+      by_looking from (Barrier comm seen released) at looks = absurd looks
+
+      by_bar : (comm : ℕ) → BarWaits s (view_of s memory) k comm (records k) → ⊥
+      by_bar comm (AtRoot seen j present zeroth bar less below grouped placed vain) = let some = closed (Barrier comm seen 0) bar in cc (some)
+      by_bar comm (AtMember present other bar vain) = let some = closed (Barrier comm 0 0) bar in cc (some)
+
+      by : (n : Next U) → Vain s (view_of s memory) k (records k) n → (records k).stage ≡ Idle
+      by Ends vain = vain
+      by (Goes after) vain = absurd vain
+      by (Posts message after) vain = vain.stage
+      by (Sends to head bytes after) (inl slot) = slot.stage
+      by (Sends to head bytes after) (inr raise) = absurd (let some = closed (Sending to Raised raise.message raise.chunk) raise.stage in cc (some))
+      by (Recvs from head take refuse) vain = by_looking from (records k).stage refl vain.stage
+      by (Bars comm after) vain = absurd (by_bar comm vain)

@@ -27,7 +27,7 @@ use Rattle.rcce_run.specs.Crews.{AllRest, AllRun, EndsAs, IsAtEnd, IsCrew, Swept
 use Rattle.rcce_run.specs.Scripts.{IsSwept}
 use Rattle.rcce_run.specs.Sweep.{Stood, Vain, slots_by}
 use Rattle.rcce_run.specs.Turns.{Fits, IsOver, RestsAt, WorkerView, state_of}
-use Rattle.rcce_run.proofs.OpenCalls.{open_is_next}
+use Rattle.rcce_run.proofs.OpenCalls.{none_drafts, open_is_next}
 use Rattle.rcce_run.proofs.PlainEnds.{finished_end, plain_end_at, stopped_end, waiting_end}
 use Rattle.rcce_run.proofs.ScriptSweep.{script_empty, script_ends, script_waits}
 use Rattle.rcce_run.proofs.VainLike.{slot_like, vain_like}
@@ -111,6 +111,7 @@ module _ {A : Type 0} (seen : A → WorkerView) (tied : A → SetupView → ℕ 
       lasts = lasts;
       ends = script_ends script s memory records states lasts is_swept;
       opened = open_is_next next_of s memory records (started script) states lasts is_swept.swept;
+      no_draft = none_drafts next_of s memory records (started script) states lasts is_swept.swept;
     }
 
     end_at : (k : ℕ) → k < script.nue → (ended_at (plain_ends script) k).end ≡ end_of (slots_by s records lasts k) (locals_of seen crew d k)

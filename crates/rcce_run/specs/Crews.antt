@@ -14,7 +14,7 @@ use Rattle.rcce_run.specs.declared.rests.Rest.{Rest}
 use Rattle.rcce_run.specs.declared.rests.Rest.TheVariants as rest
 use Rattle.rcce_run.specs.declared.ends.RunEnd.{RunEnd}
 use Rattle.rcce_run.specs.declared.ends.RunEnd.TheVariants as run_end
-use Rattle.rcce_run.specs.Scripts.{IsOpenCall}
+use Rattle.rcce_run.specs.Scripts.{IsOpenCall, NoneDrafts}
 use Rattle.rcce_run.specs.Sweep.{Holds, slots_by}
 use Rattle.rcce_run.specs.Turns.{WorkerView, TurnedAtHome, RestsAt, state_of}
 
@@ -93,11 +93,12 @@ abbrev pub locals_of : {A : Type 0} → (A → WorkerView) → List A → A → 
 locals_of seen crew d k = (seen (slice_index_or crew k d)).local
 
 -- the ranks stand at the plain end of a script: what they hold, with the finished calls of their records, and the messages
--- in the slots are those of the plain end, and an open call is the one that stands next
+-- in the slots are those of the plain end, an open call is the one that stands next, and no message is in draft
 pub record IsAtEnd (script : Script) (s : SetupView) (records : ℕ → Record) (locals : ℕ → Local) : Type 0 where
   pub lasts : ℕ → Option Posted
   pub ends : Holds script.nue (plain_end script) (λ k. state_of (locals k) (records k)) (slots_by s records lasts)
   pub opened : IsOpenCall s records (λ k. state_of (locals k) (records k))
+  pub no_draft : NoneDrafts s records
 
 -- all ranks have finished in the plain meaning, or one has not
 abbrev pub EndsAs : RunEnd → Script → Type 0

@@ -18,7 +18,7 @@ ghost use Rattle.scc_proto.specs.Words.{Memory, are_peers};
 ghost use Rattle.script_reader.specs.Script.{Script};
 ghost use Rattle.script_plain.specs.declared.posts.Posted.{Posted};
 ghost use Rattle.script_plain.specs.Meaning.{IsPlainStep, State, keys_of, next_of, plain_end};
-ghost use Rattle.rcce_run.specs.Scripts.{IsOpenCall, IsSwept};
+ghost use Rattle.rcce_run.specs.Scripts.{IsOpenCall, IsSwept, NoneDrafts};
 ghost use Rattle.rcce_run.specs.Turns.{Waits};
 ghost use Rattle.rcce_run.specs.Sweep.{Holds, RaiseWaits, SlotWaits, Vain, outgoing, slots_by};
 
@@ -46,6 +46,9 @@ pub fn sweep_law()
     // A call that is open in a record is the one that the plain meaning leaves the rank waiting in.
     ensures opened { (script : Script) (s : SetupView) (memory : Memory) (records : ℕ → Record) (states : ℕ → State) (lasts : ℕ → Option Posted)
         → IsSwept script s memory records states lasts → IsOpenCall s records states }
+    // A rank that has no call open is in the midst of nothing: it has no message in draft.
+    ensures no_draft { (script : Script) (s : SetupView) (memory : Memory) (records : ℕ → Record) (states : ℕ → State) (lasts : ℕ → Option Posted)
+        → IsSwept script s memory records states lasts → NoneDrafts s records }
 {}
 
 /// A look that was vain stays vain while ranks only look.

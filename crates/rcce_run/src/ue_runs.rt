@@ -3,6 +3,7 @@
 ghost use Rattle.std.specs.Prelude.{◌≡◌, ◌<◌, ℕ, List, Option, Some, slice_index_or};
 ghost use Rattle.rcce_run.specs.Crews.{EndsAs};
 ghost use Rattle.rcce_run.specs.Runs.{InOrder};
+ghost use Rattle.rcce_run.specs.Scripts.{NoneDrafts};
 ghost use Rattle.rcce_run.specs.Sent.{CountsSends};
 ghost use Rattle.rcce_run.specs.UeRuns.{AreHome, AreLegal, HasPlainCalls, IsFreshCrew, IsSameChip, ShowsEnd, WaitsOpen, member_seen, member_tied, shown};
 ghost use Rattle.rcce_run.specs.declared.members.Member.{Member};
@@ -64,6 +65,8 @@ pub fn run<V: Evict + Drop + Send, G: Gate + Sync, R: Threads + Sync>(
     // for its posted message at its end.
     ensures opened { (script : Script) → IsFreshCrew script chip.old crew.old → (k : ℕ) (call : DataCall) → k < script.nue
         → open_call (about_in chip.new) (records_in chip.new k) ≡ Some call → WaitsOpen script k call }
+    // A rank that has no call open is in the midst of nothing: it has no message in draft.
+    ensures no_draft { NoneDrafts (about_in chip.new) (records_in chip.new) }
     // The passed calls of all ranks are legal, each rank has received what it was sent, but for one message that is open or on
     // its way, and nobody has finished more barriers of a communicator than each member of its group has entered.
     ensures legal { AreLegal chip.new }

@@ -53,6 +53,14 @@ returns-clause-opened g c = λ script fresh k call low is_open.
     waits_open script c.run_members-end.new.chip c.run_members-end.new.crew c.agrees.ensures.words.0 c.agrees.ensures.words.1 stands.is_crew (stands.goes.scripts script (fresh_run script c.args.chip.now c.args.crew.now fresh))
     some (some_worker c.run_members-end.new.crew some) (subst (λ (n : ℕ). AllRest member_seen c.run_members-end.new.chip c.run_members-end.new.crew n) stands.is_crew.each c.run_members-end.ensures.rests) k call low is_open
 
+pub returns-clause-no_draft : goal.returns-clause-no_draft
+returns-clause-no_draft g c =
+    let script = c.requires.fresh.0 in
+    let fresh = c.requires.fresh.1 in
+    let stands : CrewStands member_seen member_tied c.args.chip.now c.args.crew.now c.run_members-end.new.chip c.run_members-end.new.crew = c.run_members-end.ensures.stands in
+    let some : 0 < length c.run_members-end.new.crew = subst (λ (n : ℕ). 0 < n) (sym stands.goes.count) (fresh_some script c.args.chip.now c.args.crew.now c.setup.result.now fresh c.setup.ensures.gives c.nue.ensures.valid.some_ranks) in
+    (c.run_members-end.ensures.ends script (fresh_run script c.args.chip.now c.args.crew.now fresh) (some_worker c.run_members-end.new.crew some)).no_draft
+
 pub returns-clause-legal : goal.returns-clause-legal
 returns-clause-legal g c = record { calls = c.agrees.ensures.calls; messages = c.agrees.ensures.messages; barriers = c.agrees.ensures.barriers }
 
