@@ -8,9 +8,9 @@ use std::process::Abort;
 use std::thread::Threads;
 
 /// A run, and what comes of it where no call fails.
-pub struct Case {
-    pub given: Given,
-    pub wanted: Wanted<'static>,
+struct Case {
+    given: Given,
+    wanted: Wanted<'static>,
     /// How many calls read the host file, which comes first.
     host_reads: u64,
     /// What is told where the script or the log cannot be read.
@@ -159,7 +159,7 @@ fn expect<R: Threads + Sync + Abort, P: Program>(
 }
 
 /// Four bytes arrive.
-pub const FOUR_ARRIVE: &Case = &Case {
+const FOUR_ARRIVE: &Case = &Case {
     given: Given {
         words: &["-nue", "2", "s"],
         hosts: b"",

@@ -22,10 +22,16 @@ mod machines;
 #[cfg(test)]
 mod outside;
 #[cfg(test)]
+mod plain_runs;
+#[cfg(test)]
 mod programs;
+#[cfg(test)]
+mod setups;
 #[cfg(test)]
 mod taps;
 #[cfg(test)]
 mod together;
+#[cfg(test)]
+mod waits;
 #[cfg(test)]
 mod words;

@@ -1,7 +1,6 @@
-//! What no clause says: without `-serial` the ranks run in threads of their own.
+//! What no clause says: without `-serial` the ranks run in threads of their own, each of which passes its gate, and with it they do not.
 
-use crate::cases::{NOWHERE, comes};
-use crate::faults::FOUR_ARRIVE;
+use crate::cases::{Given, NOWHERE, run};
 use crate::programs::Program;
 use outcomes::Status;
 use rcce_io::{Files, Sink};
@@ -10,60 +9,87 @@ use run_program::rccerun;
 use scc_base::Rank;
 use scc_mesh::Chip;
 use std::alloc::{AllocError, Global};
-use std::sync::atomic::{AtomicBool, Ordering};
+use std::sync::atomic::{AtomicU64, Ordering};
 use std::thread::Threads;
 
-/// How often a rank looks for the other one at most.
+/// How many ranks there are.
+const RANKS: usize = 4;
+
+/// How often a rank looks for the other ones at most.
 const LOOKS: u32 = 50_000_000;
 
-/// A gate at which two ranks wait for each other. A rank that has waited in vain marks it.
+/// A gate that counts the passes of each rank, and at which all may wait for each other: how many looked in vain for the others.
 #[derive(Drop)]
-struct Meeting {
-    zero_came: AtomicBool,
-    one_came: AtomicBool,
-    missed: AtomicBool,
+struct Passes {
+    counts: [AtomicU64; RANKS],
+    waits: bool,
+    missed: AtomicU64,
 }
 
-impl Meeting {
-    fn new() -> Meeting {
-        Meeting {
-            zero_came: AtomicBool::new(false),
-            one_came: AtomicBool::new(false),
-            missed: AtomicBool::new(false),
+impl Passes {
+    fn new(waits: bool) -> Passes {
+        Passes {
+            counts: [
+                AtomicU64::new(0),
+                AtomicU64::new(0),
+                AtomicU64::new(0),
+                AtomicU64::new(0),
+            ],
+            waits,
+            missed: AtomicU64::new(0),
         }
     }
 
-    fn wait_for(&self, other: &AtomicBool) {
+    /// Whether each rank has passed at least once.
+    fn have_all_come(&self) -> bool {
+        for at in 0..RANKS {
+            if self.counts[at].load(Ordering::SeqCst) == 0 {
+                return false;
+            }
+        }
+        true
+    }
+
+    /// Looks for the other ranks, until all have come.
+    fn wait(&self) {
         for _ in 0..LOOKS {
-            if other.load(Ordering::SeqCst) {
+            if self.have_all_come() {
                 return;
             }
         }
-        self.missed.store(true, Ordering::SeqCst);
+        self.missed.fetch_add(1, Ordering::SeqCst);
     }
 
-    /// Whether both came, and neither waited in vain.
+    /// Whether each rank has passed so often, and none looked in vain for the others.
+    fn are_all(&self, wanted: u64) -> bool {
+        for at in 0..RANKS {
+            if self.counts[at].load(Ordering::SeqCst) != wanted {
+                return false;
+            }
+        }
+        self.missed.load(Ordering::SeqCst) == 0
+    }
+
+    /// Whether all came, and none looked in vain for the others.
     fn was_held(&self) -> bool {
-        self.zero_came.load(Ordering::SeqCst)
-            && self.one_came.load(Ordering::SeqCst)
-            && !self.missed.load(Ordering::SeqCst)
+        self.have_all_come() && self.missed.load(Ordering::SeqCst) == 0
     }
 }
 
-impl Gate for Meeting {
+impl Gate for Passes {
     fn pass(&self, rank: Rank) {
-        if rank.number() == 0 {
-            self.zero_came.store(true, Ordering::SeqCst);
-            self.wait_for(&self.one_came);
-        } else {
-            self.one_came.store(true, Ordering::SeqCst);
-            self.wait_for(&self.zero_came);
+        let at = rank.number() as usize;
+        if at < RANKS {
+            self.counts[at].fetch_add(1, Ordering::SeqCst);
+        }
+        if self.waits {
+            self.wait();
         }
     }
 }
 
-/// `rccerun`, whose ranks meet here.
-impl Program for Meeting {
+/// `rccerun`, whose ranks pass this gate.
+impl Program for Passes {
     fn run<R: Threads + Sync, F: Files, O: Sink, E: Sink>(
         &self,
         rt: &R,
@@ -78,17 +104,53 @@ impl Program for Meeting {
     }
 }
 
+/// Whether four ranks finish, with these words behind their number, and what they print stands on out.
+fn finish<R: Threads + Sync>(
+    rt: &R,
+    alloc: Global,
+    gate: &Passes,
+    words: &'static [&'static str],
+    script: &'static [u8],
+    out: &[u8],
+) -> Result<bool, AllocError> {
+    let given = Given {
+        words,
+        hosts: b"",
+        script,
+    };
+    let ended = run(rt, alloc, gate, &given, NOWHERE)?;
+    Ok(ended.status == Status::Finished && ended.out.bytes() == out)
+}
+
+const TWO_PAIRS: &[u8] = b"even\nbytes x 01020304\nsend +1 x\nodd\nrecv -1 y 4\nprint y\n";
+
+const FOURS: &[u8] = b"ue 1 y 01020304\nue 3 y 01020304\n";
+
 #[test]
-fn two_ranks_wait_for_each_other_at_the_gate(rt: HostRuntime) -> Result<(), AllocError> {
-    let gate = Meeting::new();
-    let arrive = comes(
-        &rt,
-        rt.alloc(),
-        &gate,
-        &FOUR_ARRIVE.given,
-        NOWHERE,
-        &FOUR_ARRIVE.wanted,
-    )?;
-    assert!(rt; arrive && gate.was_held());
+fn four_ranks_wait_for_each_other_at_the_gate(rt: HostRuntime) -> Result<(), AllocError> {
+    let gate = Passes::new(true);
+    let words = &["-nue", "4", "s"];
+    assert!(rt; finish(&rt, rt.alloc(), &gate, words, TWO_PAIRS, FOURS)? && gate.was_held());
+    Ok(())
+}
+
+/// It is over in one round.
+const NO_MESSAGES: &[u8] = b"all\nbytes x 07\nprint x\n";
+
+const SEVENS: &[u8] = b"ue 0 x 07\nue 1 x 07\nue 2 x 07\nue 3 x 07\n";
+
+#[test]
+fn each_rank_passes_the_gate_once_in_a_round(rt: HostRuntime) -> Result<(), AllocError> {
+    let gate = Passes::new(false);
+    let words = &["-nue", "4", "s"];
+    assert!(rt; finish(&rt, rt.alloc(), &gate, words, NO_MESSAGES, SEVENS)? && gate.are_all(1));
+    Ok(())
+}
+
+#[test]
+fn on_one_thread_no_rank_passes_the_gate(rt: HostRuntime) -> Result<(), AllocError> {
+    let gate = Passes::new(false);
+    let words = &["-nue", "4", "-serial", "1", "s"];
+    assert!(rt; finish(&rt, rt.alloc(), &gate, words, NO_MESSAGES, SEVENS)? && gate.are_all(0));
     Ok(())
 }

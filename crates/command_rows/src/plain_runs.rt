@@ -1,0 +1,75 @@
+//! The plain run of small scripts by itself: how each rank ends, and what it has printed. That memory is there.
+
+use crate::cases::FOUR_BYTES;
+use scc_base::{Call, Head, Rank};
+use script_plain::{End, UeEnd, plain_run};
+use script_reader::read_script;
+use std::alloc::Global;
+use std::test::Fail;
+
+/// How a rank ends, and the items that it has printed.
+type Wanted<'a> = (UeEnd, &'a [&'a [u8]]);
+
+/// Whether a rank has printed these items.
+fn has_printed(end: &End, rank: Rank, wanted: &[&[u8]]) -> bool {
+    if rank.number() as usize >= end.nue() || end.items(rank) != wanted.len() {
+        return false;
+    }
+    for i in 0..wanted.len() {
+        if end.item(rank, i).bytes() != wanted[i] {
+            return false;
+        }
+    }
+    true
+}
+
+/// Whether a rank has come to what is wanted.
+fn is_at(end: &End, number: usize, wanted: &Wanted<'_>) -> bool {
+    if number >= 48 || number >= end.nue() {
+        return false;
+    }
+    let rank = Rank::of(number as u8);
+    end.ue(rank) == wanted.0 && has_printed(end, rank, wanted.1)
+}
+
+/// Whether the plain run of a script for two ranks comes to what is wanted of them.
+fn comes_to(alloc: Global, text: &[u8], wanted: &[Wanted<'_>]) -> bool {
+    let Ok(scripts) = read_script(alloc, text, 2) else {
+        return false;
+    };
+    let Ok(end) = plain_run(alloc, &scripts) else {
+        return false;
+    };
+    for at in 0..wanted.len() {
+        if !is_at(&end, at, &wanted[at]) {
+            return false;
+        }
+    }
+    end.nue() == wanted.len()
+}
+
+#[test]
+fn four_bytes_arrive_in_the_plain_run(rt: HostRuntime) {
+    let wanted: [Wanted<'_>; 2] = [(UeEnd::Finished, &[]), (UeEnd::Finished, &[&[1, 2, 3, 4]])];
+    assert!(rt; comes_to(rt.alloc(), FOUR_BYTES, &wanted));
+}
+
+const OF_ANOTHER_LENGTH: &[u8] =
+    b"ue 0\nbytes x 0001020304050607\nsend 1 x\nue 1\nrecv 0 y 4\nprint y\n";
+
+#[test]
+fn another_length_is_a_mismatch_in_the_plain_run(rt: HostRuntime) -> Result<(), Fail> {
+    let (from, to) = (Rank::of(0), Rank::of(1));
+    let sent = Head::plain(8).ok_or("eight bytes")?;
+    let asked = Head::plain(4).ok_or("four bytes")?;
+    let call = Call::Send { to, head: sent };
+    let refused = UeEnd::Mismatch {
+        line: 5,
+        from,
+        sent,
+        asked,
+    };
+    let wanted: [Wanted<'_>; 2] = [(UeEnd::Waits { line: 3, call }, &[]), (refused, &[])];
+    assert!(rt; comes_to(rt.alloc(), OF_ANOTHER_LENGTH, &wanted));
+    Ok(())
+}

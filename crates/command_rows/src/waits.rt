@@ -1,0 +1,136 @@
+//! Whom ranks wait for, and why, at the ends of small scripts, by the calls themselves.
+
+ghost use Rattle.std.specs.Prelude.{◌≡◌, ◌<◌};
+ghost use Rattle.script_plain.specs.Meaning.{plain_ends};
+
+use check_program::{Cause, cause, waits_for};
+use scc_base::Rank;
+use script_plain::{End, plain_run};
+use script_reader::{Scripts, read_script};
+use std::alloc::{AllocError, Global};
+
+/// What is told of a rank: for whom it waits, and what a walk from it comes to.
+enum Told {
+    Waits(u8, Why),
+    Nobody,
+}
+
+/// The cause, by the number of its rank.
+enum Why {
+    Finished(u8),
+    Mismatch(u8),
+    Cycle(u8),
+}
+
+/// Whether a cause is this one.
+fn is_why(found: Cause, why: &Why) -> bool {
+    match (found, why) {
+        (Cause::Finished(rank), Why::Finished(number)) => rank.number() == *number,
+        (Cause::Mismatch(rank), Why::Mismatch(number)) => rank.number() == *number,
+        (Cause::Cycle(rank), Why::Cycle(number)) => rank.number() == *number,
+        _ => false,
+    }
+}
+
+/// Whether this is told of a rank.
+fn is_told(end: &End, scripts: &Scripts, rank: Rank, told: &Told) -> bool
+    requires ended { end.now ≡ plain_ends scripts.now }
+    requires below { rank < scripts.now.nue }
+{
+    match (
+        waits_for(end, scripts, rank),
+        cause(end, scripts, rank),
+        told,
+    ) {
+        (None, None, Told::Nobody) => true,
+        (Some(on), Some(found), Told::Waits(number, why)) => {
+            on.number() == *number && is_why(found, why)
+        }
+        _ => false,
+    }
+}
+
+/// Whether the plain run of a script ends so that this is told of its ranks.
+fn are_told(alloc: Global, scripts: &Scripts, told: &[Told]) -> Result<bool, AllocError> {
+    let end = plain_run(alloc, scripts)?;
+    for number in 0..scripts.nue() {
+        let at = number as usize;
+        if at >= told.len() || !is_told(&end, scripts, Rank::of(number), &told[at]) {
+            return Ok(false);
+        }
+    }
+    Ok(true)
+}
+
+/// A script, and what is told of each of its ranks.
+struct Row {
+    script: &'static [u8],
+    told: &'static [Told],
+}
+
+impl Row {
+    /// Whether it is told.
+    fn is_so(&self, alloc: Global) -> bool {
+        let nue = self.told.len();
+        if nue < 1 || nue > 48 {
+            return false;
+        }
+        match read_script(alloc, self.script, nue as u8) {
+            Ok(scripts) => matches!(are_told(alloc, &scripts, self.told), Ok(true)),
+            Err(_) => false,
+        }
+    }
+}
+
+const ROWS: &[Row] = &[
+    // two ranks wait into a ring of three, whose least rank is 1
+    Row {
+        script: b"all\nbytes x 00\nue 0\nsend 4 x\nsend 1 x\nue 1\nsend 2 x\nue 2\nsend 3 x\nue 3\nsend 1 x\nue 4\nrecv 0 y 1\nrecv 0 y 1\n",
+        told: &[
+            Told::Waits(1, Why::Cycle(1)),
+            Told::Waits(2, Why::Cycle(1)),
+            Told::Waits(3, Why::Cycle(1)),
+            Told::Waits(1, Why::Cycle(1)),
+            Told::Waits(0, Why::Cycle(1)),
+        ],
+    },
+    // a rank that has finished never comes to a barrier
+    Row {
+        script: b"ue 0-1\nbarrier\n",
+        told: &[
+            Told::Waits(2, Why::Finished(2)),
+            Told::Waits(2, Why::Finished(2)),
+            Told::Nobody,
+        ],
+    },
+    // a rank that refused a message waits for nobody
+    Row {
+        script: b"ue 0\nbytes x 0001\nsend 1 x\nue 1\nrecv 0 y 1\nue 2\nrecv 0 y 1\n",
+        told: &[
+            Told::Waits(1, Why::Mismatch(1)),
+            Told::Nobody,
+            Told::Waits(0, Why::Mismatch(1)),
+        ],
+    },
+    // a posted message in the slot is waited for before that of the send
+    Row {
+        script: b"ue 0\nbytes x 00\npost 2 x\nsend 1 x\nue 1\nrecv 0 y 1\n",
+        told: &[
+            Told::Waits(2, Why::Finished(2)),
+            Told::Waits(0, Why::Finished(2)),
+            Told::Nobody,
+        ],
+    },
+    // who all finish wait for nobody
+    Row {
+        script: b"ue 0\nbytes x 00\nsend 1 x\nue 1\nrecv 0 y 1\n",
+        told: &[Told::Nobody, Told::Nobody],
+    },
+];
+
+#[test]
+fn each_rank_waits_for_a_rank_and_has_a_cause(rt: HostRuntime) {
+    for row in ROWS {
+        assert!(rt; row.is_so(rt.alloc()));
+    }
+}
