@@ -1,0 +1,68 @@
+# Completion in bash of the command rcce and of the five programs. Sourced, or found in share/bash-completion/completions.
+
+_rcce_files() {
+  local IFS=$'\n'
+  compopt -o filenames 2>/dev/null
+  COMPREPLY+=($(compgen -f -- "$1"))
+}
+
+_rcce_words() { COMPREPLY+=($(compgen -W "$1" -- "$2")); }
+
+_rcce() {
+  local word=${COMP_WORDS[COMP_CWORD]} before=${COMP_WORDS[COMP_CWORD - 1]} program=${COMP_WORDS[0]##*/} command='' options='' at=1
+  COMPREPLY=()
+  case $before in
+    -f | -o)
+      _rcce_files "$word"
+      return
+      ;;
+    --wanted)
+      compopt -o filenames 2>/dev/null
+      COMPREPLY=($(compgen -d -- "$word"))
+      return
+      ;;
+    --form)
+      _rcce_words 'svg text dot' "$word"
+      return
+      ;;
+    -nue | -at | -evict | -serial | -gen) return ;;
+  esac
+  if [ "$program" = rcce ]; then
+    if [ "$COMP_CWORD" -eq 1 ]; then
+      _rcce_words 'run why sum mesh draw log audit grade explain --help --version' "$word"
+      return
+    fi
+    command=${COMP_WORDS[1]}
+    at=2
+  fi
+  case $program:$command in
+    rccerun:) options='-nue -f -evict -serial -bits -gen' ;;
+    rccecheck:) options='-nue' ;;
+    rccemesh:) options='-nue -at' ;;
+    rcceaudit:) options='-log -nue' ;;
+    rccecoll:)
+      [ "$COMP_CWORD" -ne 2 ] || _rcce_words 'gather scatter allgather alltoall' "$word"
+      return
+      ;;
+    rcce:run) options='--help --version --json --quiet -nue -f -evict -serial -bits -gen' ;;
+    rcce:mesh) options='--help --version --json --quiet -nue -at -f' ;;
+    rcce:draw) options='--help --version --json --quiet -nue -at -f -o --form' ;;
+    rcce:grade) options='--help --version --json --quiet -nue --wanted' ;;
+    rcce:audit | rcce:explain) options='--help --version --json --quiet' ;;
+    rcce:*) options='--help --version --json --quiet -nue' ;;
+  esac
+  case $word in
+    -*) _rcce_words "$options" "$word" ;;
+    *)
+      if [ "$command" = draw ] && [ "$COMP_CWORD" -eq "$at" ]; then
+        _rcce_words 'waits messages mesh' "$word"
+      elif [ "$command" = explain ]; then
+        _rcce_words "$(rcce explain --json 2>/dev/null | grep -o '"kind": *"[A-Za-z]*"' | sed 's/.*: *"//; s/"//')" "$word"
+      else
+        _rcce_files "$word"
+      fi
+      ;;
+  esac
+}
+
+complete -F _rcce rcce rccerun rccecheck rccemesh rcceaudit rccecoll
