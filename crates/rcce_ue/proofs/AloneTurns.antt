@@ -13,7 +13,8 @@ use Rattle.scc_proto.proofs.PortLaws.{did_nothing, seat_kept}
 use Rattle.put_get.specs.Cores.{Private}
 use Rattle.sync_flags.specs.Tries.{Aim, NoTry, Vain, Fruitful, Tried}
 use Rattle.send_recv.specs.Ops.{SlotAt, slot_left, slot_left_by}
-use Rattle.send_recv.specs.Sending.{IsSameOrEmpty, SlotStands, SlotTurned, slot_spot_by}
+use Rattle.send_recv.specs.Sending.{IsSameOrEmpty, SlotDoes, SlotStands, SlotTurned, slot_spot_by}
+use Rattle.send_recv.specs.Steps.{moves_on}
 use Rattle.send_recv.specs.Tries.{aim_at}
 use Rattle.send_recv.specs.Turns.{NoLoad, waits_at}
 use Rattle.send_recv.specs.Ranks.{with_slot}
@@ -25,7 +26,7 @@ use Rattle.script_plain.specs.Next.Next.{Ends, Goes, Posts, Sends, Recvs, Bars}
 use Rattle.script_plain.proofs.StoppedLaws.{stopped_ends}
 use Rattle.rcce_ue.specs.Left.{left_of, rest_of}
 use Rattle.rcce_ue.specs.Standing.{IsFree, IsNoCall, Tied, keeping}
-use Rattle.rcce_ue.specs.Turns.{IsStill, Turns, slot_aim}
+use Rattle.rcce_ue.specs.Turns.{AloneDoes, IsStill, Turns, slot_aim}
 use Rattle.rcce_ue.specs.Ues.{UeView, entered}
 use Rattle.rcce_ue.specs.declared.calls.Open.TheVariants.{Nothing}
 use Rattle.rcce_ue.proofs.EnterLemmas.{entered_left, entered_tied, holds_none}
@@ -92,6 +93,22 @@ over_first : (a b : Bool) → a ≡ true → (a || b) ≡ true
 over_first true b is = refl
 over_first false b is = absurd (cc)
 
+-- what a turn does at no call
+module _ (ue : UeView) (s : Sight) (done : Bool) where
+  does_nothing : (a b : Bool) → b ≡ false → AloneDoes ue s (not a && b) done s ue.core
+  does_nothing true b is = (refl, refl)
+  does_nothing false true is = absurd (cc)
+  does_nothing false false is = (refl, refl)
+
+  does_stopped : (a b : Bool) → a ≡ true → AloneDoes ue s (not a && b) done s ue.core
+  does_stopped true b is = (refl, refl)
+  does_stopped false b is = absurd (cc)
+
+  does_slot : (t : Sight) (d : Private) (a b : Bool) → a ≡ false → b ≡ true → SlotDoes (with_slot s ue.core ue.slot) done t d → AloneDoes ue s (not a && b) done t d
+  does_slot t d true b one two does = absurd (cc)
+  does_slot t d false true one two does = does
+  does_slot t d false false one two does = absurd (cc)
+
 module _ (ue : UeView) (s : Sight) (tied : Tied (record ue { op = Nothing }) s) where
   pub free : IsFree s (keeping ue.core ue.slot ue.parity)
   free = record {
@@ -115,6 +132,7 @@ module _ (ue : UeView) (s : Sight) (tied : Tied (record ue { op = Nothing }) s) 
         turned = record {
           events = [];
           did = did_nothing s;
+          does = does_nothing (record ue { op = Nothing }) s true (is_stopped ue.machine.local) (is_ended (local_next ue.machine.local)) open_still;
           program = (refl, refl, refl);
           tried = NoTry (aim_none (is_stopped ue.machine.local) (is_ended (local_next ue.machine.local)) _ open_still) refl;
           rests = λ spot same. absurd (cc);
@@ -147,6 +165,7 @@ module _ (ue : UeView) (s : Sight) (tied : Tied (record ue { op = Nothing }) s) 
     turned = record {
       events = [];
       did = did_nothing s;
+      does = does_stopped (record ue { op = Nothing }) s true (is_stopped ue.machine.local) (is_ended (local_next ue.machine.local)) stopped;
       program = (refl, refl, refl);
       tried = NoTry (aim_stopped (is_stopped ue.machine.local) (is_ended (local_next ue.machine.local)) _ stopped) refl;
       rests = λ spot same. absurd (cc);
@@ -171,6 +190,9 @@ module _ (ue : UeView) (s : Sight) (tied : Tied (record ue { op = Nothing }) s) 
         tried_slot : Tried (slot_aim s.seat ue.machine.local ue.slot) r.events (waits_at answer)
         tried_slot = subst (λ (aim : Option Aim). Tried aim r.events (waits_at answer)) (sym (aim_of_slot (is_stopped ue.machine.local) (is_ended (local_next ue.machine.local)) _ on ended)) r.tried
 
+        slot_did : AloneDoes (record ue { op = Nothing }) s (not (is_stopped ue.machine.local) && is_ended (local_next ue.machine.local)) (moves_on answer) t d
+        slot_did = does_slot (record ue { op = Nothing }) s (moves_on answer) t d (is_stopped ue.machine.local) (is_ended (local_next ue.machine.local)) on ended r.does
+
         kept : IsSameOrEmpty ue.slot now → Tied slot_ue t
         kept same =
             kept_tied (record ue { op = Nothing }) s t tied (seat_kept s r.events t r.did) on r.calls r.rest.hold d now ue.parity Nothing ue.inbox slot same
@@ -184,6 +206,7 @@ module _ (ue : UeView) (s : Sight) (tied : Tied (record ue { op = Nothing }) s) 
             turned = record {
               events = r.events;
               did = r.did;
+              does = slot_did turn.Moved r;
               program = (refl, refl, refl);
               tried = tried_slot turn.Moved r;
               rests = r.rests;
@@ -206,6 +229,7 @@ module _ (ue : UeView) (s : Sight) (tied : Tied (record ue { op = Nothing }) s) 
             turned = record {
               events = r.events;
               did = r.did;
+              does = slot_did (turn.Waiting spot) r;
               program = (refl, refl, refl);
               tried = tried_slot (turn.Waiting spot) r;
               rests = r.rests;
@@ -232,6 +256,7 @@ module _ (ue : UeView) (s : Sight) (tied : Tied (record ue { op = Nothing }) s) 
             turned = record {
               events = r.events;
               did = r.did;
+              does = slot_did turn.Done r;
               program = (refl, refl, refl);
               tried = tried_slot turn.Done r;
               rests = r.rests;

@@ -119,6 +119,7 @@ module _ (ue : UeView) (s t : Sight) (op : RecvAt) (tied : Tied (record ue { op 
       turned = record {
         events = r.events;
         did = r.did;
+        does = r.does;
         program = (refl, refl, refl);
         tried = r.tried;
         rests = λ spot same. absurd (cc);
@@ -144,6 +145,7 @@ module _ (ue : UeView) (s t : Sight) (op : RecvAt) (tied : Tied (record ue { op 
           turned = record {
             events = r.events;
             did = r.did;
+            does = r.does;
             program = (refl, refl, refl);
             tried = r.tried;
             rests = λ at same. r.rests spot refl;
@@ -204,6 +206,7 @@ module _ (ue : UeView) (s t : Sight) (op : RecvAt) (tied : Tied (record ue { op 
             turned = record {
               events = r.events;
               did = r.did;
+              does = r.does;
               program = (refl, refl, refl);
               tried = r.tried;
               rests = λ spot same. absurd (cc);
@@ -258,6 +261,7 @@ module _ (ue : UeView) (s t : Sight) (op : RecvAt) (tied : Tied (record ue { op 
             turned = record {
               events = r.events;
               did = r.did;
+              does = r.does;
               program = (refl, refl, refl);
               tried = r.tried;
               rests = λ spot same. absurd (cc);

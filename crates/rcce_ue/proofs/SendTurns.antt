@@ -117,6 +117,7 @@ module _ (ue : UeView) (s t : Sight) (op : SendAt) (tied : Tied (record ue { op 
       turned = record {
         events = r.events;
         did = r.did;
+        does = r.does;
         program = (refl, refl, refl);
         tried = r.tried;
         rests = r.rests;
@@ -143,6 +144,7 @@ module _ (ue : UeView) (s t : Sight) (op : SendAt) (tied : Tied (record ue { op 
           turned = record {
             events = r.events;
             did = r.did;
+            does = r.does;
             program = (refl, refl, refl);
             tried = r.tried;
             rests = r.rests;
@@ -206,6 +208,7 @@ module _ (ue : UeView) (s t : Sight) (op : SendAt) (tied : Tied (record ue { op 
             turned = record {
               events = r.events;
               did = r.did;
+              does = r.does;
               program = (refl, refl, refl);
               tried = r.tried;
               rests = λ spot same. absurd (cc);
@@ -240,6 +243,7 @@ module _ (ue : UeView) (s t : Sight) (op : SendAt) (tied : Tied (record ue { op 
             turned = record {
               events = r.events;
               did = r.did;
+              does = r.does;
               program = (refl, refl, refl);
               tried = r.tried;
               rests = λ spot same. absurd (cc);

@@ -1,5 +1,5 @@
 -- One turn of a UE.
-use Rattle.std.specs.Prelude.{◌≡◌, ◌<◌, Bool, true, false, ◌&&◌, ◌||◌, not, if◌then◌else◌, List, Option, None, is_none}
+use Rattle.std.specs.Prelude.{◌≡◌, ◌<◌, Bool, true, false, ◌&&◌, ◌||◌, not, if◌then◌else◌, List, take, Option, None, is_none}
 use Rattle.std.specs.List.{list_all}
 use Rattle.scc_base.specs.declared.events.Event.{Event}
 use Rattle.scc_base.specs.declared.events.Spot.{Spot}
@@ -7,17 +7,21 @@ use Rattle.scc_base.specs.declared.events.Turn.{Turn}
 use Rattle.scc_base.specs.declared.events.Turn.TheVariants as turn
 use Rattle.scc_proto.specs.Resting.{is_resting}
 use Rattle.scc_proto.specs.Ports.{Did, Seat, Sight, record_in}
+use Rattle.put_get.specs.Cores.{Private}
 use Rattle.send_recv.specs.Ops.{SlotAt}
-use Rattle.send_recv.specs.Receiving.{recv_spot}
-use Rattle.send_recv.specs.Sending.{send_spot, slot_spot}
+use Rattle.send_recv.specs.Ranks.{receiving, sending, with_slot}
+use Rattle.send_recv.specs.Receiving.{RecvDoes, recv_spot}
+use Rattle.send_recv.specs.Sending.{SendDoes, SlotDoes, send_spot, slot_spot}
+use Rattle.send_recv.specs.Steps.{moves_on}
 use Rattle.send_recv.specs.Tries.{aim_at}
 use Rattle.send_recv.specs.Turns.{IsAtRest, LastHeld, OnlyTries, StoresFromBuffer, waits_at}
 use Rattle.sync_flags.specs.Flags.{flag_value}
 use Rattle.sync_flags.specs.Tries.{Aim, Tried}
 use Rattle.barrier.specs.Flags.{value_at}
 use Rattle.barrier.specs.Stages as barrier
+use Rattle.barrier.specs.Turns as barrier_turn
 use Rattle.script_plain.specs.Local.{Local, local_next}
-use Rattle.script_plain.specs.Moves.{is_ended, is_stopped}
+use Rattle.script_plain.specs.Moves.{bytes_out, is_ended, is_stopped, length_in}
 use Rattle.script_plain.specs.Next.{is_going}
 use Rattle.rcce_ue.specs.Left.{left_of}
 use Rattle.rcce_ue.specs.Standing.{Tied}
@@ -59,11 +63,25 @@ UeMeans ue s now t turn.Moved = (left_of now < left_of ue) × (is_over ue ≡ fa
 UeMeans ue s now t (turn.Waiting spot) = IsStill ue now × (left_of now ≡ left_of ue) × IsAtRest (record_in s) (record_in t) × (is_over ue ≡ false) × IsPausing now
 UeMeans ue s now t turn.Done = (now ≡ ue) × (t ≡ s) × (is_over ue ≡ true) × IsPausing now
 
+-- what a turn does where no call stands next: the slot's turn behind the end of the program, and else nothing
+abbrev pub AloneDoes : UeView → Sight → (at_end : Bool) → (done : Bool) → Sight → Private → Type 0
+AloneDoes ue s true done t d = SlotDoes (with_slot s ue.core ue.slot) done t d
+AloneDoes ue s false done t d = (t ≡ s) × (d ≡ ue.core)
+
+-- what a turn does: what the call does that stands next, with the parity after the turn
+abbrev pub UeDoes : UeView → Sight → (parity : List Bool) → Open → (done : Bool) → Sight → Private → Type 0
+UeDoes ue s parity Nothing done t d = AloneDoes ue s (not (is_stopped ue.machine.local) && is_ended (local_next ue.machine.local)) done t d
+UeDoes ue s parity (Sending op) done t d = SendDoes (sending s ue.core op ue.slot (bytes_out (local_next ue.machine.local))) op.stage done t d
+UeDoes ue s parity (Receiving op) done t d = RecvDoes (receiving s ue.core op (take (length_in (local_next ue.machine.local)) ue.inbox)) op.stage done t d
+UeDoes ue s parity (Meeting op) done t d = barrier_turn.Does s.seat op.comm op.stage (flag_value (value_at parity op.comm)) s ue.core t d
+
 -- one turn of a UE: what it did, and what it came to
 pub record UeTurned (ue : UeView) (s : Sight) (now : UeView) (t : Sight) (answer : Turn) : Type 0 where
   pub events : List Event
   -- each event was permitted
   pub did : Did s events t
+  -- what its call or its slot does, and nothing else
+  pub does : UeDoes ue s now.parity ue.op (moves_on answer) t now.core
   -- the script, the setup and the rank stay
   pub program : (now.machine.script ≡ ue.machine.script) × (now.machine.setup ≡ ue.machine.setup) × (now.machine.rank ≡ ue.machine.rank)
   -- it waits exactly where its one try was vain, at a spot that its next call or its slot waits at
