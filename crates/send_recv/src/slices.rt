@@ -18,22 +18,30 @@ fn byte_at(bytes: &[u8], at: usize) -> u8
     if at < bytes.len() { bytes[at] } else { 0 }
 }
 
+// The word of eight bytes that are there, the lowest first.
+fn eight_from(bytes: &[u8], at: usize) -> u64
+    requires within { at + 8 ≤ length bytes.now }
+    ensures gives { result ≡ word_at bytes.now at }
+{
+    u64::from_le_bytes([
+        bytes[at],
+        bytes[at + 1],
+        bytes[at + 2],
+        bytes[at + 3],
+        bytes[at + 4],
+        bytes[at + 5],
+        bytes[at + 6],
+        bytes[at + 7],
+    ])
+}
+
 // The word of eight bytes, the lowest first, with zeros past the end.
 fn word_from(bytes: &[u8], at: usize) -> u64
     requires fits { at ≤ 2 ^ 32 }
     ensures gives { result ≡ word_at bytes.now at }
 {
     if at + 8 <= bytes.len() {
-        return u64::from_le_bytes([
-            bytes[at],
-            bytes[at + 1],
-            bytes[at + 2],
-            bytes[at + 3],
-            bytes[at + 4],
-            bytes[at + 5],
-            bytes[at + 6],
-            bytes[at + 7],
-        ]);
+        return eight_from(bytes, at);
     }
     let low = four_from(bytes, at);
     let high = four_from(bytes, at + 4);
@@ -52,11 +60,27 @@ fn four_from(bytes: &[u8], at: usize) -> u32
     first as u32 + 0x100 * second as u32 + 0x1_0000 * third as u32 + 0x100_0000 * fourth as u32
 }
 
+// The four words of a whole line of bytes.
+fn four_words_from(line: &[u8]) -> [u64; 4]
+    requires whole { length line.now ≡ 32 }
+    ensures gives { result ≡ words_at line.now 0 }
+{
+    [
+        eight_from(line, 0),
+        eight_from(line, 8),
+        eight_from(line, 16),
+        eight_from(line, 24),
+    ]
+}
+
 /// The four words of a line of a message, from byte `at` on, with zeros past the message's end.
 pub(crate) fn line_from(bytes: &[u8], at: usize) -> [u64; 4]
     requires fits { at ≤ 2 ^ 31 }
     ensures gives { result ≡ words_at bytes.now at }
 {
+    if at + 32 <= bytes.len() {
+        return four_words_from(&bytes[at..at + 32]);
+    }
     let first = word_from(bytes, at);
     let second = word_from(bytes, at + 8);
     let third = word_from(bytes, at + 16);
@@ -82,6 +106,17 @@ fn put_word(bytes: &mut [u8], at: usize, word: u64)
     }
 }
 
+// Writes the 32 bytes of a line.
+fn put_four_words(line: &mut [u8], words: &[u64; 4])
+    requires whole { length line.old ≡ 32 }
+    ensures put { (k : ℕ) → k < 32 → slice_index line.new k ≡ byte_of_line words.now k }
+{
+    put_word(line, 0, words[0]);
+    put_word(line, 8, words[1]);
+    put_word(line, 16, words[2]);
+    put_word(line, 24, words[3]);
+}
+
 /// Writes the 32 bytes of a line into a message, from byte `at` on, up to the message's end.
 pub(crate) fn put_line(bytes: &mut [u8], at: usize, words: &[u64; 4])
     requires fits { at ≤ 2 ^ 31 }
@@ -89,6 +124,10 @@ pub(crate) fn put_line(bytes: &mut [u8], at: usize, words: &[u64; 4])
     ensures before { (k : ℕ) → k < at → slice_index bytes.new k ≡ slice_index bytes.old k }
     ensures behind { (k : ℕ) → at + 32 ≤ k → slice_index bytes.new k ≡ slice_index bytes.old k }
 {
+    if at + 32 <= bytes.len() {
+        put_four_words(&mut bytes[at..at + 32], words);
+        return;
+    }
     put_word(bytes, at, words[0]);
     put_word(bytes, at + 8, words[1]);
     put_word(bytes, at + 16, words[2]);
