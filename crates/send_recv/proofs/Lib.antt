@@ -38,3 +38,4 @@ pub mod RecvLoop
 pub mod TestLemmas
 pub mod SendLoop
 pub mod Starts
+pub mod StretchLoop

@@ -44,6 +44,7 @@ impl RecvOp {
     ghost use Rattle.send_recv.specs.Sights.{chunk_at, IsPeer, first_byte, header_line, chunk_line, LooksForSent, LowersSent, RaisesReady, MayLowerSent, MayRaiseReady, sent_spot, own_register, register_of};
     ghost use Rattle.send_recv.specs.Steps.{cleared, goes_on, recv_or_waits, after_look, after_lower, after_line, after_raise, raise_answer, HeadRead, before_line};
     ghost use Rattle.send_recv.specs.Ranks.{receiving};
+    ghost use Rattle.send_recv.specs.Stretches.{ReadLines, is_reading};
     ghost use Rattle.scc_base.specs.declared.events.Spot.{Spot};
     ghost use Rattle.scc_base.specs.declared.events.Spot.TheVariants.{Register};
 
@@ -214,6 +215,32 @@ impl RecvOp {
             RecvStage::Lines(line) => self.read_line(core, port, bytes, line),
             RecvStage::Raise => self.raise_ready(core, port),
             RecvStage::Finished => RecvTurn::Done,
+        }
+    }
+
+    /// Whether the next turn reads a line of the chunk in hand.
+    pub fn is_reading(&self) -> bool
+        ensures tells { result ≡ is_reading self.now.stage }
+    {
+        matches!(self.stage, RecvStage::Lines(_))
+    }
+
+    /// Goes on by the turns that read the lines of the chunk in hand which are left, and by no other.
+    pub fn read_lines<V: Evict, P: Port>(
+        &mut self,
+        core: &mut Core<V>,
+        port: &mut P,
+        bytes: &mut [u8],
+    )
+        requires stands { RecvStands (P.sight port.old) core.old self.old bytes.old }
+        requires reading { is_reading self.old.stage ≡ true }
+        ensures stands { RecvStands (P.sight port.new) core.new self.new bytes.new }
+        ensures read { ReadLines (receiving (P.sight port.old) core.old self.old bytes.old) (receiving (P.sight port.new) core.new self.new bytes.new) }
+        ensures whole { is_reading self.new.stage ≡ false }
+    {
+        'lines: while let RecvStage::Lines(line) = self.stage {
+            known(port);
+            self.read_line(core, port, bytes, line);
         }
     }
 }

@@ -62,6 +62,7 @@ impl SendOp {
     ghost use Rattle.send_recv.specs.Steps.{moves_on, moved_or_waits, after_header, after_written, after_flush, after_sent, sent_answer, slot_sent, after_seen, after_through, through_answer};
     ghost use Rattle.send_recv.specs.Turns.{waits_at};
     ghost use Rattle.send_recv.specs.Ranks.{sending};
+    ghost use Rattle.send_recv.specs.Stretches.{WroteLines, is_writing};
 
     /// A send at the start of a message with this head.
     pub fn new(to: Rank, head: Head) -> SendOp
@@ -249,6 +250,33 @@ impl SendOp {
             SendStage::Look => self.look_ready(core, port),
             SendStage::Lower => self.lower_ready(core, port),
             SendStage::Finished => Turn::Done,
+        }
+    }
+
+    /// Whether the next turn writes a line of the chunk in hand.
+    pub fn is_writing(&self) -> bool
+        ensures tells { result ≡ is_writing self.now.stage }
+    {
+        matches!(self.stage, SendStage::Lines(_))
+    }
+
+    /// Goes on by the turns that write the lines of the chunk in hand which are left, and by no other.
+    pub fn write_lines<V: Evict, P: Port>(
+        &mut self,
+        core: &mut Core<V>,
+        port: &mut P,
+        slot: &Slot,
+        bytes: &[u8],
+    )
+        requires stands { SendStands (P.sight port.old) core.old self.old slot.now bytes.now }
+        requires writing { is_writing self.old.stage ≡ true }
+        ensures stands { SendStands (P.sight port.new) core.new self.new slot.now bytes.now }
+        ensures wrote { WroteLines (sending (P.sight port.old) core.old self.old slot.now bytes.now) (P.sight port.new) core.new self.new slot.now }
+        ensures whole { is_writing self.new.stage ≡ false }
+    {
+        'lines: while let SendStage::Lines(line) = self.stage {
+            known(port);
+            self.write_line(core, port, bytes, line);
         }
     }
 }
