@@ -24,7 +24,8 @@ def _object(call: Call) -> dict[str, Any]:
     if call.verb == "bar":
         return {"call": "bar", "line": call.line, "communicator": call.comm}
     head = call.head
-    return {"call": call.verb, "line": call.line, "peer": call.peer, "kind": head.kind, "communicator": head.comm, "length": head.length, "hex": call.data}
+    found = {"call": call.verb, "line": call.line, "peer": call.peer, "kind": head.kind, "communicator": head.comm}
+    return {**found, "length": head.length, "hex": call.data}
 
 
 def audit(programs: Programs, scratch: Scratch, given: Given) -> dict[str, Any]:
@@ -42,7 +43,8 @@ def audit(programs: Programs, scratch: Scratch, given: Given) -> dict[str, Any]:
     reason, others = _reason(log, standing, rank, number)
     found.update(verdict=f"not legal: ue {rank} call {number}", ue=rank, call=number, line=call.line, text=call.text, reason=reason)
     found["counterpart"] = [{"line": it.line, "text": it.text} for it in others]
-    found["standing"] = [{"ue": k, "call": at, "line": log.calls[k][at - 1].line, "text": log.calls[k][at - 1].text} for k, at in sorted(standing.items())]
+    stand = [(k, at, log.calls[k][at - 1]) for k, at in sorted(standing.items())]
+    found["standing"] = [{"ue": k, "call": at, "line": it.line, "text": it.text} for k, at, it in stand]
     return found
 
 

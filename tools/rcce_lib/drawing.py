@@ -60,11 +60,16 @@ class Waits(Picture):
             return f"ue {rank} finished"
         return f"ue {rank} refused" if self.waiting[rank]["at"] == "mismatch" else f"ue {rank}"
 
+    def half(self, rank: int) -> float:
+        """Half the width of a rank's box."""
+        return 4.5 * len(self.label(rank)) + 8
+
     def lines(self) -> list[str]:
         """A line for each rank that has not finished."""
         return [f"ue {ue}, line {rank['line']}: {rank['statement']}" for ue, rank in self.waiting.items()]
 
     def svg(self) -> str:
+        """The picture for a browser."""
         round_by = max(90.0, len(self.ranks) * 100 / (2 * math.pi)) if len(self.ranks) > 1 else 40.0
         middle = (round_by + 80, round_by + 70)
         lines = self.lines()
@@ -76,9 +81,9 @@ class Waits(Picture):
             rank: (middle[0] + round_by * math.sin(k * turn), middle[1] + 15 - round_by * math.cos(k * turn)) for k, rank in enumerate(self.ranks)
         }
         for start, end in self.arrows:
-            _bow(picture, at[start], at[end], 3 if start in self.ring else 1.2)
+            _bow(picture, at[start], at[end], self.half(end), 3 if start in self.ring else 1.2)
         for rank, (x, y) in at.items():
-            half = 4.5 * len(self.label(rank)) + 8
+            half = self.half(rank)
             refused = rank in self.waiting and self.waiting[rank]["at"] == "mismatch"
             picture.box(x - half, y - 15, 2 * half, 30, 3 if refused else 1.2, rank not in self.waiting, 0 if refused else 8)
             picture.text(x, y + 5, self.label(rank), at="middle", bold=rank in self.ring)
@@ -87,6 +92,7 @@ class Waits(Picture):
         return str(picture)
 
     def text(self) -> str:
+        """The picture for a terminal."""
         lines = [self.title]
         for cause in self.found["causes"]:
             if cause["ring"]:
@@ -99,6 +105,7 @@ class Waits(Picture):
         return "\n".join([*lines, "", *(f"  {line}" for line in self.lines())]).rstrip() + "\n"
 
     def dot(self) -> str:
+        """The picture for Graphviz."""
         lines = ["digraph waits {", "  node [shape=box];"]
         for rank in self.ranks:
             told = self.waiting.get(rank)
@@ -110,13 +117,13 @@ class Waits(Picture):
         return "\n".join([*lines, "}"]) + "\n"
 
 
-def _bow(picture: Svg, start: tuple[float, float], end: tuple[float, float], wide: float) -> None:
-    """A curved arrow from one box to another, bowed to its left, so that two arrows back and forth stand apart."""
+def _bow(picture: Svg, start: tuple[float, float], end: tuple[float, float], half: float, wide: float) -> None:
+    """A curved arrow from one box to another, of that half width, bowed to its left, so that two arrows back and forth stand apart."""
     across, down = end[0] - start[0], end[1] - start[1]
     by = (start[0] + across / 2 + down * 0.15, start[1] + down / 2 - across * 0.15)
     far = math.hypot(end[0] - by[0], end[1] - by[1]) or 1
-    # the arrow ends at the border of the box, 15 up or down and some 35 to its sides
-    reach = min(18 / max(abs(end[1] - by[1]) / far, 1e-6), 44 / max(abs(end[0] - by[0]) / far, 1e-6))
+    # the arrow ends just outside the box, which is 30 high
+    reach = min(18 / max(abs(end[1] - by[1]) / far, 1e-6), (half + 3) / max(abs(end[0] - by[0]) / far, 1e-6))
     tip = (end[0] - (end[0] - by[0]) * reach / far, end[1] - (end[1] - by[1]) * reach / far)
     picture.curve(start, by, tip, wide)
 
@@ -135,14 +142,16 @@ class Messages(Picture):
             self.title += f"; {len(told.troubles)} of the UEs do not finish"
 
     def svg(self) -> str:
+        """The picture for a browser."""
         apart = 90 if self.told.ues <= 16 else 44
         wide = max(140 + apart * self.told.ues, 30 + 8.5 * len(self.title))
-        picture = Svg(wide, 90 + 30 * len(self.shown), self.title)
+        picture = Svg(wide, 106 + 30 * len(self.shown), self.title)
         picture.text(12, 24, self.title, 14, bold=True)
         foot = 76 + 30 * len(self.shown)
         for rank in range(self.told.ues):
             x = 110 + apart * rank
-            picture.text(x, 54, f"ue {rank}", at="middle", bold=True)
+            for y in (54, foot + 18):
+                picture.text(x, y, f"ue {rank}", at="middle", bold=True)
             picture.line((x, 60), (x, foot), 1, dashed=True)
         for number, it in enumerate(self.shown):
             y = 88 + 30 * number
@@ -153,6 +162,7 @@ class Messages(Picture):
         return str(picture)
 
     def text(self) -> str:
+        """The picture for a terminal."""
         lines = [self.title, "", " " * 14 + "".join(f"{rank:4}" for rank in range(self.told.ues)) + "  ue"]
         for it in self.shown:
             row = list("   |" * self.told.ues)
@@ -179,6 +189,7 @@ class Mesh(Picture):
         return 90 + 150 * place[0], 90 + 120 * (mesh.ROWS - 1 - place[1])
 
     def svg(self) -> str:
+        """The picture for a browser."""
         picture = Svg(max(940, 30 + 8.5 * len(self.title)), 540, self.title)
         picture.text(12, 26, self.title, 14, bold=True)
         most = max([it["lines"] for it in self.found["links"]], default=1)
@@ -193,7 +204,8 @@ class Mesh(Picture):
                     picture.text(left, top + 12, ", ".join(map(str, ranks)), 13, "middle", True)
         for it in self.found["links"]:
             self._link(picture, it, most)
-        picture.text(12, 524, "Ranks in bold on their tiles (column,row); lines of 32 bytes on each link, the wider the more; the heaviest in bold.", 12)
+        note = "Ranks in bold on their tiles (column,row); lines of 32 bytes on each link, the wider the more; the heaviest in bold."
+        picture.text(12, 524, note, 12)
         return str(picture)
 
     def _link(self, picture: Svg, it: dict[str, Any], most: int) -> None:
@@ -213,4 +225,5 @@ class Mesh(Picture):
             picture.text(x - 8 * down, y + 4, f"{it['lines']:,}", 12, "end" if down > 0 else "start", bold)
 
     def text(self) -> str:
+        """The picture for a terminal."""
         return mesh.text_of(self.found, NO_PAINT) + "\n"

@@ -9,7 +9,7 @@ from rcce_lib.texts import Head, KINDS, lines_of, strange
 
 TOP = re.compile(r"rcce log (\d+)")
 COMM = re.compile(r"comm (\d+) (\d+) (mod|div) (\d+)")
-CALL = re.compile(rf"(\d+) (send|recv|post) (\d+) ({KINDS}) (\d+) (\d+) ([0-9a-f]+|-)")
+CALL = re.compile(rf"(\d+) (send|recv|post) (\d+) ({KINDS}) (\d+) (\d+) ((?:[0-9a-f]{{2}})+|-)")
 BARRIER = re.compile(r"(\d+) bar (\d+)")
 
 

@@ -4,11 +4,15 @@ from __future__ import annotations
 import os
 import re
 import subprocess
+import sys
+import threading
 from dataclasses import dataclass, field
+from typing import IO, Any
 
 from rcce_lib.kinds import NO_LOG, SCRIPT, wanted
 from rcce_lib.progress import Progress
 from rcce_lib.stops import Failure, Fault, Refused, Stop
+from rcce_lib.texts import strange
 
 HERE = os.path.dirname(os.path.dirname(os.path.realpath(__file__)))
 # where the programs stand beside the modules: installed, and in the repository
@@ -56,7 +60,6 @@ class Programs:
 
     progress: Progress
     files: dict[str, tuple[str, str]] = field(default_factory=dict)
-    notes: list[str] = field(default_factory=list)
 
     def name(self, path: str) -> str:
         """How the user calls a file."""
@@ -67,23 +70,17 @@ class Programs:
         path = find_program(program)
         self.progress.doing = " ".join([program, *map(self.name, words)])
         try:
-            ran = subprocess.run(
-                [path, *words],
-                stdin=subprocess.DEVNULL,
-                stdout=None if stream else subprocess.PIPE,
-                stderr=subprocess.PIPE,
-                encoding="utf-8",
-                errors="surrogateescape",
-            )
+            out, lines, status = _called(program, [path, *words], stream)
         except OSError as error:
             raise Failure(f"{path} does not start: {error.strerror}") from error
         self.progress.doing = f"reading what {program} says"
-        lines = ran.stderr.splitlines()
-        if ran.returncode not in ANSWERS:
-            raise self._stop(program, ran.returncode, lines)
-        own = [line for line in lines if _is_own(program, line)]
-        self.notes += [line for line in lines if line not in own]
-        return Ran(program, ran.stdout or "", own, ran.returncode)
+        if status not in ANSWERS:
+            raise self._stop(program, status, lines)
+        # rccerun alone tells more of a run there
+        told = ["rccemesh: not finished"] if (program, status) == ("rccemesh", 3) else []
+        if program != "rccerun" and lines != told:
+            raise strange(program, " ".join(lines))
+        return Ran(program, out, lines, status)
 
     def _stop(self, program: str, status: int, lines: list[str]) -> Stop:
         """What a status that is no answer comes to."""
@@ -104,6 +101,27 @@ class Programs:
         return Failure(f"{program} ended with status {status}" + (f": {last}" if last else ""))
 
 
-def _is_own(program: str, line: str) -> bool:
-    """Whether a line beside an answer is the program's own, and no note of the script that starts it."""
-    return not line.startswith((f"{program}: ", "build: ")) or line == "rccemesh: not finished"
+def _called(program: str, words: list[str], stream: bool) -> tuple[str, list[str], int]:
+    """Calls a program: its output, what it writes to standard error, and its status. Notes of the script that starts it go straight on."""
+    how: dict[str, Any] = {"encoding": "utf-8", "errors": "surrogateescape", "stderr": subprocess.PIPE}
+    lines: list[str] = []
+    with subprocess.Popen(words, stdin=subprocess.DEVNULL, stdout=None if stream else subprocess.PIPE, **how) as ran:
+        err: IO[str] = ran.stderr  # type: ignore[assignment]
+
+        def gather() -> None:
+            """Reads what comes on standard error."""
+            for line in err:
+                if line.startswith((f"{program}: ", "build: ")) and " build" in line:
+                    print(line, end="", file=sys.stderr, flush=True)
+                else:
+                    lines.append(line.removesuffix("\n"))
+
+        gathering = threading.Thread(target=gather)
+        gathering.start()
+        try:
+            out = ran.stdout.read() if ran.stdout else ""
+            gathering.join()
+        except BaseException:
+            ran.kill()
+            raise
+    return out, lines, ran.returncode

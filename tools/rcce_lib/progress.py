@@ -20,6 +20,7 @@ class Progress:
         self.thread = threading.Thread(target=self._tell, daemon=True)
 
     def _tell(self) -> None:
+        """Writes the lines, each at its time."""
         begun, after = time.monotonic(), 0
         while True:
             after = TIMES[TIMES.index(after) + 1] if after in TIMES[:-1] else after + 60 if after else TIMES[0]

@@ -10,7 +10,7 @@ from rcce_lib.stops import Failure
 
 KINDS = "plain|bcast|reduce|allup|alldown"
 HEAD = rf"({KINDS}) (\d+) (\d+)"
-PRINTED = re.compile(r"ue (\d+) (\w+) (?:(int|long)((?: -?\d+)*)|([0-9a-f]+|-))")
+PRINTED = re.compile(r"ue (\d+) (\w+) (?:(int|long)((?: -?\d+)*)|((?:[0-9a-f]{2})+|-))")
 WAITS = re.compile(rf"ue (\d+) waits at line (\d+): (?:(send to|recv from|post to) (\d+) {HEAD}|barrier (\d+))")
 MISMATCH = re.compile(rf"ue (\d+) mismatch at line (\d+): from (\d+) sent {HEAD}, asked {HEAD}")
 MESSAGE = re.compile(rf"(\d+):(\d+) -> (\d+):(\d+) {HEAD}")

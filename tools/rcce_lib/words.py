@@ -24,6 +24,7 @@ def number(least: int, most: int) -> Callable[[str], int]:
     """A reader of numbers of 1 to 10 digits within a range."""
 
     def read_number(word: str) -> int:
+        """The number of a word."""
         if not (word.isascii() and word.isdigit() and len(word) <= 10 and least <= int(word) <= most):
             raise argparse.ArgumentTypeError(f"a number from {least} to {most} is wanted, not {word!r}")
         return int(word)
@@ -35,6 +36,7 @@ class Parser(argparse.ArgumentParser):
     """A parser that tells wrong words in one line."""
 
     def error(self, message: str) -> NoReturn:
+        """Ends with the status of wrong words."""
         self.exit(2, f"{self.prog}: {message} ({self.prog} --help tells the words)\n")
 
 
@@ -70,6 +72,7 @@ class Work:
 
 
 def do_run(work: Work) -> int:
+    """Runs a script over the chip."""
     from rcce_lib import running
 
     asked = work.words
@@ -104,18 +107,21 @@ def _run_words(work: Work, script: Given) -> list[str]:
 
 
 def do_why(work: Work) -> int:
+    """Tells why a script does not finish."""
     from rcce_lib import joined, why
 
     return work.answer(why.explain(joined.ask(work.programs, *work.script())), why.text_of)
 
 
 def do_sum(work: Work) -> int:
+    """Counts a run."""
     from rcce_lib import joined, sums
 
     return work.answer(sums.count(joined.ask(work.programs, *work.script())), sums.text_of)
 
 
 def do_mesh(work: Work) -> int:
+    """Maps the load of the mesh."""
     from rcce_lib import mesh
 
     return work.answer(mesh_load(work), mesh.text_of)
@@ -135,6 +141,7 @@ def mesh_load(work: Work) -> dict[str, object]:
 
 
 def do_draw(work: Work) -> int:
+    """Draws a picture."""
     from rcce_lib import drawing, joined, why
 
     asked = work.words
@@ -166,6 +173,7 @@ def write(name: str, text: str) -> None:
 
 
 def do_log(work: Work) -> int:
+    """Prints the log of a run."""
     from rcce_lib import auditing
 
     script, ues = work.script()
@@ -177,12 +185,14 @@ def do_log(work: Work) -> int:
 
 
 def do_audit(work: Work) -> int:
+    """Judges a log."""
     from rcce_lib import auditing
 
     return work.answer(auditing.audit(work.programs, work.scratch, work.read(work.words.log)), auditing.text_of)
 
 
 def do_grade(work: Work) -> int:
+    """Grades the scripts of a folder."""
     from rcce_lib import grading
 
     asked = work.words
@@ -191,6 +201,7 @@ def do_grade(work: Work) -> int:
 
 
 def do_explain(work: Work) -> int:
+    """Explains kinds of faults."""
     from rcce_lib import explained
 
     found = explained.explain(work.words.kind)
@@ -207,6 +218,7 @@ def build_parser() -> Parser:
     subs = top.add_subparsers(metavar="COMMAND", required=True)
 
     def add(name: str, about: str, does: Callable[[Work], int], script: bool = True) -> argparse.ArgumentParser:
+        """A subcommand with what all have."""
         sub = subs.add_parser(name, help=about, description=about[0].upper() + about[1:] + ".", epilog=EPILOG, allow_abbrev=False)
         sub.set_defaults(does=does, parser=sub)
         sub.add_argument("--version", action="version", version=f"rcce {version()}")
@@ -285,11 +297,7 @@ def main(argv: list[str]) -> int:
     try:
         with Progress(words.quiet) as progress:
             work = Work(words, words.parser, progress, scratch)
-            try:
-                status = words.does(work)
-            finally:
-                for note in work.programs.notes:
-                    print(note, file=sys.stderr)
+            status = words.does(work)
         sys.stdout.flush()
         return status
     except Stop as stop:
