@@ -13,6 +13,7 @@ use Rattle.script_plain.specs.CallLists.{calls_of}
 use Rattle.rcce_ue.specs.Ues.{UeView}
 use Rattle.rcce_run.specs.declared.ends.RunEnd.{RunEnd}
 use Rattle.rcce_run.specs.Crews.{AllRun, EndsAs, IsCrew}
+use Rattle.rcce_run.specs.Scripts.{NoneDrafts}
 use Rattle.rcce_run.specs.UeRuns.{IsSameChip, WaitsOpen}
 use Rattle.rcce_run.proofs.CrewGrowth.{each_more}
 use Rattle.rcce_run.proofs.UeFits.{ue_stands}
@@ -88,11 +89,11 @@ kept_there place tap done is keeps = subst (λ (t : Option Tap). KeepsCalls t do
 -- a run that is over
 pub over : (script : Script) (s : SetupView) (chip now : ChipView) (crew later : List (Logger UeView)) (end : RunEnd) → s.nue ≡ script.nue → s.layout ≡ LineFlags → has_room_for_all script ≡ true → IsNew s chip → length crew ≡ s.nue
     → IsSameChip chip now → length later ≡ length crew → EndsAs end script → ((k : ℕ) → (records_in now k).calls ≡ plain_calls script k) → AreLegalCalls now
-    → ((k : ℕ) (call : DataCall) → k < script.nue → open_call (about_in now) (records_in now k) ≡ Some call → WaitsOpen script k call)
+    → ((k : ℕ) (call : DataCall) → k < script.nue → open_call (about_in now) (records_in now k) ≡ Some call → WaitsOpen script k call) → NoneDrafts (about_in now) (records_in now)
     → ((about_in chip).layout ≡ LineFlags → (k : ℕ) (d : Logger UeView) → k < script.nue → has_room_for (calls_of script k) ≡ true → KeepsCalls (slice_index_or later k d).tap (records_in now k).calls)
     → ((k : ℕ) → k < script.nue → All HasItsBytes (records_in now k).calls) → ((k : ℕ) → k < script.nue → All (IsOwnCall script k) (records_in now k).calls)
     → ((k : ℕ) → k < script.nue → has_room_for (calls_of script k) ≡ true → HasRoom (records_in now k).calls) → IsOver script s now later end
-over script s chip now crew later end ranks lines room new each stands count answer calls legal opened kept long own few = record {
+over script s chip now crew later end ranks lines room new each stands count answer calls legal opened no_draft kept long own few = record {
   kept = record {
     count = count ∙ each ∙ ranks;
     each = λ k d low. subst (λ (done : List DataCall). KeepsCalls (slice_index_or later k d).tap done) (calls k) (kept (ap (λ (x : SetupView). x.layout) new.about ∙ lines) k d low (each_room script room k low));
@@ -109,5 +110,6 @@ over script s chip now crew later end ranks lines room new each stands count ans
     };
     legal = legal;
     opened = opened;
+    no_draft = no_draft;
   };
 }

@@ -34,6 +34,7 @@ use Rattle.call_tap.specs.Planned.{has_room_for}
 use Rattle.call_tap.specs.Taps.{HasRead}
 use Rattle.rcce_ue.specs.Ues.{UeView}
 use Rattle.rcce_run.specs.Crews.{AllRest, AllRun, IsAtEnd, IsCrew, locals_of}
+use Rattle.rcce_run.specs.Scripts.{NoneDrafts}
 use Rattle.rcce_run.specs.UeRuns.{WaitsOpen}
 use Rattle.rcce_run.specs.Sweep.{Stood, slots_by}
 use Rattle.rcce_run.specs.Turns.{Fits, state_of}
@@ -133,6 +134,10 @@ module _ (script : Script) (chip : ChipView) (crew : List (Logger UeView)) (memo
           line = line;
           waits = ap (λ (e : Ended). e.end) (plain_ended_at script states (slots_by s records ended.lasts) ended.ends k less) ∙ waits;
         }
+
+    -- no rank has a message in draft
+    pub none_drafts : NoneDrafts s records
+    none_drafts = ended.no_draft
 
     -- nothing open is passed, so the finished calls are legal
     module _ (beyond : (r : ℕ) → s.nue ≤ r → events_in chip r ≡ []) where

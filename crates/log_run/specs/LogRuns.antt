@@ -18,6 +18,7 @@ use Rattle.script_plain.specs.Meaning.{State, plain_end}
 use Rattle.rcce_ue.specs.Ues.{UeView}
 use Rattle.rcce_run.specs.declared.ends.RunEnd.{RunEnd}
 use Rattle.rcce_run.specs.Crews.{EndsAs}
+use Rattle.rcce_run.specs.Scripts.{NoneDrafts}
 use Rattle.rcce_run.specs.Turns.{WorkerView}
 use Rattle.rcce_run.specs.UeRuns.{IsFreshUe, WaitsOpen}
 use Rattle.rcce_run.specs.Ues.{UeStands, ue_seen}
@@ -71,7 +72,7 @@ pub record AreOwnCalls (script : Script) (rank : ℕ) (calls : List DataCall) : 
 
 -- What a run of a script leaves on a chip of this setup: the finished calls of each rank are those that the plain meaning
 -- did for it, with their bytes and in order, and they are legal. A call is open in a record only where the plain meaning
--- leaves the rank waiting in this call. All ranks are at home.
+-- leaves the rank waiting in this call, and a rank with no call open has no message in draft. All ranks are at home.
 pub record HasRun (script : Script) (s : SetupView) (chip : ChipView) : Type 0 where
   pub setup : about_in chip ≡ s
   pub whole : IsWhole chip
@@ -79,6 +80,7 @@ pub record HasRun (script : Script) (s : SetupView) (chip : ChipView) : Type 0 w
   pub own : (rank : ℕ) → rank < script.nue → AreOwnCalls script rank (plain_calls script rank)
   pub legal : AreLegalCalls chip
   pub opened : (rank : ℕ) (call : DataCall) → rank < script.nue → open_call (about_in chip) (records_in chip rank) ≡ Some call → WaitsOpen script rank call
+  pub no_draft : NoneDrafts (about_in chip) (records_in chip)
 
 -- before the run: one logger for each rank
 pub record AreFresh (script : Script) (setup : SetupView) (crew : List (Logger UeView)) : Type 0 where

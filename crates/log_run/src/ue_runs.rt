@@ -4,6 +4,7 @@ ghost use Rattle.std.specs.Prelude.{◌≡◌, ◌<◌, All, length, ℕ, slice_
 ghost use Rattle.call_tap.specs.Kept.{HasRoom};
 ghost use Rattle.call_tap.specs.Planned.{has_room_for};
 ghost use Rattle.rcce_run.specs.Crews.{EndsAs};
+ghost use Rattle.rcce_run.specs.Scripts.{NoneDrafts};
 ghost use Rattle.rcce_run.specs.UeRuns.{IsSameChip, WaitsOpen};
 ghost use Rattle.rcce_ue.specs.Ues.{UeView};
 ghost use Rattle.scc_base.specs.Calls.{DataCall, HasItsBytes};
@@ -41,6 +42,8 @@ pub fn log_run<V: Evict + Drop>(chip: &mut Chip, crew: &mut [Logger<Ue<'_, V>>])
     // for its posted message at its end.
     ensures opened { (script : Script) → IsFreshCrew script chip.old crew.old → (k : ℕ) (call : DataCall) → k < script.nue
         → open_call (about_in chip.new) (records_in chip.new k) ≡ Some call → WaitsOpen script k call }
+    // A rank that has no call open is in the midst of nothing: it has no message in draft.
+    ensures no_draft { NoneDrafts (about_in chip.new) (records_in chip.new) }
     // With line flags, the tap of a rank keeps its finished calls, where it has room for all calls of the rank's program.
     ensures kept { (script : Script) → IsFreshCrew script chip.old crew.old → (about_in chip.old).layout ≡ LineFlags
         → (k : ℕ) (d : Logger UeView) → k < script.nue → has_room_for (calls_of script k) ≡ true

@@ -4,7 +4,7 @@ use Rattle.rcce_run.specs.Crews.{AllRest, CrewStands}
 use Rattle.rcce_run.proofs.RunEnds.{some_worker}
 use Rattle.log_run.specs.LogRuns.{logger_seen, logger_tied}
 use Rattle.log_run.proofs.FreshLaws.{fresh_is_crew, fresh_runs, fresh_some}
-use Rattle.log_run.proofs.LogEnds.{first_at, kept_at, legal, plain_at, ranks_are, room_at, waits_open}
+use Rattle.log_run.proofs.LogEnds.{first_at, kept_at, legal, none_drafts, plain_at, ranks_are, room_at, waits_open}
 use Rattle.log_run.proofs.ue_runs.log_run.Goals as goal
 
 pub run_loggers-end-requires-clause-crew : goal.run_loggers-end-requires-clause-crew
@@ -51,6 +51,15 @@ returns-clause-opened g c = λ script fresh k call low is_open.
     let some : 0 < length c.run_loggers-end.new.crew = subst (λ (n : ℕ). 0 < n) (sym stands.goes.count) (fresh_some script c.args.chip.now c.args.crew.now c.setup.result.now fresh c.setup.ensures.gives c.nue.ensures.valid.some_ranks) in
     waits_open script c.run_loggers-end.new.chip c.run_loggers-end.new.crew c.agrees.ensures.words.0 c.agrees.ensures.words.1 stands.is_crew (stands.goes.scripts script (fresh_runs script c.args.chip.now c.args.crew.now fresh))
     some (some_worker c.run_loggers-end.new.crew some) (subst (λ (n : ℕ). AllRest logger_seen c.run_loggers-end.new.chip c.run_loggers-end.new.crew n) stands.is_crew.each c.run_loggers-end.ensures.rests) k call low is_open
+
+pub returns-clause-no_draft : goal.returns-clause-no_draft
+returns-clause-no_draft g c =
+    let script = c.requires.fresh.0 in
+    let fresh = c.requires.fresh.1 in
+    let stands : CrewStands logger_seen logger_tied c.args.chip.now c.args.crew.now c.run_loggers-end.new.chip c.run_loggers-end.new.crew = c.run_loggers-end.ensures.stands in
+    let some : 0 < length c.run_loggers-end.new.crew = subst (λ (n : ℕ). 0 < n) (sym stands.goes.count) (fresh_some script c.args.chip.now c.args.crew.now c.setup.result.now fresh c.setup.ensures.gives c.nue.ensures.valid.some_ranks) in
+    none_drafts script c.run_loggers-end.new.chip c.run_loggers-end.new.crew c.agrees.ensures.words.0 c.agrees.ensures.words.1 stands.is_crew (stands.goes.scripts script (fresh_runs script c.args.chip.now c.args.crew.now fresh))
+    some (some_worker c.run_loggers-end.new.crew some) (subst (λ (n : ℕ). AllRest logger_seen c.run_loggers-end.new.chip c.run_loggers-end.new.crew n) stands.is_crew.each c.run_loggers-end.ensures.rests)
 
 pub returns-clause-kept : goal.returns-clause-kept
 returns-clause-kept g c = λ script fresh lines k d low planned.
