@@ -20,7 +20,7 @@ use Rattle.script_plain.specs.Local.{with_length}
 use Rattle.script_plain.specs.Program.{Act, Prim, program_of}
 use Rattle.script_plain.specs.Rooms.{nothing_held}
 use Rattle.script_plain.proofs.RoomLaws.{start_held}
-use Rattle.script_plain.specs.Program.Act.{Set, Apply, Print, Send, Post, Recv, Gather, Bar, Begin, Fold, Accept, Finish, Pass}
+use Rattle.script_plain.specs.Program.Act.{Set, Apply, Print, Send, Post, Recv, Gather, Bar, Begin, Fold, Accept, Finish}
 use Rattle.log_run.specs.Sizes.{Asks, HasSameSizes, bytes_by, calls_by, has_room_for_all}
 
 -- ---- what was printed does not matter
@@ -43,7 +43,6 @@ called_same l m same (Begin reg) = refl
 called_same l m same (Fold op ty) = refl
 called_same l m same (Accept reg) = refl
 called_same l m same (Finish reg) = refl
-called_same l m same Pass = refl
 
 set_same : (l m : Lengths) → HasSameSizes l m → (reg n k : ℕ) → k ≡ n → slice_set m.registers reg k ≡ slice_set l.registers reg n
 set_same l m same reg n k is = λ i. slice_set (same.registers i) reg (is i)
@@ -62,7 +61,6 @@ after_same l m same (Begin reg) = record { registers = same.registers; accumulat
 after_same l m same (Fold op ty) = same
 after_same l m same (Accept reg) = record { registers = set_same l m same reg l.received m.received same.received; accumulator = same.accumulator; received = same.received }
 after_same l m same (Finish reg) = record { registers = set_same l m same reg l.accumulator m.accumulator same.accumulator; accumulator = same.accumulator; received = same.received }
-after_same l m same Pass = same
 
 calls_same : (l m : Lengths) → HasSameSizes l m → (prims : List Prim) → calls_from l prims ≡ calls_from m prims
 calls_same l m same [] = refl

@@ -42,8 +42,8 @@ abbrev pub KeepsCalls : Option Tap → List DataCall → Type 0
 KeepsCalls None calls = ⊥
 KeepsCalls (Some tap) calls = AreKept tap.kept calls
 
--- the finished calls of all ranks are legal: they can be used up, each send or post with its receive and each barrier with
--- those of its group
+-- the finished calls of all ranks are legal: they can be used up, each send with its receive, each post with its receive or
+-- as what its slot holds, and each barrier with those of its group
 abbrev pub AreLegalCalls : ChipView → Type 0
 AreLegalCalls chip =
     IsLegal (about_in chip).nue (setup_key (about_in chip)) (λ k. (records_in chip k).calls) (slot_of (about_in chip) (records_in chip))
@@ -95,7 +95,7 @@ pub record IsFreshCrew (script : Script) (chip : ChipView) (crew : List (Logger 
   pub empty : (r : ℕ) → r < (about_in chip).nue → events_in chip r ≡ []
   pub loggers : AreFresh script (about_in chip) crew
 
--- and behind it: each tap keeps the calls that the plain meaning did for its rank
+-- behind a run each tap keeps the calls that the plain meaning did for its rank
 pub record HaveKept (script : Script) (crew : List (Logger UeView)) : Type 0 where
   pub count : length crew ≡ script.nue
   pub each : (rank : ℕ) (d : Logger UeView) → rank < script.nue → KeepsCalls (slice_index_or crew rank d).tap (plain_calls script rank)

@@ -125,8 +125,7 @@ impl Sizes {
             | Action::Begin { .. }
             | Action::Fold { .. }
             | Action::Accept { .. }
-            | Action::Finish { .. }
-            | Action::Pass => None,
+            | Action::Finish { .. } => None,
         }
     }
 
@@ -159,8 +158,7 @@ impl Sizes {
             | Action::Send { .. }
             | Action::Post { .. }
             | Action::Bar { .. }
-            | Action::Fold { .. }
-            | Action::Pass => {}
+            | Action::Fold { .. } => {}
         }
     }
 }

@@ -34,7 +34,6 @@ act_goes u line (Act.Begin reg) is = cc (is)
 act_goes u line (Act.Fold op ty) is = cc (is)
 act_goes u line (Act.Accept reg) is = cc (is)
 act_goes u line (Act.Finish reg) is = cc (is)
-act_goes u line Act.Pass is = cc (is)
 
 prim_goes : (u : Local) (o : Option Prim) → next_by_prim u o ≡ Ends → o ≡ None
 prim_goes u None is = refl
@@ -78,7 +77,6 @@ at_call u line (Act.Begin reg) goes end = cc (goes)
 at_call u line (Act.Fold op ty) goes end = cc (goes)
 at_call u line (Act.Accept reg) goes end = cc (goes)
 at_call u line (Act.Finish reg) goes end = cc (goes)
-at_call u line Act.Pass goes end = cc (goes)
 
 -- one that waits has not: at its next call, or with nothing left for its slot
 pub waiting_end : (u : Local) (slot : Option Posted) → is_going (local_next u) ≡ false → (local_next u ≡ Ends → (message : Posted) × (slot ≡ Some message)) → end_of slot u ≢ ue_end.Finished

@@ -76,7 +76,7 @@ pub record CrewStands {A : Type 0} (seen : A → WorkerView) (tied : A → Setup
   pub is_crew : IsCrew tied now later
   pub goes : GoesOn seen chip crew now later
 
--- and after turns of the first n workers, one after the other, which came to this
+-- after turns of the first n workers, one after the other, the crew is tied to the chip again, and they came to this
 pub record SweepStands {A : Type 0} (seen : A → WorkerView) (tied : A → SetupView → ℕ → List Event → Type 0)
     (came : Rest) (n : ℕ) (chip : ChipView) (crew : List A) (now : ChipView) (later : List A) : Type 0 where
   pub stands : CrewStands seen tied chip crew now later

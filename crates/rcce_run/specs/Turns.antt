@@ -162,7 +162,7 @@ pub record OwnTurn {A : Type 0} (seen : A → WorkerView) (tied : A → SetupVie
   pub script : (seen new).script ≡ (seen old).script
   pub means : TurnMeans (Saw now r) (about_in chip) r (events_in chip r) events (seen old) (seen new) answer
 
--- and what it came to
+-- a turn of a rank at home, and what it came to
 pub record TurnedAtHome {A : Type 0} (seen : A → WorkerView) (tied : A → SetupView → ℕ → List Event → Type 0)
     (chip : ChipView) (r : ℕ) (old : A) (now : ChipView) (new : A) (came : Rest) : Type 0 where
   pub turned : IsTurned chip r now

@@ -87,10 +87,10 @@ pub record WaitsOpen (script : Script) (k : ℕ) (call : DataCall) : Type 0 wher
   pub line : ℕ
   pub waits : (ended_at (plain_ends script) k).end ≡ ue_end.Waits line (call_of call)
 
--- the calls of a chip are legal: the passed calls of all ranks can be used up, each send or post with its receive and each
--- barrier with those of its group; of each pair of ranks, one has received what the other sent, whole, once and in order,
--- but for one message that is open or on its way; and no rank has finished more barriers of a communicator than each member
--- of its group has entered
+-- the calls of a chip are legal: the passed calls of all ranks can be used up, each send with its receive, each post with its
+-- receive or as what its slot holds, and each barrier with those of its group; of each pair of ranks, one has received what
+-- the other sent, whole, once and in order, but for one message that is open or on its way; and no rank has finished more
+-- barriers of a communicator than each member of its group has entered
 pub record AreLegal (chip : ChipView) : Type 0 where
   pub calls : IsLegal (about_in chip).nue (setup_key (about_in chip))
       (passed_calls (about_in chip) (records_in chip)) (slot_of (about_in chip) (records_in chip))

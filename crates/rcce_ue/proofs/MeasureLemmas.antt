@@ -104,7 +104,6 @@ module _ (s : SetupView) (rank : ℕ) where
         lowered left 0 (with_register (lengths_of u) reg (length u.received)) _ (drop 1 u.left) is (λ i. record (lengths_of u) { registers = sym (set_lengths u reg (length u.received) u.received refl) i })
     lowers_act (Act.Finish reg) is =
         lowered left 0 (with_register (lengths_of u) reg (length u.accumulator)) _ (drop 1 u.left) is (λ i. record (lengths_of u) { registers = sym (set_lengths u reg (length u.accumulator) u.accumulator refl) i })
-    lowers_act Act.Pass is = is
 
   more_bound : (n bound rest : ℕ) → suc n + (bound + rest) ≡ (1 + bound) + (n + rest)
   more_bound n bound rest = omega arith

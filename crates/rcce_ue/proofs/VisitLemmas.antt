@@ -19,7 +19,7 @@ AreWithin [] (n ∷ ns) = ⊥
 AreWithin (prims ∷ more) [] = ⊥
 AreWithin (prims ∷ more) (n ∷ ns) = (length prims ≤ n) × AreWithin more ns
 
-record IsWithin (u : Unrolled) (v : Visits) : Type 0 where
+record IsWithin (u : Unrolled Prim) (v : Visits) : Type 0 where
   here : length u.here ≤ v.here
   behind : AreWithin u.behind v.behind
 
@@ -45,7 +45,7 @@ within_repeated own times body (next ∷ behind) n (m ∷ ns) here rest =
     let more = scaled (times - 1) (length body) n here in
     record { here = omega (arith, all, end, many, more, here, rest.0); behind = rest.1 }
 
-within_front : (n : Nesting) (prims : List Prim) (own : ℕ) (u : Unrolled) (v : Visits) → length prims ≤ own → IsWithin u v → IsWithin (in_front n prims u) (visits_in_front n own v)
+within_front : (n : Nesting) (prims : List Prim) (own : ℕ) (u : Unrolled Prim) (v : Visits) → length prims ≤ own → IsWithin u v → IsWithin (in_front n prims u) (visits_in_front n own v)
 within_front (nesting.Opens times) prims own u v each all = within_repeated own times u.here u.behind v.here v.behind all.here all.behind
 within_front nesting.Closes prims own u v each all = record { here = each; behind = (all.here, all.behind) }
 within_front nesting.Stays prims own u v each all =

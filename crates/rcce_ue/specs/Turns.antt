@@ -44,7 +44,7 @@ aim_by seat u slot parity (Sending op) = aim_at seat.setup.layout (send_spot sea
 aim_by seat u slot parity (Receiving op) = aim_at seat.setup.layout (recv_spot seat op)
 aim_by seat u slot parity (Meeting op) = barrier.aim_at seat op.comm op.stage (flag_value (value_at parity op.comm))
 
--- and of a UE, with the parity after the turn
+-- what the one try of a turn of a UE is for, with the parity after the turn
 abbrev pub ue_aim : Seat → UeView → List Bool → Option Aim
 ue_aim seat ue parity = aim_by seat ue.machine.local ue.slot parity ue.op
 

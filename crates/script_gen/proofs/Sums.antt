@@ -54,7 +54,6 @@ quiet_act k calls u line (Act.Begin reg) quiet rest all = rest
 quiet_act k calls u line (Act.Fold op ty) quiet rest all = rest
 quiet_act k calls u line (Act.Accept reg) quiet rest all = rest
 quiet_act k calls u line (Act.Finish reg) quiet rest all = rest
-quiet_act k calls u line Act.Pass quiet rest all = rest
 
 quiet_left : (k : ℕ) (calls : List DataCall) (u : Local) (l : List Prim) → u.left ≡ l → AreQuiet l → KeepsNext (Quiet k) (Nothing k) (recorded calls (next_by_prim u (slice_get l 0)))
 quiet_left k calls u [] left quiet = tt
@@ -89,7 +88,6 @@ long_act calls u line (Act.Begin reg) = tt
 long_act calls u line (Act.Fold op ty) = tt
 long_act calls u line (Act.Accept reg) = tt
 long_act calls u line (Act.Finish reg) = tt
-long_act calls u line Act.Pass = tt
 
 long_prim : (calls : List DataCall) (u : Local) (o : Option Prim) → IsLong (recorded calls (next_by_prim u o))
 long_prim calls u None = tt

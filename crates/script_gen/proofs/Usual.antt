@@ -86,7 +86,7 @@ quiet_copies zero prims quiet = tt
 quiet_copies (suc n) prims quiet = quiet_both prims (copies n prims) quiet (quiet_copies n prims quiet)
 
 -- what items make has no post
-record IsQuietRun (u : Unrolled) : Type 0 where
+record IsQuietRun (u : Unrolled Prim) : Type 0 where
   here : AreQuiet u.here
   behind : AllQuiet u.behind
 
@@ -95,7 +95,7 @@ quiet_repeated times body [] quiet all = record { here = quiet; behind = tt }
 quiet_repeated times body (next ∷ behind) quiet all =
     record { here = quiet_both body (copies (times - 1) body ++ next) quiet (quiet_both (copies (times - 1) body) next (quiet_copies (times - 1) body quiet) all.0); behind = all.1 }
 
-quiet_front : (n : Nesting) (prims : List Prim) (u : Unrolled) → AreQuiet prims → IsQuietRun u → IsQuietRun (in_front n prims u)
+quiet_front : (n : Nesting) (prims : List Prim) (u : Unrolled Prim) → AreQuiet prims → IsQuietRun u → IsQuietRun (in_front n prims u)
 quiet_front (nesting.Opens times) prims u quiet run = quiet_repeated times u.here u.behind run.here run.behind
 quiet_front nesting.Closes prims u quiet run = record { here = quiet; behind = (run.here, run.behind) }
 quiet_front nesting.Stays prims u quiet run = record { here = quiet_both prims u.here quiet run.here; behind = run.behind }
@@ -129,7 +129,7 @@ quiet_acts s rank (stmt.Allreduce comm op ty dst src) usual =
     let steps = call_steps s rank (coll.Allreduce comm 0) in
     quiet_parts (record { op = op; ty = ty; dst = dst; src = src; sized = Some src }) (begins steps) steps
 quiet_acts s rank (stmt.Repeat times end) usual = tt
-quiet_acts s rank (stmt.End start) usual = (tt, tt)
+quiet_acts s rank (stmt.End start) usual = tt
 
 -- acts of a statement's line
 abbrev lined : ℕ → List Act → List Prim
@@ -168,7 +168,7 @@ long [] = 0
 long (prims ∷ more) = length prims + long more
 
 -- how many items make in all
-abbrev made : Unrolled → ℕ
+abbrev made : Unrolled Prim → ℕ
 made u = length u.here + long u.behind
 
 -- at most how many they make
@@ -197,10 +197,10 @@ repeated_short times body (next ∷ behind) few =
     let rest = length-append (copies (times - 1) body) next in
     omega (arith, many, within, all, rest)
 
-stays_short : (prims : List Prim) (u : Unrolled) → length prims ≤ 150 → made (in_front nesting.Stays prims u) ≤ 150 + made u
+stays_short : (prims : List Prim) (u : Unrolled Prim) → length prims ≤ 150 → made (in_front nesting.Stays prims u) ≤ 150 + made u
 stays_short prims u short = let both = length-append prims u.here in omega (arith, short, both)
 
-closes_short : (prims : List Prim) (u : Unrolled) → length prims ≤ 150 → made (in_front nesting.Closes prims u) ≤ 150 + made u
+closes_short : (prims : List Prim) (u : Unrolled Prim) → length prims ≤ 150 → made (in_front nesting.Closes prims u) ≤ 150 + made u
 closes_short prims u short = omega (arith, short)
 
 steps_short : (s : SetupView) (rank comm : ℕ) → s.nue ≤ 48 → comm ≡ 0 → length (call_steps s rank (coll.Allreduce comm 0)) ≤ 150
@@ -234,7 +234,7 @@ acts_short s rank (stmt.Repeat times end) few usual = omega arith
 acts_short s rank (stmt.End start) few usual = omega arith
 
 -- an item in front of others
-item_short : (b : Bool) (statement : Stmt) (prims : List Prim) (u : Unrolled) (n : ℕ) → IsUsual statement → length prims ≤ 150 → made u ≤ n → made (in_front (cond b (nesting_of statement) nesting.Stays) (cond b prims []) u) ≤ most_by statement n
+item_short : (b : Bool) (statement : Stmt) (prims : List Prim) (u : Unrolled Prim) (n : ℕ) → IsUsual statement → length prims ≤ 150 → made u ≤ n → made (in_front (cond b (nesting_of statement) nesting.Stays) (cond b prims []) u) ≤ most_by statement n
 item_short b (stmt.Bytes reg bytes) prims u n usual short within = absurd usual
 item_short true (stmt.Fill reg len start) prims u n usual short within = let one = stays_short prims u short in omega (arith, one, within)
 item_short false (stmt.Fill reg len start) prims u n usual short within = omega (arith, within)

@@ -12,7 +12,7 @@ use Rattle.script_plain.specs.Step.{Configuration}
 use Rattle.script_reader.specs.Script.{Script}
 use Rattle.script_gen.specs.Scripts.{gen_script_of}
 
--- whether a call has sent a message, as 1 or 0, and with how many bytes
+-- how many messages a call has sent: a send or a post one, another call none
 abbrev pub sends_of : DataCall → ℕ
 sends_of (Send to head bytes) = 1
 sends_of (Post to head bytes) = 1

@@ -97,7 +97,7 @@ module _ (script : Script) (rank : ℕ) where
   EachAimed [] = Unit {0}
   EachAimed (prims ∷ more) = AreAimed prims × EachAimed more
 
-  record AimedIn (u : Unrolled) : Type 0 where
+  record AimedIn (u : Unrolled Prim) : Type 0 where
     here : AreAimed u.here
     behind : EachAimed u.behind
 
@@ -108,7 +108,7 @@ module _ (script : Script) (rank : ℕ) where
     behind = rest.1;
   }
 
-  aimed_front : (n : Nesting) (prims : List Prim) (u : Unrolled) → AreAimed prims → AimedIn u → AimedIn (in_front n prims u)
+  aimed_front : (n : Nesting) (prims : List Prim) (u : Unrolled Prim) → AreAimed prims → AimedIn u → AimedIn (in_front n prims u)
   aimed_front (nesting.Opens times) prims u each all = aimed_repeated times u.here u.behind all.here all.behind
   aimed_front nesting.Closes prims u each all = record { here = each; behind = (all.here, all.behind) }
   aimed_front nesting.Stays prims u each all = record { here = aimed_both prims u.here each all.here; behind = all.behind }
@@ -165,7 +165,7 @@ module _ (script : Script) (rank : ℕ) where
   aimed_statement line (stmt.Allreduce comm op ty dst src) below other there short =
       aimed_call line (record { op = op; ty = ty; dst = dst; src = src; sized = Some src }) (coll.Allreduce comm 0)
   aimed_statement line (stmt.Repeat times end) below other there short = tt
-  aimed_statement line (stmt.End start) below other there short = (tt, tt)
+  aimed_statement line (stmt.End start) below other there short = tt
 
   aimed_prims : (item : Item) → (has_rank item.who rank ≡ true → AimedActs item.line (acts_of (setup_of script) rank item.stmt)) → AreAimed (prims_of (setup_of script) rank item)
   aimed_prims item is = by (has_rank item.who rank) refl

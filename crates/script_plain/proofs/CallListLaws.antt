@@ -17,7 +17,7 @@ use Rattle.script_plain.specs.Next.Next.{Goes, Posts, Sends, Recvs, Bars}
 use Rattle.script_plain.specs.Paths.{Did}
 use Rattle.script_plain.specs.Paths.Did.{Here, Own, Left, Sent, Got, Met}
 use Rattle.script_plain.specs.Program.{Act, Prim}
-use Rattle.script_plain.specs.Program.Act.{Set, Apply, Print, Send, Post, Recv, Gather, Bar, Begin, Fold, Accept, Finish, Pass}
+use Rattle.script_plain.specs.Program.Act.{Set, Apply, Print, Send, Post, Recv, Gather, Bar, Begin, Fold, Accept, Finish}
 use Rattle.script_plain.proofs.RoomLaws.{after, length_index, lengths_next, prim_left}
 
 -- the call of a primitive is the one that stands next there
@@ -36,7 +36,6 @@ called_next u line (Begin reg) = refl
 called_next u line (Fold op ty) = refl
 called_next u line (Accept reg) = refl
 called_next u line (Finish reg) = refl
-called_next u line Pass = refl
 
 -- behind it the primitives that come after are left
 left_next : (u : Local) (line : ℕ) (act : Act) (bytes : List ℕ) → (after (next_by_act u line act) bytes u).left ≡ drop 1 u.left
@@ -52,7 +51,6 @@ left_next u line (Begin reg) bytes = refl
 left_next u line (Fold op ty) bytes = refl
 left_next u line (Accept reg) bytes = refl
 left_next u line (Finish reg) bytes = refl
-left_next u line Pass bytes = refl
 
 calls_front : (l : Lengths) (prims : List Prim) (prim : Prim) → slice_get prims 0 ≡ Some prim → calls_from l prims ≡ called l prim.act ++ calls_from (lengths_after l prim.act) (drop 1 prims)
 calls_front l [] prim here = absurd (cc)

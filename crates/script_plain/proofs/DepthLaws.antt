@@ -6,9 +6,9 @@ use Rattle.script_reader.specs.declared.script.Item.{Item}
 use Rattle.script_reader.specs.Script.{has_rank}
 use Rattle.script_plain.specs.declared.prims.Nesting.{Nesting}
 use Rattle.script_plain.specs.declared.prims.Nesting.TheVariants as nesting
-use Rattle.script_plain.specs.declared.walk.Open.{Open}
+use Rattle.script_plain.specs.declared.course.Open.{Open}
 use Rattle.script_plain.specs.Depths.{AreHeld, HasRoom, IsDeep, depth_after, depth_at, depth_from}
-use Rattle.script_plain.specs.Program.{nesting_at, prims_of}
+use Rattle.script_plain.specs.Program.{marks_of, nesting_at}
 use Rattle.script_plain.specs.Walk.{closed_by, next_pass, opened, passed, passed_to}
 use Rattle.script_plain.proofs.WalkLaws.{closes_by}
 
@@ -44,7 +44,7 @@ module _ (rank : ℕ) where
       let P : List Open → Type 0 = λ r. IsDeep rank items at r in
       subst P (sym none) (record { here = omega arith; held = tt })
 
-  -- over an item that has no primitives
+  -- over an item that has no marks
   entered_by : (items : List Item) (at : ℕ) (item : Item) (repeats : List Open) (n : Nesting) → slice_get items at ≡ Some item → nesting_at rank item ≡ n
       → (n ≡ nesting.Closes → ⊥) → IsDeep rank items at repeats → IsDeep rank items (at + 1) (opened n at repeats)
   entered_by items at item repeats nesting.Stays here is stays deep =
@@ -55,15 +55,15 @@ module _ (rank : ℕ) where
       let next : depth_at rank items (at + 1) ≡ depth_at rank items at + 1 = depth_next items at item here ∙ ap (λ (n : Nesting). depth_after n (depth_at rank items at)) is in
       record { here = omega (arith, deep.here, next); held = (omega (arith, deep.here, next), deep.held) }
 
-  pub deep_entered : (s : SetupView) (items : List Item) (at : ℕ) (item : Item) (before after : List Open) → slice_get items at ≡ Some item → length (prims_of s rank item) ≡ 0
+  pub deep_entered : (s : SetupView) (items : List Item) (at : ℕ) (item : Item) (before after : List Open) → slice_get items at ≡ Some item → length (marks_of s rank item) ≡ 0
       → after ≡ opened (nesting_at rank item) at before → IsDeep rank items at before → IsDeep rank items (at + 1) after
   deep_entered s items at item before after here none is deep =
       let P : List Open → Type 0 = λ r. IsDeep rank items (at + 1) r in
-      let stays : nesting_at rank item ≡ nesting.Closes → ⊥ = λ closes. absurd (omega (arith, none, closes_by s rank item (has_rank item.who rank) refl closes)) in
+      let stays : nesting_at rank item ≡ nesting.Closes → ⊥ = λ closes. absurd (omega (arith, none, closes_by s rank item closes)) in
       subst P (sym is) (entered_by items at item before (nesting_at rank item) here refl stays deep)
 
   -- there is room to enter
-  pub room_entered : (s : SetupView) (items : List Item) (at room : ℕ) (item : Item) (repeats : List Open) → slice_get items at ≡ Some item → length (prims_of s rank item) ≡ 0
+  pub room_entered : (s : SetupView) (items : List Item) (at room : ℕ) (item : Item) (repeats : List Open) → slice_get items at ≡ Some item → length (marks_of s rank item) ≡ 0
       → IsDeep rank items at repeats → HasRoom rank items room → length (opened (nesting_at rank item) at repeats) ≤ room
   room_entered s items at room item repeats here none deep fits =
       omega (arith, (deep_entered s items at item repeats (opened (nesting_at rank item) at repeats) here none refl deep).here, fits (at + 1))

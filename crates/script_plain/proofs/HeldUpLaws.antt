@@ -68,7 +68,6 @@ module _ (script : Script) (rank : ℕ) where
   aimed_act u line (Act.Fold op ty) aim on is = record { left = on; peered = is.peered }
   aimed_act u line (Act.Accept reg) aim on is = record { left = on; peered = is.peered }
   aimed_act u line (Act.Finish reg) aim on is = record { left = on; peered = is.peered }
-  aimed_act u line Act.Pass aim on is = record { left = on; peered = is.peered }
 
   aimed_left : (u : Local) (l : List Prim) → u.left ≡ l → AreAimed script rank l → IsAimed u → AimedNext (next_by_prim u (slice_get l 0))
   aimed_left u [] at all is = tt
@@ -133,7 +132,6 @@ barrier_act comm u line (Act.Begin reg) = refl
 barrier_act comm u line (Act.Fold op ty) = refl
 barrier_act comm u line (Act.Accept reg) = refl
 barrier_act comm u line (Act.Finish reg) = refl
-barrier_act comm u line Act.Pass = refl
 
 barrier_slot : (comm : ℕ) (slot : Option Posted) → ended_at_barrier comm (end_by_slot slot) ≡ false
 barrier_slot comm None = refl
@@ -262,7 +260,6 @@ module _ (script : Script) where
   cause_act rank line u (Act.Fold op ty) aim absent = tt
   cause_act rank line u (Act.Accept reg) aim absent = tt
   cause_act rank line u (Act.Finish reg) aim absent = tt
-  cause_act rank line u Act.Pass aim absent = tt
 
   cause_left : (rank : ℕ) (slot : Option Posted) (u : Local) (l : List Prim) → u.left ≡ l → AreAimed script rank l → ((message : Posted) → slot ≡ Some message → IsPeer script.nue rank message.to)
       → ((comm : ℕ) → is_at_barrier comm (next_by_prim u (slice_get l 0)) ≡ true → (k : ℕ) × IsAwaited (keys_of script) (plain_ends script) comm rank k)

@@ -38,7 +38,6 @@ module _ (h : Held) (walk : WalkView) (state : Standing) (line : ℕ) where
       put_fits (rooms_with h) (local_with h walk state) (record { line = line; act = Accept reg }) reg (length h.taken.bytes) here refl within there
   room_for (action.Finish reg) here within = λ there.
       put_fits (rooms_with h) (local_with h walk state) (record { line = line; act = Finish reg }) reg (length h.folded.bytes) here refl within there
-  room_for action.Pass here within = tt
 
   -- and it does what the step of the rank says
   pub worked_local : (a : Action) (on : WalkView) → is_going (next_by_act (local_with h walk state) line (act_meant a)) ≡ true → on.left ≡ drop 1 walk.left
@@ -55,7 +54,6 @@ module _ (h : Held) (walk : WalkView) (state : Standing) (line : ℕ) where
   worked_local (action.Fold op ty) on going left = ap (λ (l : List Prim). record (local_with (worked (action.Fold op ty) h) walk state) { left = l }) left
   worked_local (action.Accept reg) on going left = ap (λ (l : List Prim). record (local_with (worked (action.Accept reg) h) walk state) { left = l }) left
   worked_local (action.Finish reg) on going left = ap (λ (l : List Prim). record (local_with (worked (action.Finish reg) h) walk state) { left = l }) left
-  worked_local action.Pass on going left = ap (λ (l : List Prim). record (local_with h walk state) { left = l }) left
 
 -- no room is another one
 pub worked_rooms : (a : Action) (h : Held) → rooms_with (worked a h) ≡ rooms_with h
@@ -71,7 +69,6 @@ worked_rooms (action.Begin reg) h = refl
 worked_rooms (action.Fold op ty) h = refl
 worked_rooms (action.Accept reg) h = refl
 worked_rooms (action.Finish reg) h = refl
-worked_rooms action.Pass h = refl
 
 -- a statement of the rank alone asks for no bytes
 pub none_asked : (n : Next Local) → is_going n ≡ true → 0 ≡ length_in n

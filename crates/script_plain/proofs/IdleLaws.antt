@@ -1,5 +1,5 @@
 -- Laws of a walk past items of other ranks: what is left stays as it is.
-use Rattle.std.proofs.Common.{◌≡◌, ℕ, zero, suc, ◌+◌, ◌<◌, ◌≤◌, ◌⊎◌, inl, inr, Bool, false, cond, List, [], map, length, drop, get_or, slice_get, None, Some, refl, sym, ap, ◌∙◌, arith}
+use Rattle.std.proofs.Common.{◌≡◌, ℕ, zero, suc, ◌+◌, ◌<◌, ◌≤◌, ◌⊎◌, inl, inr, Bool, false, cond, List, [], map, length, drop, get_or, slice_get, Option, None, Some, refl, sym, ap, ◌∙◌, arith}
 use Rattle.std.proofs.lemmas.Bool.{cases_lt}
 use Rattle.std.proofs.lemmas.Option.{slice_get_cases}
 use Rattle.scc_base.specs.Setups.{SetupView}
@@ -7,46 +7,50 @@ use Rattle.script_reader.specs.declared.script.Item.{Item}
 use Rattle.script_reader.specs.Script.{has_rank}
 use Rattle.script_plain.specs.declared.prims.Nesting.{Nesting}
 use Rattle.script_plain.specs.declared.prims.Nesting.TheVariants as nesting
-use Rattle.script_plain.specs.declared.walk.Open.{Open}
+use Rattle.script_plain.specs.declared.course.Open.{Open}
 use Rattle.script_plain.specs.Depths.{IsDeep, IsIdleFrom, IsIdleTo, depth_after, depth_at}
-use Rattle.script_plain.specs.Program.{Act, Prim, Unrolled, acts_of, in_front, nesting_at, nesting_of, prims_of, unrolled}
+use Rattle.script_plain.specs.Program.{Act, Prim, Unrolled, acts_of, in_front, marked, marks_by, marks_of, nesting_at, nesting_of, prims_of}
 use Rattle.script_plain.specs.Walk.{again, left_at, left_of, opened}
 use Rattle.script_plain.proofs.DepthLaws.{depth_next, depth_past}
-use Rattle.script_plain.proofs.WalkLaws.{over_same, past_same, unrolled-at, unrolled-past}
+use Rattle.script_plain.proofs.WalkLaws.{over_same, past_same, marked-at, marked-past}
 
--- an item of another rank has no primitives, and does nothing to the repeats
-pub idle_none : (s : SetupView) (rank : ℕ) (item : Item) → has_rank item.who rank ≡ false → prims_of s rank item ≡ []
-idle_none s rank item idle = ap (λ (b : Bool). cond b (map (λ (act : Act). record { line = item.line; act = act }) (acts_of s rank item.stmt)) []) idle
+idle_prims : (s : SetupView) (rank : ℕ) (item : Item) → has_rank item.who rank ≡ false → prims_of s rank item ≡ []
+idle_prims s rank item idle = ap (λ (b : Bool). cond b (map (λ (act : Act). record { line = item.line; act = act }) (acts_of s rank item.stmt)) []) idle
 
+-- an item of another rank does nothing to the repeats, and has no marks
 pub idle_stays : (rank : ℕ) (item : Item) → has_rank item.who rank ≡ false → nesting_at rank item ≡ nesting.Stays
 idle_stays rank item idle = ap (λ (b : Bool). cond b (nesting_of item.stmt) nesting.Stays) idle
 
+pub idle_none : (s : SetupView) (rank : ℕ) (item : Item) → has_rank item.who rank ≡ false → marks_of s rank item ≡ []
+idle_none s rank item idle =
+    ap (λ (n : Nesting). marks_by n (prims_of s rank item)) (idle_stays rank item idle) ∙ ap (λ (l : List Prim). marks_by nesting.Stays l) (idle_prims s rank item idle)
+
 -- from a place on from which no item is one of the rank, nothing is made
-unrolled-idle : (s : SetupView) (rank : ℕ) (items : List Item) (end : ℕ) → IsIdleFrom rank items end → (more at : ℕ) → end ≤ at → length items ≤ at + more → unrolled s rank (drop at items) ≡ record { here = []; behind = [] }
-unrolled-idle s rank items end idle zero at past all = unrolled-past s rank items at (omega (arith, all))
-unrolled-idle s rank items end idle (suc more) at past all =
-    by (unrolled-idle s rank items end idle more (at + 1) (omega (arith, past)) (omega (arith, all))) (slice_get_cases items at).1
+marked-idle : (s : SetupView) (rank : ℕ) (items : List Item) (end : ℕ) → IsIdleFrom rank items end → (more at : ℕ) → end ≤ at → length items ≤ at + more → marked s rank (drop at items) ≡ record { here = []; behind = [] }
+marked-idle s rank items end idle zero at past all = marked-past s rank items at (omega (arith, all))
+marked-idle s rank items end idle (suc more) at past all =
+    by (marked-idle s rank items end idle more (at + 1) (omega (arith, past)) (omega (arith, all))) (slice_get_cases items at).1
   where
-    by : unrolled s rank (drop (at + 1) items) ≡ record { here = []; behind = [] }
+    by : marked s rank (drop (at + 1) items) ≡ record { here = []; behind = [] }
         → ((item : Item) × (at < length items) × (slice_get items at ≡ Some item) × (get_or items at item ≡ item)) ⊎ ((length items ≤ at) × (slice_get items at ≡ None))
-        → unrolled s rank (drop at items) ≡ record { here = []; behind = [] }
-    by on (inr none) = unrolled-past s rank items at none.0
+        → marked s rank (drop at items) ≡ record { here = []; behind = [] }
+    by on (inr none) = marked-past s rank items at none.0
     by on (inl found) =
         let item = found.0 in
         let here = found.2 in
-        let u = unrolled s rank (drop (at + 1) items) in
+        let u = marked s rank (drop (at + 1) items) in
         let other = idle.idle at item past here in
-        unrolled-at s rank items at item here ∙ ap (λ (n : Nesting). in_front n (prims_of s rank item) u) (idle_stays rank item other)
-        ∙ ap (λ (l : List Prim). in_front nesting.Stays l u) (idle_none s rank item other)
+        marked-at s rank items at item here ∙ ap (λ (n : Nesting). in_front n (marks_of s rank item) u) (idle_stays rank item other)
+        ∙ ap (λ (l : List (Option Prim)). in_front nesting.Stays l u) (idle_none s rank item other)
         ∙ on
 
 pub nothing_left : (s : SetupView) (rank : ℕ) (items : List Item) (at : ℕ) (repeats : List Open) → length items ≤ at → left_at s rank items at repeats ≡ []
 nothing_left s rank items at repeats past =
-    ap (λ (u : Unrolled). left_of u (map (again s rank items) repeats)) (unrolled-past s rank items at past)
+    ap (λ (u : Unrolled (Option Prim)). left_of u (map (again s rank items) repeats)) (marked-past s rank items at past)
 
 pub left-idle : (s : SetupView) (rank : ℕ) (items : List Item) (end at : ℕ) (repeats : List Open) → IsIdleFrom rank items end → end ≤ at → left_at s rank items at repeats ≡ []
 left-idle s rank items end at repeats idle past =
-    ap (λ (u : Unrolled). left_of u (map (again s rank items) repeats)) (unrolled-idle s rank items end idle (length items) at past (omega arith))
+    ap (λ (u : Unrolled (Option Prim)). left_of u (map (again s rank items) repeats)) (marked-idle s rank items end idle (length items) at past (omega arith))
 
 -- up to a place before which no item is one of the rank, everything is left
 pub left-first : (s : SetupView) (rank : ℕ) (items : List Item) (first : ℕ) → IsIdleTo rank items first → left_at s rank items first [] ≡ left_at s rank items 0 []

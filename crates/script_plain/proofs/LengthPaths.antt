@@ -111,7 +111,6 @@ module _ (had : ℕ → Option ℕ) (u : Local) (line : ℕ) (acc got : Option �
     received = received;
     keeps = on;
   }
-  fits_act Act.Pass sets on = record { acc = acc; got = got; registers = registers; accumulator = accumulator; received = received; keeps = on }
 
 module _ (had : ℕ → Option ℕ) (u : Local) (fits : Fits had u) where
   fits_left : (l : List Prim) → u.left ≡ l → FitsNext had (next_by_prim u (slice_get l 0))

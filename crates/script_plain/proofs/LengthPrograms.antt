@@ -46,7 +46,7 @@ module _ (had : ℕ → Option ℕ) where
   EachAlways [] = Unit {0}
   EachAlways (prims ∷ more) = KeepsAlways prims × EachAlways more
 
-  record AlwaysIn (u : Unrolled) : Type 0 where
+  record AlwaysIn (u : Unrolled Prim) : Type 0 where
     here : KeepsAlways u.here
     behind : EachAlways u.behind
 
@@ -57,7 +57,7 @@ module _ (had : ℕ → Option ℕ) where
     behind = rest.1;
   }
 
-  always_front : (n : Nesting) (prims : List Prim) (u : Unrolled) → KeepsAlways prims → AlwaysIn u → AlwaysIn (in_front n prims u)
+  always_front : (n : Nesting) (prims : List Prim) (u : Unrolled Prim) → KeepsAlways prims → AlwaysIn u → AlwaysIn (in_front n prims u)
   always_front (nesting.Opens times) prims u each all = always_repeated times u.here u.behind all.here all.behind
   always_front nesting.Closes prims u each all = record { here = each; behind = (all.here, all.behind) }
   always_front nesting.Stays prims u each all = record { here = always_both prims u.here each all.here; behind = all.behind }
@@ -135,7 +135,7 @@ module _ (had : ℕ → Option ℕ) where
       ))
       (λ apart from. (tt, (tt, (is.1, tt))))
   keeps_statement s rank line (stmt.Repeat times end) is acc got = tt
-  keeps_statement s rank line (stmt.End start) is acc got = (tt, tt)
+  keeps_statement s rank line (stmt.End start) is acc got = tt
 
   keeps_prims : (s : SetupView) (rank : ℕ) (item : Item) → (has_rank item.who rank ≡ true → Reckons s.comms had rank item.stmt) → KeepsAlways (prims_of s rank item)
   keeps_prims s rank item is acc got = by (has_rank item.who rank) refl

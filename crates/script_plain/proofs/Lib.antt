@@ -10,6 +10,7 @@ pub mod WayLaws
 pub mod BarrierLaws
 pub mod CodeLaws
 pub mod WalkLaws
+pub mod MarkLaws
 pub mod DepthLaws
 pub mod IdleLaws
 pub mod RestLaws

@@ -117,7 +117,6 @@ module _ (kind comm to : ℕ) (apart : (0 == kind) ≡ false) where
       by bytes u line (Act.Fold op ty) = omega arith
       by bytes u line (Act.Accept reg) = omega arith
       by bytes u line (Act.Finish reg) = omega arith
-      by bytes u line Act.Pass = omega arith
 
 module _ (kind comm from : ℕ) where
   pub receipts_counted : Counts (got_so_far kind comm from) (got_in kind comm from)
@@ -144,7 +143,6 @@ module _ (kind comm from : ℕ) where
       by bytes u line (Act.Fold op ty) = omega arith
       by bytes u line (Act.Accept reg) = omega arith
       by bytes u line (Act.Finish reg) = omega arith
-      by bytes u line Act.Pass = omega arith
 
 pub none_if : (passes here : Bool) → here ≡ false → one_if (passes && here) ≡ 0
 none_if true here is = ap one_if is

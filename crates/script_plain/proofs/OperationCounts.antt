@@ -1,6 +1,6 @@
--- The primitives of a rank are as many as its operations: a statement makes as many as it costs, and a repeat's body comes
--- as often as its statements are counted.
-use Rattle.std.proofs.Common.{◌≡◌, ℕ, zero, suc, ◌+◌, ◌-◌, ◌*◌, ◌<◌, ◌≤◌, ◌==◌, Bool, true, false, cond, ◌&&◌, List, [], ◌∷◌, ◌++◌, length, map, reverse, take, Some, None, refl, sym, ap, subst, ◌∙◌, arith, slice_get, append_assoc, inl, inr}
+-- The marks of a rank are as many as its operations: a statement makes as many as it costs, and a repeat's body comes as
+-- often as its statements are counted.
+use Rattle.std.proofs.Common.{◌≡◌, ℕ, zero, suc, ◌+◌, ◌-◌, ◌*◌, ◌<◌, ◌≤◌, ◌==◌, Bool, true, false, cond, ◌&&◌, List, [], ◌∷◌, ◌++◌, length, map, reverse, take, Some, None, refl, sym, ap, subst, ◌∙◌, arith, slice_get, append_assoc, inl, inr, Option}
 use Rattle.std.proofs.Math.Nat.{mul_assoc, suc-mul, zero-mul}
 use Rattle.std.proofs.Math.Seq.{take-append_seam}
 use Rattle.std.proofs.lemmas.Bool.{and_parts, cases_lt}
@@ -30,17 +30,25 @@ use Rattle.script_reader.proofs.SettledLemmas.{Extends, key-same, present-low, s
 use Rattle.script_plain.specs.declared.prims.Nesting.{Nesting}
 use Rattle.script_plain.specs.declared.prims.Nesting.TheVariants as nesting
 use Rattle.script_plain.specs.declared.prims.Operands.{Operands}
-use Rattle.script_plain.specs.Program.{Prim, Unrolled, acts_of, begins, call_steps, can_call, collective_of, copies, in_front, nesting_of, part_of, parts_of, program_of, repeated, setup_of, unrolled}
+use Rattle.script_plain.specs.Program.{Act, Prim, Unrolled, acts_of, begins, call_steps, can_call, collective_of, copies, in_front, marked, marks_by, marks_in, nesting_of, part_of, parts_of, program_of, repeated, setup_of}
 use Rattle.script_plain.proofs.CallableLaws.{callable, known}
+use Rattle.script_plain.proofs.MarkLaws.{fewer_prims, program_is}
 use Rattle.script_plain.proofs.ReductionPaths.{fold_operands}
 use Rattle.script_plain.proofs.StepLaws as steps
+
+-- what a statement does, in its line
+abbrev in_line : ℕ → List Act → List Prim
+in_line line acts = map (λ act. record { line = line; act = act }) acts
+
+lined_up : (line : ℕ) (acts : List Act) → length (map Some (in_line line acts)) ≡ length acts
+lined_up line acts = length-map (in_line line acts) Some ∙ length-map acts (λ act. record { line = line; act = act })
 
 -- sums and copies
 spread : (a b c : ℕ) → a * (b + c) ≡ a * b + a * c
 spread zero b c = omega (arith, zero-mul (b + c), zero-mul b, zero-mul c)
 spread (suc a) b c = omega (arith, suc-mul a (b + c), suc-mul a b, suc-mul a c, spread a b c)
 
-length_copies : (n : ℕ) (prims : List Prim) → length (copies n prims) ≡ n * length prims
+length_copies : (n : ℕ) (prims : List (Option Prim)) → length (copies n prims) ≡ n * length prims
 length_copies zero prims = sym (zero-mul (length prims))
 length_copies (suc n) prims = omega (arith, length-append prims (copies n prims), length_copies n prims, suc-mul n (length prims))
 
@@ -106,23 +114,23 @@ sorted P repeats ends others (stmt.Reduce comm root op ty dst src) = others (stm
 sorted P repeats ends others (stmt.Allreduce comm op ty dst src) = others (stmt.Allreduce comm op ty dst src) (record { opens = λ place past. refl; stays = refl })
 
 -- what stands behind the open repeats, each as often as it runs
-abbrev weigh : List ℕ → List (List Prim) → ℕ
+abbrev weigh : List ℕ → List (List (Option Prim)) → ℕ
 weigh [] behind = 0
 weigh (t ∷ stack) [] = 0
 weigh (t ∷ stack) (next ∷ behind) = top stack * length next + weigh stack behind
 
 -- what items make is as much as they cost
-abbrev Counts : ℕ → List ℕ → Unrolled → Type 0
+abbrev Counts : ℕ → List ℕ → Unrolled (Option Prim) → Type 0
 Counts m stack u = (m ≡ top stack * length u.here + weigh stack u.behind) × (length u.behind ≡ length stack)
 
-counts_stays : (turns cost m : ℕ) (stack : List ℕ) (prims : List Prim) (u : Unrolled) → turns ≡ top stack → length prims ≡ cost → Counts m stack u
+counts_stays : (turns cost m : ℕ) (stack : List ℕ) (prims : List (Option Prim)) (u : Unrolled (Option Prim)) → turns ≡ top stack → length prims ≡ cost → Counts m stack u
     → Counts (turns * cost + m) stack (in_front nesting.Stays prims u)
 counts_stays turns cost m stack prims u is many c =
     let one : turns * cost ≡ top stack * length prims = ap (λ (t : ℕ). t * cost) is ∙ ap (λ (n : ℕ). top stack * n) (sym many) in
     let both : top stack * length (prims ++ u.here) ≡ top stack * length prims + top stack * length u.here = ap (λ (n : ℕ). top stack * n) (length-append prims u.here) ∙ spread (top stack) (length prims) (length u.here) in
     (omega (arith, one, both, c.0), c.1)
 
-counts_closes : (turns m t : ℕ) (stack : List ℕ) (prims : List Prim) (u : Unrolled) → turns ≡ t → length prims ≡ 1 → Counts m stack u
+counts_closes : (turns m t : ℕ) (stack : List ℕ) (prims : List (Option Prim)) (u : Unrolled (Option Prim)) → turns ≡ t → length prims ≡ 1 → Counts m stack u
     → Counts (turns * 1 + m) (t ∷ stack) (in_front nesting.Closes prims u)
 counts_closes turns m t stack prims u is many c =
     let one : turns * 1 ≡ t * length prims = ap (λ (t : ℕ). t * 1) is ∙ ap (λ (n : ℕ). t * n) (sym many) in
@@ -137,7 +145,7 @@ passes t (suc k) b once =
     let all : t * suc k * b ≡ t * (k * b + b) = mul_assoc t (suc k) b ∙ ap (λ (n : ℕ). t * n) (suc-mul k b) in
     omega (arith, far, all, spread t (k * b) b)
 
-counts_repeated : (turns times m : ℕ) (stack : List ℕ) (here : List Prim) (behind : List (List Prim)) → turns ≡ top stack → 1 ≤ times
+counts_repeated : (turns times m : ℕ) (stack : List ℕ) (here : List (Option Prim)) (behind : List (List (Option Prim))) → turns ≡ top stack → 1 ≤ times
     → Counts m (turns * times ∷ stack) (record { here = here; behind = behind }) → Counts (turns * 0 + m) stack (repeated times here behind)
 counts_repeated turns times m stack here [] is once c = absurd (omega (arith, c.1))
 counts_repeated turns times m stack here (next ∷ behind) is once c =
@@ -217,25 +225,25 @@ module _ (script : Script) (whole : IsWhole script.nue script.items) (rank : ℕ
     rooted_of c may = (and_parts _ (has_root (setup_of script) rank c) may).1
 
     cost : (k : ℕ) (item : Item) → slice_get script.items k ≡ Some item → has_rank item.who rank ≡ true → (s : Stmt) → item.stmt ≡ s
-        → (rule_of (rules_of (reverse past)) (comm_needed s) ≡ rule.Absent → ⊥) → length (acts_of (setup_of script) rank s) ≡ cost_of (run_of script.nue past) s rank
+        → (rule_of (rules_of (reverse past)) (comm_needed s) ≡ rule.Absent → ⊥) → length (marks_by (nesting_of s) (in_line item.line (acts_of (setup_of script) rank s))) ≡ cost_of (run_of script.nue past) s rank
     cost k item found has (stmt.Bcast comm root reg len) is there =
         let o : Operands = record { op = op_of.Sum; ty = ty_of.Int; dst = reg; src = reg; sized = None } in
         let c : Coll = coll.Bcast comm root len in
         let key = key_of (rules_of script.items) comm in
         let may = callable script whole k item rank found below has (record { coll = c; operands = o }) (ap collective_of is) in
-        made o c may
+        lined_up item.line (acts_of (setup_of script) rank (stmt.Bcast comm root reg len)) ∙ made o c may
         ∙ cast_steps (place_in key rank == root) comm root len (remove (members_in script.nue key rank) root) (slice_index (members_in script.nue key rank) root)
         ∙ asked (coll.Bcast comm root 0) there (rooted_of c may)
     cost k item found has (stmt.Reduce comm root op ty dst src) is there =
         let o = fold_operands op ty dst src in
         let c : Coll = coll.Reduce comm root 0 in
         let may = callable script whole k item rank found below has (record { coll = c; operands = o }) (ap collective_of is) in
-        made o c may ∙ asked c there (rooted_of c may)
+        lined_up item.line (acts_of (setup_of script) rank (stmt.Reduce comm root op ty dst src)) ∙ made o c may ∙ asked c there (rooted_of c may)
     cost k item found has (stmt.Allreduce comm op ty dst src) is there =
         let o = fold_operands op ty dst src in
         let c : Coll = coll.Allreduce comm 0 in
         let may = callable script whole k item rank found below has (record { coll = c; operands = o }) (ap collective_of is) in
-        made o c may ∙ asked c there refl
+        lined_up item.line (acts_of (setup_of script) rank (stmt.Allreduce comm op ty dst src)) ∙ made o c may ∙ asked c there refl
     cost k item found has (stmt.Bytes reg bytes) is there = refl
     cost k item found has (stmt.Fill reg len start) is there = refl
     cost k item found has (stmt.RankOf reg ty) is there = refl
@@ -341,7 +349,7 @@ module _ (script : Script) (whole : IsWhole script.nue script.items) (rank : ℕ
   ahead : (past : List Item) (item : Item) (stack : List ℕ) → has_rank item.who rank ≡ true → IsStack (item ∷ past) stack → Stands (item ∷ past) stack
   ahead past item stack has is = Inside stack is (λ who some now. ap (λ (w : Who). has_rank w rank) (sym (same_who item.who who now)) ∙ has)
 
-  module _ (past : List Item) (item : Item) (has : has_rank item.who rank ≡ true) (placed : IsPlaced past item) (prims : List Prim) (m : ℕ) (u : Unrolled)
+  module _ (past : List Item) (item : Item) (has : has_rank item.who rank ≡ true) (placed : IsPlaced past item) (prims : List (Option Prim)) (m : ℕ) (u : Unrolled (Option Prim))
       (on : (stack : List ℕ) → Stands (item ∷ past) stack → Counts m stack u) where
     abbrev turns : ℕ
     turns = turns_in (open_of past)
@@ -387,13 +395,12 @@ module _ (script : Script) (whole : IsWhole script.nue script.items) (rank : ℕ
     once : HavePasses list
     none : open_of list ≡ []
 
-  counted_by : (past : List Item) (item : Item) (u : Unrolled) (m : ℕ) (stack : List ℕ) → (has_rank item.who rank ≡ true → length (acts_of (setup_of script) rank item.stmt) ≡ cost_of (run_of script.nue past) item.stmt rank)
+  counted_by : (past : List Item) (item : Item) (u : Unrolled (Option Prim)) (m : ℕ) (stack : List ℕ) → (has_rank item.who rank ≡ true → length (marks_by (nesting_of item.stmt) (in_line item.line (acts_of (setup_of script) rank item.stmt))) ≡ cost_of (run_of script.nue past) item.stmt rank)
       → IsPlaced past item → ((stack : List ℕ) → Stands (item ∷ past) stack → Counts m stack u) → Stands past stack → (b : Bool) → has_rank item.who rank ≡ b
       → Counts (cond b (turns_in (open_of past) * cost_of (run_of script.nue past) item.stmt rank) 0 + m) stack
-      (in_front (cond b (nesting_of item.stmt) nesting.Stays) (cond b (map (λ act. record { line = item.line; act = act }) (acts_of (setup_of script) rank item.stmt)) []) u)
+      (in_front (cond b (nesting_of item.stmt) nesting.Stays) (marks_by (cond b (nesting_of item.stmt) nesting.Stays) (cond b (in_line item.line (acts_of (setup_of script) rank item.stmt)) [])) u)
   counted_by past item u m stack costs placed on stands true has =
-      own past item has placed (map (λ act. record { line = item.line; act = act }) (acts_of (setup_of script) rank item.stmt)) m u on stack
-      (length-map (acts_of (setup_of script) rank item.stmt) _ ∙ costs has) stands
+      own past item has placed (marks_by (nesting_of item.stmt) (in_line item.line (acts_of (setup_of script) rank item.stmt))) m u on stack (costs has) stands
   counted_by past item u m stack costs placed on stands false has =
       let c = on stack (beside past item stack has placed stands) in
       (omega (arith, c.0), c.1)
@@ -402,8 +409,8 @@ module _ (script : Script) (whole : IsWhole script.nue script.items) (rank : ℕ
   ended past [] none stands = (refl, refl)
   ended past (t ∷ stack) none (Inside _ (before, times, end, place, is, turns, rest) own) = absurd (omega (arith, ap length none, ap length is, one_opened before times end place))
 
-  counted : (items past : List Item) → script.items ≡ reverse past ++ items → IsRead (reverse items ++ past) → (stack : List ℕ) → Stands past stack → Counts (more past items) stack (unrolled (setup_of script) rank items)
-  unfolding unrolled
+  counted : (items past : List Item) → script.items ≡ reverse past ++ items → IsRead (reverse items ++ past) → (stack : List ℕ) → Stands past stack → Counts (more past items) stack (marked (setup_of script) rank items)
+  unfolding marked
   counted [] past is read stack stands = ended past stack read.none stands
   counted (item ∷ items) past is read stack stands =
       let here : IsRead (reverse items ++ item ∷ past) = subst IsRead (turn item items past) read in
@@ -420,12 +427,12 @@ module _ (script : Script) (whole : IsWhole script.nue script.items) (rank : ℕ
         closes = (matched_back (reverse items) (item ∷ past) here.matched).1;
         once = (once_back (reverse items) (item ∷ past) here.once).1;
       } in
-      counted_by past item (unrolled (setup_of script) rank items) (more (item ∷ past) items) stack
+      counted_by past item (marked (setup_of script) rank items) (more (item ∷ past) items) stack
       (λ has. cost past e (length (reverse past)) item found has item.stmt refl (line.present rank below has)) placed
       (λ later stood. counted items (item ∷ past) next here later stood) stands (has_rank item.who rank) refl
 
--- the primitives of a rank are as many as its operations
-pub as_many : (script : Script) → IsWhole script.nue script.items → IsClosed script → (rank : ℕ) → rank < script.nue → length (program_of script rank) ≡ operations script.nue (reverse script.items) rank
+-- the primitives and the ends of passes of a rank are as many as its operations
+pub as_many : (script : Script) → IsWhole script.nue script.items → IsClosed script → (rank : ℕ) → rank < script.nue → length (marks_in script rank) ≡ operations script.nue (reverse script.items) rank
 as_many script whole closed rank below =
     let flat = append-nil (reverse script.items) in
     let read : IsRead script whole rank below (reverse script.items ++ []) = subst (IsRead script whole rank below) (sym flat) (record {
@@ -441,4 +448,7 @@ as_many script whole closed rank below =
     omega (arith, c.0, all, same)
 
 pub few_enough : (script : Script) → IsWhole script.nue script.items → IsClosed script → (rank : ℕ) → rank < script.nue → length (program_of script rank) ≤ 100000
-few_enough script whole closed rank below = omega (arith, as_many script whole closed rank below, worked-law script whole rank below)
+few_enough script whole closed rank below =
+    let less = fewer_prims (marks_in script rank) in
+    let same = ap length (program_is script rank) in
+    omega (arith, less, same, as_many script whole closed rank below, worked-law script whole rank below)

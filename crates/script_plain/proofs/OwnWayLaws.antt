@@ -68,7 +68,6 @@ stays_act u line (Act.Begin reg) = tt
 stays_act u line (Act.Fold op ty) = tt
 stays_act u line (Act.Accept reg) = tt
 stays_act u line (Act.Finish reg) = tt
-stays_act u line Act.Pass = tt
 
 stays_prim : (u : State) (o : Option Prim) → Stays u.local.left (recorded u.matched (next_by_prim u.local o))
 stays_prim u None = tt

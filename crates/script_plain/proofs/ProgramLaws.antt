@@ -40,7 +40,7 @@ module _ (s : SetupView) (rank : ℕ) (items : List Item) where
   MadeEach [] = Unit {0}
   MadeEach (a ∷ more) = Made s rank items a × MadeEach more
 
-  abbrev MadeAll : Unrolled → Type 0
+  abbrev MadeAll : Unrolled Prim → Type 0
   MadeAll u = Made s rank items u.here × MadeEach u.behind
 
   made_repeated : (times : ℕ) (body : List Prim) (behind : List (List Prim)) → Made s rank items body → MadeEach behind → MadeAll (repeated times body behind)
@@ -48,7 +48,7 @@ module _ (s : SetupView) (rank : ℕ) (items : List Item) where
   made_repeated times body (next ∷ behind) made each =
       (made_both body (copies (times - 1) body ++ next) made (made_both (copies (times - 1) body) next (made_copies (times - 1) body made) each.0), each.1)
 
-  made_front : (n : Nesting) (prims : List Prim) (u : Unrolled) → Made s rank items prims → MadeAll u → MadeAll (in_front n prims u)
+  made_front : (n : Nesting) (prims : List Prim) (u : Unrolled Prim) → Made s rank items prims → MadeAll u → MadeAll (in_front n prims u)
   made_front (nesting.Opens times) prims u made all = made_repeated times u.here u.behind all.0 all.1
   made_front nesting.Closes prims u made all = (made, all)
   made_front nesting.Stays prims u made all = (made_both prims u.here made all.0, all.1)
@@ -85,7 +85,6 @@ act_leaves bytes u line (Act.Begin reg) = (refl, refl)
 act_leaves bytes u line (Act.Fold op ty) = (refl, refl)
 act_leaves bytes u line (Act.Accept reg) = (refl, refl)
 act_leaves bytes u line (Act.Finish reg) = (refl, refl)
-act_leaves bytes u line Act.Pass = (refl, refl)
 
 module _ (line : ℕ) (rest : List Prim) where
   -- a rank that faces acts comes past the first of them

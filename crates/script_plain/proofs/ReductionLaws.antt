@@ -64,7 +64,6 @@ quiet_path test i line tail rest (Act.Recv from reg head ∷ acts) u (bytes ∷ 
 quiet_path test i line tail rest (Act.Bar comm ∷ acts) u (bytes ∷ path) quiet low facing = absurd quiet.0
 quiet_path test i line tail rest (Accept reg ∷ acts) u (bytes ∷ path) quiet low facing = absurd quiet.0
 quiet_path test i line tail rest (Finish reg ∷ acts) u (bytes ∷ path) quiet low facing = absurd quiet.0
-quiet_path test i line tail rest (Act.Pass ∷ acts) u (bytes ∷ path) quiet low facing = absurd quiet.0
 
 -- past the beginning and all the folds
 module _ (kind comm line dst src : ℕ) (op : Op) (ty : Ty) (head : MessageHead) (tail : List Act) (rest : List Prim) (X : ℕ → List ℕ) (final begun : State) (list : List ℕ)

@@ -20,7 +20,7 @@ use Rattle.script_plain.specs.Moves.{length_in}
 use Rattle.script_plain.specs.Next.{Next}
 use Rattle.script_plain.specs.Next.Next.{Ends, Goes, Posts, Sends, Recvs, Bars}
 use Rattle.script_plain.specs.Program.{Act, Prim}
-use Rattle.script_plain.specs.Program.Act.{Set, Apply, Print, Send, Post, Recv, Gather, Bar, Begin, Fold, Accept, Finish, Pass}
+use Rattle.script_plain.specs.Program.Act.{Set, Apply, Print, Send, Post, Recv, Gather, Bar, Begin, Fold, Accept, Finish}
 use Rattle.script_plain.specs.Rooms.{AreBelow, AreCut, AreWithin, IsWider, IsWithin, RoomView, Rooms, cut, greater, nothing_held, spare_length}
 use Rattle.script_plain.specs.Walk.{act_meant, prim_meant}
 use Rattle.script_plain.proofs.LengthPaths.{folded_length}
@@ -262,7 +262,6 @@ lengths_next u line (Begin reg) bytes same = ap (λ (n : ℕ). record (lengths_o
 lengths_next u line (Fold op ty) bytes same = ap (λ (n : ℕ). record (lengths_of u) { accumulator = n }) (folded_length op ty u.accumulator u.received)
 lengths_next u line (Accept reg) bytes same = ap (λ (l : List ℕ). record (lengths_of u) { registers = l }) (length_put u.registers reg (length u.received) u.received refl)
 lengths_next u line (Finish reg) bytes same = ap (λ (l : List ℕ). record (lengths_of u) { registers = l }) (length_put u.registers reg (length u.accumulator) u.accumulator refl)
-lengths_next u line Pass bytes same = refl
 
 -- a rank that stands at a primitive is running, and has it left
 standing_by : (standing : Standing) (left : List Prim) (prim : Prim) → prim_by_standing standing left ≡ Some prim → slice_get left 0 ≡ Some prim

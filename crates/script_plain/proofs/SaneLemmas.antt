@@ -104,7 +104,6 @@ module _ (script : Script) (rank : ℕ) where
         record { registers = sane.registers; accumulator = omega (arith, long, had); received = sane.received; left = on }
     sane_act (Act.Accept reg) aim on = record { registers = short_set u.registers reg u.received sane.received sane.registers; accumulator = sane.accumulator; received = sane.received; left = on }
     sane_act (Act.Finish reg) aim on = record { registers = short_set u.registers reg u.accumulator sane.accumulator sane.registers; accumulator = sane.accumulator; received = sane.received; left = on }
-    sane_act Act.Pass aim on = record { registers = sane.registers; accumulator = sane.accumulator; received = sane.received; left = on }
 
   module _ (u : Local) (sane : IsSane u) where
     sane_left : (l : List Prim) → u.left ≡ l → SaneNext (λ (v : Local). v) (next_by_prim u (slice_get l 0))

@@ -36,7 +36,6 @@ stops_act u line (Act.Begin reg) = tt
 stops_act u line (Act.Fold op ty) = tt
 stops_act u line (Act.Accept reg) = tt
 stops_act u line (Act.Finish reg) = tt
-stops_act u line Act.Pass = tt
 
 stops_prim : (u : Local) (o : Option Prim) → StopsAt (next_by_prim u o)
 stops_prim u None = tt

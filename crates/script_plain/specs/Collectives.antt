@@ -33,7 +33,8 @@ gone_by bytes u (Sends to head sent after) = after
 gone_by bytes u (Recvs from head take refuse) = take bytes
 gone_by bytes u (Bars comm after) = after
 
--- and in as many steps as there are lists of bytes
+-- what a rank comes to by itself in as many steps as there are lists of bytes: in each step it takes the next list, where it
+-- receives
 abbrev pub gone_through : List (List ℕ) → State → State
 gone_through [] u = u
 gone_through (bytes ∷ more) u = gone_through more (gone_by bytes u (next_of u))
@@ -75,13 +76,16 @@ pub record StandsAt (script : Script) (rank : ℕ) (statement : Stmt) (u : State
   pub running : u.local.standing ≡ standing.Running
   pub next : u.local.left ≡ map (λ act. record { line = item.line; act = act }) (acts_of (setup_of script) rank statement) ++ rest
 
--- a rank that holds `now` came to a statement: it stood there when it held `before`, and went on from there
+-- a rank that holds `now` came to a statement: it stood there when it held `before`, and its calls since then are those of a
+-- way on from there
 pub record CameTo (script : Script) (rank : ℕ) (statement : Stmt) (now before : State) : Type 0 where
   pub stood : StandsAt script rank statement before
   pub later : List (List ℕ)
   pub since : now.matched ≡ (gone_through later before).matched
 
--- and has done it: it held `after` when all that the statement makes was done
+-- a rank that holds `now` has done the calls of a statement: it stood there when it held `before`, by itself it comes from
+-- there to `after`, behind all that the statement makes, and its calls since then are those of a way on from `after`. (Steps
+-- of the rank alone that end the statement may still come: `now` tells its calls.)
 pub record HasDone (script : Script) (rank : ℕ) (statement : Stmt) (now before after : State) : Type 0 where
   pub stood : StandsAt script rank statement before
   pub taken : List (List ℕ)
@@ -107,7 +111,7 @@ AreDone script c =
     → HasStatement script rank statement rest → length u.local.left ≤ length rest
     → (before : State) × (after : State) × HasDone script rank statement u before after × (after.local.left ≡ rest)
 
--- how many messages of a kind in a communicator a rank has sent to another, and received from another
+-- how many messages of a kind in a communicator a rank has sent to another
 abbrev pub sends_of : Kind → ℕ → ℕ → State → ℕ
 sends_of kind comm to u = length (filter (is_of (kind_number kind) comm) (sent_to to u.matched))
 

@@ -3,7 +3,7 @@ use Rattle.std.specs.Prelude.{◌≡◌, ℕ, zero, suc, ◌+◌, ◌-◌, ◌<�
 use Rattle.script_plain.specs.Program.{nesting_at}
 use Rattle.script_plain.specs.declared.prims.Nesting.{Nesting}
 use Rattle.script_plain.specs.declared.prims.Nesting.TheVariants as nesting
-use Rattle.script_plain.specs.declared.walk.Open.{Open}
+use Rattle.script_plain.specs.declared.course.Open.{Open}
 use Rattle.script_reader.specs.declared.script.Item.{Item}
 use Rattle.script_reader.specs.Script.{has_rank}
 

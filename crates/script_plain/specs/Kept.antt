@@ -54,7 +54,7 @@ pub record Fits (had : ℕ → Option ℕ) (u : Local) : Type 0 where
   pub received : Holds got (length u.received)
   pub keeps : Keeps had acc got u.left
 
--- and so it is after what stands next: a message has the length of its head
+-- what a rank holds after what stands next has these lengths, and a message has the length of its head
 abbrev pub FitsNext : (ℕ → Option ℕ) → Next Local → Type 0
 FitsNext had Ends = Unit {0}
 FitsNext had (Goes after) = Fits had after

@@ -7,7 +7,7 @@ use Rattle.script_plain.specs.declared.prims.Source.{Source}
 use Rattle.script_plain.specs.declared.prims.Source.TheVariants as source
 use Rattle.script_plain.specs.Local.{Local}
 use Rattle.script_plain.specs.Program.{Act}
-use Rattle.script_plain.specs.Program.Act.{Set, Apply, Print, Send, Post, Recv, Gather, Bar, Begin, Fold, Accept, Finish, Pass}
+use Rattle.script_plain.specs.Program.Act.{Set, Apply, Print, Send, Post, Recv, Gather, Bar, Begin, Fold, Accept, Finish}
 
 -- how many bytes each register, the accumulator and the buffer of received bytes have, how many items are printed so far,
 -- and how many bytes these have
@@ -63,7 +63,6 @@ lengths_after l (Begin reg) = record l { accumulator = length_at l reg }
 lengths_after l (Fold op ty) = l
 lengths_after l (Accept reg) = with_register l reg l.received
 lengths_after l (Finish reg) = with_register l reg l.accumulator
-lengths_after l Pass = l
 
 -- how many bytes a primitive prints, if it prints
 abbrev pub printed_length : Lengths → Act → Option ℕ

@@ -20,7 +20,7 @@ use Rattle.script_plain.specs.declared.prims.Standing.TheVariants as standing
 use Rattle.script_plain.specs.Next.{Next, call_of}
 use Rattle.script_plain.specs.Next.Next.{Ends, Goes, Posts, Sends, Recvs, Bars}
 use Rattle.script_plain.specs.Program.{Act, Prim, program_of}
-use Rattle.script_plain.specs.Program.Act.{Set, Apply, Print, Send, Post, Recv, Gather, Bar, Begin, Fold, Accept, Finish, Pass}
+use Rattle.script_plain.specs.Program.Act.{Set, Apply, Print, Send, Post, Recv, Gather, Bar, Begin, Fold, Accept, Finish}
 
 -- the registers by number, the two work buffers of collective calls (the accumulator and the received bytes), the
 -- primitives left, the items printed so far, and whether the rank is running
@@ -112,7 +112,6 @@ next_by_act u line (Begin reg) = Goes (gone_on_folding u (register_at u reg))
 next_by_act u line (Fold op ty) = Goes (gone_on_folding u (folded op ty u.accumulator u.received))
 next_by_act u line (Accept reg) = Goes (gone_on_with u reg u.received)
 next_by_act u line (Finish reg) = Goes (gone_on_with u reg u.accumulator)
-next_by_act u line Pass = Goes (gone_on u)
 
 -- the primitive at which a rank stands: a rank that a mismatch stopped stands at none
 abbrev pub prim_by_standing : Standing → List Prim → Option Prim

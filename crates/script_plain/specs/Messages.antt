@@ -7,17 +7,18 @@ use Rattle.script_plain.specs.declared.posts.Posted.{Posted}
 use Rattle.script_plain.specs.Meaning.{State}
 use Rattle.script_plain.specs.Step.{Configuration, slot_at}
 
--- the message that a call sends to a rank, and the one that it receives from a rank
+-- the message that a call sends to a rank, a post among them: one, or none
 abbrev pub sent_by : ℕ → DataCall → List Message
 sent_by rank (Send to head bytes) = if to == rank then record { head = head; bytes = bytes } ∷ [] else []
 sent_by rank (Post to head bytes) = if to == rank then record { head = head; bytes = bytes } ∷ [] else []
 sent_by rank _ = []
 
+-- the message that a call receives from a rank: one, or none
 abbrev pub received_by : ℕ → DataCall → List Message
 received_by rank (Recv from head bytes) = if from == rank then record { head = head; bytes = bytes } ∷ [] else []
 received_by rank _ = []
 
--- the messages that calls sent to a rank, posts among them, and those that they received from a rank, in order
+-- the messages that calls sent to a rank, posts among them, in order
 abbrev pub sent_to : ℕ → List DataCall → List Message
 sent_to rank calls = flat_map (sent_by rank) calls
 

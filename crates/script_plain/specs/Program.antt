@@ -1,7 +1,7 @@
 -- The program of a rank: what its statements make, in the order of the file (this project's profile; the steps of a
 -- collective call are those of `groups`).
 use Rattle.std.specs.Prelude.{ℕ, zero, suc, ◌+◌, ◌-◌, ◌%◌, Bool, true, false, ◌&&◌, not, nat_le, nat_lt, if◌then◌else◌, List, [], ◌∷◌, ◌++◌, map, Option, Some, None, pos}
-use Rattle.std.specs.List.{range_with_len}
+use Rattle.std.specs.List.{filter_map, range_with_len}
 use Rattle.std.specs.Option.{option_to_list}
 use Rattle.scc_base.specs.Communicators.{rule_of}
 use Rattle.scc_base.specs.Heads.{MessageHead, plain_head}
@@ -53,8 +53,6 @@ pub data Act : Type 0 where
   -- the register becomes the received bytes, or the accumulator
   Accept : (reg : ℕ) → Act
   Finish : (reg : ℕ) → Act
-  -- a pass of a repeat ends: nothing changes
-  Pass : Act
 
 -- a primitive keeps the line of its statement
 pub record Prim : Type 0 where
@@ -65,7 +63,8 @@ pub record Prim : Type 0 where
 abbrev pub filling : ℕ → ℕ → List ℕ
 filling len start = map (λ i. (start + i) % 251) (range_with_len 0 len)
 
--- a statement that is one primitive: a barrier is one of its communicator, and a split is one of its parent
+-- a statement that is one primitive: a barrier is one of its communicator, and a split is one of its parent. (`repeat` and
+-- `end` make none.)
 abbrev pub single_of : ℕ → ℕ → Stmt → Option Act
 single_of nue rank (stmt.Bytes reg bytes) = Some (Set reg bytes)
 single_of nue rank (stmt.Fill reg len start) = Some (Set reg (filling len start))
@@ -81,7 +80,7 @@ single_of nue rank (stmt.Bcast comm root reg len) = None
 single_of nue rank (stmt.Reduce comm root op ty dst src) = None
 single_of nue rank (stmt.Allreduce comm op ty dst src) = None
 single_of nue rank (stmt.Repeat times end) = None
-single_of nue rank (stmt.End start) = Some Pass
+single_of nue rank (stmt.End start) = None
 
 -- a statement that is a collective call: a broadcast says its length, and folds nothing; the messages of the others are
 -- as long as their source
@@ -135,7 +134,7 @@ acts_by s rank stmt (Some call) = parts_of call.operands (call_steps s rank call
 abbrev pub acts_of : SetupView → ℕ → Stmt → List Act
 acts_of s rank stmt = acts_by s rank stmt (collective_of stmt)
 
--- an item of another rank makes nothing
+-- the primitives that an item makes for a rank: those of its statement for each of its own ranks, and none for another one
 abbrev pub prims_of : SetupView → ℕ → Item → List Prim
 prims_of s rank item = if has_rank item.who rank then map (λ act. record { line = item.line; act = act }) (acts_of s rank item.stmt) else []
 
@@ -151,29 +150,29 @@ nesting_at rank item = if has_rank item.who rank then nesting_of item.stmt else 
 
 -- what items make: up to the end of the repeat that stands open before them, and then, behind each end that closes a
 -- repeat which stands open before them, up to the next such end
-pub record Unrolled : Type 0 where
-  pub here : List Prim
-  pub behind : List (List Prim)
+pub record Unrolled (A : Type 0) : Type 0 where
+  pub here : List A
+  pub behind : List (List A)
 
 -- a list that many times
-abbrev pub copies : ℕ → List Prim → List Prim
-copies zero prims = []
-copies (suc n) prims = prims ++ copies n prims
+abbrev pub copies : {A : Type 0} → ℕ → List A → List A
+copies zero list = []
+copies (suc n) list = list ++ copies n list
 
 -- a repeat's body as often as the repeat says, and then what comes behind its end. (A script that was read has an end for
 -- each repeat, which is at least 1.)
-abbrev pub repeated : ℕ → List Prim → List (List Prim) → Unrolled
+abbrev pub repeated : {A : Type 0} → ℕ → List A → List (List A) → Unrolled A
 repeated times body [] = record { here = body; behind = [] }
 repeated times body (next ∷ behind) = record { here = body ++ (copies (times - 1) body ++ next); behind = behind }
 
 -- one item more, in front of what the items behind it make
-abbrev pub in_front : Nesting → List Prim → Unrolled → Unrolled
-in_front (nesting.Opens times) prims u = repeated times u.here u.behind
-in_front nesting.Closes prims u = record { here = prims; behind = u.here ∷ u.behind }
-in_front nesting.Stays prims u = record { here = prims ++ u.here; behind = u.behind }
+abbrev pub in_front : {A : Type 0} → Nesting → List A → Unrolled A → Unrolled A
+in_front (nesting.Opens times) own u = repeated times u.here u.behind
+in_front nesting.Closes own u = record { here = own; behind = u.here ∷ u.behind }
+in_front nesting.Stays own u = record { here = own ++ u.here; behind = u.behind }
 
 -- what items make for a rank: the primitives up to the end of the open repeat, and those behind it
-unfoldable pub unrolled : SetupView → ℕ → List Item → Unrolled
+unfoldable pub unrolled : SetupView → ℕ → List Item → Unrolled Prim
 unrolled s rank [] = record { here = []; behind = [] }
 unrolled s rank (item ∷ items) = in_front (nesting_at rank item) (prims_of s rank item) (unrolled s rank items)
 
@@ -184,3 +183,25 @@ setup_of script = record { nue = script.nue; layout = layout.LineFlags; hosts = 
 -- the primitives of a rank: those of its items, in the order of the file, a repeat's body as often as the repeat says
 abbrev pub program_of : Script → ℕ → List Prim
 program_of script rank = (unrolled (setup_of script) rank script.items).here
+
+-- what an item is for a walk: its primitives, or a mark (None) where a pass of a repeat ends
+abbrev pub marks_by : Nesting → List Prim → List (Option Prim)
+marks_by (nesting.Opens times) prims = map Some prims
+marks_by nesting.Closes prims = None ∷ []
+marks_by nesting.Stays prims = map Some prims
+
+abbrev pub marks_of : SetupView → ℕ → Item → List (Option Prim)
+marks_of s rank item = marks_by (nesting_at rank item) (prims_of s rank item)
+
+-- what items make for a rank, with the marks
+unfoldable pub marked : SetupView → ℕ → List Item → Unrolled (Option Prim)
+marked s rank [] = record { here = []; behind = [] }
+marked s rank (item ∷ items) = in_front (nesting_at rank item) (marks_of s rank item) (marked s rank items)
+
+-- the primitives and the ends of passes of a rank, in their order: each is one operation
+abbrev pub marks_in : Script → ℕ → List (Option Prim)
+marks_in script rank = (marked (setup_of script) rank script.items).here
+
+-- the primitives among marks
+abbrev pub prims_in : List (Option Prim) → List Prim
+prims_in marks = filter_map (λ mark. mark) marks

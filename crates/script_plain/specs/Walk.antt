@@ -1,5 +1,5 @@
--- A walk through the items of a rank that keeps its place and the repeats that are open.
-use Rattle.std.specs.Prelude.{◌≡◌, ℕ, zero, suc, ◌+◌, ◌-◌, ◌<◌, ◌≤◌, List, [], ◌∷◌, ◌++◌, map, length, drop, slice_get, Option, Some, None}
+-- A walk through the items of a rank, and the course below it, which keeps its place and the repeats that are open.
+use Rattle.std.specs.Prelude.{◌≡◌, ℕ, zero, suc, ◌+◌, ◌-◌, ◌<◌, ◌≤◌, Bool, true, false, List, [], ◌∷◌, ◌++◌, map, length, drop, slice_get, Option, Some, None}
 use Rattle.scc_base.specs.Setups.{SetupView}
 use Rattle.script_plain.specs.declared.prims.Action.{Action}
 use Rattle.script_plain.specs.declared.prims.Action.TheVariants as action
@@ -8,11 +8,11 @@ use Rattle.script_plain.specs.declared.prims.Content.TheVariants as content
 use Rattle.script_plain.specs.declared.prims.Nesting.{Nesting}
 use Rattle.script_plain.specs.declared.prims.Nesting.TheVariants as nesting
 use Rattle.script_plain.specs.declared.prims.Primitive.{Primitive}
-use Rattle.script_plain.specs.declared.walk.Open.{Open}
+use Rattle.script_plain.specs.declared.course.Open.{Open}
 use Rattle.script_reader.specs.declared.script.Item.{Item}
 use Rattle.script_reader.specs.Script.{Script}
-use Rattle.script_plain.specs.Program.{Act, Prim, Unrolled, copies, filling, prims_of, unrolled}
-use Rattle.script_plain.specs.Program.Act.{Set, Apply, Print, Send, Post, Recv, Gather, Bar, Begin, Fold, Accept, Finish, Pass}
+use Rattle.script_plain.specs.Program.{Act, Prim, Unrolled, copies, filling, marked, marks_of}
+use Rattle.script_plain.specs.Program.Act.{Set, Apply, Print, Send, Post, Recv, Gather, Bar, Begin, Fold, Accept, Finish}
 use Rattle.groups.specs.Folds.{bytes_of}
 use Rattle.std.specs.Prelude.{pos}
 
@@ -41,7 +41,6 @@ act_meant (action.Begin reg) = Begin reg
 act_meant (action.Fold op ty) = Fold op ty
 act_meant (action.Accept reg) = Accept reg
 act_meant (action.Finish reg) = Finish reg
-act_meant action.Pass = Pass
 
 -- the primitive that one of the code stands for
 abbrev pub prim_meant : Primitive → Prim
@@ -54,45 +53,69 @@ pub record WalkView : Type 0 where
   pub rank : ℕ
   pub left : List Prim
 
+-- a course: the same, with the marks that are left
+pub record CourseView : Type 0 where
+  pub script : Script
+  pub setup : SetupView
+  pub rank : ℕ
+  pub left : List (Option Prim)
+
+-- whether the end of a pass comes next
+abbrev pub is_end : Option (Option Prim) → Bool
+is_end None = false
+is_end (Some None) = true
+is_end (Some (Some prim)) = false
+
+-- whether a pass of a repeat ends with a statement
+abbrev pub is_closing : Nesting → Bool
+is_closing (nesting.Opens times) = false
+is_closing nesting.Closes = true
+is_closing nesting.Stays = false
+
+-- the primitive that comes next: none where the end of a pass does
+abbrev pub prim_of : Option (Option Prim) → Option Prim
+prim_of None = None
+prim_of (Some mark) = mark
+
 -- what the further passes of an open repeat make
-abbrev pub again : SetupView → ℕ → List Item → Open → List Prim
-again s rank items o = copies o.left (unrolled s rank (drop o.start items)).here
+abbrev pub again : SetupView → ℕ → List Item → Open → List (Option Prim)
+again s rank items o = copies o.left (marked s rank (drop o.start items)).here
 
 -- what is left: up to the end of the innermost open repeat, its further passes, then up to the next one's end, and so on
-abbrev pub woven : List Prim → List (List Prim) → List (List Prim) → List Prim
+abbrev pub woven : {A : Type 0} → List A → List (List A) → List (List A) → List A
 woven here [] more = here
 woven here (next ∷ behind) [] = here
 woven here (next ∷ behind) (passes ∷ more) = here ++ (passes ++ woven next behind more)
 
-abbrev pub left_of : Unrolled → List (List Prim) → List Prim
+abbrev pub left_of : {A : Type 0} → Unrolled A → List (List A) → List A
 left_of u more = woven u.here u.behind more
 
 -- what is left from a place on, with these repeats open, the innermost one first
-abbrev pub left_at : SetupView → ℕ → List Item → ℕ → List Open → List Prim
+abbrev pub left_at : SetupView → ℕ → List Item → ℕ → List Open → List (Option Prim)
 left_at s rank items place open_repeats =
-    left_of (unrolled s rank (drop place items)) (map (again s rank items) open_repeats)
+    left_of (marked s rank (drop place items)) (map (again s rank items) open_repeats)
 
 -- behind the end of each open repeat stands what stands behind the end that comes next
-abbrev pub AreOpen : SetupView → ℕ → List Item → List (List Prim) → List Open → Type 0
+abbrev pub AreOpen : SetupView → ℕ → List Item → List (List (Option Prim)) → List Open → Type 0
 AreOpen s rank items [] open_repeats = Unit {0}
 AreOpen s rank items (next ∷ behind) [] = Unit {0}
 AreOpen s rank items (next ∷ behind) (o ∷ open_repeats) =
-    ((unrolled s rank (drop o.start items)).behind ≡ next ∷ behind) × AreOpen s rank items behind open_repeats
+    ((marked s rank (drop o.start items)).behind ≡ next ∷ behind) × AreOpen s rank items behind open_repeats
 
 -- these repeats are open at a place: behind the end of each stands what the script has there
 abbrev pub AreOpenAt : SetupView → ℕ → List Item → ℕ → List Open → Type 0
-AreOpenAt s rank items place open_repeats = AreOpen s rank items (unrolled s rank (drop place items)).behind open_repeats
+AreOpenAt s rank items place open_repeats = AreOpen s rank items (marked s rank (drop place items)).behind open_repeats
 
--- at a place stands an item with more than this many primitives, or none
+-- an item, if there is one, has more marks than this
 abbrev pub HasMore : SetupView → ℕ → Option Item → ℕ → Type 0
 HasMore s rank None step = Unit {0}
-HasMore s rank (Some item) step = step < length (prims_of s rank item)
+HasMore s rank (Some item) step = step < length (marks_of s rank item)
 
--- at a place stands an item with more than this many primitives, or none
+-- at a place stands an item with more than this many marks, or none
 abbrev pub StandsAt : SetupView → ℕ → List Item → ℕ → ℕ → Type 0
 StandsAt s rank items place step = HasMore s rank (slice_get items place) step
 
--- a walk stands where it can go on: each open repeat has its end, and the item there has more primitives than were done
+-- a course stands where it can go on: each open repeat has its end, and the item there has more marks than were passed
 pub record IsAt (s : SetupView) (rank : ℕ) (items : List Item) (place step : ℕ) (repeats : List Open) : Type 0 where
   pub within : rank < s.nue
   pub opens : AreOpenAt s rank items place repeats
@@ -121,7 +144,7 @@ abbrev pub closed : List Open → List Open
 closed [] = []
 closed (o ∷ repeats) = closed_by o.start o.left repeats
 
--- behind an item that has primitives: the place, and the repeats that are open there
+-- behind an item that has marks: the place, and the repeats that are open there
 abbrev pub passed_to : Nesting → ℕ → ℕ → List Open → ℕ
 passed_to (nesting.Opens times) at end repeats = at + 1
 passed_to nesting.Closes at end repeats = closed_to at end repeats

@@ -13,7 +13,7 @@ ghost use Rattle.script_plain.specs.Lengths.{lengths_of};
 ghost use Rattle.script_plain.specs.Local.{Local, local_next, local_start};
 ghost use Rattle.script_plain.specs.Meaning.{State, next_of};
 ghost use Rattle.script_plain.specs.Paths.{Came, Did};
-ghost use Rattle.script_plain.specs.Program.{program_of};
+ghost use Rattle.script_plain.specs.Program.{marks_in, prims_in, program_of};
 ghost use Rattle.script_plain.specs.Ready.{IsReady};
 
 /// Wherever a rank of a script that was read comes by itself, the call that stands next can be made.
@@ -30,12 +30,13 @@ pub fn calls_are_known_before()
         → calls_of script rank ≡ map call_of calls ++ calls_from (lengths_of u) u.left }
 {}
 
-/// The primitives of a rank are as many as its operations: a local statement, a message, a barrier and the end of a pass
-/// count one each, a collective call as many as it has steps, and each as often as its repeats say. So a rank has at most
-/// 100,000.
+/// The primitives and the ends of passes of a rank are as many as its operations: a local statement, a message, a barrier
+/// and the end of a pass count one each, a collective call as many as it has steps, and each as often as its repeats say.
+/// So a rank has at most 100,000 primitives.
 pub fn primitives_are_operations()
     ensures law { (script : Script) → IsWhole script.nue script.items → IsClosed script → (rank : ℕ) → rank < script.nue
-        → length (program_of script rank) ≡ operations script.nue (reverse script.items) rank }
+        → length (marks_in script rank) ≡ operations script.nue (reverse script.items) rank }
+    ensures among { (script : Script) (rank : ℕ) → prims_in (marks_in script rank) ≡ program_of script rank }
     ensures most { (script : Script) → IsWhole script.nue script.items → IsClosed script → (rank : ℕ) → rank < script.nue
         → length (program_of script rank) ≤ 100000 }
 {}

@@ -5,6 +5,7 @@
 mod barriers;
 mod call_laws;
 mod collective_laws;
+mod course;
 mod ends;
 mod held_laws;
 mod laws;

@@ -475,8 +475,7 @@ impl Held {
             | Action::Post { .. }
             | Action::Recv { .. }
             | Action::Gather { .. }
-            | Action::Bar { .. }
-            | Action::Pass => {}
+            | Action::Bar { .. } => {}
         }
     }
 }
@@ -536,8 +535,7 @@ fn is_own(action: &Action) -> bool
         | Action::Begin { .. }
         | Action::Fold { .. }
         | Action::Accept { .. }
-        | Action::Finish { .. }
-        | Action::Pass => true,
+        | Action::Finish { .. } => true,
         Action::Send { .. }
         | Action::Post { .. }
         | Action::Recv { .. }

@@ -84,7 +84,6 @@ pub enum Action<'s> {
     Finish {
         reg: u8,
     },
-    Pass,
 }
 
 /// A primitive with the line of its statement, counted from 1.
@@ -209,9 +208,11 @@ fn single_of<'s>(nue: u8, rank: Rank, stmt: &'s Stmt) -> Option<Action<'s>>
         Stmt::Split { rule, .. } => Some(Action::Bar {
             comm: parent_of(*rule),
         }),
-        Stmt::Bcast { .. } | Stmt::Reduce { .. } | Stmt::Allreduce { .. } | Stmt::Repeat { .. } =>
-            None,
-        Stmt::End { .. } => Some(Action::Pass),
+        Stmt::Bcast { .. }
+        | Stmt::Reduce { .. }
+        | Stmt::Allreduce { .. }
+        | Stmt::Repeat { .. }
+        | Stmt::End { .. } => None,
     }
 }
 
@@ -366,10 +367,12 @@ fn count_single(stmt: &Stmt) -> u32
         | Stmt::Recv { .. }
         | Stmt::Print { .. }
         | Stmt::Barrier { .. }
-        | Stmt::Split { .. }
-        | Stmt::End { .. } => 1,
-        Stmt::Bcast { .. } | Stmt::Reduce { .. } | Stmt::Allreduce { .. } | Stmt::Repeat { .. } =>
-            0,
+        | Stmt::Split { .. } => 1,
+        Stmt::Bcast { .. }
+        | Stmt::Reduce { .. }
+        | Stmt::Allreduce { .. }
+        | Stmt::Repeat { .. }
+        | Stmt::End { .. } => 0,
     }
 }
 

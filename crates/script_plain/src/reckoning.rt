@@ -293,11 +293,8 @@ impl Reckoning {
                 let len = self.here.accumulator();
                 self.set(*reg, len);
             }
-            Action::Send { .. }
-            | Action::Post { .. }
-            | Action::Bar { .. }
-            | Action::Fold { .. }
-            | Action::Pass => {}
+            Action::Send { .. } | Action::Post { .. } | Action::Bar { .. } | Action::Fold { .. } =>
+                {}
         }
         Ok(())
     }

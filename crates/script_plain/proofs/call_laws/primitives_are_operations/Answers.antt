@@ -1,3 +1,4 @@
+use Rattle.script_plain.proofs.MarkLaws.{program_is}
 use Rattle.script_plain.proofs.OperationCounts.{as_many, few_enough}
 use Rattle.script_plain.proofs.call_laws.primitives_are_operations.Goals as goal
 
@@ -6,3 +7,6 @@ returns-clause-law c = as_many
 
 pub returns-clause-most : goal.returns-clause-most
 returns-clause-most c = few_enough
+
+pub returns-clause-among : goal.returns-clause-among
+returns-clause-among c = program_is

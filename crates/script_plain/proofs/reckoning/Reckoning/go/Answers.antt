@@ -12,6 +12,3 @@ returns-3-clause-wider c = wider_same c.args.self.now.most
 
 pub returns-4-clause-wider : goal.returns-4-clause-wider
 returns-4-clause-wider c = wider_same c.args.self.now.most
-
-pub returns-5-clause-wider : goal.returns-5-clause-wider
-returns-5-clause-wider c = wider_same c.args.self.now.most

@@ -1,20 +1,15 @@
-use Rattle.std.proofs.Common.{◌∙◌, ap, sym, subst, List}
-use Rattle.script_plain.specs.declared.walk.Open.{Open}
-use Rattle.script_plain.specs.Walk.{AreOpenAt, left_at}
-use Rattle.script_plain.proofs.IdleLaws.{left-first}
-use Rattle.script_plain.proofs.WalkLaws.{all_left, none_open, unrolled_by_script}
+use Rattle.std.proofs.Common.{◌∙◌, ap}
+use Rattle.script_plain.specs.Program.{prims_in}
+use Rattle.script_plain.specs.Walk.{CourseView}
+use Rattle.script_plain.proofs.MarkLaws.{program_is}
 use Rattle.script_plain.proofs.walk.Walk.new.Goals as goal
-
-pub settled-place-requires-clause-opens : goal.settled-place-requires-clause-opens
-settled-place-requires-clause-opens c =
-    let P : List Open → Type 0 = λ r. AreOpenAt c.args.setup c.args.rank c.args.scripts.now.items c.first_of-first.result r in
-    subst P (sym c.in_ok-repeats.ensures.items) (none_open c.args.setup c.args.rank c.args.scripts.now.items c.first_of-first.result)
 
 pub returns : goal.returns
 returns c =
-    let items = c.args.scripts.now.items in
-    let first = c.first_of-first.result in
-    let left = c.settled-place.ensures.same ∙ ap (λ (r : List Open). left_at c.args.setup c.args.rank items first r) c.in_ok-repeats.ensures.items
-    ∙ left-first c.args.setup c.args.rank items first c.first_of-first.ensures
-    ∙ all_left c.args.setup c.args.rank items ∙ unrolled_by_script c.args.setup c.args.rank c.args.scripts.now c.requires.ranks c.requires.communicators in
-    λ i. record { script = c.args.scripts.now; setup = c.args.setup; rank = c.args.rank; left = left i }
+    let made = c.in_ok-course.ensures in
+    let passed = c.pass_ends.ensures in
+    let script = passed.script ∙ ap (λ (w : CourseView). w.script) made in
+    let setup = passed.setup ∙ ap (λ (w : CourseView). w.setup) made in
+    let rank = passed.rank ∙ ap (λ (w : CourseView). w.rank) made in
+    let left = passed.same ∙ ap (λ (w : CourseView). prims_in w.left) made ∙ program_is c.args.scripts.now c.args.rank in
+    λ i. record { script = script i; setup = setup i; rank = rank i; left = left i }

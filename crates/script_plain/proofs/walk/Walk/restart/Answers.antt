@@ -1,32 +1,26 @@
-use Rattle.std.proofs.Common.{◌∙◌, ap, sym, subst, List}
+use Rattle.std.proofs.Common.{◌∙◌, ap, sym}
 use Rattle.script_reader.specs.Script.{rules_of}
-use Rattle.script_plain.specs.declared.walk.Open.{Open}
-use Rattle.script_plain.specs.Program.{Prim, program_of}
-use Rattle.script_plain.specs.Walk.{AreOpenAt, WalkView, left_at}
-use Rattle.script_plain.proofs.DepthLaws.{deep_start}
-use Rattle.script_plain.proofs.IdleLaws.{left-first}
-use Rattle.script_plain.proofs.WalkLaws.{all_left, none_open, unrolled_by_script}
+use Rattle.script_plain.specs.Program.{prims_in, program_of}
+use Rattle.script_plain.specs.Walk.{CourseView, WalkView}
+use Rattle.script_plain.proofs.MarkLaws.{program_is}
 use Rattle.script_plain.proofs.walk.Walk.restart.Goals as goal
 
-pub settled-self-inside-requires-clause-opens : goal.settled-self-inside-requires-clause-opens
-settled-self-inside-requires-clause-opens c =
-    let walk = c.self.inside in
-    let P : List Open → Type 0 = λ r. AreOpenAt walk.setup walk.rank walk.scripts.now.items walk.first r in
-    subst P (sym c.clear.ensures.items) (none_open walk.setup walk.rank walk.scripts.now.items walk.first)
+pub restart-requires-clause-ranks : goal.restart-requires-clause-ranks
+restart-requires-clause-ranks c =
+    ap (λ (w : WalkView). w.setup.nue) c.self.view_is ∙ c.requires.ranks ∙ sym (ap (λ (w : WalkView). w.script.nue) c.self.view_is)
 
-pub settled-self-inside-requires-clause-deep : goal.settled-self-inside-requires-clause-deep
-settled-self-inside-requires-clause-deep c =
-    let walk = c.self.inside in
-    deep_start walk.rank walk.scripts.now.items walk.first c.clear.new.self.items c.clear.ensures.items
+pub restart-requires-clause-communicators : goal.restart-requires-clause-communicators
+restart-requires-clause-communicators c =
+    ap (λ (w : WalkView). w.setup.comms) c.self.view_is ∙ c.requires.communicators ∙ sym (ap (λ (w : WalkView). rules_of w.script.items) c.self.view_is)
 
 pub returns : goal.returns
 returns c =
-    let walk = c.self.inside in
-    let items = walk.scripts.now.items in
-    let ranks = ap (λ (w : WalkView). w.setup.nue) c.self.view_is ∙ c.requires.ranks ∙ sym (ap (λ (w : WalkView). w.script.nue) c.self.view_is) in
-    let rules = ap (λ (w : WalkView). w.setup.comms) c.self.view_is ∙ c.requires.communicators ∙ sym (ap (λ (w : WalkView). rules_of w.script.items) c.self.view_is) in
-    let left = c.settled-self-inside.ensures.same ∙ ap (λ (r : List Open). left_at walk.setup walk.rank items walk.first r) c.clear.ensures.items
-    ∙ left-first walk.setup walk.rank items walk.first c.self.invariant.1.1.0
-    ∙ all_left walk.setup walk.rank items ∙ unrolled_by_script walk.setup walk.rank walk.scripts.now ranks rules in
-    ap (λ (l : List Prim). record { script = walk.scripts.now; setup = walk.setup; rank = walk.rank; left = l }) left
+    let course = c.self.inside.course in
+    let again = c.restart.ensures in
+    let passed = c.pass_ends.ensures in
+    let script = passed.script ∙ ap (λ (w : CourseView). w.script) again in
+    let setup = passed.setup ∙ ap (λ (w : CourseView). w.setup) again in
+    let rank = passed.rank ∙ ap (λ (w : CourseView). w.rank) again in
+    let left = passed.same ∙ ap (λ (w : CourseView). prims_in w.left) again ∙ program_is course.script course.rank in
+    (λ i. record { script = script i; setup = setup i; rank = rank i; left = left i })
     ∙ ap (λ (w : WalkView). record w { left = program_of w.script w.rank }) c.self.view_is

@@ -5,8 +5,8 @@ use Rattle.script_plain.specs.Depths.{depth_after, depth_at}
 use Rattle.script_plain.specs.Program.{nesting_at}
 use Rattle.script_plain.proofs.DepthLaws.{deepest_end, deepest_more, depth_more, depth_next}
 use Rattle.script_plain.proofs.IdleLaws.{idle_more}
-use Rattle.script_plain.proofs.walk.reach_of.Goals as goal
-use Rattle.script_plain.proofs.walk.reach_of.Goals.{then-has, else-has, then-most-depth, else-most-depth}
+use Rattle.script_plain.proofs.course.reach_of.Goals as goal
+use Rattle.script_plain.proofs.course.reach_of.Goals.{then-has, else-has, then-most-depth, else-most-depth}
 
 pub loop-at-preserved : goal.loop-at-preserved
 loop-at-preserved c =

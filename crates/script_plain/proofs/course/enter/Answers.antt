@@ -1,5 +1,5 @@
 use Rattle.std.proofs.Common.{rules}
-use Rattle.script_plain.proofs.walk.enter.Goals as goal
+use Rattle.script_plain.proofs.course.enter.Goals as goal
 
 -- Answered by name, so that a body which turns this is refused at once, with no search for what else might be written.
 pub returns-in-Opens-clause-same : goal.returns-in-Opens-clause-same

@@ -2,7 +2,7 @@ use Rattle.std.proofs.Common.{◌≡◌}
 use Rattle.std.specs.VecDeque.{deque_capacity}
 use Rattle.script_plain.specs.Depths.{IsDeep}
 use Rattle.script_plain.specs.Walk.{AreOpenAt, left_at}
-use Rattle.script_plain.proofs.walk.settled.Given as goal
+use Rattle.script_plain.proofs.course.settled.Given as goal
 
 abbrev pub invariant-loop-at : goal.invariant-loop-at
 invariant-loop-at l = record {

@@ -1,22 +1,22 @@
 use Rattle.std.proofs.Common.{◌≡◌, ◌≤◌, ◌∙◌, arith, length, sym}
 use Rattle.std.specs.VecDeque.{deque_capacity}
-use Rattle.script_plain.specs.Program.{prims_of}
+use Rattle.script_plain.specs.Program.{marks_of}
 use Rattle.script_plain.proofs.DepthLaws.{deep_entered, room_entered}
 use Rattle.script_plain.proofs.IdleLaws.{deep-idle, left-idle, nothing_left}
 use Rattle.script_plain.proofs.WalkLaws.{none_there, open-past, over_open, over_same, some_there}
-use Rattle.script_plain.proofs.walk.settled.Goals as goal
+use Rattle.script_plain.proofs.course.settled.Goals as goal
 
 pub enter-requires-clause-room : goal.enter-requires-clause-room
 enter-requires-clause-room c =
     let item = c.item-item.result.now in
-    let none : length (prims_of c.args.setup.now c.args.rank item) ≡ 0 = omega (arith, c.count_at.ensures, c.if-count_at-gt0.false) in
+    let none : length (marks_of c.args.setup.now c.args.rank item) ≡ 0 = omega (arith, c.count_at.ensures, c.if-count_at-gt0.false) in
     let room = room_entered c.args.rank c.args.setup.now c.args.scripts.now.items c.loop-at.at (deque_capacity c.args.repeats.now) item c.loop-at.repeats.items c.item-item.ensures.found none c.loop-at.invariant.deep c.requires.room in
     omega (arith, room, c.loop-at.invariant.room)
 
 pub loop-at-preserved : goal.loop-at-preserved
 loop-at-preserved c =
     let item = c.item-item.result.now in
-    let none : length (prims_of c.args.setup.now c.args.rank item) ≡ 0 = omega (arith, c.count_at.ensures, c.if-count_at-gt0.false) in
+    let none : length (marks_of c.args.setup.now c.args.rank item) ≡ 0 = omega (arith, c.count_at.ensures, c.if-count_at-gt0.false) in
     record {
       same = over_same c.args.setup.now c.args.rank c.args.scripts.now.items c.loop-at.at item c.loop-at.repeats.items c.enter.new.repeats.items
           c.item-item.ensures.found none c.enter.ensures.same ∙ c.loop-at.invariant.same;

@@ -2,7 +2,7 @@ use Rattle.std.proofs.Common.{◌≡◌, ◌<◌, ◌≤◌, ℕ, false, slice_g
 use Rattle.script_reader.specs.declared.script.Item.{Item}
 use Rattle.script_reader.specs.Script.{has_rank}
 use Rattle.script_plain.specs.Depths.{depth_at}
-use Rattle.script_plain.proofs.walk.reach_of.Given as goal
+use Rattle.script_plain.proofs.course.reach_of.Given as goal
 
 abbrev pub invariant-loop-at : goal.invariant-loop-at
 invariant-loop-at l = record {
