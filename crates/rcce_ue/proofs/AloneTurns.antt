@@ -26,11 +26,11 @@ use Rattle.script_plain.specs.Next.Next.{Ends, Goes, Posts, Sends, Recvs, Bars}
 use Rattle.script_plain.proofs.StoppedLaws.{stopped_ends}
 use Rattle.rcce_ue.specs.Left.{left_of, rest_of}
 use Rattle.rcce_ue.specs.Standing.{IsFree, IsNoCall, Tied, keeping}
-use Rattle.rcce_ue.specs.Turns.{AloneDoes, IsStill, Turns, slot_aim}
+use Rattle.rcce_ue.specs.Turns.{AloneDoes, Behind, IsStill, Turns, Within, slot_aim}
 use Rattle.rcce_ue.specs.Ues.{UeView, entered}
 use Rattle.rcce_ue.specs.declared.calls.Open.TheVariants.{Nothing}
 use Rattle.rcce_ue.proofs.EnterLemmas.{entered_left, entered_tied, holds_none}
-use Rattle.rcce_ue.proofs.KeepLemmas.{begun_at, kept_tied, not_over, parity_kept, unless_below, unless_falls}
+use Rattle.rcce_ue.proofs.KeepLemmas.{begun_at, behind_by, kept_tied, not_over, parity_kept, unless_below, unless_falls, unless_one}
 use Rattle.rcce_ue.proofs.MeasureLemmas.{falls}
 use Rattle.rcce_ue.proofs.PathLemmas.{goes_on, stood_went}
 use Rattle.rcce_ue.proofs.RecvTurns.{none_stored}
@@ -144,6 +144,7 @@ module _ (ue : UeView) (s : Sight) (tied : Tied (record ue { op = Nothing }) s) 
                 unless_below (is_stopped ue.machine.local) _ _ on (omega (arith, rest)) in
                 omega (arith, most, less),
             not_over (record ue { op = Nothing }) on open_still,
+            Behind (behind_by ue.machine.local v (Goes v) is refl) refl,
           );
           heap = refl;
           drafts = none_stored s.seat.setup ue.core [] refl;
@@ -214,6 +215,7 @@ module _ (ue : UeView) (s : Sight) (tied : Tied (record ue { op = Nothing }) s) 
               means = (
                 unless_falls (is_stopped ue.machine.local) _ _ on (omega (arith, fewer)),
                 over_full (is_stopped ue.machine.local) (is_ended (local_next ue.machine.local)) (is_none ue.slot.to) on (slot_full ue.slot.to ue.slot.seen (slot_left now) fewer),
+                Within refl (unless_one (is_stopped ue.machine.local) _ _ on (omega (arith, fewer))),
               );
               heap = r.rest.heap;
               drafts = none_stored s.seat.setup ue.core r.events r.no_drafts;

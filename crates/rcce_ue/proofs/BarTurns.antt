@@ -40,12 +40,12 @@ use Rattle.script_plain.specs.Next.{Next, is_going}
 use Rattle.script_plain.specs.Next.Next.{Ends, Goes, Posts, Sends, Recvs, Bars}
 use Rattle.rcce_ue.specs.Left.{left_of, next_bound, rest_of}
 use Rattle.rcce_ue.specs.Standing.{IsBarOf, IsFree, Tied, keeping}
-use Rattle.rcce_ue.specs.Turns.{IsStill, Turns}
+use Rattle.rcce_ue.specs.Turns.{Behind, IsStill, Turns, Within}
 use Rattle.rcce_ue.specs.Ues.{UeView, entered}
 use Rattle.rcce_ue.specs.declared.calls.Open.TheVariants.{Meeting}
 use Rattle.rcce_ue.proofs.CountLemmas.{bytes_same, sends_same}
 use Rattle.rcce_ue.proofs.EnterLemmas.{entered_left, entered_tied, holds_none}
-use Rattle.rcce_ue.proofs.KeepLemmas.{begun_at, hands_kept, kept_tied, not_over, unless_below, unless_falls}
+use Rattle.rcce_ue.proofs.KeepLemmas.{begun_at, behind_by, hands_kept, kept_tied, not_over, unless_below, unless_falls, unless_one}
 use Rattle.rcce_ue.proofs.MeasureLemmas.{falls}
 use Rattle.rcce_ue.proofs.PathLemmas.{goes_on, stood_met}
 
@@ -223,16 +223,20 @@ module _ (ue : UeView) (s t : Sight) (op : BarAt) (tied : Tied (record ue { op =
         tried = r.tried;
         rests = λ spot same. absurd (cc);
         only = tt;
-        means = (unless_falls (is_stopped ue.machine.local) _ _ on less, not_over (record ue { op = Meeting op }) on (not_ended op (local_next ue.machine.local) of_next));
+        means = (
+          unless_falls (is_stopped ue.machine.local) _ _ on (omega (arith, one)),
+          not_over (record ue { op = Meeting op }) on (not_ended op (local_next ue.machine.local) of_next),
+          Within refl (unless_one (is_stopped ue.machine.local) _ _ on one),
+        );
         heap = r.rest.heap;
         drafts = drafts_here turn.Moved r;
         held = held_here turn.Moved r;
       };
     }
       where
-        less : (slot_left ue.slot + 1 + lefts ue.machine.setup ue.machine.rank now) + (rest_of ue.machine.setup ue.machine.rank ue.machine.local - (1 + next_bound ue.machine.setup ue.machine.rank (local_next ue.machine.local)))
-            < (slot_left ue.slot + 1 + lefts ue.machine.setup ue.machine.rank op) + (rest_of ue.machine.setup ue.machine.rank ue.machine.local - (1 + next_bound ue.machine.setup ue.machine.rank (local_next ue.machine.local)))
-        less =
+        one : (slot_left ue.slot + 1 + lefts ue.machine.setup ue.machine.rank op) + (rest_of ue.machine.setup ue.machine.rank ue.machine.local - (1 + next_bound ue.machine.setup ue.machine.rank (local_next ue.machine.local)))
+            ≡ (slot_left ue.slot + 1 + lefts ue.machine.setup ue.machine.rank now) + (rest_of ue.machine.setup ue.machine.rank ue.machine.local - (1 + next_bound ue.machine.setup ue.machine.rank (local_next ue.machine.local))) + 1
+        one =
             let there = subst (λ (x : SetupView). lefts x s.seat.rank op ≡ lefts x s.seat.rank now + 1) tied.setup_is r.means.0 in
             let fewer = subst (λ (rank : ℕ). lefts ue.machine.setup rank op ≡ lefts ue.machine.setup rank now + 1) tied.rank_is there in
             omega (arith, fewer)
@@ -307,6 +311,7 @@ module _ (ue : UeView) (s t : Sight) (op : BarAt) (tied : Tied (record ue { op =
                     unless_below (is_stopped ue.machine.local) _ _ on (omega (arith, rest, bound)) in
                     omega (arith, most, less),
                 not_over (record ue { op = Meeting op }) on (not_ended op (local_next ue.machine.local) of_next),
+                Behind (behind_by ue.machine.local v (Bars comm v) is refl) refl,
               );
               heap = r.rest.heap;
               drafts = drafts_here turn.Done r;

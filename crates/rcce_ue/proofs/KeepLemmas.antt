@@ -1,5 +1,5 @@
 -- What turns have in common: a UE that is in the midst of a call stays there, or comes to what stands next.
-use Rattle.std.proofs.Common.{◌≡◌, ℕ, ◌<◌, ◌%◌, ◌&&◌, ◌||◌, Bool, true, false, List, length, Option, None, refl, sym, ap, ◌∙◌, inl, inr, sum_by}
+use Rattle.std.proofs.Common.{◌≡◌, ℕ, ◌+◌, ◌<◌, ◌%◌, ◌&&◌, ◌||◌, Bool, true, false, List, length, Option, None, refl, sym, ap, subst, ◌∙◌, inl, inr, sum_by}
 use Rattle.std.specs.List.{count_by}
 use Rattle.scc_base.specs.Calls.{DataCall}
 use Rattle.scc_proto.specs.Ports.{Seat, Sight, record_in}
@@ -12,10 +12,11 @@ use Rattle.script_plain.specs.Collectives.{started}
 use Rattle.script_plain.specs.Local.{Local, local_next}
 use Rattle.script_plain.specs.Machine.{MachineView}
 use Rattle.script_plain.specs.Moves.{is_ended, is_stopped}
+use Rattle.script_plain.specs.Next.{Next}
 use Rattle.script_plain.specs.declared.posts.Posted.{Posted}
 use Rattle.rcce_ue.specs.Left.{unless}
 use Rattle.rcce_ue.specs.Standing.{IsLastTarget, OpStands, Tied, bytes_sent}
-use Rattle.rcce_ue.specs.Turns.{is_over}
+use Rattle.rcce_ue.specs.Turns.{IsBehind, is_over}
 use Rattle.rcce_ue.specs.Ues.{IsBegun, UeView, counted, is_sending}
 use Rattle.rcce_ue.specs.declared.calls.Open.{Open}
 use Rattle.rcce_ue.proofs.PathLemmas.{stood_kept}
@@ -69,6 +70,14 @@ not_over ue on next = none_of (is_stopped ue.machine.local) (is_ended (local_nex
 pub unless_falls : (b : Bool) (n m : ℕ) → b ≡ false → n < m → unless b n < unless b m
 unless_falls true n m on less = absurd (cc)
 unless_falls false n m on less = less
+
+pub unless_one : (b : Bool) (n m : ℕ) → b ≡ false → n ≡ m + 1 → unless b n ≡ unless b m + 1
+unless_one true n m on one = absurd (cc)
+unless_one false n m on one = one
+
+-- what stands next is behind
+pub behind_by : (u v : Local) (n : Next Local) → local_next u ≡ n → IsBehind n v → IsBehind (local_next u) v
+behind_by u v n is behind = subst (λ (x : Next Local). IsBehind x v) (sym is) behind
 
 pub unless_below : (b : Bool) (n m : ℕ) → b ≡ false → n < m → n < unless b m
 unless_below true n m on less = absurd (cc)

@@ -30,12 +30,12 @@ use Rattle.script_plain.specs.Next.Next.{Ends, Goes, Posts, Sends, Recvs, Bars}
 use Rattle.script_plain.proofs.StoppedLaws.{refused_stops}
 use Rattle.rcce_ue.specs.Left.{left_of, next_bound, rest_of, unless}
 use Rattle.rcce_ue.specs.Standing.{IsFree, IsRecvOf, Tied, bytes_sent, keeping}
-use Rattle.rcce_ue.specs.Turns.{IsStill, Turns}
+use Rattle.rcce_ue.specs.Turns.{Behind, IsStill, Turns, Within}
 use Rattle.rcce_ue.specs.Ues.{UeView, counted, entered, is_sending}
 use Rattle.rcce_ue.specs.declared.calls.Open.TheVariants.{Receiving}
 use Rattle.rcce_ue.proofs.CountLemmas.{bytes_same, sends_same}
 use Rattle.rcce_ue.proofs.EnterLemmas.{entered_left, entered_tied}
-use Rattle.rcce_ue.proofs.KeepLemmas.{begun_at, hands_kept, kept_tied, not_over, parity_kept, unless_below, unless_falls}
+use Rattle.rcce_ue.proofs.KeepLemmas.{begun_at, behind_by, hands_kept, kept_tied, not_over, parity_kept, unless_below, unless_falls, unless_one}
 use Rattle.rcce_ue.proofs.MeasureLemmas.{falls}
 use Rattle.rcce_ue.proofs.PathLemmas.{goes_on, stood_got, stood_refused}
 
@@ -124,16 +124,20 @@ module _ (ue : UeView) (s t : Sight) (op : RecvAt) (tied : Tied (record ue { op 
         tried = r.tried;
         rests = λ spot same. absurd (cc);
         only = tt;
-        means = (unless_falls (is_stopped ue.machine.local) _ _ on less, not_over (record ue { op = Receiving op }) on (not_ended op (local_next ue.machine.local) of_next));
+        means = (
+          unless_falls (is_stopped ue.machine.local) _ _ on (omega (arith, one)),
+          not_over (record ue { op = Receiving op }) on (not_ended op (local_next ue.machine.local) of_next),
+          Within refl (unless_one (is_stopped ue.machine.local) _ _ on one),
+        );
         heap = r.rest.heap;
         drafts = none_stored s.seat.setup ue.core r.events r.no_drafts;
         held = r.held;
       };
     }
       where
-        less : (slot_left ue.slot + 1 + recv_left (chunk_of ue.machine.setup) now) + (rest_of ue.machine.setup ue.machine.rank ue.machine.local - (1 + next_bound ue.machine.setup ue.machine.rank (local_next ue.machine.local)))
-            < (slot_left ue.slot + 1 + recv_left (chunk_of ue.machine.setup) op) + (rest_of ue.machine.setup ue.machine.rank ue.machine.local - (1 + next_bound ue.machine.setup ue.machine.rank (local_next ue.machine.local)))
-        less =
+        one : (slot_left ue.slot + 1 + recv_left (chunk_of ue.machine.setup) op) + (rest_of ue.machine.setup ue.machine.rank ue.machine.local - (1 + next_bound ue.machine.setup ue.machine.rank (local_next ue.machine.local)))
+            ≡ (slot_left ue.slot + 1 + recv_left (chunk_of ue.machine.setup) now) + (rest_of ue.machine.setup ue.machine.rank ue.machine.local - (1 + next_bound ue.machine.setup ue.machine.rank (local_next ue.machine.local))) + 1
+        one =
             let fewer = subst (λ (x : SetupView). recv_left (chunk_of x) op ≡ recv_left (chunk_of x) now + 1) tied.setup_is r.means.0 in
             omega (arith, fewer)
 
@@ -219,6 +223,7 @@ module _ (ue : UeView) (s t : Sight) (op : RecvAt) (tied : Tied (record ue { op 
                     unless_below (is_stopped ue.machine.local) _ _ on (omega (arith, rest, bound)) in
                     omega (arith, most, less),
                 not_over (record ue { op = Receiving op }) on (not_ended op (local_next ue.machine.local) of_next),
+                Behind (behind_by ue.machine.local (take_in bytes) (Recvs from head take_in refuse) is (inl (bytes, refl))) refl,
               );
               heap = r.rest.heap;
               drafts = none_stored s.seat.setup ue.core r.events r.no_drafts;
@@ -269,6 +274,7 @@ module _ (ue : UeView) (s t : Sight) (op : RecvAt) (tied : Tied (record ue { op 
               means = (
                 gone _ _ (is_stopped (refuse sent)) (refused_stops ue.machine.local from head sent take_in refuse is) (unless_below (is_stopped ue.machine.local) 0 _ on (omega arith)),
                 not_over (record ue { op = Receiving op }) on (not_ended op (local_next ue.machine.local) of_next),
+                Behind (behind_by ue.machine.local (refuse sent) (Recvs from head take_in refuse) is (inr (sent, refl))) refl,
               );
               heap = r.rest.heap;
               drafts = none_stored s.seat.setup ue.core r.events r.no_drafts;

@@ -25,12 +25,12 @@ use Rattle.script_plain.specs.Next.{Next, is_going}
 use Rattle.script_plain.specs.Next.Next.{Ends, Goes, Posts, Sends, Recvs, Bars}
 use Rattle.rcce_ue.specs.Left.{at_end, left_of, next_bound, rest_of}
 use Rattle.rcce_ue.specs.Standing.{IsFree, IsSendOf, Tied, keeping}
-use Rattle.rcce_ue.specs.Turns.{IsStill, Turns}
+use Rattle.rcce_ue.specs.Turns.{Behind, IsStill, Turns, Within}
 use Rattle.rcce_ue.specs.Ues.{UeView, counted, entered, posted_by}
 use Rattle.rcce_ue.specs.declared.calls.Open.TheVariants.{Sending}
 use Rattle.rcce_ue.proofs.CountLemmas.{bytes_more, sends_more}
 use Rattle.rcce_ue.proofs.EnterLemmas.{entered_left, entered_tied}
-use Rattle.rcce_ue.proofs.KeepLemmas.{begun_at, empty_left, hands_kept, kept_tied, not_over, parity_kept, unless_below, unless_falls}
+use Rattle.rcce_ue.proofs.KeepLemmas.{begun_at, behind_by, empty_left, hands_kept, kept_tied, not_over, parity_kept, unless_below, unless_falls, unless_one}
 use Rattle.rcce_ue.proofs.MeasureLemmas.{falls}
 use Rattle.rcce_ue.proofs.PathLemmas.{goes_on, stood_left, stood_sent}
 
@@ -122,16 +122,20 @@ module _ (ue : UeView) (s t : Sight) (op : SendAt) (tied : Tied (record ue { op 
         tried = r.tried;
         rests = r.rests;
         only = r.only;
-        means = (unless_falls (is_stopped ue.machine.local) _ _ on less, not_over (record ue { op = Sending op }) on (not_ended op (local_next ue.machine.local) of_next));
+        means = (
+          unless_falls (is_stopped ue.machine.local) _ _ on (omega (arith, one)),
+          not_over (record ue { op = Sending op }) on (not_ended op (local_next ue.machine.local) of_next),
+          Within refl (unless_one (is_stopped ue.machine.local) _ _ on one),
+        );
         heap = r.rest.heap;
         drafts = r.drafts;
         held = r.held;
       };
     }
       where
-        less : (at_end now.posted + send_left ue.machine.setup.layout (chunk_of ue.machine.setup) now after) + (rest_of ue.machine.setup ue.machine.rank ue.machine.local - (1 + next_bound ue.machine.setup ue.machine.rank (local_next ue.machine.local)))
-            < (at_end op.posted + send_left ue.machine.setup.layout (chunk_of ue.machine.setup) op ue.slot) + (rest_of ue.machine.setup ue.machine.rank ue.machine.local - (1 + next_bound ue.machine.setup ue.machine.rank (local_next ue.machine.local)))
-        less =
+        one : (at_end op.posted + send_left ue.machine.setup.layout (chunk_of ue.machine.setup) op ue.slot) + (rest_of ue.machine.setup ue.machine.rank ue.machine.local - (1 + next_bound ue.machine.setup ue.machine.rank (local_next ue.machine.local)))
+            ≡ (at_end now.posted + send_left ue.machine.setup.layout (chunk_of ue.machine.setup) now after) + (rest_of ue.machine.setup ue.machine.rank ue.machine.local - (1 + next_bound ue.machine.setup ue.machine.rank (local_next ue.machine.local))) + 1
+        one =
             let fewer = subst (λ (x : SetupView). send_left x.layout (chunk_of x) op ue.slot ≡ send_left x.layout (chunk_of x) now after + 1) tied.setup_is r.means.0 in
             let same = ap at_end r.same.2 in
             omega (arith, fewer, same)
@@ -219,6 +223,7 @@ module _ (ue : UeView) (s t : Sight) (op : SendAt) (tied : Tied (record ue { op 
                     (sym (ap (next_bound ue.machine.setup ue.machine.rank) is)) (omega (arith, few, posted)) in
                     omega (arith, most, less),
                 not_over (record ue { op = Sending op }) on (not_ended op (local_next ue.machine.local) of_next),
+                Behind (behind_by ue.machine.local v (Posts message v) is refl) refl,
               );
               heap = r.rest.heap;
               drafts = r.drafts;
@@ -254,6 +259,7 @@ module _ (ue : UeView) (s t : Sight) (op : SendAt) (tied : Tied (record ue { op 
                     (sym (ap (next_bound ue.machine.setup ue.machine.rank) is)) (omega (arith, few, posted)) in
                     omega (arith, most, less),
                 not_over (record ue { op = Sending op }) on (not_ended op (local_next ue.machine.local) of_next),
+                Behind (behind_by ue.machine.local v (Sends to head bytes v) is refl) refl,
               );
               heap = r.rest.heap;
               drafts = r.drafts;

@@ -1,6 +1,7 @@
 -- One turn of a UE.
-use Rattle.std.specs.Prelude.{◌≡◌, ◌<◌, Bool, true, false, ◌&&◌, ◌||◌, not, if◌then◌else◌, List, take, Option, None, is_none}
+use Rattle.std.specs.Prelude.{◌≡◌, ◌⊎◌, ℕ, ◌+◌, ◌<◌, Bool, true, false, ◌&&◌, ◌||◌, not, if◌then◌else◌, List, take, Option, None, is_none}
 use Rattle.std.specs.List.{list_all}
+use Rattle.scc_base.specs.Heads.{MessageHead}
 use Rattle.scc_base.specs.declared.events.Event.{Event}
 use Rattle.scc_base.specs.declared.events.Spot.{Spot}
 use Rattle.scc_base.specs.declared.events.Turn.{Turn}
@@ -22,10 +23,11 @@ use Rattle.barrier.specs.Stages as barrier
 use Rattle.barrier.specs.Turns as barrier_turn
 use Rattle.script_plain.specs.Local.{Local, local_next}
 use Rattle.script_plain.specs.Moves.{bytes_out, is_ended, is_stopped, length_in}
-use Rattle.script_plain.specs.Next.{is_going}
+use Rattle.script_plain.specs.Next.{Next, is_going}
+use Rattle.script_plain.specs.Next.Next.{Ends, Goes, Posts, Sends, Recvs, Bars}
 use Rattle.rcce_ue.specs.Left.{left_of}
 use Rattle.rcce_ue.specs.Standing.{Tied}
-use Rattle.rcce_ue.specs.Ues.{UeView}
+use Rattle.rcce_ue.specs.Ues.{UeView, opened}
 use Rattle.rcce_ue.specs.declared.calls.Open.{Open}
 use Rattle.rcce_ue.specs.declared.calls.Open.TheVariants.{Nothing, Sending, Receiving, Meeting}
 
@@ -56,10 +58,26 @@ IsStill ue now = now ≡ record ue { core = now.core; parity = now.parity; inbox
 abbrev pub IsPausing : UeView → Type 0
 IsPausing ue = is_going (local_next ue.machine.local) ≡ false
 
--- what each answer means: the number of turns left falls with Moved alone; and Done comes exactly where the UE was over
+-- what a rank holds behind what stands next: behind its own statement, behind its call, or where a message with another head
+-- came to its receive
+abbrev pub IsBehind : Next Local → Local → Type 0
+IsBehind Ends u = ⊥
+IsBehind (Goes after) u = u ≡ after
+IsBehind (Posts message after) u = u ≡ after
+IsBehind (Sends to head bytes after) u = u ≡ after
+IsBehind (Recvs from head take refuse) u = ((bytes : List ℕ) × (u ≡ take bytes)) ⊎ ((sent : MessageHead) × (u ≡ refuse sent))
+IsBehind (Bars comm after) u = u ≡ after
+
+-- a UE went one step on: within the call that stands next, or in the slot, and one turn fewer is left; or behind what stood
+-- next, and nothing is done yet of what stands next now
+pub data WentOn (ue now : UeView) : Type 0 where
+  Within : now.machine ≡ ue.machine → left_of ue ≡ left_of now + 1 → WentOn ue now
+  Behind : IsBehind (local_next ue.machine.local) now.machine.local → now.op ≡ opened (local_next now.machine.local) → WentOn ue now
+
+-- what each answer means: with Moved alone the UE went on, and the number of turns left falls; and Done comes exactly where the UE was over
 -- before, and then nothing is done
 abbrev pub UeMeans : UeView → Sight → UeView → Sight → Turn → Type 0
-UeMeans ue s now t turn.Moved = (left_of now < left_of ue) × (is_over ue ≡ false)
+UeMeans ue s now t turn.Moved = (left_of now < left_of ue) × (is_over ue ≡ false) × WentOn ue now
 UeMeans ue s now t (turn.Waiting spot) = IsStill ue now × (left_of now ≡ left_of ue) × IsAtRest (record_in s) (record_in t) × (is_over ue ≡ false) × IsPausing now
 UeMeans ue s now t turn.Done = (now ≡ ue) × (t ≡ s) × (is_over ue ≡ true) × IsPausing now
 
