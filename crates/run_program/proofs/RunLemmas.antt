@@ -7,6 +7,7 @@ use Rattle.rcce_run.specs.Crews.{EndsAs}
 use Rattle.rcce_ue.specs.Ues.{UeView}
 use Rattle.run_program.specs.Reports.{by_rank, ran_by, unfinished_text}
 use Rattle.rcce_run.proofs.FinishedLaws.{plain_count}
+use Rattle.rcce_run.specs.Scripts.{NoneDrafts}
 use Rattle.rcce_run.specs.Sent.{CountsSends}
 use Rattle.rcce_run.specs.UeRuns.{AreHome, HasPlainCalls, IsSameChip, ShowsEnd, WaitsOpen}
 use Rattle.rcce_run.specs.declared.ends.RunEnd.{RunEnd}
@@ -48,13 +49,14 @@ pub run_over : (asked : Asked) (chip now : ChipView) (crew later : List (Member 
     → ((k : ℕ) → k < asked.script.nue → HasPlainCalls asked.script k (records_in now k))
     → ((k : ℕ) (d : Member UeView) → k < asked.script.nue → CountsSends asked.script k (records_in now k) (slice_index_or later k d).worker)
     → ((k : ℕ) (call : DataCall) → k < asked.script.nue → open_call (about_in now) (records_in now k) ≡ Some call → WaitsOpen asked.script k call)
+    → NoneDrafts (about_in now) (records_in now)
     → IsOver asked now later end
-run_over asked chip now crew later end ranks new each stands home answer ends calls sent opened = record {
+run_over asked chip now crew later end ranks new each stands home answer ends calls sent opened no_draft = record {
   ended = record { count = home.count ∙ each ∙ ranks; each = ends };
   sent = record {
     count = home.count ∙ each ∙ ranks;
     each = λ k d low. counts_plain asked.script k (records_in now k) (slice_index_or later k d).worker (calls k low) (sent k d low);
   };
   answer = answer;
-  history = record { setup = stands.about ∙ new.about; whole = stands.whole; finished = calls; opened = opened };
+  history = record { setup = stands.about ∙ new.about; whole = stands.whole; finished = calls; opened = opened; no_draft = no_draft };
 }

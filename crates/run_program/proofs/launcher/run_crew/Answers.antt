@@ -13,4 +13,4 @@ returns-clause-over g c =
     let loaded = c.args.loaded.now in
     let fresh = crew_fresh loaded.script loaded.setup _ c.requires.fresh _ c.requires.chip in
     run_over (asked_by loaded) _ _ _ _ _ loaded.ranks c.requires.chip c.requires.fresh.count c.run.ensures.stands c.run.ensures.home
-    (c.run.ensures.answer loaded.script fresh) (c.run.ensures.ends loaded.script fresh) (c.run.ensures.calls loaded.script fresh) (c.run.ensures.sent loaded.script fresh) (c.run.ensures.opened loaded.script fresh)
+    (c.run.ensures.answer loaded.script fresh) (c.run.ensures.ends loaded.script fresh) (c.run.ensures.calls loaded.script fresh) (c.run.ensures.sent loaded.script fresh) (c.run.ensures.opened loaded.script fresh) c.run.ensures.no_draft
