@@ -8,13 +8,13 @@ use Rattle.rcce_audit.specs.declared.verdicts.Verdict.{Verdict}
 use Rattle.rcce_audit.specs.Grammar.{log_of}
 use Rattle.rcce_audit.specs.Kinds.{fault_name}
 use Rattle.rcce_audit.specs.Logs.{LogView}
-use Rattle.rcce_audit.specs.Verdicts.{IsVerdict}
+use Rattle.rcce_audit.specs.Verdicts.{IsJudge, IsVerdict}
 use Rattle.rcce_audit.proofs.ReadingLemmas.{text_back}
 use Rattle.rcce_audit.proofs.VerdictLemmas.{verdict_once}
 use Rattle.scc_mesh.specs.Scenes.{ChipView}
 use Rattle.audit_program.specs.History.{ChipTells}
 use Rattle.rcce_words.specs.ScriptWords.{Command}
-use Rattle.audit_program.specs.Program.{IsJudge, log_plan, named_plan, verdict_ran}
+use Rattle.audit_program.specs.Program.{log_plan, named_plan, verdict_ran}
 
 -- a log that is refused
 pub comes_refused : (judge : LogView → Verdict) (program file : List ℕ) (said : Result LogView LogFault) (fault : LogFault) (kind : List ℕ) (files : FilesView) → said ≡ Err fault → kind ≡ fault_name fault.kind

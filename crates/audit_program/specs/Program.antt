@@ -16,17 +16,12 @@ use Rattle.audit_program.specs.declared.report.Judged.{Judged}
 use Rattle.rcce_audit.specs.Grammar.{log_of}
 use Rattle.rcce_audit.specs.Kinds.{fault_name}
 use Rattle.rcce_audit.specs.Logs.{LogView, most_log_bytes}
-use Rattle.rcce_audit.specs.Texts.{IsFileLog, log_text}
-use Rattle.rcce_audit.specs.Verdicts.{IsVerdict}
+use Rattle.rcce_audit.specs.Texts.{log_text}
 use Rattle.script_reader.specs.Script.{Script, rules_of}
 use Rattle.script_plain.specs.Meaning.{plain_ends}
 use Rattle.script_plain.specs.Ends.{all_finished}
 use Rattle.log_run.specs.LogRuns.{plain_calls}
 use Rattle.log_run.specs.Sizes.{has_room_for_all}
-
--- a function that tells the verdict of each log that a file may have. Each such log has exactly one verdict
-abbrev pub IsJudge : (LogView → Verdict) → Type 0
-IsJudge judge = (log : LogView) → IsFileLog log → IsVerdict log (judge log)
 
 -- what a verdict comes to: one line on out
 abbrev pub verdict_ran : Verdict → Ran
@@ -84,6 +79,10 @@ named_plan judge None command = plan_of command_plan command
 -- the words: a log is judged, a run is logged, or they are refused
 abbrev pub words_plan : (LogView → Verdict) → List (List ℕ) → Result Plan (List ℕ)
 words_plan judge words = named_plan judge (file_named words) (command_of words)
+
+-- the program on words that name no log, for which nothing is judged: a run is logged, or the words are refused
+abbrev pub rcceaudit_log : Program
+rcceaudit_log = record { name = codes "rcceaudit"; plan = λ words. plan_of command_plan (command_of words) }
 
 -- the program, by its name and what it does on its words
 abbrev pub rcceaudit : (LogView → Verdict) → Program

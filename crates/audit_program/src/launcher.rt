@@ -9,9 +9,10 @@ ghost use Rattle.outcomes.specs.Promises.{EndsWith, Promises};
 ghost use Rattle.log_run.specs.LogRuns.{AreLegalCalls};
 ghost use Rattle.rcce_audit.specs.declared.verdicts.Verdict.{Verdict};
 ghost use Rattle.rcce_audit.specs.Logs.{LogView};
+ghost use Rattle.rcce_audit.specs.Verdicts.{IsJudge};
 ghost use Rattle.audit_program.specs.History.{ChipTells};
 ghost use Rattle.audit_program.specs.Loading.{Ends};
-ghost use Rattle.audit_program.specs.Program.{IsJudge, bytes_plan, command_of, file_named, file_plan, judged_ran, rcceaudit};
+ghost use Rattle.audit_program.specs.Program.{bytes_plan, command_of, file_named, file_plan, judged_ran, rcceaudit, rcceaudit_log};
 ghost use Rattle.scc_mesh.specs.Scenes.{IsOpen};
 
 use crate::command::file_named;
@@ -40,14 +41,24 @@ pub fn rcceaudit<F: Files, O: Sink, E: Sink>(
     chip: &mut Chip,
 ) -> Status
     requires blank { chip.old ≡ None }
-    // What is promised has a name for each fact, among them `output`, the output theorem. It holds for each function that
-    // tells the verdicts of logs, and a log has exactly one verdict.
+    // Words that name no log need no verdict: where they are refused, and where a run is logged, this is promised with no premise
+    // but that. What is promised has a name for each fact, among them `output`, the output theorem.
+    ensures logs { file_named (map string_bytes words.now) ≡ None
+        → Promises rcceaudit_log (map string_bytes words.now) (F.seen files.old) (F.seen files.new)
+        (sinks (O.seen out.old) (E.seen err.old)) (sinks (O.seen out.new) (E.seen err.new)) result }
+    // Whatever the words are, the same is promised for each function that tells the verdicts of logs. There is one (`judge` of
+    // rcce_audit's verdict_law), and a log has exactly one verdict.
     ensures promises { (judge : LogView → Verdict) → IsJudge judge
         → Promises (rcceaudit judge) (map string_bytes words.now) (F.seen files.old) (F.seen files.new)
         (sinks (O.seen out.old) (E.seen err.old)) (sinks (O.seen out.new) (E.seen err.new)) result }
     // Where a run was logged, what was written, or was to be written, is the log of the chip's finished calls. They are those
     // that the plain meaning did for each rank, in order, and they are legal; reading this text gives back exactly this log, and
     // its verdict is Yes. Else the chip is blank.
+    ensures logs_history { file_named (map string_bytes words.now) ≡ None
+        → EndsWith (ChipTells (F.seen files.old).told (file_named (map string_bytes words.now)) (command_of (map string_bytes words.now)) chip.new)
+        rcceaudit_log (map string_bytes words.now) (F.seen files.old) (F.seen files.new)
+        (sinks (O.seen out.old) (E.seen err.old)) (sinks (O.seen out.new) (E.seen err.new)) result }
+    // The same whatever the words are.
     ensures history { (judge : LogView → Verdict) → IsJudge judge
         → EndsWith (ChipTells (F.seen files.old).told (file_named (map string_bytes words.now)) (command_of (map string_bytes words.now)) chip.new)
         (rcceaudit judge) (map string_bytes words.now) (F.seen files.old) (F.seen files.new)
