@@ -1,5 +1,5 @@
 -- What stays where repeats are told their ends.
-use Rattle.std.proofs.Common.{◌≡◌, ℕ, zero, suc, List, [], ◌∷◌, All, map, Option, Some, None, length, slice_get, slice_set, refl, sym, ap, ◌∙◌}
+use Rattle.std.proofs.Common.{◌≡◌, ℕ, zero, suc, List, [], ◌∷◌, All, map, Option, Some, None, length, slice_get, slice_set, refl, sym, ap, ◌∙◌, ◌≤◌, arith}
 use Rattle.std.proofs.Math.Path.{fun_ext}
 use Rattle.std.proofs.lemmas.List.{length-set}
 use Rattle.std.proofs.lemmas.List.Elements.{All-set}
@@ -12,7 +12,7 @@ use Rattle.script_reader.specs.declared.script.Stmt.{Stmt}
 use Rattle.script_reader.specs.declared.script.Stmt.TheVariants as stmt
 use Rattle.script_reader.specs.Ends.{told, with_end, with_ends}
 use Rattle.script_reader.specs.Script.{IsSized, first_split, or_rule, rules_of, split_rule}
-use Rattle.script_reader.specs.Settled.{IsNamed}
+use Rattle.script_reader.specs.Settled.{IsNamed, comm_named}
 
 -- what a list has, whatever its repeats say of their ends
 pub record IsKeptBy (P : List Item → Type 0) : Type 0 where
@@ -96,3 +96,8 @@ pub named-with_ends : (count n : ℕ) (items : List Item) → All (λ (i : Item)
 named-with_ends count n items all =
     with_ends-keeps (λ list. All (λ (i : Item). IsNamed count i.stmt) list)
     (record { keeps = λ list start place item times end found is p. All-set (λ (i : Item). IsNamed count i.stmt) list start (record item { stmt = stmt.Repeat times place }) tt p }) n items all
+
+pub comms-with_ends : (last n : ℕ) (items : List Item) → All (λ (i : Item). comm_named i.stmt ≤ last) items → All (λ (i : Item). comm_named i.stmt ≤ last) (with_ends n items)
+comms-with_ends last n items all =
+    with_ends-keeps (λ list. All (λ (i : Item). comm_named i.stmt ≤ last) list)
+    (record { keeps = λ list start place item times end found is p. All-set (λ (i : Item). comm_named i.stmt ≤ last) list start (record item { stmt = stmt.Repeat times place }) (omega arith) p }) n items all

@@ -11,5 +11,6 @@ pub mod RuleLemmas
 pub mod SettledLemmas
 pub mod TallyLemmas
 pub mod VersionLemmas
+pub mod CommLemmas
 pub mod WalkLemmas
 pub mod WordLemmas

@@ -46,15 +46,15 @@ use Rattle.script_reader.proofs.EndLemmas.{rules-with_ends}
 use Rattle.script_reader.proofs.RuleLemmas.{first_split-more, or_rule-either, split-at}
 
 -- what a reading gives has a property, where all that its last step gives has it
-then : {A B E : Type 0} (P : B → Type 0) (r : Result A E) (next : A → Result B E) → ((x : A) → IfOk (next x) P) → IfOk (r >>= next) P
+pub then : {A B E : Type 0} (P : B → Type 0) (r : Result A E) (next : A → Result B E) → ((x : A) → IfOk (next x) P) → IfOk (r >>= next) P
 then P (Ok x) next has = has x
 then P (Err e) next has = tt
 
-behind : {A B E : Type 0} (Q : A → Type 0) (P : B → Type 0) (r : Result A E) (next : A → Result B E) → IfOk r Q → ((x : A) → Q x → IfOk (next x) P) → IfOk (r >>= next) P
+pub behind : {A B E : Type 0} (Q : A → Type 0) (P : B → Type 0) (r : Result A E) (next : A → Result B E) → IfOk r Q → ((x : A) → Q x → IfOk (next x) P) → IfOk (r >>= next) P
 behind Q P (Ok x) next is has = has x is
 behind Q P (Err e) next is has = tt
 
-either : {B E : Type 0} (P : B → Type 0) (b : Bool) (x y : Result B E) → IfOk x P → IfOk y P → IfOk (cond b x y) P
+pub either : {B E : Type 0} (P : B → Type 0) (b : Bool) (x y : Result B E) → IfOk x P → IfOk y P → IfOk (cond b x y) P
 either P true x y one other = one
 either P false x y one other = other
 

@@ -94,6 +94,28 @@ pub record IsAccepted (nue : ℕ) (items : List Item) (names : List (List ℕ)) 
 abbrev pub HasCommsTo : ℕ → Script → Type 0
 HasCommsTo last script = (comm : ℕ) → last < comm → rule_of (rules_of script.items) comm ≡ rule.Absent
 
+-- the communicator that a statement names: the world where it names none
+abbrev pub comm_named : Stmt → ℕ
+comm_named (stmt.Barrier comm) = comm
+comm_named (stmt.Split comm rule) = comm
+comm_named (stmt.Bcast comm root reg len) = comm
+comm_named (stmt.Reduce comm root op ty dst src) = comm
+comm_named (stmt.Allreduce comm op ty dst src) = comm
+comm_named (stmt.Bytes reg bytes) = 0
+comm_named (stmt.Fill reg len start) = 0
+comm_named (stmt.RankOf reg ty) = 0
+comm_named (stmt.Apply op ty dst src) = 0
+comm_named (stmt.Send peer reg) = 0
+comm_named (stmt.Post peer reg) = 0
+comm_named (stmt.Recv peer reg len) = 0
+comm_named (stmt.Print reg form) = 0
+comm_named (stmt.Repeat times end) = 0
+comm_named (stmt.End start) = 0
+
+-- no statement of a script names a communicator past this one
+abbrev pub NamesCommsTo : ℕ → Script → Type 0
+NamesCommsTo last script = All (λ item. comm_named item.stmt ≤ last) script.items
+
 -- each rule of a script takes apart the world
 abbrev pub SplitsWorldAlone : Script → Type 0
 SplitsWorldAlone script = (comm : ℕ) → parent_of (rule_of (rules_of script.items) comm) ≡ 0

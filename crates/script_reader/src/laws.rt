@@ -2,17 +2,20 @@
 
 ghost use Rattle.std.specs.Prelude.{◌≡◌, ◌≤◌, ℕ, IfOk, List, Some, decimal, length};
 ghost use Rattle.script_reader.specs.declared.version.Version.TheVariants.{One, Two};
+ghost use Rattle.script_reader.specs.Checks.{last_comm};
 ghost use Rattle.script_reader.specs.Closed.{IsClosed};
 ghost use Rattle.script_reader.specs.Reading.{parse_script, read_as, read_file, version_of};
-ghost use Rattle.script_reader.specs.Settled.{SplitsWorldAlone};
+ghost use Rattle.script_reader.specs.Settled.{NamesCommsTo, SplitsWorldAlone};
 ghost use Rattle.script_reader.specs.Words.{lines_of, number_of};
 
 /// A file is read by the grammar of version 1, but where its first line that has words is `rcce 2`.
-/// A script of version 1 has no parent but the world.
+/// A script of version 1 has no parent but the world, and names no communicator from 8 on; one of version 2 names none from
+/// 16 on.
 pub fn version_law()
     ensures first { (bytes : List ℕ) (nue : ℕ) → version_of (lines_of bytes) ≡ One → read_file bytes nue ≡ read_as One bytes nue }
     ensures second { (bytes : List ℕ) (nue : ℕ) → version_of (lines_of bytes) ≡ Two → read_file bytes nue ≡ read_as Two bytes nue }
     ensures flat { (bytes : List ℕ) (nue : ℕ) → version_of (lines_of bytes) ≡ One → IfOk (read_file bytes nue) SplitsWorldAlone }
+    ensures named { (bytes : List ℕ) (nue : ℕ) → IfOk (read_file bytes nue) (NamesCommsTo (last_comm (version_of (lines_of bytes)))) }
 {}
 
 /// A script that was read names at most 64 registers. None of its repeats is open at its end, and each repeat has the place

@@ -5,7 +5,7 @@ ghost use Rattle.script_reader.specs.Faults.{Gives, LineGives, stop_of};
 ghost use Rattle.script_reader.specs.Reading.{is_number, parse_script, read_all_lines, read_file, read_line, read_lines, read_words, says_two, version_of};
 ghost use Rattle.script_reader.specs.Tally.{IsUpTo};
 ghost use Rattle.script_reader.specs.Checks.{last_comm};
-ghost use Rattle.script_reader.specs.Settled.{HasCommsTo, SplitsWorldAlone};
+ghost use Rattle.script_reader.specs.Settled.{HasCommsTo, NamesCommsTo, SplitsWorldAlone};
 ghost use Rattle.script_reader.specs.declared.version.Version.TheVariants.{One};
 ghost use Rattle.script_reader.specs.Words.{lines_of};
 
@@ -170,7 +170,8 @@ pub fn read_script(alloc: Global, bytes: &[u8], nue: u8) -> Result<Scripts, Read
     ensures gives { Gives (λ script. script) result (parse_script bytes.now nue) }
     // It has as many ranks as it was read for.
     ensures ranks { IfOk result (λ script. script.nue ≡ nue) }
-    // A script of version 1 has no rule for the communicators from 8 on, and no parent but the world.
+    // A script of version 1 neither names the communicators from 8 on nor has a rule for them, and has no parent but the world.
+    ensures named { IfOk result (NamesCommsTo (last_comm (version_of (lines_of bytes.now)))) }
     ensures low { IfOk result (HasCommsTo (last_comm (version_of (lines_of bytes.now)))) }
     ensures flat { version_of (lines_of bytes.now) ≡ One → IfOk result SplitsWorldAlone }
 {

@@ -3,6 +3,7 @@ use Rattle.std.specs.Prelude.{IfOk}
 use Rattle.script_reader.specs.declared.version.Version.{Version}
 use Rattle.script_reader.specs.Reading.{read_as}
 use Rattle.script_reader.specs.Settled.{SplitsWorldAlone}
+use Rattle.script_reader.proofs.CommLemmas.{names-low}
 use Rattle.script_reader.proofs.VersionLemmas.{first-flat}
 use Rattle.script_reader.proofs.laws.version_law.Goals as goal
 
@@ -14,3 +15,6 @@ returns-clause-second c = λ bytes nue is. ap (λ (version : Version). read_as v
 
 pub returns-clause-flat : goal.returns-clause-flat
 returns-clause-flat c = λ bytes nue is. subst (λ (version : Version). IfOk (read_as version bytes nue) SplitsWorldAlone) (sym is) (first-flat bytes nue)
+
+pub returns-clause-named : goal.returns-clause-named
+returns-clause-named c = names-low

@@ -1,8 +1,11 @@
 use Rattle.std.proofs.Common.{◌≡◌, subst, sym}
 use Rattle.std.specs.Prelude.{IfOk}
 use Rattle.script_reader.specs.declared.version.Version.{Version}
-use Rattle.script_reader.specs.Reading.{read_as}
-use Rattle.script_reader.specs.Settled.{SplitsWorldAlone}
+use Rattle.script_reader.specs.Reading.{read_as, version_of}
+use Rattle.script_reader.specs.Settled.{NamesCommsTo, SplitsWorldAlone}
+use Rattle.script_reader.specs.Checks.{last_comm}
+use Rattle.script_reader.specs.Words.{lines_of}
+use Rattle.script_reader.proofs.CommLemmas.{names-low}
 use Rattle.script_reader.proofs.RankLemmas.{parse_has}
 use Rattle.script_reader.proofs.VersionLemmas.{IfOk-given, first-flat}
 use Rattle.script_reader.proofs.reading.read_script.Goals as goal
@@ -16,3 +19,7 @@ returns-clause-flat c = λ is.
 
 pub returns-clause-ranks : goal.returns-clause-ranks
 returns-clause-ranks c = IfOk-given (λ script. script.nue ≡ c.args.nue) c.read_file.result _ c.read_file.ensures.gives (parse_has c.args.bytes.now c.args.nue)
+
+pub returns-clause-named : goal.returns-clause-named
+returns-clause-named c =
+    IfOk-given (NamesCommsTo (last_comm (version_of (lines_of c.args.bytes.now)))) c.read_file.result _ c.read_file.ensures.gives (names-low c.args.bytes.now c.args.nue)
