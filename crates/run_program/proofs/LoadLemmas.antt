@@ -41,13 +41,13 @@ loads_read file limit next asks before between after bytes (Err why) reads came 
 
 -- a script that was read, and its setup
 pub loads_script : (file : List ℕ) (job : Job) (hosts : List ℕ) (before after : FilesView) (script : Script) (loaded : Loaded)
-    → LeadsTo file job.nue before after script → loaded.script ≡ script → loaded.setup ≡ setup_by job hosts script → loaded.seed ≡ None
+    → LeadsTo file job.nue before after script → loaded.job ≡ job → loaded.script ≡ script → loaded.setup ≡ setup_by job hosts script → loaded.seed ≡ None
     → LoadsPlan (file_plan file job.nue) (AsksOn file before.told job hosts) before after (Ok loaded)
-loads_script file job hosts before after script loaded leads same setup none = record {
+loads_script file job hosts before after script loaded leads job_is same setup none = record {
   goes = λ o came. leads.goes (codes "rccerun") run_plan after o
       (subst (λ (x : Script). Comes (codes "rccerun") (run_plan x) after after o) same
       (subst (λ (seed : Option ℕ). Comes (codes "rccerun") (Runs (ran_by loaded.script seed)) after after o) none came));
-  asked = record { script = subst (λ (x : Script). ScriptIn file before.told job.nue x) (sym same) leads.stands; setup = setup ∙ ap (setup_by job hosts) (sym same); seed = none };
+  asked = record { job_is = job_is; script = subst (λ (x : Script). ScriptIn file before.told job.nue x) (sym same) leads.stands; setup = setup ∙ ap (setup_by job hosts) (sym same); seed = none };
 }
 
 -- the script that is read in the text of a number is the one of this number
@@ -60,14 +60,14 @@ is_made nue seed text script made law gives =
 
 -- a script that was made of a number and read, and its setup
 pub loads_read_made : (job : Job) (seed : ℕ) (files : FilesView) (script : Script) (loaded : Loaded)
-    → script ≡ gen_script_of job.nue seed → loaded.script ≡ script → loaded.setup ≡ setup_by job default_hosts script → loaded.seed ≡ Some seed
+    → script ≡ gen_script_of job.nue seed → loaded.job ≡ job → loaded.script ≡ script → loaded.setup ≡ setup_by job default_hosts script → loaded.seed ≡ Some seed
     → LoadsPlan (made_plan job.nue seed) (AsksMade seed job) files files (Ok loaded)
-loads_read_made job seed files script loaded gives same setup some =
+loads_read_made job seed files script loaded gives job_is same setup some =
     let is : loaded.script ≡ gen_script_of job.nue seed = same ∙ gives in
     record {
       goes = λ o came. subst (λ (x : Script). Comes (codes "rccerun") (Runs (made_ran seed x)) files files o) is
           (subst (λ (s : Option ℕ). Comes (codes "rccerun") (Runs (ran_by loaded.script s)) files files o) some came);
-      asked = record { script = is; setup = setup ∙ ap (setup_by job default_hosts) (sym same); seed = some };
+      asked = record { job_is = job_is; script = is; setup = setup ∙ ap (setup_by job default_hosts) (sym same); seed = some };
     }
 
 -- no memory for it
@@ -122,6 +122,7 @@ loads_work words told job work at before after answer same is leads =
     subst (λ (x : Work). LoadsBy (work_plan words job x) (AsksFor words told job) before after answer) (sym here)
     (loads_less _ (AsksBehind words told job job.hosts (word_at words at)) (AsksFor words told job) before after answer
     (λ asked all. record {
+      job_is = all.on.job_is;
       hosts = all.hosts;
       are_hosts = subst (λ (x : Work). AreHosts words told job.nue (hosts_asked x job.hosts) all.hosts) (sym here) all.are_hosts;
       script = subst (λ (x : Work). IsScript words told job.nue x asked.script) (sym here) all.on.script;
@@ -138,6 +139,7 @@ loads_made words told job work seed files answer same is leads =
     subst (λ (x : Work). LoadsBy (work_plan words job x) (AsksFor words told job) files files answer) (sym here)
     (loads_less (made_plan job.nue seed) (AsksMade seed job) (AsksFor words told job) files files answer
     (λ asked made. record {
+      job_is = made.job_is;
       hosts = default_hosts;
       are_hosts = subst (λ (x : Work). AreHosts words told job.nue (hosts_asked x job.hosts) default_hosts) (sym here) refl;
       script = subst (λ (x : Work). IsScript words told job.nue x asked.script) (sym here) made.script;

@@ -15,7 +15,7 @@ use Rattle.scc_base.specs.Calls.{DataCall}
 use Rattle.scc_proto.specs.Passed.{open_call}
 use Rattle.rcce_run.specs.declared.members.Member.{Member}
 use Rattle.scc_mesh.specs.Scenes.{ChipView, IsNew, about_in, records_in}
-use Rattle.run_program.specs.History.{Asked}
+use Rattle.run_program.specs.History.{Asked, WasRun}
 use Rattle.run_program.specs.Runs.{HaveEnded, IsOver}
 use Rattle.run_program.proofs.SentLemmas.{counts_plain}
 
@@ -49,14 +49,14 @@ pub run_over : (asked : Asked) (chip now : ChipView) (crew later : List (Member 
     → ((k : ℕ) → k < asked.script.nue → HasPlainCalls asked.script k (records_in now k))
     → ((k : ℕ) (d : Member UeView) → k < asked.script.nue → CountsSends asked.script k (records_in now k) (slice_index_or later k d).worker)
     → ((k : ℕ) (call : DataCall) → k < asked.script.nue → open_call (about_in now) (records_in now k) ≡ Some call → WaitsOpen asked.script k call)
-    → NoneDrafts (about_in now) (records_in now)
+    → NoneDrafts (about_in now) (records_in now) → WasRun asked now
     → IsOver asked now later end
-run_over asked chip now crew later end ranks new each stands home answer ends calls sent opened no_draft = record {
+run_over asked chip now crew later end ranks new each stands home answer ends calls sent opened no_draft turns = record {
   ended = record { count = home.count ∙ each ∙ ranks; each = ends };
   sent = record {
     count = home.count ∙ each ∙ ranks;
     each = λ k d low. counts_plain asked.script k (records_in now k) (slice_index_or later k d).worker (calls k low) (sent k d low);
   };
   answer = answer;
-  history = record { setup = stands.about ∙ new.about; whole = stands.whole; finished = calls; opened = opened; no_draft = no_draft };
+  history = record { setup = stands.about ∙ new.about; whole = stands.whole; finished = calls; opened = opened; no_draft = no_draft; turns = turns };
 }

@@ -58,6 +58,7 @@ asked_ran asked = ran_by asked.script asked.seed
 
 -- a job asks for this run, where files are told
 pub record AsksFor (words : List (List ℕ)) (told : Option (List NamedFile)) (job : Job) (asked : Asked) : Type 0 where
+  pub job_is : asked.job ≡ job
   pub hosts : List ℕ
   pub are_hosts : AreHosts words told job.nue (hosts_asked job.work job.hosts) hosts
   pub script : IsScript words told job.nue job.work asked.script

@@ -1,23 +1,50 @@
 -- What a run leaves on the chip (this project's profile).
-use Rattle.std.specs.Prelude.{◌≡◌, ℕ, ◌<◌, Option, Some}
+use Rattle.std.specs.Prelude.{◌≡◌, ℕ, ◌<◌, List, Option, Some, None}
 use Rattle.scc_base.specs.Calls.{DataCall}
 use Rattle.scc_base.specs.Setups.{SetupView}
 use Rattle.scc_proto.specs.Passed.{open_call}
-use Rattle.scc_mesh.specs.Scenes.{ChipView, IsWhole, about_in, records_in}
+use Rattle.scc_mesh.specs.Scenes.{ChipView, IsNew, IsWhole, about_in, records_in}
 use Rattle.script_reader.specs.Script.{Script}
+use Rattle.rcce_ue.specs.Ues.{UeView}
+use Rattle.rcce_run.specs.declared.members.Member.{Member}
+use Rattle.rcce_run.specs.declared.runs.Mode.{Mode}
+use Rattle.rcce_run.specs.declared.runs.Mode.TheVariants as mode
+use Rattle.rcce_run.specs.Runs.{InOrder}
 use Rattle.rcce_run.specs.Scripts.{NoneDrafts}
-use Rattle.rcce_run.specs.UeRuns.{HasPlainCalls, WaitsOpen}
+use Rattle.rcce_run.specs.UeRuns.{AreFresh, HasPlainCalls, WaitsOpen, member_seen, member_tied}
+use Rattle.rcce_words.specs.declared.command.Job.{Job}
+use Rattle.run_program.specs.Evictors.{HaveEvictors}
 
--- a run on a chip: its setup, the script that its ranks run, and the number that the script was made of, if it was
+-- a run on a chip: the job that asks for it, its setup, the script that its ranks run, and the number that the script was made
+-- of, if it was
 pub record Asked : Type 0 where
+  pub job : Job
   pub setup : SetupView
   pub script : Script
   pub seed : Option ℕ
 
+-- in threads, or on one thread in the order that a seed names
+abbrev pub mode_by : Option ℕ → Mode
+mode_by None = mode.Threads
+mode_by (Some seed) = mode.Serial seed
+
+-- The turns of a run left this chip: it began on a chip just opened, with members before their first turn, whose cores answered
+-- as the evictors of the job's seed do. From there led to this chip turns of the ranks that the job's seed for one thread names;
+-- and where it has none, rounds in threads, in which each member took a row of turns in whatever order; and behind each round a
+-- sweep of all ranks in their order.
+pub record WasRun (asked : Asked) (chip : ChipView) : Type 0 where
+  pub first : ChipView
+  pub crew : List (Member UeView)
+  pub later : List (Member UeView)
+  pub new : IsNew asked.setup first
+  pub fresh : AreFresh asked.script asked.setup asked.setup.nue crew
+  pub evictors : HaveEvictors asked.job.evict crew
+  pub order : InOrder member_seen member_tied (mode_by asked.job.serial) first crew chip later
+
 -- The chip history of a run: all ranks are at home on a chip of the run's setup. The finished calls of each rank's record are
 -- those that the plain meaning did for it, in order and with their bytes. A call is open in a record only where the plain
 -- meaning leaves the rank waiting in this call. (A rank that waits for its posted message at its end has none.) A rank with no
--- call open has no message in draft.
+-- call open has no message in draft. The turns that the job asks for left the chip so.
 pub record HasRun (asked : Asked) (chip : ChipView) : Type 0 where
   pub setup : about_in chip ≡ asked.setup
   pub whole : IsWhole chip
@@ -25,3 +52,4 @@ pub record HasRun (asked : Asked) (chip : ChipView) : Type 0 where
   pub opened : (rank : ℕ) (call : DataCall) → rank < asked.script.nue → open_call (about_in chip) (records_in chip rank) ≡ Some call
       → WaitsOpen asked.script rank call
   pub no_draft : NoneDrafts (about_in chip) (records_in chip)
+  pub turns : WasRun asked chip

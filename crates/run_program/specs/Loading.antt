@@ -24,7 +24,7 @@ use Rattle.run_program.specs.declared.loaded.Loaded.{Loaded}
 
 -- the run that was loaded
 abbrev pub asked_by : Loaded → Asked
-asked_by loaded = record { setup = loaded.setup; script = loaded.script; seed = loaded.seed }
+asked_by loaded = record { job = loaded.job; setup = loaded.setup; script = loaded.script; seed = loaded.seed }
 
 -- a run was loaded as the plan says, and the plan comes to what it comes to
 pub record Leads (plan : Plan) (asks : Asked → Type 0) (before after : FilesView) (loaded : Loaded) : Type 0 where
@@ -48,6 +48,7 @@ LoadsWords words command before after answer = LoadsBy (words_plan words command
 
 -- a run of the script in a file on these hosts
 pub record AsksOn (file : List ℕ) (told : Option (List NamedFile)) (job : Job) (hosts : List ℕ) (asked : Asked) : Type 0 where
+  pub job_is : asked.job ≡ job
   pub script : ScriptIn file told job.nue asked.script
   pub setup : asked.setup ≡ setup_by job hosts asked.script
   pub seed : asked.seed ≡ None
@@ -66,6 +67,7 @@ pub record AsksBehind (words : List (List ℕ)) (told : Option (List NamedFile))
 
 -- a run of the script that is made of a number
 pub record AsksMade (number : ℕ) (job : Job) (asked : Asked) : Type 0 where
+  pub job_is : asked.job ≡ job
   pub script : asked.script ≡ gen_script_of job.nue number
   pub setup : asked.setup ≡ setup_by job default_hosts asked.script
   pub seed : asked.seed ≡ Some number

@@ -8,6 +8,7 @@ ghost use Rattle.rcce_run.specs.UeRuns.{AreFresh, AreLegal};
 ghost use Rattle.rcce_words.specs.CommandLine.{parse_command};
 ghost use Rattle.run_program.specs.Asking.{ChipTells};
 ghost use Rattle.run_program.specs.Evictors.{HaveEvictors};
+ghost use Rattle.run_program.specs.History.{mode_by};
 ghost use Rattle.run_program.specs.Loading.{Launches, Ran, asked_by};
 ghost use Rattle.run_program.specs.Program.{rccerun};
 ghost use Rattle.run_program.specs.Runs.{IsMadeOf, IsOver};
@@ -117,9 +118,15 @@ fn run_crew<R: Threads + Sync, G: Gate + Sync>(
     ensures over { IsOver (asked_by loaded.now) chip.new crew.new result }
     ensures legal { AreLegal chip.new }
 {
-    let mode = match loaded.job.serial {
+    run(rt, chip, crew, mode_of(loaded.job.serial), gate)
+}
+
+// In threads, or on one thread in the order that a seed names.
+fn mode_of(serial: Option<u32>) -> Mode
+    ensures gives { result ≡ mode_by serial }
+{
+    match serial {
         Some(seed) => Mode::Serial(u64::from(seed)),
         None => Mode::Threads,
-    };
-    run(rt, chip, crew, mode, gate)
+    }
 }

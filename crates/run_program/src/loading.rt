@@ -174,6 +174,7 @@ fn load_script<'a, F: Files>(
 fn with_setup(job: Job, script: Scripts, hosts: [CoreId; 48], seed: Option<u32>) -> Loaded
     requires ranks { script.nue ≡ job.nue }
     requires apart { AreApart job.nue hosts }
+    ensures job { result.job ≡ job }
     ensures script { result.script ≡ script }
     ensures setup { result.setup ≡ setup_by job hosts script }
     ensures seed { result.seed ≡ seed }

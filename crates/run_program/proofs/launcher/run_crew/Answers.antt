@@ -1,3 +1,7 @@
+use Rattle.std.proofs.Common.{subst}
+use Rattle.rcce_run.specs.declared.runs.Mode.{Mode}
+use Rattle.rcce_run.specs.Runs.{InOrder}
+use Rattle.rcce_run.specs.UeRuns.{member_seen, member_tied}
 use Rattle.run_program.specs.Loading.{asked_by}
 use Rattle.rcce_run.proofs.FreshCrews.{crew_fresh}
 use Rattle.run_program.proofs.RunLemmas.{run_over}
@@ -14,3 +18,12 @@ returns-clause-over g c =
     let fresh = crew_fresh loaded.script loaded.setup _ c.requires.fresh _ c.requires.chip in
     run_over (asked_by loaded) _ _ _ _ _ loaded.ranks c.requires.chip c.requires.fresh.count c.run.ensures.stands c.run.ensures.home
     (c.run.ensures.answer loaded.script fresh) (c.run.ensures.ends loaded.script fresh) (c.run.ensures.calls loaded.script fresh) (c.run.ensures.sent loaded.script fresh) (c.run.ensures.opened loaded.script fresh) c.run.ensures.no_draft
+    (record {
+      first = c.args.chip.now;
+      crew = c.args.crew.now;
+      later = c.run.new.crew;
+      new = c.requires.chip;
+      fresh = c.requires.fresh;
+      evictors = c.requires.evictors;
+      order = subst (λ (m : Mode). InOrder member_seen member_tied m c.args.chip.now c.args.crew.now c.run.new.chip c.run.new.crew) c.mode_of.ensures.gives c.run.ensures.order;
+    })

@@ -27,7 +27,7 @@ pub returns-in-Ok : goal.returns-in-Ok
 returns-in-Ok c = λ files.
     loads_read_made c.args.job c.args.seed files c.in-Ok.script c.with_setup.result
     (is_made c.args.job.nue c.args.seed c.args.text.now c.in-Ok.script c.requires.made (c.generated_scripts_are_read.ensures c.args.job.nue c.args.seed c.requires.some c.requires.most c.requires.short) c.in-Ok.ensures.gives)
-    c.with_setup.ensures.script (c.with_setup.ensures.setup ∙ ap (λ (hosts : List ℕ). setup_by c.args.job hosts c.in-Ok.script) c.default_hosts.ensures.gives) c.with_setup.ensures.seed
+    c.with_setup.ensures.job c.with_setup.ensures.script (c.with_setup.ensures.setup ∙ ap (λ (hosts : List ℕ). setup_by c.args.job hosts c.in-Ok.script) c.default_hosts.ensures.gives) c.with_setup.ensures.seed
 
 pub returns-in-Err-Memory : goal.returns-in-Err-Memory
 returns-in-Err-Memory c = λ files. loads_unmade c.args.job c.args.seed files complaint.Memory refl
