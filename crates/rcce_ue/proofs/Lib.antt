@@ -1,3 +1,4 @@
+pub mod FrontLemmas
 pub mod PathLemmas
 pub mod CountLemmas
 pub mod MeasureLemmas
@@ -11,5 +12,6 @@ pub mod AloneTurns
 pub mod StartLemmas
 pub mod Carry
 pub mod OpAnswers
+pub mod StretchTurns
 pub mod WaitLemmas
 pub mod OtherPort

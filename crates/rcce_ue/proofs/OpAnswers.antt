@@ -76,7 +76,7 @@ module _ (ue old now : UeView) (s t : Sight) where
     asked_by (Recvs from head take_in refuse) of = ap (λ (h : MessageHead). h.len) of.1
     asked_by (Bars comm after) of = absurd of
 
-    asked : op.head.len ≡ length_in (local_next ue.machine.local)
+    pub asked : op.head.len ≡ length_in (local_next ue.machine.local)
     asked = asked_by (local_next ue.machine.local) there_recv.stands.1
 
     receives_by : (n : Next Local) → IsRecvOf op n → IsTrue (is_receiving n)

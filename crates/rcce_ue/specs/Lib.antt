@@ -3,3 +3,4 @@ pub mod Standing
 pub mod Left
 pub mod Turns
 pub mod Bounds
+pub mod Stretches

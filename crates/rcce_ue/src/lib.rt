@@ -4,6 +4,7 @@
 mod calls;
 mod laws;
 mod receiving;
+mod stretches;
 mod ues;
 
 pub use laws::{free_law, other_port_law};

@@ -29,12 +29,13 @@ impl Model for OpenReceive {
 }
 
 impl OpenReceive {
-    ghost use Rattle.std.specs.Prelude.{◌≡◌, ◌≤◌, Some, length, take};
+    ghost use Rattle.std.specs.Prelude.{◌≡◌, ◌≤◌, Some, length, take, true};
     ghost use Rattle.scc_base.specs.declared.events.Spot.{Spot};
     ghost use Rattle.put_get.specs.Cores.{MadeSteps};
     ghost use Rattle.send_recv.specs.Ops.{new_receive};
     ghost use Rattle.send_recv.specs.Receiving.{RecvStands, RecvTurned, recv_waits};
     ghost use Rattle.send_recv.specs.Ranks.{receiving};
+    ghost use Rattle.send_recv.specs.Stretches.{ReadLines, is_reading};
 
     /// A receive at the start of a message with this head.
     pub fn new(from: Rank, head: Head) -> OpenReceive
@@ -62,6 +63,31 @@ impl OpenReceive {
     {
         let (front, _) = inbox.split_at_mut(self.len);
         self.op.turn(core, port, front)
+    }
+
+    /// Whether the next turn reads a line of the chunk in hand.
+    pub fn is_reading(&self) -> bool
+        ensures { result ≡ is_reading self.now.stage }
+    {
+        self.op.is_reading()
+    }
+
+    /// Goes on by the turns that read the lines of the chunk in hand which are left, into the first bytes of the inbox.
+    pub fn read_lines<V: Evict, P: Port>(
+        &mut self,
+        core: &mut Core<V>,
+        port: &mut P,
+        inbox: &mut [u8],
+    )
+        requires within { self.old.head.len ≤ length inbox.old }
+        requires stands { RecvStands (P.sight port.old) core.old self.old (take self.old.head.len inbox.old) }
+        requires reading { is_reading self.old.stage ≡ true }
+        ensures stands { RecvStands (P.sight port.new) core.new self.new (take self.old.head.len inbox.new) }
+        ensures read { ReadLines (receiving (P.sight port.old) core.old self.old (take self.old.head.len inbox.old))
+            (receiving (P.sight port.new) core.new self.new (take self.old.head.len inbox.new)) }
+    {
+        let (front, _) = inbox.split_at_mut(self.len);
+        self.op.read_lines(core, port, front);
     }
 }
 

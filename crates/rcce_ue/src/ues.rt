@@ -20,12 +20,12 @@ use std::marker::Model;
 /// A unit of execution (RCCE specification 2.0: UE), which runs the script of one rank on one core.
 #[derive(Drop)]
 pub struct Ue<'s, V: Evict> {
-    machine: Machine<'s>,
-    core: Core<V>,
-    slot: Slot,
+    pub(crate) machine: Machine<'s>,
+    pub(crate) core: Core<V>,
+    pub(crate) slot: Slot,
     parity: Parity,
-    op: Open,
-    inbox: Vec<u8>,
+    pub(crate) op: Open,
+    pub(crate) inbox: Vec<u8>,
     posted: Option<OnItsWay>,
     sent: u64,
     sent_bytes: u64,

@@ -5,29 +5,17 @@ use Rattle.send_recv.specs.Ops.{RecvAt}
 use Rattle.send_recv.specs.Ranks.{receiving}
 use Rattle.send_recv.specs.Receiving.{RecvStands, RecvTurned}
 use Rattle.send_recv.specs.declared.answers.RecvTurn.{RecvTurn}
+use Rattle.rcce_ue.proofs.FrontLemmas.{asked, back_is, front_is, stands_in}
 use Rattle.rcce_ue.proofs.receiving.OpenReceive.turn.Goals as goal
 
--- the front of the inbox is as long as the message, before the turn and after it
+-- a turn, into the front of the inbox
 module _ (op now : RecvAt) (len : ℕ) (kept : len ≡ op.head.len) (seen : op ≡ now) where
-  asked : len ≡ now.head.len
-  asked = kept ∙ ap (λ (x : RecvAt). x.head.len) seen
-
-  front_is : (inbox front : List ℕ) → front ≡ take len inbox → front ≡ take now.head.len inbox
-  front_is inbox front is = is ∙ ap (λ (n : ℕ). take n inbox) asked
-
-  stands_in : (s : Sight) (c : Private) (inbox front : List ℕ) → front ≡ take len inbox → RecvStands s c now (take now.head.len inbox) → RecvStands s c op front
-  stands_in s c inbox front is stands =
-      subst (λ (x : RecvAt). RecvStands s c x front) (sym seen) (subst (λ (l : List ℕ). RecvStands s c now l) (sym (front_is inbox front is)) stands)
-
-  back_is : (after rest front : List ℕ) → length front ≡ len → length after ≡ length front → after ≡ take now.head.len (after ++ rest)
-  back_is after rest front long same = sym (take_at after rest now.head.len (same ∙ long ∙ asked))
-
   turned_in : (s t : Sight) (c d : Private) (next : RecvAt) (inbox front after rest : List ℕ) (answer : RecvTurn) → front ≡ take len inbox → length front ≡ len → length after ≡ length front
       → RecvTurned (receiving s c op front) (receiving t d next after) answer → RecvTurned (receiving s c now (take now.head.len inbox)) (receiving t d next (take now.head.len (after ++ rest))) answer
   turned_in s t c d next inbox front after rest answer is long same turned =
       subst (λ (x : RecvAt). RecvTurned (receiving s c x (take now.head.len inbox)) (receiving t d next (take now.head.len (after ++ rest))) answer) seen
-      (subst (λ (l : List ℕ). RecvTurned (receiving s c op l) (receiving t d next (take now.head.len (after ++ rest))) answer) (front_is inbox front is)
-      (subst (λ (l : List ℕ). RecvTurned (receiving s c op front) (receiving t d next l) answer) (back_is after rest front long same) turned))
+      (subst (λ (l : List ℕ). RecvTurned (receiving s c op l) (receiving t d next (take now.head.len (after ++ rest))) answer) (front_is op now len kept seen inbox front is)
+      (subst (λ (l : List ℕ). RecvTurned (receiving s c op front) (receiving t d next l) answer) (back_is op now len kept seen after rest front long same) turned))
 
 pub split_at_mut-front-requires : goal.split_at_mut-front-requires
 split_at_mut-front-requires g c = subst (λ (n : ℕ). n ≤ length c.args.inbox.now) (sym (asked c.self.inside.op c.args.self.now c.self.inside.len c.self.invariant c.self.view_is)) c.requires.within
