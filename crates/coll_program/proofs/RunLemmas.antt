@@ -66,6 +66,7 @@ module _ (job : Job) (chip now : ChipView) (team later : List MemberView) (some 
         ended.calls k d (below k low)
         ∙ (λ i. data_calls job.more k (nue_is i) job.len (is.src k d (below k low) i) (pieces_are k i));
     none_open = λ k low. ended.none_open k (below k low);
+    idle = λ k low. ended.idle k (below k low);
   }
 
 -- ---- what words come to

@@ -6,6 +6,7 @@ use Rattle.scc_proto.specs.Agreement.{Agrees}
 use Rattle.scc_proto.specs.Passed.{open_call, open_of, passed_calls, slot_of}
 use Rattle.scc_proto.specs.Ports.{record_in}
 use Rattle.scc_proto.specs.Records.{chunk_of, record_of}
+use Rattle.scc_proto.specs.Stages.{Idle}
 use Rattle.scc_proto.specs.Words.{Memory}
 use Rattle.scc_mesh.specs.Scenes.{ChipView, about_in, events_in, records_in}
 use Rattle.send_recv.specs.Calling.{IsBetweenMessages}
@@ -114,6 +115,10 @@ module _ (more : More) (len : ℕ) (chip now : ChipView) (team later : List Memb
   unfolding record_in
   none_open k low = ap (open_of (chunk_of s)) (ended k low).no_call.between.stage
 
+  idle : (k : ℕ) → k < s.nue → (records_in now k).stage ≡ Idle
+  unfolding record_in
+  idle k low = (ended k low).no_call.between.stage
+
   same_nue : (about_in now).nue ≡ (about_in chip).nue
   same_nue = ap (λ (x : SetupView). x.nue) goes.about
 
@@ -143,5 +148,7 @@ module _ (more : More) (len : ℕ) (chip now : ChipView) (team later : List Memb
     pieces = λ k d low. pieces_now more len chip now team later d memory agrees is goes rests k low;
     calls = λ k d low. calls_now more len chip now team later d memory agrees is goes rests k low;
     none_open = λ k low. none_open more len chip now team later (some_at team k low) memory agrees is goes rests k
+        (below more len chip now team later (some_at team k low) memory agrees is goes rests k low);
+    idle = λ k low. idle more len chip now team later (some_at team k low) memory agrees is goes rests k
         (below more len chip now team later (some_at team k low) memory agrees is goes rests k low);
   }

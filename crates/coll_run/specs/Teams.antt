@@ -6,6 +6,7 @@ use Rattle.scc_base.specs.declared.events.Event.{Event}
 use Rattle.scc_proto.specs.Passed.{open_call}
 use Rattle.scc_proto.specs.Ports.{Seat, Sight}
 use Rattle.scc_proto.specs.Records.{record_of}
+use Rattle.scc_proto.specs.Stages.{Idle}
 use Rattle.scc_mesh.specs.Scenes.{ChipView, IsWhole, about_in, events_in, records_in}
 use Rattle.put_get.specs.Cores.{Private}
 use Rattle.send_recv.specs.Ops.{SlotAt, empty_slot}
@@ -73,7 +74,7 @@ pub record IsFreshTeam (more : More) (len : ℕ) (chip : ChipView) (team : List 
   pub fresh : AreFresh more len (about_in chip).nue team
 
 -- A run is over: it is the same chip, all its ranks are at home, and each has got its pieces of what the ranks handed in. Its
--- finished calls are exactly those of its table, in order and with their bytes, and no call is open.
+-- finished calls are exactly those of its table, in order and with their bytes; no call is open, and no message is in draft.
 pub record HaveEnded (more : More) (len : ℕ) (chip : ChipView) (team : List MemberView) (now : ChipView) (later : List MemberView) : Type 0 where
   pub about : about_in now ≡ about_in chip
   pub whole : IsWhole now
@@ -82,3 +83,4 @@ pub record HaveEnded (more : More) (len : ℕ) (chip : ChipView) (team : List Me
   pub calls : (k : ℕ) (d : MemberView) → k < length team
       → (records_in now k).calls ≡ data_calls more k (about_in chip).nue len (srcs_of team d k) (pieces_for more (about_in chip).nue len (srcs_of team d) k)
   pub none_open : (k : ℕ) → k < length team → open_call (about_in now) (records_in now k) ≡ None
+  pub idle : (k : ℕ) → k < length team → (records_in now k).stage ≡ Idle
