@@ -16,6 +16,7 @@ use Rattle.script_plain.specs.Meaning.{State, next_of}
 use Rattle.rcce_run.specs.declared.rests.Rest.{Rest}
 use Rattle.rcce_run.specs.declared.rests.Rest.TheVariants as rest
 use Rattle.rcce_run.specs.Crews.{AllRest, CrewStands, GoesOn, IsCrew, OneTurn, OneUnfinished, SweepStands, SweptTo, WorkerRests, all_left, end_by}
+use Rattle.rcce_run.proofs.MovedLaws.{moved_less}
 use Rattle.rcce_run.specs.Turns.{CameTo, HasStayed, RestsAt, WaitsThen, WorkerView, both_rest}
 
 -- where nothing is on its way in the one of two records that are alike, nothing is in the other
@@ -95,13 +96,13 @@ module _ {A : Type 0} (seen : A → WorkerView) where
         ∙ sum_by-set (λ w. (seen w).left) crew at turn.new turn.old turn.within
 
     pub less_left : (came : Rest) → CameTo came chip at now (seen turn.old) (seen turn.new) → all_left seen later ≤ all_left seen crew
-    less_left rest.Moved comes = let sum = sums in omega (arith, sum, comes)
+    less_left rest.Moved comes = let sum = sums in let less = moved_less (seen turn.old) (seen turn.new) comes in omega (arith, sum, less)
     less_left rest.Finished comes = let sum = sums in let same = comes.left in omega (arith, sum, same)
     less_left rest.Unfinished comes = let sum = sums in let same = comes.left in omega (arith, sum, same)
 
     pub moved_left : came ≡ rest.Moved → all_left seen later < all_left seen crew
     moved_left is =
-        let less : (seen turn.new).left < (seen turn.old).left = subst (λ (c : Rest). CameTo c chip at now (seen turn.old) (seen turn.new)) is turn.turned.comes in
+        let less = moved_less (seen turn.old) (seen turn.new) (subst (λ (c : Rest). CameTo c chip at now (seen turn.old) (seen turn.new)) is turn.turned.comes) in
         let sum = sums in omega (arith, sum, less)
 
     pub turn_goes_on : GoesOn seen chip crew now later
@@ -173,11 +174,11 @@ module _ {A : Type 0} (seen : A → WorkerView) where
     swept_by start first rest.Moved after goes swept comes =
         let less = less_left after comes in omega (arith, swept, less)
     swept_by start first rest.Finished rest.Moved goes swept comes =
-        let sum = sums in let most = goes.left in omega (arith, sum, comes, most)
+        let sum = sums in let most = goes.left in let less = moved_less (seen turn.old) (seen turn.new) comes in omega (arith, sum, less, most)
     swept_by start first rest.Finished rest.Finished goes swept comes = all_finished comes swept
     swept_by start first rest.Finished rest.Unfinished goes swept comes = (all_rest false comes (as_all swept), first_unfinished comes)
     swept_by start first rest.Unfinished rest.Moved goes swept comes =
-        let sum = sums in let most = goes.left in omega (arith, sum, comes, most)
+        let sum = sums in let most = goes.left in let less = moved_less (seen turn.old) (seen turn.new) comes in omega (arith, sum, less, most)
     swept_by start first rest.Unfinished rest.Finished goes (all, some) comes = (all_rest true comes all, still_unfinished true comes some)
     swept_by start first rest.Unfinished rest.Unfinished goes (all, some) comes = (all_rest false comes all, still_unfinished false comes some)
 

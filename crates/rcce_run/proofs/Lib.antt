@@ -12,6 +12,7 @@ pub mod PlainEnds
 pub mod CrewLaws
 pub mod RunEnds
 pub mod ThreeWait
+pub mod MovedLaws
 pub mod RowLaws
 pub mod Looks
 pub mod UeLooks

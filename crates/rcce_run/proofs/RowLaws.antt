@@ -1,30 +1,103 @@
--- A row of turns goes on by a turn.
-use Rattle.std.proofs.Common.{◌≡◌, ℕ, ◌+◌, ◌-◌, ◌*◌, ◌<◌, ◌≤◌, List, [], ◌++◌, refl, sym, ◌∙◌, subst, arith}
+-- A row of turns goes on by a turn, and where it ends.
+use Rattle.std.proofs.Common.{◌≡◌, ◌⊎◌, inl, inr, ℕ, zero, suc, ◌+◌, ◌-◌, ◌*◌, ◌<◌, ◌≤◌, List, [], ◌∷◌, ◌++◌, drop, refl, sym, ◌∙◌, subst, arith}
+use Rattle.std.proofs.lemmas.Bool.{cases_lt}
 use Rattle.scc_base.specs.Setups.{SetupView}
 use Rattle.scc_base.specs.declared.events.Event.{Event}
 use Rattle.scc_base.specs.declared.events.Turn.{Turn}
 use Rattle.scc_base.specs.declared.events.Turn.TheVariants as turn
-use Rattle.scc_proto.specs.Ports.{Sight}
-use Rattle.scc_proto.proofs.PortLaws.{did_both, did_nothing}
-use Rattle.rcce_run.specs.Away.{RowOfTurns, row_left, vain_by}
+use Rattle.scc_proto.specs.Ports.{Seat, Sight}
+use Rattle.scc_proto.proofs.PortLaws.{did_both, did_nothing, seat_kept}
+use Rattle.rcce_run.specs.Away.{EndsRow, IsRow, SomeTurns, row_left, vain_by, waited_in}
 use Rattle.rcce_run.specs.Turns.{Turned, TurnMeans, WorkerView}
+use Rattle.rcce_run.proofs.MovedLaws.{moved_less}
 
-pub row_first : (w : WorkerView) (s : Sight) → RowOfTurns w s w s
-row_first w s = record { events = []; did = did_nothing s; later = record { script = refl; left = omega arith } }
+-- ---- where a row ends
+
+-- behind no answer a row is not at its end
+none_yet : EndsRow 1000 [] → ⊥
+none_yet (inl over) = absurd (cc (over))
+none_yet (inr many) = absurd (omega (arith, many))
+
+-- how a row stands while turns are taken: it is at its end, or fewer than a thousand turns in a row were vain
+pub data IsGoing (answers : List Turn) (vain : ℕ) : Type 0 where
+  Stops : vain ≡ 1000 → EndsRow 1000 answers → IsGoing answers vain
+  Goes : vain < 1000 → vain ≡ waited_in answers → (EndsRow 1000 answers → ⊥) → IsGoing answers vain
+
+pub record RowSoFar (answers : List Turn) (vain : ℕ) : Type 0 where
+  pub none : (n : ℕ) → EndsRow 1000 (drop (suc n) answers) → ⊥
+  pub going : IsGoing answers vain
+
+pub so_far_first : RowSoFar [] 0
+so_far_first = record { none = λ n ends. none_yet ends; going = Goes (omega arith) refl none_yet }
+
+-- before a turn no row is at its end behind any of the answers
+none_before : (answers : List Turn) (vain : ℕ) → vain < 1000 → RowSoFar answers vain → (n : ℕ) → EndsRow 1000 (drop n answers) → ⊥
+none_before answers vain low so zero = by so.going
+  where
+    by : IsGoing answers vain → EndsRow 1000 answers → ⊥
+    by (Stops many ends) = absurd (omega (arith, low, many))
+    by (Goes few is none) = none
+none_before answers vain low so (suc n) = so.none n
+
+waited_before : (answers : List Turn) (vain : ℕ) → vain < 1000 → IsGoing answers vain → vain ≡ waited_in answers
+waited_before answers vain low (Stops many ends) = absurd (omega (arith, low, many))
+waited_before answers vain low (Goes few is none) = is
+
+going_by : (answers : List Turn) (vain : ℕ) (answer : Turn) → vain < 1000 → vain ≡ waited_in answers → IsGoing (answer ∷ answers) (vain_by 1000 answer vain)
+going_by answers vain turn.Moved low is = Goes (omega arith) refl none
+  where
+    none : EndsRow 1000 (turn.Moved ∷ answers) → ⊥
+    none (inl over) = absurd (cc (over))
+    none (inr many) = absurd (omega (arith, many))
+going_by answers vain (turn.Waiting spot) low is = by (cases_lt (vain + 1) 1000)
+  where
+    more : vain + 1 ≡ suc (waited_in answers)
+    more = omega (arith, is)
+
+    none : vain + 1 < 1000 → EndsRow 1000 (turn.Waiting spot ∷ answers) → ⊥
+    none few (inl over) = absurd (cc (over))
+    none few (inr many) = absurd (omega (arith, few, more, many))
+
+    by : (vain + 1 < 1000) ⊎ (1000 ≤ vain + 1) → IsGoing (turn.Waiting spot ∷ answers) (vain + 1)
+    by (inl few) = Goes few more (none few)
+    by (inr many) = Stops (omega (arith, low, many)) (inr (omega (arith, low, many, more)))
+going_by answers vain turn.Done low is = Stops refl (inl refl)
+
+-- one more answer
+pub so_far_on : (answers : List Turn) (vain later : ℕ) (answer : Turn) → vain < 1000 → later ≡ vain_by 1000 answer vain → RowSoFar answers vain → RowSoFar (answer ∷ answers) later
+so_far_on answers vain later answer low is so = record {
+  none = none_before answers vain low so;
+  going = subst (IsGoing (answer ∷ answers)) (sym is) (going_by answers vain answer low (waited_before answers vain low so.going));
+}
+
+-- where the turns stop a row is at its end
+pub row_is : (answers : List Turn) (vain : ℕ) → 1000 ≤ vain → RowSoFar answers vain → IsRow 1000 answers
+row_is answers vain past so = record { ends = by so.going; first = so.none }
+  where
+    by : IsGoing answers vain → EndsRow 1000 answers
+    by (Stops many ends) = ends
+    by (Goes few is none) = absurd (omega (arith, past, few))
+
+-- ---- the turns
+
+pub turns_first : (stepped : List Event → Event → Type 0) (w : WorkerView) (s : Sight) → SomeTurns stepped [] w s w s
+turns_first stepped w s = record { events = []; did = did_nothing s; later = record { script = refl; left = omega arith }; took = (refl, refl) }
 
 left_after : (stepped : List Event → Event → Type 0) (s : SetupView) (rank : ℕ) (own events : List Event) (old new : WorkerView) (answer : Turn) → TurnMeans stepped s rank own events old new answer → new.left ≤ old.left
-left_after stepped s rank own events old new turn.Moved means = omega (arith, means)
+left_after stepped s rank own events old new turn.Moved means = let less = moved_less old new means in omega (arith, less)
 left_after stepped s rank own events old new (turn.Waiting spot) means = let same = means.left in omega (arith, same)
 left_after stepped s rank own events old new turn.Done means = let same = means.left in omega (arith, same)
 
-pub row_on : (stepped : List Event → Event → Type 0) (old mid new : WorkerView) (s m t : Sight) (answer : Turn) → RowOfTurns old s mid m → Turned stepped mid m new t answer → RowOfTurns old s new t
-row_on stepped old mid new s m t answer row turned = record {
+pub turns_on : (stepped : Seat → List Event → Event → Type 0) (answers : List Turn) (old mid new : WorkerView) (s m t : Sight) (answer : Turn)
+    → SomeTurns (stepped s.seat) answers old s mid m → Turned (stepped m.seat) mid m new t answer → SomeTurns (stepped s.seat) (answer ∷ answers) old s new t
+turns_on stepped answers old mid new s m t answer row turned = record {
   events = row.events ++ turned.events;
   did = did_both s row.events m turned.events t row.did turned.did;
   later = record {
     script = turned.script ∙ row.later.script;
-    left = let one = row.later.left in let two = left_after stepped m.seat.setup m.seat.rank m.events turned.events mid new answer turned.means in omega (arith, one, two);
+    left = let one = row.later.left in let two = left_after (stepped m.seat) m.seat.setup m.seat.rank m.events turned.events mid new answer turned.means in omega (arith, one, two);
   };
+  took = (mid, m, row.took, subst (λ (x : Seat). Turned (stepped x) mid m new t answer) (seat_kept s row.events m row.did) turned);
 }
 
 falls_moved : (left less vain : ℕ) → less < left → vain < 1000 → 1000 * less + (1000 - 0) < 1000 * left + (1000 - vain)
@@ -38,7 +111,7 @@ falls_done left less vain one two = omega (arith, one, two)
 
 falls_by : (stepped : List Event → Event → Type 0) (s : SetupView) (rank : ℕ) (own events : List Event) (old new : WorkerView) (answer : Turn) (vain : ℕ) → vain < 1000
     → TurnMeans stepped s rank own events old new answer → row_left 1000 new (vain_by 1000 answer vain) < row_left 1000 old vain
-falls_by stepped s rank own events old new turn.Moved vain low means = falls_moved old.left new.left vain means low
+falls_by stepped s rank own events old new turn.Moved vain low means = falls_moved old.left new.left vain (moved_less old new means) low
 falls_by stepped s rank own events old new (turn.Waiting spot) vain low means = falls_waits old.left new.left vain means.left low
 falls_by stepped s rank own events old new turn.Done vain low means = falls_done old.left new.left vain means.left low
 

@@ -11,7 +11,7 @@ use Rattle.rcce_run.specs.declared.runs.Mode.TheVariants as mode
 use Rattle.rcce_run.specs.declared.runs.Rounds.{Rounds}
 use Rattle.rcce_run.specs.declared.runs.Rounds.TheVariants as rounds
 use Rattle.rcce_run.specs.Orders.{TurnsOf, drawn, drawn_in, named, ranks_by}
-use Rattle.rcce_run.specs.Runs.{InOrder, NextRound, RoundsTo, rounds_of}
+use Rattle.rcce_run.specs.Runs.{InOrder, NextRound, RoundsTo, RowsTo, TookRows, rounds_of}
 use Rattle.rcce_run.specs.Turns.{WorkerView}
 use Rattle.rcce_run.proofs.OrderLaws.{turns_then}
 
@@ -34,7 +34,7 @@ module _ {G : Type 0} (step : G → ℕ × G) (nue : ℕ) where
 
 module _ {A : Type 0} (seen : A → WorkerView) (tied : A → SetupView → ℕ → List Event → Type 0) where
   pub no_rounds : (way : Rounds) (chip : ChipView) (crew : List A) → RoundsTo seen tied way 0 way chip crew chip crew
-  no_rounds rounds.InThreads chip crew = refl
+  no_rounds rounds.InThreads chip crew = (refl, (refl, refl))
   no_rounds (rounds.Picked picks) chip crew = (
     sym (ap (λ (g : Lcg). rounds.Picked g) (none_in pcg32 (length crew) picks)),
     subst (λ (l : List ℕ). TurnsOf seen tied l chip crew chip crew) (sym (none_ranks pcg32 (length crew) picks)) (refl, refl),
@@ -59,15 +59,22 @@ module _ {A : Type 0} (seen : A → WorkerView) (tied : A → SetupView → ℕ 
             (subst (λ (k : ℕ). TurnsOf seen tied (range_with_len 0 k) half more last later) (same ∙ many) sweep))),
       )
 
+  -- a round in threads, and the sweep behind it
+  rows_on : (n : ℕ) (chip mid half last : ChipView) (crew some more later : List A) → RowsTo seen tied n chip crew mid some → TookRows seen tied mid some half more
+      → TurnsOf seen tied (range_with_len 0 (length more)) half more last later → RowsTo seen tied (suc n) chip crew last later
+  rows_on n chip mid half last crew some more later before took sweep = (mid, some, half, more, before, took, sweep)
+
   pub rounds_on : (way old new : Rounds) (n : ℕ) (chip mid half last : ChipView) (crew some more later : List A) → RoundsTo seen tied way n old chip crew mid some → NextRound seen tied old new mid some half more
       → length some ≡ length crew → length more ≡ length some → TurnsOf seen tied (range_with_len 0 (length more)) half more last later → RoundsTo seen tied way (n + 1) new chip crew last later
-  rounds_on rounds.InThreads old new n chip mid half last crew some more later before goes many same sweep =
-      subst (λ (w : Rounds). NextRound seen tied w new mid some half more) before goes
+  rounds_on rounds.InThreads old new n chip mid half last crew some more later (at, before) goes many same sweep =
+      let (is, took) : NextRound seen tied rounds.InThreads new mid some half more = subst (λ (w : Rounds). NextRound seen tied w new mid some half more) at goes in
+      let next : suc n ≡ n + 1 = omega arith in
+      (is, subst (λ (k : ℕ). RowsTo seen tied k chip crew last later) next (rows_on n chip mid half last crew some more later before took sweep))
   rounds_on (rounds.Picked picks) old new n chip mid half last crew some more later (at, before) goes many same sweep =
       let now = drawn_in pcg32 (length crew) n picks in
       let (is, round) : NextRound seen tied (rounds.Picked now) new mid some half more = subst (λ (w : Rounds). NextRound seen tied w new mid some half more) at goes in
       picked_round n picks now new chip mid half last crew some more later refl before many same is round sweep
 
   pub ran_in_order : (way : Mode) (n : ℕ) (new : Rounds) (chip last : ChipView) (crew later : List A) → RoundsTo seen tied (rounds_of way) n new chip crew last later → InOrder seen tied way chip crew last later
-  ran_in_order mode.Threads n new chip last crew later ran = tt
+  ran_in_order mode.Threads n new chip last crew later (at, rows) = (n, rows)
   ran_in_order (mode.Serial seed) n new chip last crew later (at, turns) = (n, turns)

@@ -3,25 +3,20 @@ use Rattle.std.proofs.Common.{◌≡◌, ℕ, ◌<◌, List, length, slice_index
 use Rattle.scc_base.specs.Setups.{SetupView}
 use Rattle.scc_base.specs.declared.events.Event.{Event}
 use Rattle.scc_mesh.specs.Scenes.{ChipView, IsWhole, about_in, events_in, table_in}
-use Rattle.rcce_run.specs.Away.{IsLater}
+use Rattle.rcce_run.specs.Away.{TookRow}
 use Rattle.rcce_run.specs.Crews.{CrewStands, IsCrew}
 use Rattle.rcce_run.specs.Turns.{WorkerView}
 use Rattle.rcce_run.proofs.ServedLaws.{sum_later}
 
--- turns between two moments at which the worker was the same
-pub later_between : (first before after last : WorkerView) → before ≡ first → IsLater before after → last ≡ after → IsLater first last
-later_between first before after last one later two = record {
-  script = ap (λ (w : WorkerView). w.script) two ∙ later.script ∙ ap (λ (w : WorkerView). w.script) one;
-  left =
-      let a = ap (λ (w : WorkerView). w.left) one in let b = later.left in let c = ap (λ (w : WorkerView). w.left) two in
-      omega (arith, a, b, c);
-}
+-- a row between two moments at which the worker was the same
+pub row_between : (first before after last : WorkerView) → before ≡ first → TookRow before after → last ≡ after → TookRow first last
+row_between first before after last one row two = subst (TookRow first) (sym two) (subst (λ (w : WorkerView). TookRow w after) one row)
 
 module _ {A : Type 0} (seen : A → WorkerView) (tied : A → SetupView → ℕ → List Event → Type 0) where
   -- a crew whose members each went on
   pub round_stands : (chip now : ChipView) (crew later : List A) → IsCrew tied chip crew → IsWhole now → about_in now ≡ about_in chip → table_in now ≡ table_in chip → length later ≡ length crew
       → ((k : ℕ) (d : A) → k < length crew → tied (slice_index_or later k d) (about_in now) k (events_in now k))
-      → ((k : ℕ) (d : A) → k < length crew → IsLater (seen (slice_index_or crew k d)) (seen (slice_index_or later k d)))
+      → ((k : ℕ) (d : A) → k < length crew → TookRow (seen (slice_index_or crew k d)) (seen (slice_index_or later k d)))
       → CrewStands seen tied chip crew now later
   round_stands chip now crew later is_crew whole about table count ties goes = record {
     is_crew = record {
@@ -35,7 +30,7 @@ module _ {A : Type 0} (seen : A → WorkerView) (tied : A → SetupView → ℕ 
       count = count;
       scripts = λ script all k d low.
           let within = subst (λ (n : ℕ). k < n) count low in
-          (goes k d within).script ∙ all k d within;
-      left = sum_later (λ w. (seen w).left) crew later count (λ k d low. (goes k d low).left);
+          (goes k d within).row.turns.later.script ∙ all k d within;
+      left = sum_later (λ w. (seen w).left) crew later count (λ k d low. (goes k d low).row.turns.later.left);
     };
   }

@@ -42,6 +42,7 @@ use Rattle.rcce_ue.specs.declared.calls.Open.TheVariants.{Nothing, Sending, Rece
 use Rattle.rcce_ue.proofs.OtherPort.{tied_there}
 use Rattle.rcce_ue.proofs.WaitLemmas.{VainStep, found}
 use Rattle.rcce_run.specs.Sweep.{BarWaits, RaiseWaits, SlotWaits, TakeWaits}
+use Rattle.rcce_run.proofs.MovedLaws.{ue_moved}
 use Rattle.rcce_run.specs.Turns.{HasWaited, IsDone, NoneElseHolds, TurnMeans, Turned, Waits}
 use Rattle.rcce_run.specs.Ues.{UeStands, ue_seen}
 use Rattle.rcce_run.proofs.HomeTurns.{both_pass, record_split}
@@ -289,7 +290,7 @@ module _ (x : UeView) (s t : Sight) (now : UeView) (tied : Tied x s) (turned : U
 
 means_by : (stepped : List Event → Event → Type 0) (x : UeView) (s t : Sight) (now : UeView) (answer : Turn) (tied : Tied x s) (later : Tied now t) (turned : UeTurned x s now t answer)
     → ((spot : Spot) → sr.waits_at answer ≡ Some spot → WereSteps stepped s.events turned.events) → TurnMeans stepped s.seat.setup s.seat.rank s.events turned.events (ue_seen x) (ue_seen now) answer
-means_by stepped x s t now turn.Moved tied later turned steps = turned.means.0
+means_by stepped x s t now turn.Moved tied later turned steps = ue_moved x now turned.means.0 turned.means.2
 means_by stepped x s t now (turn.Waiting spot) tied later turned steps = has_waited stepped x s t now spot tied later turned (steps spot refl)
 means_by stepped x s t now turn.Done tied later turned steps = is_done x s t now tied turned
 

@@ -1,5 +1,5 @@
 -- One turn of a rank in a run, as its port sees it and as the chip shows it (this project's profile).
-use Rattle.std.specs.Prelude.{◌≡◌, ◌≢◌, ◌⊎◌, ℕ, ◌<◌, Bool, true, false, if◌then◌else◌, List, [], ◌∷◌, ◌++◌, Option, None}
+use Rattle.std.specs.Prelude.{◌≡◌, ◌≢◌, ◌⊎◌, ℕ, ◌+◌, ◌<◌, Bool, true, false, if◌then◌else◌, List, [], ◌∷◌, ◌++◌, Option, None}
 use Rattle.std.specs.List.{list_all}
 use Rattle.scc_base.specs.Setups.{SetupView}
 use Rattle.scc_base.specs.declared.events.Event.{Event}
@@ -23,6 +23,7 @@ use Rattle.script_plain.specs.Meaning.{State, next_of}
 use Rattle.script_plain.specs.Moves.{is_ended, is_stopped}
 use Rattle.script_plain.specs.Next.{Next}
 use Rattle.script_plain.specs.Next.Next.{Ends}
+use Rattle.rcce_ue.specs.Turns.{IsBehind}
 use Rattle.rcce_run.specs.declared.rests.Rest.{Rest}
 use Rattle.rcce_run.specs.declared.rests.Rest.TheVariants as rest
 use Rattle.rcce_run.specs.Sweep.{SlotWaits, Stood, Vain}
@@ -88,9 +89,15 @@ pub record IsDone (s : SetupView) (rank : ℕ) (own events : List Event) (old ne
   pub over : IsOver (record_of s rank own) old.local
   pub slot : (is_stopped old.local ≡ true) ⊎ ((record_of s rank own).post ≡ None)
 
+-- a turn that moved went one step on: within the call that stands next, or in the slot, and one turn fewer is left; or behind
+-- what stood next
+pub data HasMoved (old new : WorkerView) : Type 0 where
+  Within : new.local ≡ old.local → old.left ≡ new.left + 1 → HasMoved old new
+  Behind : IsBehind (local_next old.local) new.local → new.left < old.left → HasMoved old new
+
 -- what each answer means
 abbrev pub TurnMeans : (List Event → Event → Type 0) → SetupView → ℕ → List Event → List Event → WorkerView → WorkerView → Turn → Type 0
-TurnMeans stepped s rank own events old new turn.Moved = new.left < old.left
+TurnMeans stepped s rank own events old new turn.Moved = HasMoved old new
 TurnMeans stepped s rank own events old new (turn.Waiting spot) = HasWaited stepped s rank own events old new
 TurnMeans stepped s rank own events old new turn.Done = IsDone s rank own events old new
 
@@ -146,9 +153,9 @@ pub record HasStayed (finished : Bool) (chip : ChipView) (r : ℕ) (now : ChipVi
   pub alike : Like (records_in chip r) (records_in now r)
   pub rests : RestsAt finished (about_in now) (records_in now) r new.local
 
--- what a turn of a rank at home came to: fewer turns are left, or it has stayed, finished or not
+-- what a turn of a rank at home came to: it went one step on, or it has stayed, finished or not
 abbrev pub CameTo : Rest → ChipView → ℕ → ChipView → WorkerView → WorkerView → Type 0
-CameTo rest.Moved chip r now old new = new.left < old.left
+CameTo rest.Moved chip r now old new = HasMoved old new
 CameTo rest.Finished chip r now old new = HasStayed true chip r now old new
 CameTo rest.Unfinished chip r now old new = HasStayed false chip r now old new
 

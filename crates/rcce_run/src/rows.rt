@@ -1,7 +1,7 @@
 //! A row of turns of one worker, in the thread that makes its rank's events.
 
 ghost use Rattle.std.specs.Prelude.{◌≡◌, ◌<◌};
-ghost use Rattle.rcce_run.specs.Away.{IsLater, RowOfTurns, vain_by};
+ghost use Rattle.rcce_run.specs.Away.{RowOfTurns, TookRow, vain_by};
 
 use crate::workers::Worker;
 use scc_base::Turn;
@@ -38,7 +38,7 @@ fn give_way(vain: usize) {
 pub(crate) fn row<W: Worker, P: Port>(worker: &mut W, port: &mut P)
     requires ties { W.tied worker.old (P.sight port.old).seat.setup (P.sight port.old).seat.rank (P.sight port.old).events }
     ensures ties { W.tied worker.new (P.sight port.new).seat.setup (P.sight port.new).seat.rank (P.sight port.new).events }
-    ensures row { RowOfTurns (W.seen worker.old) (P.sight port.old) (W.seen worker.new) (P.sight port.new) }
+    ensures row { RowOfTurns (P.stepped (P.sight port.old).seat) (W.seen worker.old) (P.sight port.old) (W.seen worker.new) (P.sight port.new) }
 {
     let mut vain = 0;
     while vain < VAIN {
@@ -55,7 +55,7 @@ pub(crate) fn row_away<W: Worker>(words: Words<'_>, token: Token, worker: &mut W
     ensures table { result.table ≡ token.table }
     ensures rank { result.rank ≡ token.rank }
     ensures ties { W.tied worker.new words.entry.space.now.about result.rank result.events }
-    ensures later { IsLater (W.seen worker.old) (W.seen worker.new) }
+    ensures row { TookRow (W.seen worker.old) (W.seen worker.new) }
 {
     let mut port = words.port(token);
     row(worker, &mut port);

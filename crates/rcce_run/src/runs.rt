@@ -84,7 +84,8 @@ pub fn run_members<W: Worker + Drop + Send, G: Gate + Sync, R: Threads + Sync>(
         → IsAtEnd script (about_in chip.new) (records_in chip.new) (locals_of (λ m. W.seen m.worker) crew.new d) }
     // It answers Finished where all ranks have finished in the plain meaning, and Stuck where one has not.
     ensures answer { (script : Script) → AllRun (λ m. W.seen m.worker) script crew.old → EndsAs result script }
-    // Under Serial the turns were those of the ranks that the seed's generator names, with a sweep behind each round.
+    // Under Serial the turns were those of the ranks that the seed's generator names, and in threads each worker took a row of
+    // turns in each round; with a sweep behind each round.
     ensures order { InOrder (λ m. W.seen m.worker) (λ m. IsAtHome (W.tied m.worker) m.token) mode chip.old crew.old chip.new crew.new }
 {
     let mut rounds = Rounds::of(mode);

@@ -1,8 +1,9 @@
 //! A round in threads: each worker takes a row of turns in a thread of its own.
 
 ghost use Rattle.std.specs.Prelude.{◌≡◌, ◌≢◌, ℕ, ◌+◌, ◌<◌, length, slice_index_or};
-ghost use Rattle.rcce_run.specs.Away.{IsAtHome, IsAway, IsLater, Served};
-ghost use Rattle.rcce_run.specs.Crews.{CrewStands, IsCrew};
+ghost use Rattle.rcce_run.specs.Away.{IsAtHome, IsAway, Served, TookRow};
+ghost use Rattle.rcce_run.specs.Crews.{IsCrew};
+ghost use Rattle.rcce_run.specs.Runs.{TookRows};
 ghost use Rattle.scc_mesh.specs.Scenes.{IsHomeBelow, IsHomeFrom, IsWhole, about_in, events_in, table_in};
 
 use crate::gates::Gate;
@@ -50,7 +51,7 @@ fn bring<W: Worker + Drop>(chip: &mut Chip, at: usize, member: &mut Member<W>)
 fn go<W: Worker + Drop, G: Gate>(words: Words<'_>, gate: &G, at: usize, member: &mut Member<W>)
     requires away { IsAway (W.tied member.old.worker) words.space.now.about words.space.now.table at member.old.token }
     ensures away { IsAway (W.tied member.new.worker) words.entry.space.now.about words.entry.space.now.table at member.new.token }
-    ensures later { IsLater (W.seen member.old.worker) (W.seen member.new.worker) }
+    ensures row { TookRow (W.seen member.old.worker) (W.seen member.new.worker) }
 {
     let Some(token) = member.token.take() else {
         unreachable!()
@@ -82,7 +83,7 @@ fn in_threads<W: Worker + Drop + Send, G: Gate + Sync, R: Threads + Sync>(
     requires some { 0 < length crew.old }
     requires away { (i : ℕ) (d : _) → i < length crew.old → let m = slice_index_or crew.old i d in IsAway (W.tied m.worker) words.space.now.about words.space.now.table i m.token }
     ensures away { (i : ℕ) (d : _) → i < length crew.old → let m = slice_index_or crew.new i d in IsAway (W.tied m.worker) words.entry.space.now.about words.entry.space.now.table i m.token }
-    ensures later { (i : ℕ) (d : _) → i < length crew.old → IsLater (W.seen (slice_index_or crew.old i d).worker) (W.seen (slice_index_or crew.new i d).worker) }
+    ensures rows { (i : ℕ) (d : _) → i < length crew.old → TookRow (W.seen (slice_index_or crew.old i d).worker) (W.seen (slice_index_or crew.new i d).worker) }
 {
     let threads = crew.len();
     thread::for_each_mut(
@@ -91,7 +92,7 @@ fn in_threads<W: Worker + Drop + Send, G: Gate + Sync, R: Threads + Sync>(
         threads,
         &|at: usize, member: &mut Member<W>|
             requires { IsAway (W.tied member.old.worker) words.space.now.about words.space.now.table at member.old.token }
-            ensures { IsAway (W.tied member.new.worker) words.entry.space.now.about words.entry.space.now.table at member.new.token × IsLater (W.seen member.old.worker) (W.seen member.new.worker) }
+            ensures { IsAway (W.tied member.new.worker) words.entry.space.now.about words.entry.space.now.table at member.new.token × TookRow (W.seen member.old.worker) (W.seen member.new.worker) }
         { go(words, gate, at, member) },
     );
 }
@@ -120,7 +121,8 @@ pub(crate) fn round_in_threads<W: Worker + Drop + Send, G: Gate + Sync, R: Threa
 )
     requires crew { IsCrew (λ m. IsAtHome (W.tied m.worker) m.token) chip.old crew.old }
     requires some { 0 < length crew.old }
-    ensures stands { CrewStands (λ m. W.seen m.worker) (λ m. IsAtHome (W.tied m.worker) m.token) chip.old crew.old chip.new crew.new }
+    // Each worker took a row of turns.
+    ensures took { TookRows (λ m. W.seen m.worker) (λ m. IsAtHome (W.tied m.worker) m.token) chip.old crew.old chip.new crew.new }
 {
     hand_out(chip, crew);
     in_threads(rt, chip.words(), gate, crew);

@@ -73,7 +73,8 @@ pub fn run<V: Evict + Drop + Send, G: Gate + Sync, R: Threads + Sync>(
     // In the states that the UEs show, each broadcast that a rank has done gave it the bytes that the root sent, and each
     // reduction the fold of what the members gave, whatever messages stand in the slots.
     ensures collectives { (script : Script) → IsFreshCrew script chip.old crew.old → (slots : List (Option Posted)) → CollectivesHold script (shown chip.new crew.new slots) }
-    // On one thread the turns were those of the ranks that the seed's generator names, with a sweep behind each round.
+    // On one thread the turns were those of the ranks that the seed's generator names, and in threads each UE took a row of turns
+    // in each round; with a sweep behind each round.
     ensures order { InOrder member_seen member_tied mode chip.old crew.old chip.new crew.new }
 {
     let _ = chip.setup().nue();

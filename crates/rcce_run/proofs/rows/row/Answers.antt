@@ -1,14 +1,22 @@
-use Rattle.rcce_run.proofs.RowLaws.{row_falls, row_first, row_on}
+use Rattle.std.proofs.Common.{[], ◌∷◌}
+use Rattle.rcce_run.proofs.RowLaws.{row_falls, row_is, so_far_first, so_far_on, turns_first, turns_on}
 use Rattle.rcce_run.proofs.rows.row.Goals as goal
 
 pub loop-vain-init : goal.loop-vain-init
-loop-vain-init g c = record { ties = c.requires.ties; row = row_first (g.W.Worker.seen c.args.worker.now) (g.P.Port.sight c.args.port.now) }
+loop-vain-init g c = record {
+  ties = c.requires.ties;
+  answers = [];
+  turns = turns_first (g.P.Port.stepped (g.P.Port.sight c.args.port.now).seat) (g.W.Worker.seen c.args.worker.now) (g.P.Port.sight c.args.port.now);
+  so_far = so_far_first;
+}
 
 pub loop-vain-preserved : goal.loop-vain-preserved
 loop-vain-preserved g c = record {
   ties = c.turn-answer.ensures.ties;
-  row = row_on (g.P.Port.stepped (g.P.Port.sight c.loop-vain.port).seat) (g.W.Worker.seen c.args.worker.now) (g.W.Worker.seen c.loop-vain.worker) (g.W.Worker.seen c.turn-answer.new.self)
-      (g.P.Port.sight c.args.port.now) (g.P.Port.sight c.loop-vain.port) (g.P.Port.sight c.turn-answer.new.port) c.turn-answer.result c.loop-vain.invariant.row c.turn-answer.ensures.turned;
+  answers = c.turn-answer.result ∷ c.loop-vain.invariant.answers;
+  turns = turns_on g.P.Port.stepped c.loop-vain.invariant.answers (g.W.Worker.seen c.args.worker.now) (g.W.Worker.seen c.loop-vain.worker) (g.W.Worker.seen c.turn-answer.new.self)
+      (g.P.Port.sight c.args.port.now) (g.P.Port.sight c.loop-vain.port) (g.P.Port.sight c.turn-answer.new.port) c.turn-answer.result c.loop-vain.invariant.turns c.turn-answer.ensures.turned;
+  so_far = so_far_on c.loop-vain.invariant.answers c.loop-vain.vain c.vain_after-vain.result c.turn-answer.result c.loop-vain-test.true c.vain_after-vain.ensures.gives c.loop-vain.invariant.so_far;
 }
 
 pub loop-vain-smaller : goal.loop-vain-smaller
@@ -16,3 +24,10 @@ loop-vain-smaller g c =
     row_falls (g.P.Port.stepped (g.P.Port.sight c.loop-vain.port).seat) (g.W.Worker.seen c.loop-vain.worker) (g.W.Worker.seen c.turn-answer.new.self)
     (g.P.Port.sight c.loop-vain.port) (g.P.Port.sight c.turn-answer.new.port) c.turn-answer.result c.loop-vain.vain c.vain_after-vain.result c.loop-vain-test.true c.vain_after-vain.ensures.gives
     c.turn-answer.ensures.turned
+
+pub returns-clause-row : goal.returns-clause-row
+returns-clause-row g c = record {
+  answers = c.loop-vain.invariant.answers;
+  is_row = row_is c.loop-vain.invariant.answers c.loop-vain.vain c.loop-vain-test.false c.loop-vain.invariant.so_far;
+  turns = c.loop-vain.invariant.turns;
+}

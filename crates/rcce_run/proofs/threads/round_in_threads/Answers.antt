@@ -1,8 +1,8 @@
 use Rattle.std.proofs.Common.{◌≡◌, ℕ, ◌<◌, length, slice_index_or, sym, ◌∙◌, ap, subst}
 use Rattle.scc_base.specs.Setups.{SetupView}
 use Rattle.scc_mesh.specs.Scenes.{events_in}
-use Rattle.rcce_run.specs.Away.{IsAtHome}
-use Rattle.rcce_run.proofs.ThreadLaws.{later_between, round_stands}
+use Rattle.rcce_run.specs.Away.{IsAtHome, TookRow}
+use Rattle.rcce_run.proofs.ThreadLaws.{round_stands, row_between}
 use Rattle.rcce_run.proofs.threads.round_in_threads.Goals as goal
 
 pub returns : goal.returns
@@ -11,18 +11,24 @@ returns g c =
     let taken = c.take_home.ensures in
     let same_about = taken.same.0 ∙ handed.same.0 in
     let many : length c.in_threads.new.crew ≡ length c.args.crew.now = c.in_threads.auto.crew ∙ handed.served.count in
+    let rows : (k : ℕ) (d : _) → k < length c.args.crew.now
+    → TookRow (g.W.Worker.seen (slice_index_or c.args.crew.now k d).worker) (g.W.Worker.seen (slice_index_or c.take_home.new.crew k d).worker) =
+    λ k d low.
+    let within = subst (λ (n : ℕ). k < n) (sym many) low in
+    row_between (g.W.Worker.seen (slice_index_or c.args.crew.now k d).worker) (g.W.Worker.seen (slice_index_or c.hand_out.new.crew k d).worker)
+    (g.W.Worker.seen (slice_index_or c.in_threads.new.crew k d).worker) (g.W.Worker.seen (slice_index_or c.take_home.new.crew k d).worker)
+    (ap g.W.Worker.seen (handed.served.done k d low low).0)
+    (c.in_threads.ensures.rows k d (subst (λ (n : ℕ). k < n) (sym handed.served.count) low))
+    (ap g.W.Worker.seen (taken.served.done k d within within).0) in
     record {
-      stands = round_stands (λ m. g.W.Worker.seen m.worker) (λ m. IsAtHome (g.W.Worker.tied m.worker) m.token) c.args.chip.now c.take_home.new.chip c.args.crew.now c.take_home.new.crew
-          c.requires.crew taken.whole same_about (taken.same.1 ∙ handed.same.1) (taken.served.count ∙ many)
-          (λ k d low.
-          let within = subst (λ (n : ℕ). k < n) (sym many) low in
-          subst (λ (s : SetupView). IsAtHome (g.W.Worker.tied (slice_index_or c.take_home.new.crew k d).worker) (slice_index_or c.take_home.new.crew k d).token s k (events_in c.take_home.new.chip k)) (sym taken.same.0)
-          (taken.served.done k d within within).1)
-          (λ k d low.
-          let within = subst (λ (n : ℕ). k < n) (sym many) low in
-          later_between (g.W.Worker.seen (slice_index_or c.args.crew.now k d).worker) (g.W.Worker.seen (slice_index_or c.hand_out.new.crew k d).worker)
-          (g.W.Worker.seen (slice_index_or c.in_threads.new.crew k d).worker) (g.W.Worker.seen (slice_index_or c.take_home.new.crew k d).worker)
-          (ap g.W.Worker.seen (handed.served.done k d low low).0)
-          (c.in_threads.ensures.later k d (subst (λ (n : ℕ). k < n) (sym handed.served.count) low))
-          (ap g.W.Worker.seen (taken.served.done k d within within).0));
+      took = record {
+        stands = round_stands (λ m. g.W.Worker.seen m.worker) (λ m. IsAtHome (g.W.Worker.tied m.worker) m.token) c.args.chip.now c.take_home.new.chip c.args.crew.now c.take_home.new.crew
+            c.requires.crew taken.whole same_about (taken.same.1 ∙ handed.same.1) (taken.served.count ∙ many)
+            (λ k d low.
+            let within = subst (λ (n : ℕ). k < n) (sym many) low in
+            subst (λ (s : SetupView). IsAtHome (g.W.Worker.tied (slice_index_or c.take_home.new.crew k d).worker) (slice_index_or c.take_home.new.crew k d).token s k (events_in c.take_home.new.chip k)) (sym taken.same.0)
+            (taken.served.done k d within within).1)
+            rows;
+        rows = rows;
+      };
     }
