@@ -13,7 +13,8 @@ ghost use Rattle.call_tap.specs.Kept.{AreKept, HasRoom};
 ghost use Rattle.call_tap.specs.Planned.{has_room_for};
 ghost use Rattle.call_tap.specs.Taps.{HasRead};
 
-/// A tap keeps the calls that its rank has finished, in their order and with their bytes, as long as it has room for them.
+/// With line flags, a tap keeps the calls that its rank has finished, in their order and with their bytes, as long as it has room
+/// for them.
 pub fn kept_law()
     ensures law { (tap : Tap) (s : SetupView) (rank : ℕ) (events : List Event) → HasRead tap s rank events → s.layout ≡ LineFlags
         → HasRoom (record_of s rank events).calls → AreKept tap.kept (record_of s rank events).calls }

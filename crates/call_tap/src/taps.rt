@@ -10,8 +10,8 @@ use crate::watches::Watch;
 use scc_base::{Place, Rank, Setup};
 use std::alloc::{AllocError, Global};
 
-/// A tap on the port of a rank. From the rank's accesses, one after the other, it tells the calls that the rank has
-/// finished, with their bytes. All its memory is taken in `new`.
+/// A tap on the port of a rank. With line flags it tells from the rank's accesses, one after the other, the calls that the rank
+/// has finished, with their bytes. All its memory is taken in `new`.
 #[derive(Drop)]
 pub struct Tap {
     pub setup: Setup,
