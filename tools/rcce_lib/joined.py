@@ -24,8 +24,8 @@ class Told:
     status: int
 
     def halts(self) -> dict[int, Halt]:
-        """Where ranks stand, by rccerun, which is to agree with rccecheck."""
-        ran = self.programs.run("rccerun", "-nue", str(self.ues), self.script.path)
+        """Where ranks stand, by rccerun on one thread, which is to agree with rccecheck."""
+        ran = self.programs.run("rccerun", "-nue", str(self.ues), "-serial", "1", self.script.path)
         halts = read_halts(ran.err)
         if ran.status != self.status or sorted(halts) != sorted(self.troubles):
             raise differ("rccerun and rccecheck name other UEs that have not finished")
