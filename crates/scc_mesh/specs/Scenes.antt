@@ -29,6 +29,7 @@ ChipView = Option Scene
 abbrev pub no_setup : SetupView
 no_setup = record { nue = 0; layout = LineFlags; hosts = []; comms = [] }
 
+-- the name of the table of a chip that is blank
 abbrev pub no_table : ChipId
 no_table = record { words = 0; slots = 0; views_name = 0; atom = 0; block = 0; offset = 0; slot_names = [] }
 

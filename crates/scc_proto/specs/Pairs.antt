@@ -18,11 +18,13 @@ pub data TakingSide : Type 0 where
   Awaiting : (through : Option Progress) → TakingSide
   Receiving : Progress → (chunk : Notes) → TakingSide
 
+-- the sender's side, by where its chunk in hand stands
 abbrev pub side_of_part : Part → Progress → Notes → SendingSide
 side_of_part Filling message chunk = Resting (Some message)
 side_of_part Raised message chunk = Offering false false message chunk
 side_of_part Answered message chunk = Offering true false message chunk
 
+-- the sender's side, by the message that it posted
 abbrev pub side_of_post : ℕ → Option OnItsWay → SendingSide
 side_of_post r None = Resting None
 side_of_post r (Some post) = if post.to == r then Offering post.is_answered true (begun post.head) post.chunk else Resting None

@@ -27,6 +27,7 @@ zeros = record { word = λ core line word. 0; register = λ core. 0 }
 abbrev pub word_at : Memory → WordAt → ℕ
 word_at memory place = memory.word place.core place.line place.word
 
+-- the word is the one at a place
 abbrev pub is_at : WordAt → ℕ → ℕ → ℕ → Bool
 is_at place core line word = (core == place.core) && ((line == place.line) && (word == place.word))
 
@@ -37,6 +38,7 @@ IsStepBy Store place value memory = Unit {0}
 IsStepBy Take place value memory = ((value ≡ 1) × (memory.register place.core ≡ 0)) ⊎ ((value ≡ 0) × (memory.register place.core ≡ 1))
 IsStepBy Free place value memory = Unit {0}
 
+-- the memory after an access of this kind
 abbrev pub memory_by : Access → WordAt → ℕ → Memory → Memory
 memory_by Load place value memory = memory
 memory_by Store place value memory = record memory { word = λ core line word. if is_at place core line word then value else memory.word core line word }

@@ -33,6 +33,7 @@ lengths_of u =
       printed = printed_bytes u.printed;
     }
 
+-- how many bytes a register has
 abbrev pub length_at : Lengths → ℕ → ℕ
 length_at l reg = slice_index_or l.registers reg 0
 
@@ -46,6 +47,7 @@ abbrev pub asked_length : Lengths → MessageHead → Option ℕ → ℕ
 asked_length l head None = head.len
 asked_length l head (Some reg) = length_at l reg
 
+-- the lengths after a register got one
 abbrev pub with_register : Lengths → ℕ → ℕ → Lengths
 with_register l reg len = record l { registers = slice_set l.registers reg len }
 

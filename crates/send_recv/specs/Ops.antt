@@ -48,6 +48,7 @@ abbrev pub is_sent : SendStage → Bool
 is_sent sending.Finished = true
 is_sent _ = false
 
+-- how many turns that do not wait are left of a slot, by its target and whether `ready` was seen
 abbrev pub slot_left_by : Option ℕ → Bool → ℕ
 slot_left_by None seen = 0
 slot_left_by (Some to) seen = if seen then 1 else 2

@@ -112,6 +112,7 @@ pub record SlotTurned (old now : SlotHolder) (answer : Turn) : Type 0 where
 abbrev pub own_line : Seat → ℕ → LineAt
 own_line seat line = record { core = host_of seat.setup.hosts seat.rank; line = line }
 
+-- the four words of a header line
 abbrev pub header_words : MessageHead → Bool → List ℕ
 header_words head posted = header_word head posted 0 ∷ header_word head posted 1 ∷ header_word head posted 2 ∷ header_word head posted 3 ∷ []
 
@@ -196,10 +197,12 @@ SendStands s c op slot bytes = IsSending s.seat (record_in s) c op slot bytes
 abbrev pub from_raise : Bool → ℕ
 from_raise posted = if posted then 1 else 3
 
+-- how many turns a chunk takes beside its lines: by bits there is a flush of its own
 abbrev pub of_chunk : Layout → Bool → ℕ
 of_chunk LineFlags posted = from_raise posted
 of_chunk BitFlags posted = 1 + from_raise posted
 
+-- how many turns that do not wait are left of a send, by its stage: of the slot, of each further chunk, of this one's flags and lines
 abbrev pub send_left_by : (slot each raise more lines now : ℕ) → SendStage → ℕ
 send_left_by slot each raise more lines now Header = slot + 1 + lines + each * more
 send_left_by slot each raise more lines now (Lines i) = (lines - i) + each * more
