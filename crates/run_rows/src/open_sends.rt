@@ -1,6 +1,6 @@
 //! What a run leaves in the chip's words where the rank that a message is for does not take it.
 
-ghost use Rattle.std.specs.Prelude.{◌≡◌, ◌<◌, ◌×◌, IfOk};
+ghost use Rattle.std.specs.Prelude.{◌≡◌, ◌<◌, IfOk};
 ghost use Rattle.scc_mesh.specs.Scenes.{IsWhole, about_in};
 ghost use Rattle.script_reader.specs.Script.{rules_of};
 
