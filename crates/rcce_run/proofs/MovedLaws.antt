@@ -1,5 +1,5 @@
 -- A turn that moved.
-use Rattle.std.proofs.Common.{◌≡◌, ℕ, ◌<◌, ap, arith}
+use Rattle.std.proofs.Common.{◌<◌, ap, arith}
 use Rattle.script_plain.specs.Machine.{MachineView}
 use Rattle.rcce_ue.specs.Left.{left_of}
 use Rattle.rcce_ue.specs.Turns.{WentOn}

@@ -1,5 +1,5 @@
 -- A row of turns goes on by a turn, and where it ends.
-use Rattle.std.proofs.Common.{◌≡◌, ◌⊎◌, inl, inr, ℕ, zero, suc, ◌+◌, ◌-◌, ◌*◌, ◌<◌, ◌≤◌, List, [], ◌∷◌, ◌++◌, drop, refl, sym, ◌∙◌, subst, arith}
+use Rattle.std.proofs.Common.{◌≡◌, ◌⊎◌, inl, inr, ℕ, zero, suc, ◌+◌, ◌-◌, ◌*◌, ◌<◌, ◌≤◌, List, [], ◌∷◌, ◌++◌, drop, refl, sym, ◌∙◌, ap, subst, arith}
 use Rattle.std.proofs.lemmas.Bool.{cases_lt}
 use Rattle.scc_base.specs.Setups.{SetupView}
 use Rattle.scc_base.specs.declared.events.Event.{Event}
@@ -8,7 +8,7 @@ use Rattle.scc_base.specs.declared.events.Turn.TheVariants as turn
 use Rattle.scc_proto.specs.Ports.{Seat, Sight}
 use Rattle.scc_proto.proofs.PortLaws.{did_both, did_nothing, seat_kept}
 use Rattle.rcce_run.specs.Away.{EndsRow, IsRow, SomeTurns, row_left, vain_by, waited_in}
-use Rattle.rcce_run.specs.Turns.{Turned, TurnMeans, WorkerView}
+use Rattle.rcce_run.specs.Turns.{Turned, TurnMeans, TurnsMoved, OneMoved, MoreMoved, Stretched, OneTurn, InARow, WorkerView}
 use Rattle.rcce_run.proofs.MovedLaws.{moved_less}
 
 -- ---- where a row ends
@@ -100,6 +100,51 @@ turns_on stepped answers old mid new s m t answer row turned = record {
   took = (mid, m, row.took, subst (λ (x : Seat). Turned (stepped x) mid m new t answer) (seat_kept s row.events m row.did) turned);
 }
 
+-- ---- a stretch
+
+-- how a row stands behind some turns
+pub record RowOn (stepped : List Event → Event → Type 0) (old : WorkerView) (s : Sight) (new : WorkerView) (t : Sight) (vain : ℕ) : Type 0 where
+  pub answers : List Turn
+  pub turns : SomeTurns stepped answers old s new t
+  pub so_far : RowSoFar answers vain
+
+-- a turn that moved says nothing of steps
+any_step : (x y : List Event → Event → Type 0) (old new : WorkerView) (s t : Sight) → Turned x old s new t turn.Moved → Turned y old s new t turn.Moved
+any_step x y old new s t turned = record { events = turned.events; did = turned.did; script = turned.script; means = turned.means }
+
+row_moved : (stepped : Seat → List Event → Event → Type 0) (x : List Event → Event → Type 0) (answers : List Turn) (vain : ℕ) (old mid : WorkerView) (s m : Sight) (new : WorkerView) (t : Sight) → vain < 1000
+    → SomeTurns (stepped s.seat) answers old s mid m → RowSoFar answers vain → TurnsMoved x mid m new t → RowOn (stepped s.seat) old s new t 0
+row_moved stepped x answers vain old mid s m new t low row so (OneMoved _ _ turned) = record {
+  answers = turn.Moved ∷ answers;
+  turns = turns_on stepped answers old mid new s m t turn.Moved row (any_step x (stepped m.seat) mid new m t turned);
+  so_far = so_far_on answers vain 0 turn.Moved low refl so;
+}
+row_moved stepped x answers vain old mid s m new t low row so (MoreMoved k _ n _ before turned) =
+    let b = row_moved stepped x answers vain old mid s m k n low row so before in
+    record {
+      answers = turn.Moved ∷ b.answers;
+      turns = turns_on stepped b.answers old k new s n t turn.Moved b.turns (any_step x (stepped n.seat) k new n t turned);
+      so_far = so_far_on b.answers 0 0 turn.Moved (omega arith) refl b.so_far;
+    }
+
+pub row_goes : (stepped : Seat → List Event → Event → Type 0) (answers : List Turn) (vain later : ℕ) (old mid new : WorkerView) (s m t : Sight) (answer : Turn) → vain < 1000 → later ≡ vain_by 1000 answer vain
+    → SomeTurns (stepped s.seat) answers old s mid m → RowSoFar answers vain → Stretched (stepped m.seat) mid m new t answer → RowOn (stepped s.seat) old s new t later
+row_goes stepped answers vain later old mid new s m t answer low is row so (OneTurn turned) = record {
+  answers = answer ∷ answers;
+  turns = turns_on stepped answers old mid new s m t answer row turned;
+  so_far = so_far_on answers vain later answer low is so;
+}
+row_goes stepped answers vain later old mid new s m t answer low is row so (InARow moved goes) =
+    subst (λ (n : ℕ). RowOn (stepped s.seat) old s new t n) (sym (is ∙ ap (λ (a : Turn). vain_by 1000 a vain) goes)) (row_moved stepped (stepped m.seat) answers vain old mid s m new t low row so moved)
+
+-- fewer turns are left behind it
+all_less : (stepped : List Event → Event → Type 0) (old : WorkerView) (s : Sight) (new : WorkerView) (t : Sight) → TurnsMoved stepped old s new t → new.left < old.left
+all_less stepped old s new t (OneMoved _ _ turned) = moved_less old new turned.means
+all_less stepped old s new t (MoreMoved mid _ m _ before turned) =
+    let one = all_less stepped old s mid m before in
+    let two = moved_less mid new turned.means in
+    omega (arith, one, two)
+
 falls_moved : (left less vain : ℕ) → less < left → vain < 1000 → 1000 * less + (1000 - 0) < 1000 * left + (1000 - vain)
 falls_moved left less vain one two = omega (arith, one, two)
 
@@ -115,8 +160,14 @@ falls_by stepped s rank own events old new turn.Moved vain low means = falls_mov
 falls_by stepped s rank own events old new (turn.Waiting spot) vain low means = falls_waits old.left new.left vain means.left low
 falls_by stepped s rank own events old new turn.Done vain low means = falls_done old.left new.left vain means.left low
 
+falls_in_a_row : (left less vain : ℕ) (answer : Turn) → answer ≡ turn.Moved → less < left → vain < 1000 → 1000 * less + (1000 - vain_by 1000 answer vain) < 1000 * left + (1000 - vain)
+falls_in_a_row left less vain answer is fewer low =
+    subst (λ (x : Turn). 1000 * less + (1000 - vain_by 1000 x vain) < 1000 * left + (1000 - vain)) (sym is) (falls_moved left less vain fewer low)
+
 pub row_falls : (stepped : List Event → Event → Type 0) (old new : WorkerView) (m t : Sight) (answer : Turn) (vain later : ℕ) → vain < 1000 → later ≡ vain_by 1000 answer vain
-    → Turned stepped old m new t answer → row_left 1000 new later < row_left 1000 old vain
-row_falls stepped old new m t answer vain later low is turned =
+    → Stretched stepped old m new t answer → row_left 1000 new later < row_left 1000 old vain
+row_falls stepped old new m t answer vain later low is (OneTurn turned) =
     subst (λ (n : ℕ). row_left 1000 new n < row_left 1000 old vain) (sym is)
     (falls_by stepped m.seat.setup m.seat.rank m.events turned.events old new answer vain low turned.means)
+row_falls stepped old new m t answer vain later low is (InARow moved goes) =
+    subst (λ (n : ℕ). row_left 1000 new n < row_left 1000 old vain) (sym is) (falls_in_a_row old.left new.left vain answer goes (all_less stepped old m new t moved) low)

@@ -35,6 +35,7 @@ use Rattle.script_plain.specs.Next.Next.{Ends, Goes, Posts, Sends, Recvs, Bars}
 use Rattle.script_plain.proofs.StoppedLaws.{stopped_ends}
 use Rattle.rcce_ue.specs.Left.{left_of}
 use Rattle.rcce_ue.specs.Standing.{IsBarOf, IsRecvOf, IsSendOf, OpStands, Tied}
+use Rattle.rcce_ue.specs.Stretches.{MovedOn, MovedOnce, Once, UeInARow, UeMoves, UeStretched}
 use Rattle.rcce_ue.specs.Turns.{UeTurned, aim_by, ue_aim}
 use Rattle.rcce_ue.specs.Ues.{UeView}
 use Rattle.rcce_ue.specs.declared.calls.Open.{Open}
@@ -43,7 +44,7 @@ use Rattle.rcce_ue.proofs.OtherPort.{tied_there}
 use Rattle.rcce_ue.proofs.WaitLemmas.{VainStep, found}
 use Rattle.rcce_run.specs.Sweep.{BarWaits, RaiseWaits, SlotWaits, TakeWaits}
 use Rattle.rcce_run.proofs.MovedLaws.{ue_moved}
-use Rattle.rcce_run.specs.Turns.{HasWaited, IsDone, NoneElseHolds, TurnMeans, Turned, Waits}
+use Rattle.rcce_run.specs.Turns.{HasWaited, InARow, IsDone, MoreMoved, NoneElseHolds, OneMoved, OneTurn, Stretched, TurnMeans, Turned, TurnsMoved, Waits}
 use Rattle.rcce_run.specs.Ues.{UeStands, ue_seen}
 use Rattle.rcce_run.proofs.HomeTurns.{both_pass, record_split}
 use Rattle.rcce_run.proofs.Looks.{waits_same}
@@ -303,6 +304,20 @@ ue_turned stepped x s t now answer tied later turned steps = record {
   script = turned.program.0;
   means = means_by (stepped s.seat) x s t now answer tied later turned (λ spot is. steps spot is turned.events turned.did);
 }
+
+-- a stretch of a UE is one of a worker
+moved_on : (stepped : List Event → Event → Type 0) (x : UeView) (s t : Sight) (now : UeView) → UeTurned x s now t turn.Moved → Turned stepped (ue_seen x) s (ue_seen now) t turn.Moved
+moved_on stepped x s t now turned = record { events = turned.events; did = turned.did; script = turned.program.0; means = ue_moved x now turned.means.0 turned.means.2 }
+
+ue_moves : (stepped : List Event → Event → Type 0) (x : UeView) (s t : Sight) (now : UeView) → UeMoves x s now t → TurnsMoved stepped (ue_seen x) s (ue_seen now) t
+ue_moves stepped x s t now (MovedOnce _ _ turned) = OneMoved (ue_seen now) t (moved_on stepped x s t now turned)
+ue_moves stepped x s t now (MovedOn mid _ m _ before there turned) =
+    MoreMoved (ue_seen mid) (ue_seen now) m t (ue_moves stepped x s m mid before) (moved_on stepped mid m t now turned)
+
+pub ue_stretched : (stepped : Seat → List Event → Event → Type 0) (x : UeView) (s t : Sight) (now : UeView) (answer : Turn) → Tied x s → Tied now t → UeStretched x s now t answer
+    → ((spot : Spot) → sr.waits_at answer ≡ Some spot → MadeSteps stepped s t) → Stretched (stepped s.seat) (ue_seen x) s (ue_seen now) t answer
+ue_stretched stepped x s t now answer tied later (Once turned) steps = OneTurn (ue_turned stepped x s t now answer tied later turned steps)
+ue_stretched stepped x s t now answer tied later (UeInARow moves is) steps = InARow (ue_moves (stepped s.seat) x s t now moves) is
 
 -- where a UE fits one port it fits every port at which its rank has these events
 pub stands_there : (now : UeView) (t : Sight) → Tied now t → UeStands now t.seat.setup t.seat.rank t.events

@@ -108,6 +108,16 @@ pub record Turned (stepped : List Event → Event → Type 0) (old : WorkerView)
   pub script : new.script ≡ old.script
   pub means : TurnMeans stepped s.seat.setup s.seat.rank s.events events old new answer
 
+-- turns in a row, each of which moved
+pub data TurnsMoved (stepped : List Event → Event → Type 0) (old : WorkerView) (s : Sight) : WorkerView → Sight → Type 0 where
+  OneMoved : (new : WorkerView) (t : Sight) → Turned stepped old s new t turn.Moved → TurnsMoved stepped old s new t
+  MoreMoved : (mid new : WorkerView) (m t : Sight) → TurnsMoved stepped old s mid m → Turned stepped mid m new t turn.Moved → TurnsMoved stepped old s new t
+
+-- a stretch: one turn, whatever it came to, or turns in a row, each of which moved
+pub data Stretched (stepped : List Event → Event → Type 0) (old : WorkerView) (s : Sight) (new : WorkerView) (t : Sight) (answer : Turn) : Type 0 where
+  OneTurn : Turned stepped old s new t answer → Stretched stepped old s new t answer
+  InARow : TurnsMoved stepped old s new t → answer ≡ turn.Moved → Stretched stepped old s new t answer
+
 -- what a turn comes to: it moved; or the rank rests, and has finished or not. A rank that was stopped has not.
 abbrev pub rest_by : Turn → Bool → Rest
 rest_by turn.Moved stopped = rest.Moved

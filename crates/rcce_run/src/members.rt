@@ -38,6 +38,10 @@ impl<W: Worker + Drop> Worker for Member<W> {
         self.worker.turn(port)
     }
 
+    fn stretch<P: Port>(&mut self, port: &mut P) -> Turn {
+        self.worker.stretch(port)
+    }
+
     fn is_stopped(&self) -> bool {
         self.worker.is_stopped()
     }

@@ -42,7 +42,7 @@ pub(crate) fn row<W: Worker, P: Port>(worker: &mut W, port: &mut P)
 {
     let mut vain = 0;
     while vain < VAIN {
-        let answer = worker.turn(port);
+        let answer = worker.stretch(port);
         vain = vain_after(&answer, vain);
         give_way(vain);
     }

@@ -17,6 +17,10 @@ impl<'s, V: Evict> Worker for Ue<'s, V> {
         Ue::turn(self, port)
     }
 
+    fn stretch<P: Port>(&mut self, port: &mut P) -> Turn {
+        Ue::stretch(self, port)
+    }
+
     fn is_stopped(&self) -> bool {
         Ue::is_stopped(self)
     }

@@ -15,7 +15,7 @@ pub trait Worker {
     ghost use Rattle.scc_base.specs.Setups.{SetupView};
     ghost use Rattle.scc_base.specs.declared.events.Event.{Event};
     ghost use Rattle.script_plain.specs.Moves.{is_stopped};
-    ghost use Rattle.rcce_run.specs.Turns.{WorkerView, Fits, Turned};
+    ghost use Rattle.rcce_run.specs.Turns.{WorkerView, Fits, Stretched, Turned};
 
     // What is seen of it.
     ghost seen: { Self → WorkerView };
@@ -28,6 +28,12 @@ pub trait Worker {
         requires ties { tied self.old (P.sight port.old).seat.setup (P.sight port.old).seat.rank (P.sight port.old).events }
         ensures ties { tied self.new (P.sight port.new).seat.setup (P.sight port.new).seat.rank (P.sight port.new).events }
         ensures turned { Turned (P.stepped (P.sight port.old).seat) (seen self.old) (P.sight port.old) (seen self.new) (P.sight port.new) result };
+
+    /// One turn, whatever it comes to, or turns in a row, each of which moved.
+    fn stretch<P: Port>(&mut self, port: &mut P) -> Turn
+        requires ties { tied self.old (P.sight port.old).seat.setup (P.sight port.old).seat.rank (P.sight port.old).events }
+        ensures ties { tied self.new (P.sight port.new).seat.setup (P.sight port.new).seat.rank (P.sight port.new).events }
+        ensures stretched { Stretched (P.stepped (P.sight port.old).seat) (seen self.old) (P.sight port.old) (seen self.new) (P.sight port.new) result };
 
     /// Whether a mismatch stopped it.
     fn is_stopped(&self) -> bool

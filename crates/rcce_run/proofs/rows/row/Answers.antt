@@ -1,5 +1,5 @@
-use Rattle.std.proofs.Common.{[], ◌∷◌}
-use Rattle.rcce_run.proofs.RowLaws.{row_falls, row_is, so_far_first, so_far_on, turns_first, turns_on}
+use Rattle.std.proofs.Common.{[]}
+use Rattle.rcce_run.proofs.RowLaws.{row_falls, row_goes, row_is, so_far_first, turns_first}
 use Rattle.rcce_run.proofs.rows.row.Goals as goal
 
 pub loop-vain-init : goal.loop-vain-init
@@ -11,19 +11,17 @@ loop-vain-init g c = record {
 }
 
 pub loop-vain-preserved : goal.loop-vain-preserved
-loop-vain-preserved g c = record {
-  ties = c.turn-answer.ensures.ties;
-  answers = c.turn-answer.result ∷ c.loop-vain.invariant.answers;
-  turns = turns_on g.P.Port.stepped c.loop-vain.invariant.answers (g.W.Worker.seen c.args.worker.now) (g.W.Worker.seen c.loop-vain.worker) (g.W.Worker.seen c.turn-answer.new.self)
-      (g.P.Port.sight c.args.port.now) (g.P.Port.sight c.loop-vain.port) (g.P.Port.sight c.turn-answer.new.port) c.turn-answer.result c.loop-vain.invariant.turns c.turn-answer.ensures.turned;
-  so_far = so_far_on c.loop-vain.invariant.answers c.loop-vain.vain c.vain_after-vain.result c.turn-answer.result c.loop-vain-test.true c.vain_after-vain.ensures.gives c.loop-vain.invariant.so_far;
-}
+loop-vain-preserved g c =
+    let on = row_goes g.P.Port.stepped c.loop-vain.invariant.answers c.loop-vain.vain c.vain_after-vain.result (g.W.Worker.seen c.args.worker.now) (g.W.Worker.seen c.loop-vain.worker) (g.W.Worker.seen c.stretch-answer.new.self)
+    (g.P.Port.sight c.args.port.now) (g.P.Port.sight c.loop-vain.port) (g.P.Port.sight c.stretch-answer.new.port) c.stretch-answer.result c.loop-vain-test.true c.vain_after-vain.ensures.gives c.loop-vain.invariant.turns c.loop-vain.invariant.so_far
+    c.stretch-answer.ensures.stretched in
+    record { ties = c.stretch-answer.ensures.ties; answers = on.answers; turns = on.turns; so_far = on.so_far }
 
 pub loop-vain-smaller : goal.loop-vain-smaller
 loop-vain-smaller g c =
-    row_falls (g.P.Port.stepped (g.P.Port.sight c.loop-vain.port).seat) (g.W.Worker.seen c.loop-vain.worker) (g.W.Worker.seen c.turn-answer.new.self)
-    (g.P.Port.sight c.loop-vain.port) (g.P.Port.sight c.turn-answer.new.port) c.turn-answer.result c.loop-vain.vain c.vain_after-vain.result c.loop-vain-test.true c.vain_after-vain.ensures.gives
-    c.turn-answer.ensures.turned
+    row_falls (g.P.Port.stepped (g.P.Port.sight c.loop-vain.port).seat) (g.W.Worker.seen c.loop-vain.worker) (g.W.Worker.seen c.stretch-answer.new.self)
+    (g.P.Port.sight c.loop-vain.port) (g.P.Port.sight c.stretch-answer.new.port) c.stretch-answer.result c.loop-vain.vain c.vain_after-vain.result c.loop-vain-test.true c.vain_after-vain.ensures.gives
+    c.stretch-answer.ensures.stretched
 
 pub returns-clause-row : goal.returns-clause-row
 returns-clause-row g c = record {
