@@ -16,19 +16,19 @@ enum Told {
 }
 
 /// The cause, by the number of its rank.
+#[derive(PartialEq, Eq, Drop)]
 enum Why {
     Finished(u8),
     Mismatch(u8),
     Cycle(u8),
 }
 
-/// Whether a cause is this one.
-fn is_why(found: Cause, why: &Why) -> bool {
-    match (found, why) {
-        (Cause::Finished(rank), Why::Finished(number)) => rank.number() == *number,
-        (Cause::Mismatch(rank), Why::Mismatch(number)) => rank.number() == *number,
-        (Cause::Cycle(rank), Why::Cycle(number)) => rank.number() == *number,
-        _ => false,
+/// A cause, by the number of its rank.
+fn why_of(found: &Cause) -> Why {
+    match found {
+        Cause::Finished(rank) => Why::Finished(rank.number()),
+        Cause::Mismatch(rank) => Why::Mismatch(rank.number()),
+        Cause::Cycle(rank) => Why::Cycle(rank.number()),
     }
 }
 
@@ -37,16 +37,16 @@ fn is_told(end: &End, scripts: &Scripts, rank: Rank, told: &Told) -> bool
     requires ended { end.now ≡ plain_ends scripts.now }
     requires below { rank < scripts.now.nue }
 {
-    match (
-        waits_for(end, scripts, rank),
-        cause(end, scripts, rank),
-        told,
-    ) {
-        (None, None, Told::Nobody) => true,
-        (Some(on), Some(found), Told::Waits(number, why)) => {
-            on.number() == *number && is_why(found, why)
+    let on = waits_for(end, scripts, rank);
+    let found = cause(end, scripts, rank);
+    match told {
+        Told::Nobody => on.is_none() && found.is_none(),
+        Told::Waits(number, why) => {
+            let (Some(on), Some(found)) = (on, found) else {
+                return false;
+            };
+            on.number() == *number && why_of(&found) == *why
         }
-        _ => false,
     }
 }
 
