@@ -1,14 +1,10 @@
 -- Lists of entries: looking a line up, and that no line is held twice.
-use Rattle.std.proofs.Common.{◌≡◌, ◌≢◌, ℕ, zero, suc, ◌+◌, ◌<◌, Bool, true, false, cond, ◌==◌, List, [], ◌∷◌, ◌++◌, None, Some, length, get_or, take, drop, set, refl, ap, sym, subst, ◌∙◌, arith, drop-cons, slice_index, slice_set, remove, append-nil, length-append, length-drop}
+use Rattle.std.proofs.Common.{◌≡◌, ℕ, zero, suc, ◌+◌, ◌<◌, Bool, true, false, cond, ◌==◌, List, [], ◌∷◌, ◌++◌, None, Some, length, get_or, refl, ap, sym, subst, ◌∙◌, arith, slice_index, slice_set, remove, length-append, length-drop}
 use Rattle.std.proofs.lemmas.List.{length-take}
-use Rattle.std.proofs.Math.Seq.{take-add}
-use Rattle.std.proofs.lemmas.Grind.{drop_more_same, get_or-set_at}
-use Rattle.std.proofs.lemmas.List.{get_or-set_other, take_more_set, drop-set-lt, map-append, drop_all, take_all}
-use Rattle.std.specs.List.{refill}
 use Rattle.std.proofs.lemmas.Bool.{cond_both, eq-eqb, eqb-true, and_parts, and_from}
 use Rattle.scc_base.specs.Places.{LineAt, WordAt, line_of_word, word_of_line, same_line}
 use Rattle.line_cache.specs.declared.cache.Entry.{Entry}
-use Rattle.line_cache.specs.Lines.{held, written, noted, line_noted, AreDistinct, IsCache, IsMarked, most_lines}
+use Rattle.line_cache.specs.Lines.{held, written, noted, line_noted, AreDistinct, IsCache, most_lines}
 
 same_line-sym : (a b : LineAt) → same_line a b ≡ true → same_line b a ≡ true
 same_line-sym a b t =
@@ -16,7 +12,7 @@ same_line-sym a b t =
     and_from (b.core == a.core) (b.line == a.line) (eq-eqb b.core a.core (sym (eqb-true a.core b.core p.0)))
     (eq-eqb b.line a.line (sym (eqb-true a.line b.line p.1)))
 
-same_line-is : (a b : LineAt) → same_line a b ≡ true → a ≡ b
+pub same_line-is : (a b : LineAt) → same_line a b ≡ true → a ≡ b
 same_line-is a b t =
     let p = and_parts (a.core == b.core) (a.line == b.line) t in
     let cores : a.core ≡ b.core = eqb-true a.core b.core p.0 in
@@ -56,19 +52,7 @@ held_at (x ∷ xs) (suc i) line e s h is t = by (held_at xs i line e s.1 (omega 
         absurd (cc)
     by behind false q = rw q behind
 
--- the entries before a place were written, those from there on are as they were
-pub noted_on : (p : WordAt) (v : ℕ) (old now : List Entry) (i : ℕ) (e : Entry) → i < length now → e ≡ get_or now i e
-    → take i now ≡ noted (take i old) p v → drop i now ≡ drop i old
-    → (take (i + 1) (set now i (written e p v)) ≡ noted (take (i + 1) old) p v) × (drop (i + 1) (set now i (written e p v)) ≡ drop (i + 1) old)
-noted_on p v old now i e h is front back =
-    let y : Entry = written e p v in
-    let now_is : drop i now ≡ e ∷ drop (suc i) now = drop-cons now i e h ∙ ap (λ x. x ∷ drop (suc i) now) (sym is) in
-    let old_is : take (i + 1) old ≡ take i old ++ e ∷ [] = take-add i 1 old ∙ ap (λ x. take i old ++ take 1 x) (sym back ∙ now_is) in (
-      take_more_set now i y h ∙ ap (λ x. x ++ y ∷ []) front ∙ sym (ap (λ x. noted x p v) old_is ∙ map-append (λ x. written x p v) (take i old) (e ∷ [])),
-      drop-set-lt (i + 1) now i y (omega arith) ∙ drop_more_same now old i back,
-    )
-
-held-push : (es : List Entry) (e : Entry) (line : LineAt) → held es line ≡ None → same_line e.line line ≡ false
+pub held-push : (es : List Entry) (e : Entry) (line : LineAt) → held es line ≡ None → same_line e.line line ≡ false
     → held (es ++ e ∷ []) line ≡ None
 held-push [] e line h f = rw f refl
 held-push (x ∷ xs) e line h f =
@@ -100,7 +84,7 @@ written_line e p v =
     cond_both (same_line e.line (line_of_word p)) (record { line = e.line; words = slice_set e.words p.word v }) e (λ x. x.line ≡ e.line)
     (λ t. refl) (λ f. refl)
 
-held-noted : (es : List Entry) (p : WordAt) (v : ℕ) (line : LineAt) → held es line ≡ None → held (noted es p v) line ≡ None
+pub held-noted : (es : List Entry) (p : WordAt) (v : ℕ) (line : LineAt) → held es line ≡ None → held (noted es p v) line ≡ None
 held-noted [] p v line h = refl
 held-noted (x ∷ xs) p v line h =
     let n = not_held x xs line h in
@@ -128,10 +112,10 @@ length-noted : (es : List Entry) (p : WordAt) (v : ℕ) → length (noted es p v
 length-noted [] p v = refl
 length-noted (x ∷ xs) p v = ap suc (length-noted xs p v)
 
-cache-noted : (es : List Entry) (p : WordAt) (v : ℕ) → IsCache es → IsCache (noted es p v)
+pub cache-noted : (es : List Entry) (p : WordAt) (v : ℕ) → IsCache es → IsCache (noted es p v)
 cache-noted es p v s = record { distinct = distinct-noted es p v s.distinct; few = rw (length-noted es p v) s.few }
 
-cache-remove : (es : List Entry) (i : ℕ) → IsCache es → IsCache (remove es i)
+pub cache-remove : (es : List Entry) (i : ℕ) → IsCache es → IsCache (remove es i)
 cache-remove es i s =
     let few = s.few in
     record {
@@ -139,45 +123,8 @@ cache-remove es i s =
       few = simp length-append (omega (arith, length-take i es, length-drop (suc i) es));
     }
 
-cache-push : (es : List Entry) (e : Entry) → length es < most_lines → IsCache es → held es e.line ≡ None → IsCache (es ++ e ∷ [])
+pub cache-push : (es : List Entry) (e : Entry) → length es < most_lines → IsCache es → held es e.line ≡ None → IsCache (es ++ e ∷ [])
 cache-push es e room s h = record {
   distinct = distinct-push es e s.distinct h;
   few = simp length-append (omega arith);
 }
-
-pub marked-remove : (marks : List Bool) (es : List Entry) (i : ℕ) → IsMarked marks es → IsMarked marks (remove es i)
-marked-remove marks es i s = record {
-  cache = cache-remove es i s.cache;
-  unmarked = λ line bare. held-remove es i line (s.unmarked line bare);
-}
-
--- a line that is brought in has its mark then, and every other number the one that it had
-pub marked-push : (marks : List Bool) (k : ℕ) (es : List Entry) (e : Entry) → length es < most_lines → k < length marks → k ≡ e.line.line
-    → IsMarked marks es → held es e.line ≡ None → IsMarked (set marks k true) (es ++ e ∷ [])
-marked-push marks k es e room few at s h =
-    record { cache = cache-push es e room s.cache h; unmarked = λ line bare. by line bare (k == line.line) refl }
-  where
-    by : (line : LineAt) → get_or (set marks k true) line.line false ≡ false → (t : Bool) → (k == line.line) ≡ t
-        → held (es ++ e ∷ []) line ≡ None
-    by line bare true q =
-        let there = get_or-set_at marks k line.line true false (sym (eqb-true k line.line q)) few in
-        absurd (cc)
-    by line bare false q =
-        let apart : line.line ≢ k = λ same. absurd (cc (eq-eqb k line.line (sym same), q)) in
-        held-push es e line (s.unmarked line (sym (get_or-set_other marks k line.line true false apart) ∙ bare)) (other (same_line e.line line) refl)
-      where
-        other : (t : Bool) → same_line e.line line ≡ t → same_line e.line line ≡ false
-        other true t = let parts = and_parts (e.line.core == line.core) (e.line.line == line.line) t in absurd (cc (parts.1, q, at))
-        other false f = f
-
--- a list written over by one of its length
-pub refilled : (xs ws : List Entry) → length ws ≡ length xs → refill (length xs) xs ws ≡ ws
-refilled xs ws e =
-    let d : drop (length ws) xs ≡ [] = drop_all (length ws) xs (omega arith) in
-    rw (d, append-nil ws) (take_all (length xs) ws (omega arith))
-
-pub marked-refilled : (marks : List Bool) (xs ws : List Entry) (p : WordAt) (v : ℕ) → ws ≡ noted xs p v → IsMarked marks xs
-    → IsMarked marks (refill (length xs) xs ws)
-marked-refilled marks xs ws p v e s =
-    rw (refilled xs ws (ap length e ∙ length-noted xs p v), e)
-    (record { cache = cache-noted xs p v s.cache; unmarked = λ line bare. held-noted xs p v line (s.unmarked line bare) })

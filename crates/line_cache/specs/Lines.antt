@@ -1,9 +1,10 @@
 -- The private lines of a core: the lines of message passing buffers that it holds, with their words, in the
 -- order in which they were brought in (SCC External Architecture Specification; the whole cache as one list
 -- of at most 512 lines is this project's profile).
-use Rattle.std.specs.Prelude.{◌≡◌, ℕ, ◌≤◌, Bool, false, ◌==◌, if◌then◌else◌, List, [], ◌∷◌, ◌++◌, Option, None, Some, length, drop, map, slice_index, slice_index_or, slice_set}
+use Rattle.std.specs.Prelude.{◌≡◌, ℕ, ◌<◌, ◌≤◌, false, ◌==◌, if◌then◌else◌, List, [], ◌∷◌, ◌++◌, Option, None, Some, IfSome, length, slice_get, take, drop, map, slice_index, slice_index_or, slice_set}
 use Rattle.scc_base.specs.Places.{LineAt, WordAt, line_of_word, word_of_line, same_line}
 use Rattle.line_cache.specs.declared.cache.Entry.{Entry}
+use Rattle.line_cache.specs.declared.cache.Mark.{Mark}
 
 -- how many lines a cache holds at most
 abbrev pub most_lines : ℕ
@@ -47,7 +48,15 @@ pub record IsCache (es : List Entry) : Type 0 where
   pub distinct : AreDistinct es
   pub few : length es ≤ most_lines
 
--- such lines, and marks by the number of a line: one without a mark is not held
-pub record IsMarked (marks : List Bool) (es : List Entry) : Type 0 where
-  pub cache : IsCache es
-  pub unmarked : (line : LineAt) → slice_index_or marks line.line false ≡ false → held es line ≡ None
+-- a line stands at this place, or it is not held
+abbrev pub IsPlaceOf : List Entry → LineAt → Option ℕ → Type 0
+IsPlaceOf es line None = held es line ≡ None
+IsPlaceOf es line (Some at) = IfSome (slice_get es at) (λ e. e.line ≡ line) × (at < length es)
+
+-- such lines stand first among the entries, and there are marks by the number of a line: one whose mark is of another
+-- pass is not held
+pub record IsMarked (entries : List Entry) (len : ℕ) (marks : List Mark) (pass : ℕ) : Type 0 where
+  pub cache : IsCache (take len entries)
+  pub few : len ≤ length entries
+  pub unmarked : (line : LineAt) (mark : Mark) → mark ≡ slice_index_or marks line.line mark → (mark.pass == pass) ≡ false
+      → held (take len entries) line ≡ None

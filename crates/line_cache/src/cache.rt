@@ -1,9 +1,8 @@
 //! The cache of message passing lines.
 
 ghost use Rattle.std.specs.Prelude.{◌≡◌};
-ghost use Rattle.line_cache.specs.Lines.{held, noted, AreDistinct};
+ghost use Rattle.line_cache.specs.Lines.{IsPlaceOf};
 
-use arrayvec::ArrayVec;
 use scc_base::{CoreId, Line, Place};
 use std::marker::Model;
 
@@ -11,34 +10,17 @@ use std::marker::Model;
 const MOST_LINES: usize = 512;
 
 /// A line that is held, with its four words.
-#[derive(Drop)]
+#[derive(Clone, Copy)]
 pub struct Entry {
     pub line: Line,
     pub words: [u64; 4],
 }
 
-impl Entry {
-    ghost use Rattle.line_cache.specs.Lines.{written};
-
-    /// Notes a word, if it is one of this line.
-    fn note(&mut self, place: Place, value: u64)
-        ensures { self.new ≡ written self.old place value }
-    {
-        if self.line.is(place.line_at()) {
-            let word = usize::from(place.word());
-            self.words[word] = value;
-        }
-    }
-}
-
-impl Default for Entry {
-    /// A blank entry, which stands where no line is held.
-    fn default() -> Entry {
-        Entry {
-            line: Line::new(CoreId::of(0), 0),
-            words: [0; 4],
-        }
-    }
+/// Where a line of some number stood when it was last brought in, and in which pass that was.
+#[derive(Clone, Copy)]
+struct Mark {
+    pass: u32,
+    at: u16,
 }
 
 /// The lines that a core holds for itself, in the order in which they were brought in.
@@ -46,21 +28,25 @@ impl Default for Entry {
 /// Nothing tells it that a held line changed at its core: what it holds may be old.
 #[derive(Drop)]
 pub struct Cache {
-    entries: ArrayVec<Entry, 512>,
-    // Whether a line of this number may be held, so that a line that is not is mostly told without a search.
-    marks: [bool; 256],
+    // The lines stand first, and what stands behind them is of no account.
+    entries: [Entry; 512],
+    len: usize,
+    // By the number of a line. A line whose mark is of another pass is not held.
+    marks: [Mark; 256],
+    // How often all lines were dropped. It may wrap: a mark of the same pass is no more than where to look first.
+    pass: u32,
 }
 
 impl Model for Cache {
-    ghost use Rattle.std.specs.Prelude.{List};
+    ghost use Rattle.std.specs.Prelude.{List, take};
     ghost use Rattle.line_cache.specs.declared.cache.Entry.{Entry};
     ghost use Rattle.line_cache.specs.Lines.{IsMarked};
 
     ghost Value = { List Entry };
 
-    ghost view = { λ c. c.entries.items };
+    ghost view = { λ c. take c.len c.entries };
 
-    ghost invariant = { λ c. IsMarked c.marks c.entries.items };
+    ghost invariant = { λ c. IsMarked c.entries c.len c.marks c.pass };
 }
 
 impl Cache {
@@ -71,9 +57,15 @@ impl Cache {
     pub fn new() -> Cache
         ensures { result ≡ [] }
     {
+        let line = Line::new(CoreId::of(0), 0);
         Cache {
-            entries: ArrayVec::new(),
-            marks: [false; 256],
+            entries: [Entry {
+                line,
+                words: [0; 4],
+            }; 512],
+            len: 0,
+            marks: [Mark { pass: 0, at: 0 }; 256],
+            pass: 1,
         }
     }
 
@@ -82,24 +74,40 @@ impl Cache {
         ensures value { result ≡ length self.now }
         ensures cache { IsCache self.now }
     {
-        self.entries.len()
+        self.len
     }
 
     /// Whether nothing is held.
     pub fn is_empty(&self) -> bool
         ensures { result ≡ (length self.now == 0) }
     {
-        self.entries.is_empty()
+        self.len == 0
+    }
+
+    /// The place of a line, if it is held.
+    fn find(&self, line: Line) -> Option<usize>
+        ensures place { IsPlaceOf self.now line result }
+        ensures cache { IsCache self.now }
+    {
+        let mark = self.marks[usize::from(line.line())];
+        if mark.pass != self.pass {
+            return None;
+        }
+        let at = usize::from(mark.at);
+        if at < self.len && self.entries[at].line.is(line) {
+            return Some(at);
+        }
+        search(&self.entries[..self.len], line)
     }
 
     /// The words that are held of a line.
     pub fn look(&self, line: Line) -> Option<[u64; 4]>
         ensures { result ≡ held self.now line }
     {
-        if !self.marks[usize::from(line.line())] {
-            return None;
+        match self.find(line) {
+            None => None,
+            Some(at) => Some(self.entries[at].words),
         }
-        look_in(self.entries.as_slice(), line)
     }
 
     /// Brings a line in, behind the others. Where 512 are held the first leaves.
@@ -108,11 +116,15 @@ impl Cache {
         ensures lines { self.new ≡ filled self.old line words }
         ensures cache { IsCache self.new }
     {
-        if self.entries.is_full() {
-            self.entries.remove(0);
+        if self.len == MOST_LINES {
+            self.drop_at(0);
         }
-        self.marks[usize::from(line.line())] = true;
-        self.entries.push(Entry { line, words });
+        self.marks[usize::from(line.line())] = Mark {
+            pass: self.pass,
+            at: self.len as u16,
+        };
+        self.entries[self.len] = Entry { line, words };
+        self.len += 1;
     }
 
     /// Notes a word that the core wrote, where its line is held.
@@ -120,8 +132,8 @@ impl Cache {
         ensures lines { self.new ≡ noted self.old place value }
         ensures cache { IsCache self.new }
     {
-        if self.marks[usize::from(place.line())] {
-            note(self.entries.as_mut_slice(), place, value);
+        if let Some(at) = self.find(place.line_at()) {
+            self.entries[at].words[usize::from(place.word())] = value;
         }
     }
 
@@ -130,7 +142,7 @@ impl Cache {
         ensures lines { self.new ≡ line_noted self.old line words.now }
         ensures cache { IsCache self.new }
     {
-        if self.marks[usize::from(line.line())] {
+        if let Some(_) = self.find(line) {
             self.note_write(line.word(0), words[0]);
             self.note_write(line.word(1), words[1]);
             self.note_write(line.word(2), words[2]);
@@ -144,42 +156,30 @@ impl Cache {
         ensures lines { self.new ≡ remove self.old at }
         ensures cache { IsCache self.new }
     {
-        self.entries.remove(at);
+        self.entries.copy_within(at + 1..self.len, at);
+        self.len -= 1;
     }
 
     /// Drops all lines.
     pub fn invalidate(&mut self)
         ensures { self.new ≡ [] }
     {
-        for entry in self.entries.iter() {
-            self.marks[usize::from(entry.line.line())] = false;
-        }
-        self.entries.clear();
+        self.len = 0;
+        self.pass = self.pass.wrapping_add(1);
     }
 }
 
-/// The words of the entry of a line.
+/// The place of the entry of a line.
 ///
 /// A core reads the words of a line one after another, so the line is mostly the newest: the search goes from
 /// the last entry back.
-fn look_in(entries: &[Entry], line: Line) -> Option<[u64; 4]>
-    requires { AreDistinct entries.now }
-    ensures { result ≡ held entries.now line }
+fn search(entries: &[Entry], line: Line) -> Option<usize>
+    ensures { IsPlaceOf entries.now line result }
 {
     for i in (0..entries.len()).rev() {
-        let entry = &entries[i];
-        if entry.line.is(line) {
-            return Some(entry.words);
+        if entries[i].line.is(line) {
+            return Some(i);
         }
     }
     None
-}
-
-/// Notes a word in the entries of its line.
-fn note(entries: &mut [Entry], place: Place, value: u64)
-    ensures { entries.new ≡ noted entries.old place value }
-{
-    for entry in entries.iter_mut() {
-        entry.note(place, value);
-    }
 }

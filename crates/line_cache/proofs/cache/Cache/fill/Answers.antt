@@ -1,26 +1,39 @@
-use Rattle.std.proofs.Common.{◌≡◌, ◌∙◌, ◌<◌, None, length, sym, subst, arith, List, remove}
-use Rattle.std.proofs.lemmas.Bool.{eqb-false}
+use Rattle.std.proofs.Common.{◌≡◌, ◌≢◌, ◌∙◌, ◌<◌, ◌≤◌, None, length, refl, sym, subst, ap, take, List, arith}
+use Rattle.std.proofs.lemmas.List.Edits.{length-remove}
 use Rattle.line_cache.specs.declared.cache.Entry.{Entry}
 use Rattle.line_cache.specs.Lines.{held}
-use Rattle.line_cache.proofs.LineLemmas.{held-remove, marked-push, marked-remove}
+use Rattle.line_cache.proofs.LineLemmas.{held-remove}
+use Rattle.line_cache.proofs.PlaceLemmas.{len_first, marked_filled}
 use Rattle.line_cache.proofs.cache.Cache.fill.Goals as goal
-use Rattle.line_cache.proofs.cache.Cache.fill.Goals.{then-is_full, else-is_full}
+use Rattle.line_cache.proofs.cache.Cache.fill.Goals.{then-self-eq-MOST_LINES, else-self-eq-MOST_LINES}
 
 pub invariant_of-self : goal.invariant_of-self
 invariant_of-self c =
-    let none : held c.self.inside.entries.items c.args.line ≡ None =
-    subst (λ (es : List Entry). held es c.args.line ≡ None) (sym c.self.view_is) c.requires in
-    let few = c.self.invariant.cache.few in
-    let at : c.from.result ≡ c.args.line.line = c.from.ensures ∙ c.line.ensures.gives in
-    rw c.push.ensures.items
-    (elim c.if-is_full.branch [
-      | then-is_full w ↦
-          let len = w.remove.ensures.len in
-          rw (w.self-inside-is, w.remove.ensures.items)
-          (marked-push c.self.inside.marks c.from.result (remove c.self.inside.entries.items 0) _ (subst (λ (es : List Entry). length es < 512) w.remove.ensures.items (omega arith)) (omega arith) at (marked-remove c.self.inside.marks c.self.inside.entries.items 0 c.self.invariant) (held-remove c.self.inside.entries.items 0 c.args.line none))
-      | else-is_full w ↦
-          rw w.self-inside-is (marked-push c.self.inside.marks c.from.result c.self.inside.entries.items _ (let ne = eqb-false (length c.self.inside.entries.items) 512 (sym w.if-is_full.ensures.value) in omega arith) (omega arith) at c.self.invariant none)
-    ])
+    let none : held (take c.self-2.inside.len c.self-2.inside.entries) c.args.line ≡ None
+    = subst (λ (es : List Entry). held es c.args.line ≡ None) (sym c.self-2.view_is)
+    (elim c.if-self-eq-MOST_LINES.branch [
+      | then-self-eq-MOST_LINES w ↦
+          subst (λ (es : List Entry). held es c.args.line ≡ None) (sym w.drop_at.ensures.lines ∙ sym w.self-is) (held-remove c.args.self.now 0 c.args.line c.requires)
+      | else-self-eq-MOST_LINES w ↦ subst (λ (es : List Entry). held es c.args.line ≡ None) (sym w.self-is) c.requires
+    ]) in
+    let old : length c.args.self.now ≡ c.self.inside.len
+    = ap length (sym c.self.view_is) ∙ len_first c.self.inside.entries c.self.inside.len c.self.invariant.few in
+    let most : length c.args.self.now ≤ 512 = subst (λ (es : List Entry). length es ≤ 512) c.self.view_is c.self.invariant.cache.few in
+    let fewer : length (take c.self-2.inside.len c.self-2.inside.entries) < 512
+    = subst (λ (es : List Entry). length es < 512) (sym c.self-2.view_is)
+    (elim c.if-self-eq-MOST_LINES.branch [
+      | then-self-eq-MOST_LINES w ↦
+          let full : c.self.inside.len ≡ 512 = w.if-self-eq-MOST_LINES.true in
+          let less = length-remove c.args.self.now 0 (omega (arith, old, full)) in
+          subst (λ (es : List Entry). length es < 512) (sym w.drop_at.ensures.lines ∙ sym w.self-is) (omega (arith, less, most))
+      | else-self-eq-MOST_LINES w ↦
+          let not_full : c.self.inside.len ≢ 512 = w.if-self-eq-MOST_LINES.false in
+          subst (λ (es : List Entry). length es < 512) (sym w.self-is) (omega (arith, not_full, old, most))
+    ]) in
+    let first = len_first c.self-2.inside.entries c.self-2.inside.len c.self-2.invariant.few in
+    let room : c.self-2.inside.len < 512 = omega (arith, fewer, first) in
+    marked_filled c.self-2.inside.entries c.self-2.inside.len c.self-2.inside.marks c.self-2.inside.pass c.from.result _ _ room (omega (arith, room)) (omega arith)
+    (c.from.ensures ∙ c.line.ensures.gives) refl c.self-2.invariant none
 
 pub returns-clause-cache : goal.returns-clause-cache
 returns-clause-cache c = (invariant_of-self c).cache

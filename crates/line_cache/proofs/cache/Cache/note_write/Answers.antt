@@ -1,21 +1,29 @@
-use Rattle.std.proofs.Common.{◌≡◌, ◌∙◌, ℕ, List, false, ap, get_or, subst, sym}
+use Rattle.std.proofs.Common.{◌≡◌, ◌∙◌, List, None, Some, ap, sym, subst}
+use Rattle.std.proofs.lemmas.List.{length-set}
+use Rattle.scc_base.specs.Places.{LineAt}
 use Rattle.line_cache.specs.declared.cache.Entry.{Entry}
-use Rattle.scc_base.specs.Places.{line_of_word}
-use Rattle.line_cache.specs.Lines.{noted}
-use Rattle.line_cache.proofs.LineLemmas.{marked-refilled, noted_none}
+use Rattle.line_cache.specs.Lines.{held, noted, IsPlaceOf}
+use Rattle.line_cache.proofs.LineLemmas.{noted_none}
+use Rattle.line_cache.proofs.PlaceLemmas.{word_noted, marked_noted}
 use Rattle.line_cache.proofs.cache.Cache.note_write.Goals as goal
 
 pub invariant_of-self : goal.invariant_of-self
 invariant_of-self c =
-    marked-refilled c.self.inside.marks c.self.inside.entries.items c.note.new.entries c.args.place c.args.value
-    (c.note.ensures ∙ ap (λ es. noted es c.args.place c.args.value) c.as_mut_slice.ensures.value) c.self.invariant
+    marked_noted c.self.inside.entries _ c.self.inside.len c.self.inside.marks c.self.inside.pass c.args.place c.args.value (length-set c.self.inside.entries c.in-Some.at _)
+    (word_noted c.self.inside.entries c.self.inside.len c.in-Some.at c.line_at.result c.index-self-at.result c.self.invariant.cache c.self.invariant.few
+    (subst (λ (es : List Entry). IsPlaceOf es c.line_at.result (Some c.in-Some.at)) (sym c.self.view_is) c.in-Some.ensures.place) c.index-self-at.is
+    c.args.place c.from.result c.args.value (sym c.line_at.ensures.gives) (c.from.ensures ∙ c.word.ensures.gives)) c.self.invariant
 
-pub returns-then-self-from-clause-cache : goal.returns-then-self-from-clause-cache
-returns-then-self-from-clause-cache c = (invariant_of-self c).cache
+pub returns-in-Some-clause-lines : goal.returns-in-Some-clause-lines
+returns-in-Some-clause-lines c =
+    word_noted c.self.inside.entries c.self.inside.len c.in-Some.at c.line_at.result c.index-self-at.result c.self.invariant.cache c.self.invariant.few
+    (subst (λ (es : List Entry). IsPlaceOf es c.line_at.result (Some c.in-Some.at)) (sym c.self.view_is) c.in-Some.ensures.place) c.index-self-at.is
+    c.args.place c.from.result c.args.value (sym c.line_at.ensures.gives) (c.from.ensures ∙ c.word.ensures.gives)
+    ∙ ap (λ (es : List Entry). noted es c.args.place c.args.value) c.self.view_is
 
-pub returns-else-self-from-clause-lines : goal.returns-else-self-from-clause-lines
-returns-else-self-from-clause-lines c =
-    let bare : get_or c.self.inside.marks c.args.place.line false ≡ false =
-    subst (λ (n : ℕ). get_or c.self.inside.marks n false ≡ false) (c.from.ensures ∙ c.line.ensures.gives) c.if-self-from.false in
-    subst (λ (es : List Entry). es ≡ noted es c.args.place c.args.value) c.self.view_is
-    (sym (noted_none c.self.inside.entries.items c.args.place c.args.value (c.self.invariant.unmarked (line_of_word c.args.place) bare)))
+pub returns-in-Some-clause-cache : goal.returns-in-Some-clause-cache
+returns-in-Some-clause-cache c = (invariant_of-self c).cache
+
+pub returns-in_default-clause-lines : goal.returns-in_default-clause-lines
+returns-in_default-clause-lines c =
+    sym (noted_none c.args.self.now c.args.place c.args.value (subst (λ (l : LineAt). held c.args.self.now l ≡ None) c.line_at.ensures.gives c.in_default.ensures.place))
