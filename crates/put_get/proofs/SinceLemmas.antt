@@ -10,7 +10,7 @@ use Rattle.line_cache.specs.Lines.{noted}
 use Rattle.write_combine.specs.declared.combiner.Out.{Out}
 use Rattle.write_combine.specs.Combining.{one_word, with_word, handed_out, held_after}
 use Rattle.put_get.specs.Accesses.{stores_of_line, stores_of, whole_line}
-use Rattle.put_get.specs.Cores.{Private, ReadsWord, ReadsLine, WritesLine, line_noted}
+use Rattle.put_get.specs.Cores.{Private, ReadsWord, ReadsLine, WritesThrough, WritesLine, line_noted}
 use Rattle.put_get.specs.Transfers.{line_at, put_stores, put_lines, Puts, ReadsLines, Gets}
 use Rattle.put_get.specs.Answers.{IsKnown, Since, Invalidated, HasRead, HasWritten, HasFlushed, writes_of, writes_from, IsLineTold, LinesLaw}
 use Rattle.put_get.proofs.StepLemmas.{events_once, did_front, did_left}
@@ -181,6 +181,35 @@ writes_line known c d s t line words since other writes =
     (subst (λ es. Since es (record c { lines = line_noted c.lines line words; out = Some (whole_line line words) }))
     (regroup known (store_of p0 v0 ∷ []) (store_of p1 v1 ∷ []) (store_of p2 v2 ∷ []) (store_of p3 v3 ∷ [])) f)
 
+-- a line of which one word was written is stored by that word's store
+one_stored : (p : WordAt) (v : ℕ) → p.word < 4 → stores_of (Some (one_word p v)) ≡ store_of p v ∷ []
+one_stored p v below = by p.core p.line p.word below
+  where
+    by : (core line word : ℕ) → word < 4 → stores_of (Some (one_word (record { core = core; line = line; word = word }) v))
+        ≡ store_of (record { core = core; line = line; word = word }) v ∷ []
+    by core line zero lt = refl
+    by core line (suc zero) lt = refl
+    by core line (suc (suc zero)) lt = refl
+    by core line (suc (suc (suc zero))) lt = refl
+    by core line (suc (suc (suc (suc word)))) lt = absurd (omega (arith, lt))
+
+-- a word that is stored at once is a word that is written, and a flush
+writes_through : (known : List Event) (c d : Private) (s t : Sight) (p : WordAt) (v : ℕ) → Since known c → p.word < 4
+    → handed_out c.out (line_of_word p) ≡ c.out → WritesThrough s c p v t d → Since (known ++ store_of p v ∷ []) d
+writes_through known c d s t p v since below other writes =
+    let stores = stores_of c.out in
+    let mid = and_then s stores in
+    let written : Private = record c { lines = noted c.lines p v; out = Some (one_word p v) } in
+    let first = first_held c.out p v other in
+    let a : Since (known ++ store_of p v ∷ []) written = HasWritten known c since s mid written p v below (record {
+      did = subst (λ (x : Option Out). Did s (stores_of x) mid) (sym other) (did_front s stores (store_of p v ∷ []) t writes.did);
+      is = λ i. record c { lines = noted c.lines p v; out = Some (sym first i) };
+    }) in
+    HasFlushed (known ++ store_of p v ∷ []) written a mid t d (record {
+      did = subst (λ (es : List Event). Did mid es t) (sym (one_stored p v below)) (did_left s stores (store_of p v ∷ []) t writes.did);
+      is = writes.is;
+    })
+
 puts : (src : List (List ℕ)) (known : List Event) (c d : Private) (s t : Sight) (core line : ℕ) → Since known c
     → c.out ≡ None → Puts s c core line src t d → Since (known ++ writes_from core line src) d
 puts [] known c d s t core line since none put =
@@ -205,6 +234,7 @@ pub lines : LinesLaw
 lines = record {
   line_read = reads_line;
   line_write = writes_line;
+  word_through = writes_through;
   put = λ known c d s t core line src. puts src known c d s t core line;
   get = gets;
 }

@@ -1,12 +1,12 @@
 -- Where the words come from that a core answers.
 use Rattle.std.specs.Prelude.{◌≡◌, ℕ, ◌+◌, ◌*◌, ◌<◌, ◌≤◌, Bool, true, ◌==◌, ◌&&◌, List, [], ◌∷◌, ◌++◌, None, slice_index}
 use Rattle.std.specs.List.{list_any}
-use Rattle.scc_base.specs.Places.{LineAt, WordAt, word_of_line}
+use Rattle.scc_base.specs.Places.{LineAt, WordAt, word_of_line, line_of_word}
 use Rattle.scc_base.specs.Events.{store_of}
 use Rattle.scc_base.specs.declared.events.Event.{Event}
 use Rattle.scc_proto.specs.Ports.{Sight, Did}
 use Rattle.write_combine.specs.Combining.{handed_out}
-use Rattle.put_get.specs.Cores.{Private, ReadsWord, ReadsLine, Writes, WritesLine, Flushes}
+use Rattle.put_get.specs.Cores.{Private, ReadsWord, ReadsLine, Writes, WritesThrough, WritesLine, Flushes}
 use Rattle.put_get.specs.Transfers.{same_word, load_count, line_at, Puts, Gets}
 
 -- the event is of this word and has this value
@@ -54,13 +54,15 @@ abbrev pub IsLineTold : List Event → LineAt → List ℕ → Type 0
 IsLineTold known line words = (k : ℕ) → k < 4 → IsKnown known (word_of_line line k) (slice_index words k)
 
 -- the same of the calls for whole lines: what a core did goes on with the loads of a line that it reads, and each
--- word that it answers is known by then; with the words of a line, and of a put, that it writes; and it begins
--- anew with the loads of a get
+-- word that it answers is known by then; with the words of a line, and of a put, that it writes, and with a word
+-- that it stores at once; and it begins anew with the loads of a get
 pub record LinesLaw : Type 0 where
   pub line_read : (known es : List Event) (c d : Private) (s t : Sight) (line : LineAt) (words : List ℕ) → Since known c
       → ReadsLine s c line words t d → Did s es t → Since (known ++ es) d × IsLineTold (known ++ es) line words
   pub line_write : (known : List Event) (c d : Private) (s t : Sight) (line : LineAt) (words : List ℕ) → Since known c
       → handed_out c.out line ≡ c.out → WritesLine s c line words t d → Since (known ++ writes_of line words) d
+  pub word_through : (known : List Event) (c d : Private) (s t : Sight) (p : WordAt) (v : ℕ) → Since known c → p.word < 4
+      → handed_out c.out (line_of_word p) ≡ c.out → WritesThrough s c p v t d → Since (known ++ store_of p v ∷ []) d
   pub put : (known : List Event) (c d : Private) (s t : Sight) (core line : ℕ) (src : List (List ℕ)) → Since known c
       → c.out ≡ None → Puts s c core line src t d → Since (known ++ writes_from core line src) d
   pub get : (es : List Event) (c d : Private) (s t : Sight) (core line : ℕ) (dst : List (List ℕ))

@@ -1,8 +1,9 @@
 -- What the calls of a core do to its private lines and to the shared words (SCC External Architecture
 -- Specification: reads through the cache, writes through it and the write-combining buffer).
-use Rattle.std.specs.Prelude.{◌≡◌, ℕ, suc, ◌<◌, List, Option, None, Some, length, remove, slice_index}
+use Rattle.std.specs.Prelude.{◌≡◌, ℕ, suc, ◌<◌, List, [], ◌∷◌, ◌++◌, Option, None, Some, length, remove, slice_index}
 pub use Rattle.line_cache.specs.Lines.{line_noted}
 use Rattle.scc_base.specs.Places.{LineAt, WordAt, line_of_word, word_of_line}
+use Rattle.scc_base.specs.Events.{store_of}
 use Rattle.scc_base.specs.declared.events.Event.{Event}
 use Rattle.scc_proto.specs.Ports.{Seat, Sight, Did}
 use Rattle.line_cache.specs.declared.cache.Entry.{Entry}
@@ -68,6 +69,12 @@ pub record Writes (s : Sight) (c : Private) (p : WordAt) (v : ℕ) (t : Sight) (
 pub record Flushes (s : Sight) (c : Private) (t : Sight) (d : Private) : Type 0 where
   pub did : Did s (stores_of c.out) t
   pub is : d ≡ record c { out = None }
+
+-- a word of another line than the one in the buffer was written and stored at once: what the buffer held was stored
+-- before it, as when a word is written and then flushed
+pub record WritesThrough (s : Sight) (c : Private) (p : WordAt) (v : ℕ) (t : Sight) (d : Private) : Type 0 where
+  pub did : Did s (stores_of c.out ++ store_of p v ∷ []) t
+  pub is : d ≡ record c { lines = noted c.lines p v; out = None }
 
 -- a whole line was written: what the buffer held before was stored, and the line stands in the buffer
 pub record WritesLine (s : Sight) (c : Private) (line : LineAt) (words : List ℕ) (t : Sight) (d : Private) : Type 0 where

@@ -36,14 +36,15 @@ impl<V: Evict> Model for Core<V> {
 }
 
 impl<V: Evict> Core<V> {
-    ghost use Rattle.std.specs.Prelude.{◌≡◌, ◌↔◌, ℕ, List, [], Some, None, IsTrue, true};
+    ghost use Rattle.std.specs.Prelude.{◌≡◌, ◌↔◌, ℕ, List, [], ◌∷◌, ◌++◌, Some, None, IsTrue, true};
     ghost use Rattle.scc_base.specs.Places.{line_of_word};
+    ghost use Rattle.scc_base.specs.Events.{store_of};
     ghost use Rattle.scc_base.specs.declared.events.Event.{Event};
     ghost use Rattle.scc_proto.specs.Ports.{MayMakeAll, record_in};
     ghost use Rattle.line_cache.specs.Lines.{held};
     ghost use Rattle.write_combine.specs.Combining.{handed_out};
     ghost use Rattle.put_get.specs.Accesses.{stores_of};
-    ghost use Rattle.put_get.specs.Cores.{Private, IsCore, Fills, Fetch, ReadsWord, ReadsLine, Writes, WritesLine, Flushes, MadeSteps};
+    ghost use Rattle.put_get.specs.Cores.{Private, IsCore, Fills, Fetch, ReadsWord, ReadsLine, Writes, WritesThrough, WritesLine, Flushes, MadeSteps};
 
     /// A core that holds nothing.
     pub fn new(evict: V) -> Core<V>
@@ -115,6 +116,19 @@ impl<V: Evict> Core<V> {
         words[usize::from(place.word())]
     }
 
+    /// Drops all cached lines and reads a word. Its line is loaded, with no search for it.
+    pub fn fresh_word<P: Port>(&mut self, port: &mut P, place: Place) -> u64
+        requires empty { self.old.out ≡ None }
+        ensures reads { ReadsWord (P.sight port.old) (record self.old { lines = [] }) place result (P.sight port.new) self.new }
+        ensures steps { MadeSteps P.stepped (P.sight port.old) (P.sight port.new) }
+    {
+        self.cl1invmb();
+        let line = place.line_at();
+        let loaded = load_line(port, line);
+        self.bring(line, loaded);
+        loaded[usize::from(place.word())]
+    }
+
     /// Reads the four words of a line, in order.
     pub fn line_read<P: Port>(&mut self, port: &mut P, line: Line) -> [u64; 4]
         requires empty { self.old.out ≡ None }
@@ -145,6 +159,20 @@ impl<V: Evict> Core<V> {
         self.cache.note_write(place, value);
         let out = self.combiner.write(place, value);
         store_out(port, &out);
+    }
+
+    /// Stores what the buffer holds, and then a word of another line, which is noted in the cache. The buffer holds
+    /// nothing afterwards.
+    pub fn word_write_through<P: Port>(&mut self, port: &mut P, place: Place, word: u64)
+        requires other { handed_out self.old.out (line_of_word place) ≡ self.old.out }
+        requires permitted { MayMakeAll (P.sight port.old).seat (record_in (P.sight port.old)) (stores_of self.old.out ++ store_of place word ∷ []) }
+        ensures writes { WritesThrough (P.sight port.old) self.old place word (P.sight port.new) self.new }
+        ensures steps { MadeSteps P.stepped (P.sight port.old) (P.sight port.new) }
+    {
+        self.cache.note_write(place, word);
+        let before = self.combiner.flush();
+        store_out(port, &before);
+        port.store(place, word);
     }
 
     /// Writes the four words of a line that is not the one in the buffer, so that the whole line stands there.
