@@ -1,5 +1,5 @@
 -- Writes of flags: one store, and a bit's change under its register.
-use Rattle.std.proofs.Common.{◌≡◌, ℕ, zero, suc, ◌+◌, ◌<◌, ◌≤◌, ◌↔◌, Bool, true, false, if◌then◌else◌, List, [], ◌∷◌, ◌++◌, Option, None, Some, Result, Ok, Err, IsErr, IfSome, is_some, slice_index, refl, sym, ◌∙◌, ap, subst, append_assoc, append-nil, arith}
+use Rattle.std.proofs.Common.{◌≡◌, ℕ, zero, suc, ◌+◌, ◌≤◌, ◌↔◌, Bool, true, false, if◌then◌else◌, List, [], ◌∷◌, ◌++◌, Option, None, Some, Result, Ok, Err, IsErr, IfSome, is_some, slice_index, refl, sym, ◌∙◌, ap, subst, append_assoc, append-nil, arith}
 use Rattle.scc_base.specs.Places.{WordAt, line_of_word}
 use Rattle.scc_base.specs.Events.{store_of, take_of, free_of}
 use Rattle.scc_base.specs.declared.events.Event.{Event}
@@ -9,10 +9,10 @@ use Rattle.scc_proto.specs.Soundness.{IsSound}
 use Rattle.scc_proto.specs.Ports.{Seat, Sight, Did, MayMake, MayMakeAll, WasMade, IsSoundPort, record_in, record_on, record_next}
 use Rattle.scc_proto.proofs.PortLaws.{did_both, record_did, record_did_one, seat_kept}
 use Rattle.scc_proto.proofs.Tests.{eqb_same, put_here}
-use Rattle.write_combine.specs.Combining.{one_word, handed_out, held_after}
 use Rattle.write_combine.specs.declared.combiner.Out.{Out}
 use Rattle.put_get.specs.Accesses.{loads_of, stores_of}
-use Rattle.put_get.specs.Cores.{Private, Writes}
+use Rattle.line_cache.specs.Lines.{noted}
+use Rattle.put_get.specs.Cores.{Private, WritesThrough}
 use Rattle.put_get.proofs.StepLemmas.{events_once}
 use Rattle.tas_lock.specs.Holds.{IsHolding, IsNotHolding, after_try}
 use Rattle.tas_lock.proofs.HoldLemmas.{next_tried}
@@ -25,26 +25,16 @@ use Rattle.sync_flags.proofs.WaitLemmas.{no_stall, stall}
 
 -- ---- one word
 
-one_at : (core line word v : ℕ) → word < 4 → stores_of (Some (one_word (record { core = core; line = line; word = word }) v))
-    ≡ store_of (record { core = core; line = line; word = word }) v ∷ []
-one_at core line zero v lt = refl
-one_at core line (suc zero) v lt = refl
-one_at core line (suc (suc zero)) v lt = refl
-one_at core line (suc (suc (suc zero))) v lt = refl
-one_at core line (suc (suc (suc (suc word)))) v lt = absurd (omega (arith, lt))
+-- an empty buffer hands out nothing before the word
+pub may_through : (seat : Seat) (rec : Record) (out : Option Out) (p : WordAt) (v : ℕ) → out ≡ None → MayMake seat rec (store_of p v)
+    → MayMakeAll seat rec (stores_of out ++ store_of p v ∷ [])
+may_through seat rec out p v empty may = subst (λ (o : Option Out). MayMakeAll seat rec (stores_of o ++ store_of p v ∷ [])) (sym empty) (may, tt)
 
-nothing_done : (s t : Sight) → Did s [] t → t ≡ s
-nothing_done s t did = did.continues ∙ (λ i. record s { events = append-nil s.events i })
-
--- what an empty combiner holds after a word was written is that word's store
-pub flush_may : {s m : Sight} {c d : Private} {p : WordAt} {v : ℕ} → Writes s c p v m d → c.out ≡ None → p.word < 4
-    → MayMake s.seat (record_in s) (store_of p v) → MayMakeAll m.seat (record_in m) (stores_of d.out)
-flush_may {s} {m} {c} {d} {p} {v} w empty lt may =
-    let did : Did s [] m = subst (λ (o : Option Out). Did s (stores_of (handed_out o (line_of_word p))) m) empty w.did in
-    let out : d.out ≡ Some (one_word p v) = ap (λ (x : Private). x.out) w.is ∙ ap (λ (o : Option Out). Some (held_after o p v)) empty in
-    let stores : stores_of d.out ≡ store_of p v ∷ [] = ap (λ (o : Option Out). stores_of o) out ∙ one_at p.core p.line p.word v lt in
-    subst (λ (es : List Event). MayMakeAll m.seat (record_in m) es) (sym stores)
-    (subst (λ (x : Sight). MayMakeAll x.seat (record_in x) (store_of p v ∷ [])) (sym (nothing_done s m did)) (may, tt))
+pub through_stores : {s t : Sight} {c d : Private} {p : WordAt} {v : ℕ} → WritesThrough s c p v t d → c.out ≡ None → StoresWord s c p v t d
+through_stores {s} {t} {c} {d} {p} {v} w empty = record {
+  did = subst (λ (o : Option Out). Did s (stores_of o ++ store_of p v ∷ []) t) empty w.did;
+  is = w.is ∙ (λ i. record c { lines = noted c.lines p v; out = sym empty i });
+}
 
 -- ---- a bit under its register
 

@@ -22,8 +22,7 @@ pub fn look_word<V: Evict, P: Port>(core: &mut Core<V>, port: &mut P, place: Pla
     ensures empty { core.new.out ≡ None }
     ensures steps { MadeSteps P.stepped (P.sight port.old) (P.sight port.new) }
 {
-    core.cl1invmb();
-    core.word_read(port, place)
+    core.fresh_word(port, place)
 }
 
 /// Whether a flag at a rank is set, by one look.

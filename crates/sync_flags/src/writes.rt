@@ -26,9 +26,7 @@ pub fn store_word<V: Evict, P: Port>(core: &mut Core<V>, port: &mut P, place: Pl
     ensures steps { MadeSteps P.stepped (P.sight port.old) (P.sight port.new) }
     ensures empty { core.new.out ≡ None }
 {
-    let _ = place.word();
-    core.word_write(port, place, value);
-    core.flush(port);
+    core.word_write_through(port, place, value);
 }
 
 /// Tries to take a register, at most so many times.

@@ -1,11 +1,13 @@
-use Rattle.sync_flags.proofs.WriteLemmas.{flush_may}
-use Rattle.put_get.proofs.StepLemmas.{steps_both}
+use Rattle.scc_base.specs.Places.{line_of_word}
+use Rattle.put_get.proofs.TransferLemmas.{may_differ}
+use Rattle.sync_flags.proofs.WriteLemmas.{may_through, through_stores}
 use Rattle.sync_flags.proofs.writes.store_word.Goals as goal
 
-pub flush-requires : goal.flush-requires
-flush-requires g c = record { permitted = flush_may c.word_write.ensures.writes c.requires.empty c.word.ensures.valid.word_below c.requires.permitted }
+pub word_write_through-requires : goal.word_write_through-requires
+word_write_through-requires g c = record {
+  other = may_differ c.args.core.now (line_of_word c.args.place) c.requires.empty;
+  permitted = may_through _ _ c.args.core.now.out c.args.place c.args.value c.requires.empty c.requires.permitted;
+}
 
-pub returns-clause-steps : goal.returns-clause-steps
-returns-clause-steps g c =
-    steps_both g.P.Port.stepped (g.P.Port.sight c.args.port.now) (g.P.Port.sight c.word_write.new.port) (g.P.Port.sight c.flush.new.port) _ _
-    c.word_write.ensures.writes.did c.flush.ensures.flushes.did c.word_write.ensures.steps c.flush.ensures.steps
+pub returns-clause-stores : goal.returns-clause-stores
+returns-clause-stores g c = through_stores c.word_write_through.ensures.writes c.requires.empty
