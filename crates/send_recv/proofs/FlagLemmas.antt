@@ -1,15 +1,14 @@
 -- Looks at flags and changes of them, from the calls of a core and of a register that make them.
-use Rattle.std.proofs.Common.{◌≡◌, ℕ, zero, suc, ◌<◌, Bool, true, false, if◌then◌else◌, [], ◌∷◌, Option, Some, None, refl, sym, ◌∙◌, ap, subst, arith, slice_index}
-use Rattle.scc_base.specs.Places.{WordAt, FlagPlace, flag_word, line_of_word, same_line}
+use Rattle.std.proofs.Common.{◌≡◌, ℕ, Bool, if◌then◌else◌, [], ◌∷◌, ◌++◌, sym, ◌∙◌, ap, subst, slice_index}
+use Rattle.scc_base.specs.Places.{WordAt, FlagPlace, flag_word, line_of_word}
 use Rattle.scc_base.specs.Setups.{SetupView}
 use Rattle.scc_base.specs.Events.{store_of}
 use Rattle.scc_base.specs.declared.layouts.Layout.{Layout}
-use Rattle.scc_proto.specs.Ports.{Seat, Sight, Did, MayMakeAll, record_in}
-use Rattle.scc_proto.proofs.PortLaws.{did_both, seat_kept, may_next}
-use Rattle.write_combine.specs.declared.combiner.Out.{Out}
-use Rattle.write_combine.specs.Combining.{handed_out, held_after, one_word, with_word}
+use Rattle.scc_proto.specs.Ports.{Seat, Sight, MayMakeAll, record_in}
+use Rattle.scc_proto.proofs.PortLaws.{seat_kept}
+use Rattle.write_combine.specs.Combining.{handed_out}
 use Rattle.put_get.specs.Accesses.{stores_of}
-use Rattle.put_get.specs.Cores.{Private, Writes, Flushes}
+use Rattle.put_get.specs.Cores.{Private, WritesThrough}
 use Rattle.sync_flags.specs.Looks.{LooksAt}
 use Rattle.send_recv.specs.Flags.{is_set, Looks, WritesFlag, MayWriteFlag}
 
@@ -27,45 +26,19 @@ look_read s t c d core flag p v setup layout found place looks at is tells =
 
 -- ---- line flags
 
--- the store of one word alone
-one_store_by : (core line w v : ℕ) → w < 4 → stores_of (Some (one_word (record { core = core; line = line; word = w }) v)) ≡ store_of (record { core = core; line = line; word = w }) v ∷ []
-one_store_by core line zero v below = refl
-one_store_by core line (suc zero) v below = refl
-one_store_by core line (suc (suc zero)) v below = refl
-one_store_by core line (suc (suc (suc zero))) v below = refl
-one_store_by core line (suc (suc (suc (suc w)))) v below = absurd (omega (arith, below))
+-- what a line flag's write asks for, at the place and with the value that the code has
+pub flag_permitted : (s : Sight) (c : Private) (core : ℕ) (flag : FlagPlace) (set : Bool) (p : WordAt) (v : ℕ) → MayWriteFlag s c core flag set
+    → p ≡ flag_word core flag → v ≡ (if set then 1 else 0)
+    → (handed_out c.out (line_of_word p) ≡ c.out) × MayMakeAll s.seat (record_in s) (stores_of c.out ++ store_of p v ∷ [])
+flag_permitted s c core flag set p v may place value = (
+  subst (λ (x : WordAt). handed_out c.out (line_of_word x) ≡ c.out) (sym place) may.other,
+  subst (λ (x : WordAt). MayMakeAll s.seat (record_in s) (stores_of c.out ++ store_of x v ∷ [])) (sym place)
+      (subst (λ n. MayMakeAll s.seat (record_in s) (stores_of c.out ++ store_of (flag_word core flag) n ∷ [])) (sym value) may.permitted),
+)
 
-pub one_store : (p : WordAt) (v : ℕ) → p.word < 4 → stores_of (Some (one_word p v)) ≡ store_of p v ∷ []
-one_store p v below = one_store_by p.core p.line p.word v below
-
--- after another line a word stands alone in the buffer
-alone_by : (o : Out) (p : WordAt) (v : ℕ) (b : Bool) → same_line o.line (line_of_word p) ≡ b → (if b then None else Some o) ≡ Some o → held_after (Some o) p v ≡ one_word p v
-alone_by o p v true e h = absurd (cc)
-alone_by o p v false e h = ap (λ b. if b then with_word o p.word v else one_word p v) e
-
-alone : (out : Option Out) (p : WordAt) (v : ℕ) → handed_out out (line_of_word p) ≡ out → held_after out p v ≡ one_word p v
-alone None p v h = refl
-alone (Some o) p v h = alone_by o p v (same_line o.line (line_of_word p)) refl h
-
--- a line flag was written and stored, behind what was in the buffer
-pub flag_written : (s m t : Sight) (c e d : Private) (core : ℕ) (flag : FlagPlace) (set : Bool) (p : WordAt) (v : ℕ) → flag.word < 4 → handed_out c.out (line_of_word (flag_word core flag)) ≡ c.out
-    → p ≡ flag_word core flag → v ≡ (if set then 1 else 0) → Writes s c p v m e → Flushes m e t d → WritesFlag s c core flag set t d
-flag_written s m t c e d core flag set p v first other place value writes flushes =
-    let q : WordAt = flag_word core flag in
-    let w : Writes s c q (if set then 1 else 0) m e = subst (λ n. Writes s c q n m e) value (subst (λ (x : WordAt). Writes s c x v m e) place writes) in
-    let out : e.out ≡ Some (one_word q (if set then 1 else 0)) = ap (λ (x : Private). x.out) w.is ∙ ap Some (alone c.out q (if set then 1 else 0) other) in
-    record {
-      did = did_both s (stores_of c.out) m (store_of q (if set then 1 else 0) ∷ []) t (subst (λ (o : Option Out). Did s (stores_of o) m) other w.did)
-          (subst (λ es. Did m es t) (ap (λ (o : Option Out). stores_of o) out ∙ one_store q (if set then 1 else 0) first) flushes.did);
-      is = flushes.is ∙ ap (λ (x : Private). record x { out = None }) w.is;
-    }
-
--- what is in the buffer may be stored, once what was there before was
-pub flag_permitted : (s m : Sight) (c e : Private) (core : ℕ) (flag : FlagPlace) (set : Bool) (p : WordAt) (v : ℕ) → MayWriteFlag s c core flag set
-    → p ≡ flag_word core flag → v ≡ (if set then 1 else 0) → Writes s c p v m e → MayMakeAll m.seat (record_in m) (stores_of e.out)
-flag_permitted s m c e core flag set p v may place value writes =
-    let q : WordAt = flag_word core flag in
-    let w : Writes s c q (if set then 1 else 0) m e = subst (λ n. Writes s c q n m e) value (subst (λ (x : WordAt). Writes s c x v m e) place writes) in
-    let out : e.out ≡ Some (one_word q (if set then 1 else 0)) = ap (λ (x : Private). x.out) w.is ∙ ap Some (alone c.out q (if set then 1 else 0) may.other) in
-    subst (λ es. MayMakeAll m.seat (record_in m) es) (sym (ap (λ (o : Option Out). stores_of o) out ∙ one_store q (if set then 1 else 0) may.word_below))
-    (may_next s (stores_of c.out) (store_of q (if set then 1 else 0) ∷ []) m (subst (λ (o : Option Out). Did s (stores_of o) m) may.other w.did) may.permitted)
+pub flag_written : (s t : Sight) (c d : Private) (core : ℕ) (flag : FlagPlace) (set : Bool) (p : WordAt) (v : ℕ) → p ≡ flag_word core flag
+    → v ≡ (if set then 1 else 0) → WritesThrough s c p v t d → WritesFlag s c core flag set t d
+flag_written s t c d core flag set p v place value writes =
+    let w : WritesThrough s c (flag_word core flag) (if set then 1 else 0) t d
+    = subst (λ n. WritesThrough s c (flag_word core flag) n t d) value (subst (λ (x : WordAt). WritesThrough s c x v t d) place writes) in
+    record { did = w.did; is = w.is }

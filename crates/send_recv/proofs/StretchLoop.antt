@@ -1,5 +1,5 @@
 -- A stretch of turns, as its loop comes on from line to line.
-use Rattle.std.proofs.Common.{◌≡◌, ◌≢◌, ℕ, ◌+◌, ◌-◌, ◌<◌, Bool, true, false, if◌then◌else◌, nat_lt, refl, sym, ◌∙◌, ap, subst, arith}
+use Rattle.std.proofs.Common.{◌≡◌, ◌≢◌, ℕ, ◌+◌, ◌-◌, ◌<◌, Bool, true, false, if◌then◌else◌, nat_lt, refl, sym, ◌∙◌, arith}
 use Rattle.scc_base.specs.Layouts.{chunk_size}
 use Rattle.scc_base.specs.declared.events.Turn.TheVariants as turn
 use Rattle.scc_base.specs.declared.layouts.Layout.{Layout}
@@ -12,7 +12,6 @@ use Rattle.send_recv.specs.declared.stages.RecvStage.TheVariants as receive
 use Rattle.send_recv.specs.declared.stages.SendStage.{SendStage}
 use Rattle.send_recv.specs.declared.stages.SendStage.TheVariants as send
 use Rattle.send_recv.specs.Chunks.{chunk_lines_of}
-use Rattle.scc_base.specs.Heads.{MessageHead}
 use Rattle.send_recv.specs.Ops.{RecvAt, SendAt, SlotAt}
 use Rattle.send_recv.specs.Ranks.{Receiver, Sender, sending}
 use Rattle.send_recv.specs.Receiving.{RecvStands, RecvTurned}

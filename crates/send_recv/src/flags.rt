@@ -56,8 +56,7 @@ fn write_flag<V: Evict, P: Port>(
 {
     let place = flag.place(at);
     let value = flag_value(set);
-    core.word_write(port, place, value);
-    core.flush(port);
+    core.word_write_through(port, place, value);
 }
 
 // Tries once to change a bit under the register of its core: false where the register was taken.

@@ -1,5 +1,4 @@
-use Rattle.std.proofs.Common.{◌≡◌, ◌-◌, ◌<◌, ℕ, sym, ◌∙◌, ap, subst}
-use Rattle.scc_base.specs.declared.events.Spot.TheVariants.{Register}
+use Rattle.std.proofs.Common.{◌-◌, ◌<◌, ℕ, sym, ◌∙◌, ap, subst}
 use Rattle.send_recv.specs.declared.answers.RecvTurn.TheVariants.{Moved}
 use Rattle.send_recv.specs.declared.stages.RecvStage.{RecvStage}
 use Rattle.send_recv.specs.Ops.{RecvAt}

@@ -1,4 +1,4 @@
-use Rattle.std.proofs.Common.{◌≡◌, ◌-◌, ◌<◌, ℕ, sym, ◌∙◌, ap, subst}
+use Rattle.std.proofs.Common.{◌-◌, ◌<◌, ℕ, sym, ◌∙◌, ap, subst}
 use Rattle.scc_base.specs.declared.events.Turn.TheVariants.{Moved}
 use Rattle.send_recv.specs.Ops.{SendAt}
 use Rattle.send_recv.specs.Ranks.{sending}
