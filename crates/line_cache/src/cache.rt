@@ -77,6 +77,14 @@ impl Cache {
         self.len
     }
 
+    /// The lines that are held, in the order in which they were brought in.
+    pub fn entries(&self) -> &[Entry]
+        ensures lines { result.now ≡ self.now }
+        ensures cache { IsCache self.now }
+    {
+        &self.entries[..self.len]
+    }
+
     /// Whether nothing is held.
     pub fn is_empty(&self) -> bool
         ensures { result ≡ (length self.now == 0) }

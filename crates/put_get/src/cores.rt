@@ -1,11 +1,11 @@
 //! A core: its cache, its write-combining buffer and its evictor.
 
 use crate::accesses::{load_line, store_out};
-use line_cache::{Cache, Evict};
+use line_cache::{Cache, Entry, Evict};
 use scc_base::{Line, Place};
 use scc_proto::Port;
 use std::marker::Model;
-use write_combine::Combiner;
+use write_combine::{Combiner, Out};
 
 /// What a core has for itself between it and the shared words.
 ///
@@ -71,6 +71,34 @@ impl<V: Evict> Core<V> {
         self.combiner.is_empty()
     }
 
+    /// The lines in the cache, in the order in which they were brought in.
+    pub fn lines(&self) -> &[Entry]
+        ensures lines { result.now ≡ self.now.lines }
+        ensures valid { IsCore self.now.lines self.now.out }
+    {
+        self.cache.entries()
+    }
+
+    /// The line in the write-combining buffer.
+    pub fn buffered(&self) -> &Option<Out>
+        ensures buffered { result.now ≡ self.now.out }
+        ensures valid { IsCore self.now.lines self.now.out }
+    {
+        self.combiner.held()
+    }
+
+    /// From now on this evictor is asked. The one before is handed back.
+    pub fn evict_by(&mut self, evict: V) -> V
+        ensures asks { self.new ≡ record self.old {
+          evictions = V.count evict;
+          asked = V.asked evict;
+          answers = V.answers evict;
+        } }
+        ensures back { V.count result ≡ self.old.evictions }
+    {
+        std::mem::replace(&mut self.evict, evict)
+    }
+
     /// Drops all cached lines, as the instruction CL1INVMB does.
     pub fn cl1invmb(&mut self)
         ensures { self.new ≡ record self.old { lines = [] } }
@@ -93,8 +121,8 @@ impl<V: Evict> Core<V> {
         true
     }
 
-    /// The words of a line, from the cache where it is held there.
-    fn fetch<P: Port>(&mut self, port: &mut P, line: Line) -> [u64; 4]
+    /// The words of a line, from the cache where it is held there. What waits in the write-combining buffer is not looked at.
+    pub fn fetch<P: Port>(&mut self, port: &mut P, line: Line) -> [u64; 4]
         ensures fetch { Fetch (P.sight port.old) self.old line result (P.sight port.new) self.new }
         ensures steps { MadeSteps P.stepped (P.sight port.old) (P.sight port.new) }
     {

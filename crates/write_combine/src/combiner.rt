@@ -69,6 +69,14 @@ impl Combiner {
         self.held.is_none()
     }
 
+    /// The line that is held.
+    pub fn held(&self) -> &Option<Out>
+        ensures held { result.now ≡ self.now }
+        ensures some_word { HoldsWord self.now }
+    {
+        &self.held
+    }
+
     /// Notes a word that a core wrote, and hands out the line that was held before if it is another one.
     pub fn write(&mut self, place: Place, value: u64) -> Option<Out>
         ensures out { result ≡ handed_out self.old (line_of_word place) }
