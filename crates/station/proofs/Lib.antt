@@ -1,0 +1,3 @@
+pub mod StationLemmas
+pub mod HeapFacts
+pub mod WorldLemmas

@@ -1,0 +1,3 @@
+pub mod Stations
+pub mod Stops
+pub mod Worlds

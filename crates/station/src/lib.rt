@@ -1,0 +1,16 @@
+//! The library in a program of one's own: a rank with all that it keeps between its calls.
+#![tactic(auto)]
+
+mod flagging;
+mod meetings;
+mod memory;
+mod messages;
+mod patience;
+mod posts;
+mod setups;
+mod stations;
+mod stops;
+
+pub use setups::world_of;
+pub use stations::Station;
+pub use stops::{BarStall, RecvStall, RecvStop, SendStall, Stop};

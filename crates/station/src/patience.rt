@@ -1,0 +1,123 @@
+//! Calls of a station that let another thread run each time that they stall, and then go on.
+
+use crate::stations::Station;
+use crate::stops::{BarStall, RecvStop, SendStall};
+use line_cache::Evict;
+use scc_base::Rank;
+use scc_proto::Port;
+use std::thread;
+
+impl<V: Evict> Station<V> {
+    ghost use Rattle.std.specs.Prelude.{◌≡◌, ◌≢◌, ◌<◌, ◌≤◌, [], ◌∷◌, ◌++◌, true, length, IfOk, IfErr};
+    ghost use Rattle.scc_base.specs.Calls.{Bar, Recv, Send};
+    ghost use Rattle.scc_base.specs.Communicators.{rule_of};
+    ghost use Rattle.scc_base.specs.Heads.{plain_head};
+    ghost use Rattle.scc_base.specs.declared.communicators.CommRule.TheVariants.{Absent};
+    ghost use Rattle.scc_proto.specs.Ports.{record_in};
+    ghost use Rattle.scc_proto.specs.Words.{are_peers};
+    ghost use Rattle.barrier.specs.Stages.{bar_call};
+    ghost use Rattle.send_recv.specs.Sending.{send_call};
+    ghost use Rattle.station.specs.Stations.{IsBetweenCalls, IsInBarrier, IsInSend, KeepsHeap, KeepsSlot};
+    ghost use Rattle.station.specs.Stops.{Owes, StopsReceive};
+
+    /// As `send`, and each time that it stalls it lets another thread run and goes on, at most so many times.
+    pub fn send_patiently<P: Port>(
+        &mut self,
+        port: &mut P,
+        to: Rank,
+        bytes: &[u8],
+        rounds: u32,
+    ) -> Result<(), SendStall>
+        requires free { IsBetweenCalls (P.sight port.old) self.old }
+        requires peers { are_peers (P.sight port.old).seat.setup (P.sight port.old).seat.rank to ≡ true }
+        requires short { length bytes.now ≤ 65536 }
+        ensures free { IfOk result (λ done. IsBetweenCalls (P.sight port.new) self.new) }
+        ensures calls { IfOk result (λ done. (record_in (P.sight port.new)).calls
+            ≡ (record_in (P.sight port.old)).calls ++ Send to (plain_head (length bytes.now)) bytes.now ∷ []) }
+        ensures open { IfErr result (λ stall. IsInSend (P.sight port.new) self.new stall.op bytes.now) }
+        ensures owes { IfErr result (λ stall. ((record_in (P.sight port.new)).calls ≡ (record_in (P.sight port.old)).calls)
+            × (send_call stall.op bytes.now ≡ Send to (plain_head (length bytes.now)) bytes.now ∷ [])) }
+        ensures seat { (P.sight port.new).seat ≡ (P.sight port.old).seat }
+        ensures same { KeepsHeap self.old self.new }
+    {
+        let mut stall = match self.send(port, to, bytes) {
+            Ok(()) => return Ok(()),
+            Err(stall) => stall,
+        };
+        'rounds: for _ in 0..rounds {
+            thread::yield_now();
+            match self.send_on(port, stall, bytes) {
+                Ok(()) => return Ok(()),
+                Err(later) => stall = later,
+            }
+        }
+        Err(stall)
+    }
+
+    /// As `recv`, and each time that it stalls it lets another thread run and goes on, at most so many times.
+    pub fn recv_patiently<P: Port>(
+        &mut self,
+        port: &mut P,
+        from: Rank,
+        buffer: &mut [u8],
+        rounds: u32,
+    ) -> Result<(), RecvStop>
+        requires free { IsBetweenCalls (P.sight port.old) self.old }
+        requires peers { are_peers (P.sight port.old).seat.setup (P.sight port.old).seat.rank from ≡ true }
+        requires short { length buffer.old ≤ 65536 }
+        ensures free { IfOk result (λ done. IsBetweenCalls (P.sight port.new) self.new) }
+        ensures calls { IfOk result (λ done. (record_in (P.sight port.new)).calls
+            ≡ (record_in (P.sight port.old)).calls ++ Recv from (plain_head (length buffer.old)) buffer.new ∷ []) }
+        ensures stops { IfErr result (λ stop. StopsReceive (P.sight port.new) self.new buffer.new stop) }
+        ensures owes { IfErr result (λ stop. Owes (λ bytes. Recv from (plain_head (length buffer.old)) bytes ∷ []) (P.sight port.old) (P.sight port.new) stop) }
+        ensures seat { (P.sight port.new).seat ≡ (P.sight port.old).seat }
+        ensures same { KeepsSlot self.old self.new }
+    {
+        let mut stall = match self.recv(port, from, buffer) {
+            Ok(()) => return Ok(()),
+            Err(RecvStop::Stalled(stall)) => stall,
+            Err(stop) => return Err(stop),
+        };
+        'rounds: for _ in 0..rounds {
+            thread::yield_now();
+            match self.recv_on(port, stall, buffer) {
+                Ok(()) => return Ok(()),
+                Err(RecvStop::Stalled(later)) => stall = later,
+                Err(stop) => return Err(stop),
+            }
+        }
+        Err(RecvStop::Stalled(stall))
+    }
+
+    /// As `barrier`, and each time that it stalls it lets another thread run and goes on, at most so many times.
+    pub fn barrier_patiently<P: Port>(
+        &mut self,
+        port: &mut P,
+        comm: u8,
+        rounds: u32,
+    ) -> Result<(), BarStall>
+        requires free { IsBetweenCalls (P.sight port.old) self.old }
+        requires below { comm < 16 }
+        requires present { rule_of (P.sight port.old).seat.setup.comms comm ≢ Absent }
+        ensures free { IfOk result (λ done. IsBetweenCalls (P.sight port.new) self.new) }
+        ensures calls { IfOk result (λ done. (record_in (P.sight port.new)).calls ≡ (record_in (P.sight port.old)).calls ++ Bar comm ∷ []) }
+        ensures open { IfErr result (λ stall. IsInBarrier (P.sight port.new) self.new stall.op) }
+        ensures owes { IfErr result (λ stall. ((record_in (P.sight port.new)).calls ≡ (record_in (P.sight port.old)).calls)
+            × (bar_call stall.op ≡ Bar comm ∷ [])) }
+        ensures seat { (P.sight port.new).seat ≡ (P.sight port.old).seat }
+        ensures same { KeepsSlot self.old self.new }
+    {
+        let mut stall = match self.barrier(port, comm) {
+            Ok(()) => return Ok(()),
+            Err(stall) => stall,
+        };
+        'rounds: for _ in 0..rounds {
+            thread::yield_now();
+            match self.barrier_on(port, stall) {
+                Ok(()) => return Ok(()),
+                Err(later) => stall = later,
+            }
+        }
+        Err(stall)
+    }
+}

@@ -1,0 +1,204 @@
+//! Why a call of a station stopped. Each of these prints itself.
+
+use barrier::BarOp;
+use mpb_alloc::MallocFault;
+use put_get::RangeFault;
+use scc_base::{Head, Spot, Stalled};
+use send_recv::{RecvOp, SendOp};
+use std::fmt;
+
+/// A send or a post gave up: the last `polls` tries at this spot were vain. It can go on with the same bytes.
+#[derive(Drop)]
+pub struct SendStall {
+    pub op: SendOp,
+    pub spot: Spot,
+    pub polls: u32,
+}
+
+/// A receive gave up: the last `polls` tries at this spot were vain. It can go on with the same buffer.
+#[derive(Drop)]
+pub struct RecvStall {
+    pub op: RecvOp,
+    pub spot: Spot,
+    pub polls: u32,
+}
+
+/// Why a receive stopped.
+#[derive(Drop)]
+pub enum RecvStop {
+    /// It gave up.
+    Stalled(RecvStall),
+    /// The message that was sent has another head. It stays untaken.
+    Mismatch { sent: Head, asked: Head },
+}
+
+/// A barrier gave up: the last `polls` looks at this flag were vain. It can go on.
+#[derive(Drop)]
+pub struct BarStall {
+    pub op: BarOp,
+    pub spot: Spot,
+    pub polls: u32,
+}
+
+// Writes what stalled, where, and after how many tries.
+fn stalled<W: fmt::Write>(
+    f: &mut fmt::Formatter<W>,
+    what: &str,
+    spot: &Spot,
+    polls: u32,
+) -> fmt::Result {
+    match spot {
+        Spot::Flag { place, bit } => {
+            let core = place.core().number();
+            let line = place.line();
+            let word = place.word();
+            write!(
+                f,
+                "{what} stalled after {polls} tries at the flag of core {core}, line {line}, word {word}, bit {bit}"
+            )
+        }
+        Spot::Register { core } => {
+            let core = core.number();
+            write!(
+                f,
+                "{what} stalled after {polls} tries at the register of core {core}"
+            )
+        }
+    }
+}
+
+// Writes a head.
+fn message<W: fmt::Write>(f: &mut fmt::Formatter<W>, head: &Head) -> fmt::Result {
+    let kind = head.kind_text();
+    let comm = head.comm();
+    let len = head.len();
+    write!(f, "{kind} {comm} {len}")
+}
+
+impl fmt::Display for SendStall {
+    fn fmt<W: fmt::Write>(&self, f: &mut fmt::Formatter<W>) -> fmt::Result {
+        stalled(f, "a send", &self.spot, self.polls)
+    }
+}
+
+impl fmt::Debug for SendStall {
+    fn fmt<W: fmt::Write>(&self, f: &mut fmt::Formatter<W>) -> fmt::Result {
+        stalled(f, "a send", &self.spot, self.polls)
+    }
+}
+
+impl fmt::Display for RecvStall {
+    fn fmt<W: fmt::Write>(&self, f: &mut fmt::Formatter<W>) -> fmt::Result {
+        stalled(f, "a receive", &self.spot, self.polls)
+    }
+}
+
+impl fmt::Debug for RecvStall {
+    fn fmt<W: fmt::Write>(&self, f: &mut fmt::Formatter<W>) -> fmt::Result {
+        stalled(f, "a receive", &self.spot, self.polls)
+    }
+}
+
+impl fmt::Display for RecvStop {
+    fn fmt<W: fmt::Write>(&self, f: &mut fmt::Formatter<W>) -> fmt::Result {
+        match self {
+            RecvStop::Stalled(stall) => stalled(f, "a receive", &stall.spot, stall.polls),
+            RecvStop::Mismatch { sent, asked } => {
+                write!(f, "a receive met another message: sent ")?;
+                message(f, sent)?;
+                write!(f, ", asked ")?;
+                message(f, asked)
+            }
+        }
+    }
+}
+
+impl fmt::Debug for RecvStop {
+    fn fmt<W: fmt::Write>(&self, f: &mut fmt::Formatter<W>) -> fmt::Result {
+        fmt::Display::fmt(self, f)
+    }
+}
+
+impl fmt::Display for BarStall {
+    fn fmt<W: fmt::Write>(&self, f: &mut fmt::Formatter<W>) -> fmt::Result {
+        stalled(f, "a barrier", &self.spot, self.polls)
+    }
+}
+
+impl fmt::Debug for BarStall {
+    fn fmt<W: fmt::Write>(&self, f: &mut fmt::Formatter<W>) -> fmt::Result {
+        stalled(f, "a barrier", &self.spot, self.polls)
+    }
+}
+
+/// Why a call of a station stopped, whichever call it was: for a caller's `?`.
+#[derive(Drop)]
+pub enum Stop {
+    /// A send or a post.
+    Send(SendStall),
+    /// A receive.
+    Recv(RecvStop),
+    /// A barrier.
+    Barrier(BarStall),
+    /// A flag's write, or a wait for a flag.
+    Flag(Stalled),
+    /// A put or a get.
+    Range(RangeFault),
+    /// A buffer or a flag that was asked for.
+    Malloc(MallocFault),
+}
+
+impl From<SendStall> for Stop {
+    fn from(stall: SendStall) -> Stop {
+        Stop::Send(stall)
+    }
+}
+
+impl From<RecvStop> for Stop {
+    fn from(stop: RecvStop) -> Stop {
+        Stop::Recv(stop)
+    }
+}
+
+impl From<BarStall> for Stop {
+    fn from(stall: BarStall) -> Stop {
+        Stop::Barrier(stall)
+    }
+}
+
+impl From<Stalled> for Stop {
+    fn from(stalled: Stalled) -> Stop {
+        Stop::Flag(stalled)
+    }
+}
+
+impl From<RangeFault> for Stop {
+    fn from(fault: RangeFault) -> Stop {
+        Stop::Range(fault)
+    }
+}
+
+impl From<MallocFault> for Stop {
+    fn from(fault: MallocFault) -> Stop {
+        Stop::Malloc(fault)
+    }
+}
+
+impl fmt::Display for Stop {
+    fn fmt<W: fmt::Write>(&self, f: &mut fmt::Formatter<W>) -> fmt::Result {
+        match self {
+            Stop::Send(stall) => fmt::Display::fmt(stall, f),
+            Stop::Recv(stop) => fmt::Display::fmt(stop, f),
+            Stop::Barrier(stall) => fmt::Display::fmt(stall, f),
+            Stop::Flag(stall) => stalled(f, "a flag", &stall.spot, stall.polls),
+            Stop::Range(fault) => fmt::Display::fmt(fault, f),
+            Stop::Malloc(fault) => fmt::Display::fmt(fault, f),
+        }
+    }
+}
+
+impl fmt::Debug for Stop {
+    fn fmt<W: fmt::Write>(&self, f: &mut fmt::Formatter<W>) -> fmt::Result {
+        fmt::Display::fmt(self, f)
+    }
+}
