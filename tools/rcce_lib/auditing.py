@@ -31,7 +31,7 @@ def _object(call: Call) -> dict[str, Any]:
 def audit(programs: Programs, scratch: Scratch, given: Given) -> dict[str, Any]:
     """The verdict on a log; where it is not legal, the call and its counterpart."""
     programs.files[given.path] = given.name, LOG
-    said = _verdict(programs, given.path)
+    said = verdict_of(programs, given.path)
     found: dict[str, Any] = {"command": "audit", "log": given.name, "status": 0 if said is None else 3, "legal": said is None, "verdict": "legal"}
     found.update(ue=None, call=None, line=None, text=None, reason=None, counterpart=None, standing=[])
     if said is None:
@@ -48,7 +48,7 @@ def audit(programs: Programs, scratch: Scratch, given: Given) -> dict[str, Any]:
     return found
 
 
-def _verdict(programs: Programs, path: str) -> tuple[int, int] | None:
+def verdict_of(programs: Programs, path: str) -> tuple[int, int] | None:
     """What rcceaudit says of a log: the rank and the number of its call, where it is not legal."""
     ran = programs.run("rcceaudit", path)
     line = ran.out.removesuffix("\n")
@@ -69,7 +69,7 @@ def _standing(programs: Programs, scratch: Scratch, given: Given, log: Log, said
             raise differ("rcceaudit's verdicts on parts of one log")
         standing[rank] = number
         left = {call.line - 1 for k, at in standing.items() for call in log.calls[k][at - 1 :]}
-        said = _verdict(programs, scratch.put(b"\n".join(line for k, line in enumerate(lines) if k not in left)))
+        said = verdict_of(programs, scratch.put(b"\n".join(line for k, line in enumerate(lines) if k not in left)))
     return standing
 
 

@@ -1,0 +1,1 @@
+"""The modules of the commands trace and page."""

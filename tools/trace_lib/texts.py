@@ -1,0 +1,122 @@
+"""Reads a trace, by the form that docs/TRACE.md tells; a text that is none is refused at its first fault."""
+from __future__ import annotations
+
+import re
+from dataclasses import dataclass
+from typing import NamedTuple
+
+from rcce_lib.stops import Fault, Refused
+from trace_lib.words import REGISTER, Role, Setup
+
+LONGEST_LINE, MOST_LINES = 255, 16_777_216
+NUMBER = r"(0|[1-9]\d{0,4})"
+HEAD = re.compile(rf"rcce trace 1 nue {NUMBER} layout (words|bits) hosts ((?:{NUMBER},)*{NUMBER})")
+COMM = re.compile(rf"comm {NUMBER} {NUMBER} (mod|div) {NUMBER}")
+EVENT = re.compile(rf"{NUMBER} (load|store|take|free) {NUMBER}\.(?:(register)|{NUMBER}\.([0-3])) ([0-9a-f]{{16}})(?: #.*)?", re.S)
+WANTED = {
+    "TooLong": f"lines of at most {LONGEST_LINE} bytes, and at most {MOST_LINES:,} of them",
+    "BadHead": "rcce trace 1 nue N layout words|bits hosts CORE,.. with N from 1 to 48 and as many different cores below 48",
+    "BadComm": "comm NUMBER PARENT mod|div PARTS before all events, with rising numbers and a parent that is there",
+    "BadEvent": "RANK load|store CORE.LINE.WORD VALUE or RANK take|free CORE.register VALUE, with 16 hex digits and what you like behind a #",
+}
+
+
+class Event(NamedTuple):
+    """An access: the line of the trace that has it, the rank, and what it did; of a register there is no line and no word of a buffer."""
+
+    at: int
+    rank: int
+    access: str
+    core: int
+    line: int
+    word: int
+    value: int
+    role: Role
+
+    @property
+    def place(self) -> str:
+        """The place as the trace has it."""
+        return f"{self.core}.register" if self.role is REGISTER else f"{self.core}.{self.line}.{self.word}"
+
+    def __str__(self) -> str:
+        return f"{self.rank} {self.access} {self.place} {self.value:016x} # {self.role}"
+
+
+@dataclass
+class Trace:
+    """A trace: its run and its events in their order."""
+
+    name: str
+    setup: Setup
+    events: list[Event]
+
+
+def read_trace(name: str, data: bytes) -> Trace:
+    """The trace of a file."""
+    lines = data.decode("latin-1").split("\n")
+    whole = lines.pop() == ""
+
+    def refuse(at: int, kind: str) -> Refused:
+        """The refusal of a line."""
+        return Refused(Fault(name, at, kind, WANTED[kind]))
+
+    def check(at: int, line: str) -> None:
+        """Refuses a line that is too long or stands too low."""
+        if len(line) > LONGEST_LINE or at > MOST_LINES:
+            raise refuse(at, "TooLong")
+
+    if not lines and whole:
+        raise refuse(1, "BadHead")
+    if not whole:
+        # the rest behind the last line feed is no line of the form
+        lines.append(data.decode("latin-1").rpartition("\n")[2])
+    check(1, lines[0])
+    setup = None if len(lines) == 1 and not whole else _head(lines[0])
+    if setup is None:
+        raise refuse(1, "BadHead")
+    trace, last = Trace(name, setup, []), len(lines)
+    for at, line in enumerate(lines[1:], 2):
+        check(at, line)
+        broken = at == last and not whole
+        if line.startswith("comm"):
+            if broken or trace.events or not _comm(setup, line):
+                raise refuse(at, "BadComm")
+            continue
+        event = None if broken else _event(setup, at, line)
+        if event is None:
+            raise refuse(at, "BadEvent")
+        trace.events.append(event)
+    return trace
+
+
+def _head(line: str) -> Setup | None:
+    """The run of a first line, if it is of its form."""
+    if not (found := HEAD.fullmatch(line)):
+        return None
+    ues, hosts = int(found[1]), [int(core) for core in found[3].split(",")]
+    fits = 1 <= ues <= 48 and len(hosts) == ues == len(set(hosts)) and max(hosts) < 48
+    return Setup(ues, found[2], hosts) if fits else None
+
+
+def _comm(setup: Setup, line: str) -> bool:
+    """Puts a communicator to its run, if it is of its form and in its place."""
+    if not (found := COMM.fullmatch(line)):
+        return False
+    comm, parent, parts = int(found[1]), int(found[2]), int(found[4])
+    fits = 1 <= comm <= 15 and comm > max(setup.splits, default=0) and (parent == 0 or parent in setup.splits) and 1 <= parts <= 48
+    if fits:
+        setup.splits[comm] = parent, found[3], parts
+    return fits
+
+
+def _event(setup: Setup, at: int, line: str) -> Event | None:
+    """The event of a line, if it is of its form."""
+    if not (found := EVENT.fullmatch(line)):
+        return None
+    rank, access, core, value = int(found[1]), found[2], int(found[3]), int(found[7], 16)
+    if rank >= setup.ues or core > 47 or (access in ("take", "free")) != bool(found[4]):
+        return None
+    if found[4]:
+        return Event(at, rank, access, core, -1, -1, value, REGISTER) if value <= (access == "take") else None
+    place = int(found[5]), int(found[6])
+    return Event(at, rank, access, core, *place, value, setup.role(core, *place)) if place[0] < 256 else None
