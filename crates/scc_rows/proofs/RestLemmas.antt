@@ -1,6 +1,6 @@
 -- Loads, and stores of heap words, leave a port at rest.
-use Rattle.std.proofs.Common.{◌≡◌, ℕ, ◌+◌, ◌<◌, ◌≤◌, Bool, true, false, ◌==◌, ◌&&◌, not, if◌then◌else◌, slice_index_or, List, [], ◌∷◌, ◌++◌, Option, Some, None, is_some, slice_index, sym, ◌∙◌, ap, subst, arith}
-use Rattle.scc_base.specs.Places.{LineAt, WordAt, line_of_word, same_line}
+use Rattle.std.proofs.Common.{◌≡◌, ℕ, ◌+◌, ◌<◌, ◌≤◌, Bool, true, false, ◌==◌, ◌&&◌, not, if◌then◌else◌, List, [], ◌∷◌, Option, is_some, sym, ◌∙◌, ap, subst}
+use Rattle.scc_base.specs.Places.{LineAt, WordAt, line_of_word}
 use Rattle.scc_base.specs.Setups.{IsSetup, host_of, place_of}
 use Rattle.scc_base.specs.Events.{load_of, store_of}
 use Rattle.scc_base.specs.declared.events.Event.{Event}
@@ -9,15 +9,16 @@ use Rattle.scc_proto.specs.Moves.{Move, LookSent, LookReady, LookGather, LookRel
 use Rattle.scc_proto.specs.Permission.{leaves_heap}
 use Rattle.scc_proto.specs.Words.{Role, HeaderWord, ChunkWord, SentFlag, ReadyFlag, SentFlags, ReadyFlags, GatherFlag, ReleaseFlag, HeapWord, IdleWord, role_of}
 use Rattle.scc_proto.specs.Records.{Act, Moving, NotingSent, NotingReady, act_of, after_act, load_act, load_by, leads, look_at, look_at_bits, chunk_of}
-use Rattle.scc_proto.specs.Ports.{Seat, Sight, Did, MayMake, MayMakeAll, record_in, record_next, record_on}
-use Rattle.scc_proto.proofs.PortLaws.{record_did, seat_kept, may-append, record_on-append}
-use Rattle.scc_proto.proofs.PlaceMoves.{heap_stored}
+use Rattle.scc_proto.specs.Ports.{Seat, Sight, Did, MayMakeAll, record_in, record_next, record_on}
+use Rattle.scc_proto.proofs.PortLaws.{record_did, seat_kept}
 use Rattle.write_combine.specs.declared.combiner.Out.{Out}
-use Rattle.write_combine.specs.Combining.{handed_out, held_after, with_word, one_word}
-use Rattle.put_get.specs.Accesses.{loads_of, store_of_word, stores_of_line, stores_of, whole_line}
+use Rattle.write_combine.specs.Combining.{handed_out}
+use Rattle.put_get.specs.Accesses.{loads_of, stores_of}
 use Rattle.put_get.specs.Cores.{Private, Fetch, Held, Loaded, ReadsWord, ReadsLine, Writes, Flushes}
 use Rattle.put_get.specs.Transfers.{line_at, put_stores, Puts, Gets, ReadsLines}
-use Rattle.scc_rows.specs.Rests.{IsAtRest, AwaitsHeap}
+use Rattle.put_get.specs.HeapStores.{IsHeapLine, AwaitsHeap, LeavesStage}
+use Rattle.put_get.proofs.HeapLemmas.{law, store_leaves}
+use Rattle.scc_rows.specs.Rests.{IsAtRest}
 
 either : (size : ℕ) (rec : Record) (b : Bool) (m n : Move) → stage_after size m rec ≡ Idle → stage_after size n rec ≡ Idle → stage_after size (if b then m else n) rec ≡ Idle
 either size rec true m n x y = x
@@ -84,125 +85,61 @@ lines_rest s c core line (words ∷ dst) t d reads rest =
 pub gets_rest : (s : Sight) (c : Private) (core line : ℕ) (dst : List (List ℕ)) (t : Sight) (d : Private) → Gets s c core line dst t d → IsAtRest s → IsAtRest t
 gets_rest s c core line dst t d gets rest = lines_rest s _ core line dst t d gets.reads rest
 
--- the events are permitted one after the other, and the stage is idle after them
-pub record May (seat : Seat) (rec : Record) (es : List Event) : Type 0 where
-  pub may : MayMakeAll seat rec es
-  pub idle : (record_on seat rec es).stage ≡ Idle
+-- ---- stores into the heap
 
-may_both : (seat : Seat) (rec : Record) (a b : List Event) → (first : May seat rec a) → May seat (record_on seat rec a) b → May seat rec (a ++ b)
-may_both seat rec a b first second = record {
-  may = may-append seat rec a b first.may second.may;
-  idle = ap (λ (x : Record). x.stage) (record_on-append seat rec a b) ∙ second.idle;
-}
+module _ (s : Sight) (rest : IsAtRest s) where
+  leaves : leaves_heap (record_in s).stage ≡ true
+  leaves = ap leaves_heap rest.idle
 
-module _ (seat : Seat) (valid : IsSetup seat.setup) (r : ℕ) (lt : r < seat.setup.nue) where
-  one_store : (rec : Record) (line word value : ℕ) → 225 ≤ line → rec.stage ≡ Idle
-      → May seat rec (store_of (record { core = host_of seat.setup.hosts r; line = line; word = word }) value ∷ [])
-  one_store rec line word value high idle =
-      let makes = heap_stored seat rec valid r line word value lt high (ap leaves_heap idle) in
-      record { may = (makes.may, tt); idle = ap (λ (x : Record). x.stage) makes.becomes ∙ idle }
+  below : (r : ℕ) → r < 2 → r < s.seat.setup.nue
+  below r lt = subst (λ n. r < n) (sym rest.two) lt
 
-  line_store : (rec : Record) (line : ℕ) (words : List ℕ) → 225 ≤ line → rec.stage ≡ Idle
-      → May seat rec (stores_of_line (whole_line (line_at (host_of seat.setup.hosts r) line) words))
-  line_store rec line words high idle =
-      let a = one_store rec line 3 (slice_index words 3) high idle in
-      let b = one_store _ line 2 (slice_index words 2) high a.idle in
-      let c = one_store _ line 1 (slice_index words 1) high b.idle in
-      let d = one_store _ line 0 (slice_index words 0) high c.idle in
-      record { may = (a.may.0, (b.may.0, (c.may.0, (d.may.0, tt)))); idle = d.idle }
+  -- events that leave the stage leave the port at rest
+  stage_kept : (es : List Event) (t : Sight) → Did s es t → LeavesStage s.seat (record_in s) es → IsAtRest t
+  stage_kept es t did kept = did_keeps s es t did rest (kept.stage ∙ rest.idle)
 
-  put_may : (line : ℕ) (src : List (List ℕ)) (rec : Record) → 225 ≤ line → rec.stage ≡ Idle
-      → May seat rec (put_stores (host_of seat.setup.hosts r) line src)
-  put_may line [] rec high idle = record { may = tt; idle = idle }
-  put_may line (words ∷ src) rec high idle =
-      let first = line_store rec line words high idle in
-      may_both seat rec _ _ first (put_may (line + 1) src _ (omega (arith, high)) first.idle)
+  heap_line : (line : LineAt) (r : ℕ) → r < 2 → line.core ≡ host_of s.seat.setup.hosts r → 225 ≤ line.line → IsHeapLine s.seat.setup line
+  heap_line line r lt on high = record { owner = r; below = below r lt; core = on; heap = high }
+
+  put_kept : (r line : ℕ) (src : List (List ℕ)) → r < 2 → 225 ≤ line → LeavesStage s.seat (record_in s) (put_stores (host_of s.seat.setup.hosts r) line src)
+  put_kept r line src lt high = law.put s.seat (record_in s) r line src rest.valid leaves (below r lt) high
+
+  write_kept : (out : Option Out) (line : LineAt) → AwaitsHeap s.seat.setup out → LeavesStage s.seat (record_in s) (stores_of (handed_out out line))
+  write_kept out line awaits = law.write s.seat (record_in s) out line rest.valid leaves awaits
+
+  flush_kept : (out : Option Out) → AwaitsHeap s.seat.setup out → LeavesStage s.seat (record_in s) (stores_of out)
+  flush_kept out awaits = law.flush s.seat (record_in s) out rest.valid leaves awaits
 
 pub may_put : (s : Sight) (r line : ℕ) (src : List (List ℕ)) → IsAtRest s → r < 2 → 225 ≤ line
     → MayMakeAll s.seat (record_in s) (put_stores (host_of s.seat.setup.hosts r) line src)
-may_put s r line src rest lt high =
-    (put_may s.seat rest.valid r (subst (λ n. r < n) (sym rest.two) lt) line src (record_in s) high rest.idle).may
+may_put s r line src rest lt high = (put_kept s rest r line src lt high).permitted
 
 pub put_rests : (s : Sight) (c : Private) (r line : ℕ) (src : List (List ℕ)) (t : Sight) (d : Private)
     → Puts s c (host_of s.seat.setup.hosts r) line src t d → IsAtRest s → r < 2 → 225 ≤ line → IsAtRest t
-put_rests s c r line src t d puts rest lt high =
-    did_keeps s _ t puts.did rest
-    (put_may s.seat rest.valid r (subst (λ n. r < n) (sym rest.two) lt) line src (record_in s) high rest.idle).idle
+put_rests s c r line src t d puts rest lt high = stage_kept s rest _ t puts.did (put_kept s rest r line src lt high)
 
--- ---- the write-combining buffer
+pub may_hand_out : (s : Sight) (out : Option Out) (line : LineAt) → IsAtRest s → AwaitsHeap s.seat.setup out
+    → MayMakeAll s.seat (record_in s) (stores_of (handed_out out line))
+may_hand_out s out line rest awaits = (write_kept s rest out line awaits).permitted
 
-none_may : (seat : Seat) (rec : Record) → rec.stage ≡ Idle → May seat rec []
-none_may seat rec idle = record { may = tt; idle = idle }
+pub may_flush : (s : Sight) (out : Option Out) → IsAtRest s → AwaitsHeap s.seat.setup out → MayMakeAll s.seat (record_in s) (stores_of out)
+may_flush s out rest awaits = (flush_kept s rest out awaits).permitted
 
-if_may : (seat : Seat) (rec : Record) (b : Bool) (es : List Event) → rec.stage ≡ Idle → May seat rec es → May seat rec (if b then es else [])
-if_may seat rec true es idle may = may
-if_may seat rec false es idle may = none_may seat rec idle
+pub write_rests : (s : Sight) (c : Private) (p : WordAt) (v : ℕ) (t : Sight) (d : Private) → Writes s c p v t d → IsAtRest s
+    → AwaitsHeap s.seat.setup c.out → IsAtRest t
+write_rests s c p v t d writes rest awaits = stage_kept s rest _ t writes.did (write_kept s rest c.out (line_of_word p) awaits)
 
-module _ (seat : Seat) (valid : IsSetup seat.setup) (r : ℕ) (lt : r < seat.setup.nue) (o : Out) (on : o.line.core ≡ host_of seat.setup.hosts r) (high : 225 ≤ o.line.line) where
-  word_may : (rec : Record) (k : ℕ) → rec.stage ≡ Idle → May seat rec (store_of_word o k)
-  word_may rec k idle = if_may seat rec (slice_index_or o.mask k false) _ idle
-      (subst (λ (core : ℕ). May seat rec (store_of (record { core = core; line = o.line.line; word = k }) (slice_index o.words k) ∷ [])) (sym on)
-      (one_store seat valid r lt rec o.line.line k (slice_index o.words k) high idle))
+pub write_awaits : (s : Sight) (c : Private) (p : WordAt) (v r : ℕ) (t : Sight) (d : Private) → Writes s c p v t d → IsAtRest s
+    → AwaitsHeap s.seat.setup c.out → r < 2 → p.core ≡ host_of s.seat.setup.hosts r → 225 ≤ p.line → AwaitsHeap t.seat.setup d.out
+write_awaits s c p v r t d writes rest awaits lt on high =
+    subst (λ (x : Seat). AwaitsHeap x.setup d.out) (sym (seat_kept s _ t writes.did))
+    (subst (λ (x : Option Out). AwaitsHeap s.seat.setup x) (sym (ap (λ (x : Private). x.out) writes.is))
+    (law.word_held s.seat.setup c.out p v awaits (heap_line s rest (line_of_word p) r lt on high)))
 
-  out_may : (rec : Record) → rec.stage ≡ Idle → May seat rec (stores_of_line o)
-  out_may rec idle =
-      let a = word_may rec 3 idle in
-      let b = word_may _ 2 a.idle in
-      let c = word_may _ 1 b.idle in
-      let d = word_may _ 0 c.idle in
-      may_both seat rec _ _ a (may_both seat _ _ _ b (may_both seat _ _ _ c d))
-
-heap_may : (s : Sight) (out : Option Out) → IsAtRest s → AwaitsHeap s out → May s.seat (record_in s) (stores_of out)
-heap_may s None rest awaits = none_may s.seat (record_in s) rest.idle
-heap_may s (Some o) rest awaits =
-    out_may s.seat rest.valid awaits.0 (subst (λ n. awaits.0 < n) (sym rest.two) awaits.1) o awaits.2 awaits.3 (record_in s) rest.idle
-
-handed_awaits : (s : Sight) (out : Option Out) (line : LineAt) → AwaitsHeap s out → AwaitsHeap s (handed_out out line)
-handed_awaits s None line awaits = tt
-handed_awaits s (Some o) line awaits = either_out (same_line o.line line)
-  where
-    either_out : (b : Bool) → AwaitsHeap s (if b then None else Some o)
-    either_out true = tt
-    either_out false = awaits
-
-held_awaits : (s : Sight) (out : Option Out) (p : WordAt) (v r : ℕ) → AwaitsHeap s out → r < 2 → p.core ≡ host_of s.seat.setup.hosts r → 225 ≤ p.line → AwaitsHeap s (Some (held_after out p v))
-held_awaits s None p v r awaits lt on high = (r, lt, on, high)
-held_awaits s (Some o) p v r awaits lt on high = either_out (same_line o.line (line_of_word p))
-  where
-    either_out : (b : Bool) → AwaitsHeap s (Some (if b then with_word o p.word v else one_word p v))
-    either_out true = awaits
-    either_out false = (r, lt, on, high)
-
-awaits_still : (s : Sight) (es : List Event) (t : Sight) (out : Option Out) → Did s es t → AwaitsHeap s out → AwaitsHeap t out
-awaits_still s es t None did awaits = tt
-awaits_still s es t (Some o) did awaits =
-    (awaits.0, awaits.1, awaits.2 ∙ ap (λ (x : Seat). host_of x.setup.hosts awaits.0) (sym (seat_kept s es t did)), awaits.3)
-
-pub may_hand_out : (s : Sight) (out : Option Out) (line : LineAt) → IsAtRest s → AwaitsHeap s out → MayMakeAll s.seat (record_in s) (stores_of (handed_out out line))
-may_hand_out s out line rest awaits = (heap_may s (handed_out out line) rest (handed_awaits s out line awaits)).may
-
-pub may_flush : (s : Sight) (out : Option Out) → IsAtRest s → AwaitsHeap s out → MayMakeAll s.seat (record_in s) (stores_of out)
-may_flush s out rest awaits = (heap_may s out rest awaits).may
-
-pub write_rests : (s : Sight) (c : Private) (p : WordAt) (v : ℕ) (t : Sight) (d : Private) → Writes s c p v t d → IsAtRest s → AwaitsHeap s c.out → IsAtRest t
-write_rests s c p v t d writes rest awaits =
-    did_keeps s _ t writes.did rest (heap_may s (handed_out c.out (line_of_word p)) rest (handed_awaits s c.out (line_of_word p) awaits)).idle
-
-pub write_awaits : (s : Sight) (c : Private) (p : WordAt) (v r : ℕ) (t : Sight) (d : Private) → Writes s c p v t d → AwaitsHeap s c.out → r < 2
-    → p.core ≡ host_of s.seat.setup.hosts r → 225 ≤ p.line → AwaitsHeap t d.out
-write_awaits s c p v r t d writes awaits lt on high =
-    subst (λ (x : Option Out). AwaitsHeap t x) (sym (ap (λ (x : Private). x.out) writes.is))
-    (awaits_still s _ t (Some (held_after c.out p v)) writes.did (held_awaits s c.out p v r awaits lt on high))
-
-pub flush_rests : (s : Sight) (c : Private) (t : Sight) (d : Private) → Flushes s c t d → IsAtRest s → AwaitsHeap s c.out → IsAtRest t
-flush_rests s c t d flushes rest awaits = did_keeps s _ t flushes.did rest (heap_may s c.out rest awaits).idle
-
-place_may : (s : Sight) (p : WordAt) (r value : ℕ) → IsAtRest s → r < 2 → p.core ≡ host_of s.seat.setup.hosts r → 225 ≤ p.line
-    → May s.seat (record_in s) (store_of p value ∷ [])
-place_may s p r value rest lt on high =
-    subst (λ (core : ℕ). May s.seat (record_in s) (store_of (record { core = core; line = p.line; word = p.word }) value ∷ [])) (sym on)
-    (one_store s.seat rest.valid r (subst (λ n. r < n) (sym rest.two) lt) (record_in s) p.line p.word value high rest.idle)
+pub flush_rests : (s : Sight) (c : Private) (t : Sight) (d : Private) → Flushes s c t d → IsAtRest s → AwaitsHeap s.seat.setup c.out → IsAtRest t
+flush_rests s c t d flushes rest awaits = stage_kept s rest _ t flushes.did (flush_kept s rest c.out awaits)
 
 pub store_rests : (s : Sight) (p : WordAt) (r value : ℕ) (t : Sight) → Did s (store_of p value ∷ []) t → IsAtRest s → r < 2
     → p.core ≡ host_of s.seat.setup.hosts r → 225 ≤ p.line → IsAtRest t
-store_rests s p r value t did rest lt on high = did_keeps s _ t did rest (place_may s p r value rest lt on high).idle
+store_rests s p r value t did rest lt on high =
+    stage_kept s rest _ t did (store_leaves s.seat rest.valid (record_in s) p value (leaves s rest) (heap_line s rest (line_of_word p) r lt on high))

@@ -1,10 +1,9 @@
 -- What the tests ask of a chip and of a port before they use it.
-use Rattle.std.specs.Prelude.{◌≡◌, ℕ, ◌<◌, ◌≤◌, true, [], Option, None, Some, is_some}
-use Rattle.scc_base.specs.Setups.{IsSetup, host_of}
+use Rattle.std.specs.Prelude.{◌≡◌, ℕ, true, [], None, is_some}
+use Rattle.scc_base.specs.Setups.{IsSetup}
 use Rattle.scc_proto.specs.Stages.{Idle}
 use Rattle.scc_proto.specs.Ports.{Sight, record_in}
 use Rattle.scc_mesh.specs.Scenes.{ChipView, IsNew, about_in}
-use Rattle.write_combine.specs.declared.combiner.Out.{Out}
 
 -- a chip of two ranks that was just opened
 pub record IsNewPair (chip : ChipView) : Type 0 where
@@ -22,11 +21,6 @@ pub record IsAtRest (s : Sight) : Type 0 where
 pub record IsFresh (s : Sight) (r : ℕ) : Type 0 where
   pub none : s.events ≡ []
   pub rank : s.seat.rank ≡ r
-
--- the line in a write-combining buffer is a heap line of one of two ranks
-abbrev pub AwaitsHeap : Sight → Option Out → Type 0
-AwaitsHeap s None = Unit {0}
-AwaitsHeap s (Some o) = (r : ℕ) × (r < 2) × (o.line.core ≡ host_of s.seat.setup.hosts r) × (225 ≤ o.line.line)
 
 -- the rank does not hold this core's register
 abbrev pub IsWithout : Sight → ℕ → Type 0

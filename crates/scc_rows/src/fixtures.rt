@@ -3,7 +3,8 @@
 ghost use Rattle.std.specs.Prelude.{◌≡◌, ◌<◌, ◌≤◌, ℕ, true, false, None, IfOk, IfSome, IfNone};
 ghost use Rattle.scc_base.specs.Setups.{host_of};
 ghost use Rattle.scc_mesh.specs.Scenes.{sight_away};
-ghost use Rattle.scc_rows.specs.Rests.{IsNewPair, IsAtRest, IsFresh, AwaitsHeap, IsWithout, Holds};
+ghost use Rattle.put_get.specs.HeapStores.{AwaitsHeap};
+ghost use Rattle.scc_rows.specs.Rests.{IsNewPair, IsAtRest, IsFresh, IsWithout, Holds};
 
 use line_cache::Evict;
 use put_get::{Core, RangeFault};
@@ -223,12 +224,12 @@ pub(crate) fn write<P: Port, V: Evict>(
     value: u64,
 )
     requires rests { IsAtRest (P.sight port.old) }
-    requires awaits { AwaitsHeap (P.sight port.old) core.old.out }
+    requires awaits { AwaitsHeap (P.sight port.old).seat.setup core.old.out }
     requires rank_below { at < 2 }
     requires heap { 225 ≤ line }
     requires word_below { word < 4 }
     ensures rests { IsAtRest (P.sight port.new) }
-    ensures awaits { AwaitsHeap (P.sight port.new) core.new.out }
+    ensures awaits { AwaitsHeap (P.sight port.new).seat.setup core.new.out }
 {
     let place = heap_word(port, at, line, word);
     core.word_write(port, place, value);
@@ -237,7 +238,7 @@ pub(crate) fn write<P: Port, V: Evict>(
 /// Stores what a core's write-combining buffer holds.
 pub(crate) fn flush<P: Port, V: Evict>(core: &mut Core<V>, port: &mut P)
     requires rests { IsAtRest (P.sight port.old) }
-    requires awaits { AwaitsHeap (P.sight port.old) core.old.out }
+    requires awaits { AwaitsHeap (P.sight port.old).seat.setup core.old.out }
     ensures rests { IsAtRest (P.sight port.new) }
     ensures empty { core.new.out ≡ None }
 {
