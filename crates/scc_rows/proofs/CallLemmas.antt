@@ -1,17 +1,17 @@
 -- What stands after a whole call of a rank.
-use Rattle.std.proofs.Common.{◌≡◌, ℕ, true, List, Option, None, Some}
+use Rattle.std.proofs.Common.{◌≡◌, ℕ, true, List, None, Some}
 use Rattle.scc_base.specs.Heads.{MessageHead}
 use Rattle.scc_base.specs.declared.events.Spot.{Spot}
 use Rattle.scc_proto.specs.Words.{are_peers}
 use Rattle.scc_proto.specs.Ports.{Sight, record_in}
 use Rattle.put_get.specs.Cores.{Private}
 use Rattle.sync_flags.specs.Tries.{Aim}
-use Rattle.send_recv.specs.Ops.{RecvAt, SendAt, SlotAt}
+use Rattle.send_recv.specs.Ops.{RecvAt, SlotAt}
 use Rattle.send_recv.specs.Receiving.{RecvStands}
-use Rattle.send_recv.specs.Sending.{SlotStands, SendStands}
-use Rattle.send_recv.specs.Calling.{Received, RecvStalled, RecvDiffers, FoundUnset, Sent, SendStalled}
-use Rattle.send_recv.specs.Ranks.{receiving, sending, with_bytes, with_slot}
-use Rattle.send_recv.proofs.Starts.{slot_after, free_after_receive, free_after_other_head, free_after_test, free_after_send}
+use Rattle.send_recv.specs.Sending.{SlotStands}
+use Rattle.send_recv.specs.Calling.{Received, RecvStalled, RecvDiffers, FoundUnset}
+use Rattle.send_recv.specs.Ranks.{receiving, with_bytes}
+use Rattle.send_recv.proofs.Starts.{slot_after, free_after_receive, free_after_other_head, free_after_test}
 use Rattle.scc_rows.specs.Talkers.{IsTalking}
 use Rattle.scc_rows.proofs.TalkLemmas.{peers_kept}
 

@@ -16,8 +16,8 @@ use Rattle.scc_proto.specs.Stages.{FlagWords, Record, blank}
 use Rattle.scc_proto.specs.Moves.{StoreHeap, NoMove, after}
 use Rattle.scc_proto.specs.Permission.{permits}
 use Rattle.scc_proto.specs.Words.{Role, HeapWord, IdleWord, role_of, role_where, rank_on}
-use Rattle.scc_proto.specs.Records.{Moving, Holding, act_of, act_by, after_act, load_act, load_by, store_act, permits_act, permits_by, chunk_of, noted_by, noted_load, record_after, record_from, record_of}
-use Rattle.scc_proto.specs.Ports.{Sight, Did, MayMake, IsSoundPort, record_in}
+use Rattle.scc_proto.specs.Records.{Moving, Holding, act_of, act_by, after_act, load_act, store_act, permits_act, permits_by, chunk_of, record_after, record_from, record_of}
+use Rattle.scc_proto.specs.Ports.{Sight, IsSoundPort, record_in}
 use Rattle.tas_lock.specs.Holds.{IsNotHolding}
 use Rattle.scc_rows.specs.Quiet.{is_quiet, are_quiet, IsQuietRecord}
 

@@ -1,12 +1,11 @@
 -- A message stands where the events of a rank stand, whatever port shows them.
-use Rattle.std.proofs.Common.{◌≡◌, ◌≤◌, ℕ, true, false, List, [], ◌++◌, Option, None, Some, length, take, refl, sym, ◌∙◌, ap, subst, arith}
+use Rattle.std.proofs.Common.{◌≡◌, ℕ, true, List, [], ◌++◌, Option, None, Some, length, take, refl, sym, ◌∙◌, ap, subst}
 use Rattle.std.proofs.Math.Seq.{take-append_seam}
 use base.Stored.{Gv, gnil}
-use Rattle.scc_base.specs.Heads.{MessageHead, IsHead, IsPostHead, plain_head}
+use Rattle.scc_base.specs.Heads.{MessageHead}
 use Rattle.scc_base.specs.Setups.{SetupView}
 use Rattle.scc_base.specs.declared.events.Event.{Event}
 use Rattle.scc_base.specs.declared.events.Turn.{Turn}
-use Rattle.scc_base.specs.declared.events.Turn.TheVariants as turn
 use Rattle.scc_proto.specs.Words.{are_peers}
 use Rattle.scc_proto.specs.Ports.{Seat, Sight, Did, record_in}
 use Rattle.scc_proto.proofs.PortLaws.{seat_kept}
@@ -14,12 +13,12 @@ use Rattle.put_get.specs.Cores.{Private}
 use Rattle.sync_flags.specs.Turns.{at_port}
 use Rattle.send_recv.specs.declared.answers.RecvTurn.{RecvTurn}
 use Rattle.send_recv.specs.declared.answers.RecvTurn.TheVariants as recv_turn
-use Rattle.send_recv.specs.Ops.{RecvAt, SendAt, SlotAt, new_receive, new_send, empty_slot}
+use Rattle.send_recv.specs.Ops.{RecvAt, SendAt, SlotAt, empty_slot}
 use Rattle.send_recv.specs.Receiving.{RecvStands, RecvTurned}
-use Rattle.send_recv.specs.Sending.{SlotStands, SlotTurned, SendStands, SendTurned}
+use Rattle.send_recv.specs.Sending.{SlotStands, SlotTurned, SendStands}
 use Rattle.send_recv.specs.Calling.{IsBetweenMessages}
-use Rattle.send_recv.specs.Ranks.{receiving, sending, with_slot}
-use Rattle.send_recv.proofs.Starts.{free_after_mismatch, free_after_received, free_after_sent, free_after_slot, free_at_start, receive_starts, send_starts, slot_after}
+use Rattle.send_recv.specs.Ranks.{receiving, with_slot}
+use Rattle.send_recv.proofs.Starts.{free_after_mismatch, free_after_received, free_after_slot, free_at_start, slot_after}
 use Rattle.send_recv.proofs.OtherPort.{free_there, receive_there, send_there, slot_there}
 use Rattle.chip_teams.specs.Teams.{sight_alone}
 use Rattle.scc_rows.specs.Talkers.{IsAtCall, IsTalking}

@@ -1,5 +1,4 @@
 use Rattle.std.proofs.Common.{◌≡◌, ℕ, true, subst, sym}
-use Rattle.scc_base.specs.Setups.{SetupView}
 use Rattle.scc_proto.specs.Words.{are_peers}
 use Rattle.scc_rows.proofs.messages.talking.Goals as goal
 

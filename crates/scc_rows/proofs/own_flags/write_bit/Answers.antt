@@ -1,5 +1,4 @@
 use Rattle.std.proofs.Common.{◌<◌, true, ap, arith}
-use Rattle.scc_rows.specs.Quiet.{are_quiet}
 use Rattle.scc_rows.proofs.QuietLemmas.{nothing_held}
 use Rattle.sync_flags.specs.Flags.{FlagView}
 use Rattle.scc_rows.proofs.QuietFlags.{heap_bit_writes}
