@@ -1,5 +1,6 @@
 -- A walk through the items of a rank, and the course below it, which keeps its place and the repeats that are open.
-use Rattle.std.specs.Prelude.{◌≡◌, ℕ, zero, suc, ◌+◌, ◌-◌, ◌<◌, ◌≤◌, Bool, true, false, List, [], ◌∷◌, ◌++◌, map, length, drop, slice_get, Option, Some, None}
+use Rattle.std.specs.Prelude.{◌≡◌, ℕ, zero, suc, ◌+◌, ◌-◌, ◌<◌, ◌≤◌, Bool, true, false, IfSome, List, [], ◌∷◌, ◌++◌, map, length, drop, slice_get, Option, Some, None}
+use Rattle.std.specs.Option.{option_map}
 use Rattle.scc_base.specs.Setups.{SetupView}
 use Rattle.script_plain.specs.declared.prims.Action.{Action}
 use Rattle.script_plain.specs.declared.prims.Action.TheVariants as action
@@ -11,7 +12,7 @@ use Rattle.script_plain.specs.declared.prims.Primitive.{Primitive}
 use Rattle.script_plain.specs.declared.course.Open.{Open}
 use Rattle.script_reader.specs.declared.script.Item.{Item}
 use Rattle.script_reader.specs.Script.{Script}
-use Rattle.script_plain.specs.Program.{Act, Prim, Unrolled, copies, filling, marked, marks_of}
+use Rattle.script_plain.specs.Program.{Act, Prim, Unrolled, copies, filling, marked, marks_of, prims_in}
 use Rattle.script_plain.specs.Program.Act.{Set, Apply, Print, Send, Post, Recv, Gather, Bar, Begin, Fold, Accept, Finish}
 use Rattle.groups.specs.Folds.{bytes_of}
 use Rattle.std.specs.Prelude.{pos}
@@ -76,6 +77,12 @@ is_closing nesting.Stays = false
 abbrev pub prim_of : Option (Option Prim) → Option Prim
 prim_of None = None
 prim_of (Some mark) = mark
+
+-- a primitive is the one that comes next among marks which begin with no end of a pass
+pub record IsFront (marks : List (Option Prim)) (next : Option Primitive) : Type 0 where
+  pub stands : is_end (slice_get marks 0) ≡ false
+  pub same : option_map prim_meant next ≡ slice_get (prims_in marks) 0
+  pub short : IfSome next (λ p. IsShort p.action)
 
 -- what the further passes of an open repeat make
 abbrev pub again : SetupView → ℕ → List Item → Open → List (Option Prim)

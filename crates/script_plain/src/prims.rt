@@ -93,6 +93,86 @@ pub struct Primitive<'s> {
     pub action: Action<'s>,
 }
 
+impl<'s> Content<'s> {
+    ghost use Rattle.std.specs.Prelude.{◌≡◌};
+
+    fn copy(&self) -> Content<'s>
+        ensures { result ≡ self.now }
+    {
+        match self {
+            Content::Bytes(bytes) => Content::Bytes(bytes),
+            Content::Filling { len, start } => Content::Filling {
+                len: *len,
+                start: *start,
+            },
+            Content::Number { ty, number } => Content::Number {
+                ty: *ty,
+                number: *number,
+            },
+        }
+    }
+}
+
+impl<'s> Action<'s> {
+    ghost use Rattle.std.specs.Prelude.{◌≡◌};
+
+    fn copy(&self) -> Action<'s>
+        ensures { result ≡ self.now }
+    {
+        match self {
+            Action::Set { reg, content } => Action::Set {
+                reg: *reg,
+                content: content.copy(),
+            },
+            Action::Apply { op, ty, dst, src } => Action::Apply {
+                op: *op,
+                ty: *ty,
+                dst: *dst,
+                src: *src,
+            },
+            Action::Print { reg, form } => Action::Print {
+                reg: *reg,
+                form: *form,
+            },
+            Action::Send { to, head, source } => Action::Send {
+                to: *to,
+                head: *head,
+                source: *source,
+            },
+            Action::Post { to, reg } => Action::Post { to: *to, reg: *reg },
+            Action::Recv { from, reg, head } => Action::Recv {
+                from: *from,
+                reg: *reg,
+                head: *head,
+            },
+            Action::Gather { from, head, sized } => Action::Gather {
+                from: *from,
+                head: *head,
+                sized: *sized,
+            },
+            Action::Bar { comm } => Action::Bar { comm: *comm },
+            Action::Begin { reg } => Action::Begin { reg: *reg },
+            Action::Fold { op, ty } => Action::Fold { op: *op, ty: *ty },
+            Action::Accept { reg } => Action::Accept { reg: *reg },
+            Action::Finish { reg } => Action::Finish { reg: *reg },
+        }
+    }
+}
+
+impl<'s> Primitive<'s> {
+    ghost use Rattle.std.specs.Prelude.{◌≡◌};
+
+    /// The same primitive once more.
+    pub(crate) fn copy(&self) -> Primitive<'s>
+        ensures { result ≡ self.now }
+    {
+        Primitive {
+            line: self.line,
+            action: self.action.copy(),
+        }
+    }
+}
+
 /// Whether a rank goes on: not where a message came that has another head than the receive of this line asked for.
 #[derive(Drop)]
 pub enum Standing {

@@ -1,8 +1,8 @@
 //! A walk through the primitives of a rank.
 
-ghost use Rattle.std.specs.Prelude.{◌≡◌, false, slice_get};
+ghost use Rattle.std.specs.Prelude.{◌≡◌};
 ghost use Rattle.script_plain.specs.Program.{prims_in};
-ghost use Rattle.script_plain.specs.Walk.{is_end};
+ghost use Rattle.script_plain.specs.Walk.{IsFront};
 
 use crate::course::Course;
 use crate::prims::Primitive;
@@ -11,16 +11,17 @@ use script_reader::Scripts;
 use std::alloc::{AllocError, Global};
 use std::marker::Model;
 
-/// A walk through the primitives of a rank: a course that never stands at the end of a pass.
+/// A walk through the primitives of a rank: a course that never stands at the end of a pass, and the primitive that comes
+/// next on it.
 #[derive(Drop)]
 pub struct Walk<'s> {
     course: Course<'s>,
+    next: Option<Primitive<'s>>,
 }
 
 impl<'s> Model for Walk<'s> {
-    ghost use Rattle.std.specs.Prelude.{◌≡◌, false, slice_get};
     ghost use Rattle.script_plain.specs.Program.{prims_in};
-    ghost use Rattle.script_plain.specs.Walk.{WalkView, is_end};
+    ghost use Rattle.script_plain.specs.Walk.{IsFront, WalkView};
 
     ghost Value = { WalkView };
 
@@ -31,7 +32,7 @@ impl<'s> Model for Walk<'s> {
       left = prims_in w.course.left;
     } };
 
-    ghost invariant = { λ w. is_end (slice_get w.course.left 0) ≡ false };
+    ghost invariant = { λ w. IsFront w.course.left w.next };
 }
 
 impl<'s> Walk<'s> {
@@ -54,8 +55,8 @@ impl<'s> Walk<'s> {
         ensures { IfOk result (λ w. w ≡ record { script = scripts.now; setup = setup; rank = rank; left = program_of scripts.now rank }) }
     {
         let mut course = Course::new(alloc, scripts, setup, rank)?;
-        pass_ends(&mut course);
-        Ok(Walk { course })
+        let next = pass_ends(&mut course);
+        Ok(Walk { course, next })
     }
 
     /// The rank whose primitives these are.
@@ -70,7 +71,10 @@ impl<'s> Walk<'s> {
         ensures same { option_map prim_meant result ≡ slice_get self.now.left 0 }
         ensures short { IfSome result (λ p. IsShort p.action) }
     {
-        self.course.front()
+        match &self.next {
+            Some(next) => Some(next.copy()),
+            None => None,
+        }
     }
 
     /// Goes back to the first primitive.
@@ -80,7 +84,8 @@ impl<'s> Walk<'s> {
         ensures { self.new ≡ record self.old { left = program_of self.old.script self.old.rank } }
     {
         self.course.restart();
-        pass_ends(&mut self.course);
+        let first = pass_ends(&mut self.course);
+        self.next = first;
     }
 
     /// Goes to the end.
@@ -88,6 +93,7 @@ impl<'s> Walk<'s> {
         ensures { self.new ≡ record self.old { left = [] } }
     {
         self.course.finish();
+        self.next = None;
     }
 
     /// Goes past the primitive that comes next.
@@ -95,19 +101,21 @@ impl<'s> Walk<'s> {
         ensures { self.new ≡ record self.old { left = drop 1 self.old.left } }
     {
         self.course.advance();
-        pass_ends(&mut self.course);
+        let next = pass_ends(&mut self.course);
+        self.next = next;
     }
 }
 
-/// Goes past the ends of passes that come next.
-fn pass_ends(course: &mut Course<'_>)
+/// Goes past the ends of passes that come next, and gives the primitive that stands there then.
+fn pass_ends<'s>(course: &mut Course<'s>) -> Option<Primitive<'s>>
     ensures same { prims_in course.new.left ≡ prims_in course.old.left }
     ensures script { course.new.script ≡ course.old.script }
     ensures setup { course.new.setup ≡ course.old.setup }
     ensures rank { course.new.rank ≡ course.old.rank }
-    ensures none { is_end (slice_get course.new.left 0) ≡ false }
+    ensures front { IsFront course.new.left result }
 {
     while course.is_at_end() {
         course.advance();
     }
+    course.front()
 }

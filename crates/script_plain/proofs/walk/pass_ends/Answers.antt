@@ -1,7 +1,7 @@
 use Rattle.std.proofs.Common.{◌≡◌, ◌∙◌, true, ap, sym, arith, slice_get, drop, length}
 use Rattle.script_plain.specs.Program.{prims_in}
 use Rattle.script_plain.specs.Walk.{CourseView, is_end}
-use Rattle.script_plain.proofs.MarkLaws.{less_marks, same_prims}
+use Rattle.script_plain.proofs.MarkLaws.{first_prim, less_marks, same_prims}
 use Rattle.script_plain.proofs.walk.pass_ends.Goals as goal
 
 pub loop-course-preserved : goal.loop-course-preserved
@@ -24,5 +24,11 @@ loop-course-smaller c =
     let less = less_marks left here in
     omega (arith, less, ap length gone)
 
-pub returns-clause-none : goal.returns-clause-none
-returns-clause-none c = sym c.is_at_end.ensures ∙ c.loop-course-test.false
+pub returns-clause-front : goal.returns-clause-front
+returns-clause-front c =
+    let stands = sym c.is_at_end.ensures ∙ c.loop-course-test.false in
+    record {
+      stands = stands;
+      same = c.front.ensures.same ∙ first_prim c.loop-course.course.left stands;
+      short = c.front.ensures.short;
+    }

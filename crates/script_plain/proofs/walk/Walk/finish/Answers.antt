@@ -1,10 +1,14 @@
-use Rattle.std.proofs.Common.{◌∙◌, [], ap, slice_get}
+use Rattle.std.proofs.Common.{◌∙◌, [], ap, sym, slice_get}
 use Rattle.script_plain.specs.Program.{prims_in}
 use Rattle.script_plain.specs.Walk.{CourseView, WalkView, is_end}
 use Rattle.script_plain.proofs.walk.Walk.finish.Goals as goal
 
 pub invariant_of-self : goal.invariant_of-self
-invariant_of-self c = ap (λ (w : CourseView). is_end (slice_get w.left 0)) c.finish.ensures
+invariant_of-self c = record {
+  stands = ap (λ (w : CourseView). is_end (slice_get w.left 0)) c.finish.ensures;
+  same = sym (ap (λ (w : CourseView). slice_get (prims_in w.left) 0) c.finish.ensures);
+  short = tt;
+}
 
 pub returns : goal.returns
 returns c =

@@ -7,7 +7,7 @@ use Rattle.script_plain.proofs.walk.Walk.new.Goals as goal
 pub returns : goal.returns
 returns c =
     let made = c.in_ok-course.ensures in
-    let passed = c.pass_ends.ensures in
+    let passed = c.pass_ends-next.ensures in
     let script = passed.script ∙ ap (λ (w : CourseView). w.script) made in
     let setup = passed.setup ∙ ap (λ (w : CourseView). w.setup) made in
     let rank = passed.rank ∙ ap (λ (w : CourseView). w.rank) made in

@@ -17,7 +17,7 @@ pub returns : goal.returns
 returns c =
     let course = c.self.inside.course in
     let again = c.restart.ensures in
-    let passed = c.pass_ends.ensures in
+    let passed = c.pass_ends-first.ensures in
     let script = passed.script ∙ ap (λ (w : CourseView). w.script) again in
     let setup = passed.setup ∙ ap (λ (w : CourseView). w.setup) again in
     let rank = passed.rank ∙ ap (λ (w : CourseView). w.rank) again in
