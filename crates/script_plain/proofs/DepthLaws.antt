@@ -3,7 +3,6 @@ use Rattle.std.proofs.Common.{◌≡◌, ℕ, zero, suc, ◌+◌, ◌-◌, ◌<�
 use Rattle.std.proofs.lemmas.Bool.{cases_lt}
 use Rattle.scc_base.specs.Setups.{SetupView}
 use Rattle.script_reader.specs.declared.script.Item.{Item}
-use Rattle.script_reader.specs.Script.{has_rank}
 use Rattle.script_plain.specs.declared.prims.Nesting.{Nesting}
 use Rattle.script_plain.specs.declared.prims.Nesting.TheVariants as nesting
 use Rattle.script_plain.specs.declared.course.Open.{Open}

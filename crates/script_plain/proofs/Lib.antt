@@ -5,6 +5,7 @@ pub mod ViewLaws
 pub mod PlainLaws
 pub mod GroupLaws
 pub mod OrderLaws
+pub mod FacingLaws
 pub mod EndLaws
 pub mod WayLaws
 pub mod BarrierLaws

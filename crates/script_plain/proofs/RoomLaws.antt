@@ -1,5 +1,5 @@
 -- Laws of rooms: what a program brings fits, primitive by primitive, where the dry walk over the lengths said so.
-use Rattle.std.proofs.Common.{◌≡◌, ℕ, zero, suc, ◌+◌, ◌-◌, ◌<◌, ◌≤◌, Bool, true, false, cond, nat_lt, List, [], ◌∷◌, ◌++◌, map, length, drop, take, get_or, set, replicate, slice_get, slice_index_or, slice_set, Option, Some, None, refl, sym, ap, subst, ◌∙◌, arith}
+use Rattle.std.proofs.Common.{◌≡◌, ℕ, zero, suc, ◌+◌, ◌-◌, ◌<◌, ◌≤◌, Bool, true, false, cond, nat_lt, List, [], ◌∷◌, ◌++◌, Bor, map, length, drop, take, get_or, set, replicate, slice_get, slice_index_or, slice_set, Option, Some, None, refl, sym, ap, subst, ◌∙◌, arith}
 use Rattle.std.proofs.Math.Seq.{drop-append_seam, map-set_same, take-length}
 use Rattle.std.proofs.lemmas.Bool.{ltb-false, ltb-true}
 use Rattle.std.proofs.lemmas.List.{drop-append-le, length-append, length-drop, length-map, length-replicate, length-take-le, map-append, map-set, take-append-le, take_all}
@@ -191,7 +191,7 @@ within_end room l [] none now = now
 within_end room l (x ∷ prims) none now = absurd (cc)
 
 -- nothing is found where nothing is left
-pub none_found : (found : Option Primitive) (left : Option Prim) → option_map prim_meant found ≡ left → ((p : Primitive) → found ≡ Some p → ⊥) → left ≡ None
+pub none_found : (found : Option (Bor Primitive)) (left : Option Prim) → option_map (λ p. prim_meant p.now) found ≡ left → ((p : Bor Primitive) → found ≡ Some p → ⊥) → left ≡ None
 none_found None left is none = sym is
 none_found (Some p) left is none = absurd (none p refl)
 
@@ -339,11 +339,12 @@ item_there bytes table items i entry same within cuts read =
     let here = slice_get_read table (length table) i entry refl there read in
     (ap (λ (l : List Printed). slice_get l i) (sym same) ∙ slice_get-map (cut bytes) table i ∙ ap (option_map (cut bytes)) here, cut_at (length bytes) table i entry cuts here)
 
--- the primitive at which the rank of a machine stands
-pub prim_here : (m u : Local) (found : Option Primitive) (prim : Primitive) (action : Action) → m ≡ u → option_map prim_meant found ≡ next_prim m → found ≡ Some prim → prim.action ≡ action
+-- the primitive at which the rank of a machine stands, which was lent and copied
+pub prim_here : (m u : Local) (found : Option (Bor Primitive)) (lent : Bor Primitive) (prim : Primitive) (action : Action) → m ≡ u → option_map (λ p. prim_meant p.now) found ≡ next_prim m → found ≡ Some lent → prim ≡ lent.now → prim.action ≡ action
     → next_prim u ≡ Some (record { line = prim.line; act = act_meant action })
-prim_here m u found prim action same meant is acts =
-    ap next_prim (sym same) ∙ sym meant ∙ ap (option_map prim_meant) is ∙ ap (λ (a : Action). Some (record { line = prim.line; act = act_meant a })) acts
+prim_here m u found lent prim action same meant is copied acts =
+    ap next_prim (sym same) ∙ sym meant ∙ ap (option_map (λ (p : Bor Primitive). prim_meant p.now)) is ∙ ap (λ (p : Primitive). Some (prim_meant p)) (sym copied)
+    ∙ ap (λ (a : Action). Some (record { line = prim.line; act = act_meant a })) acts
 
 -- what a primitive puts into a register fits its room
 pub put_fits : (room : Rooms) (u : Local) (prim : Prim) (reg n : ℕ) → next_prim u ≡ Some prim → lengths_after (lengths_of u) prim.act ≡ with_register (lengths_of u) reg n → AreWithin room (lengths_of u) u.left

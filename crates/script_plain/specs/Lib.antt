@@ -1,6 +1,7 @@
 pub mod Program
 pub mod Walk
 pub mod Next
+pub mod Facing
 pub mod Local
 pub mod Ends
 pub mod Step

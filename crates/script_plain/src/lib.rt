@@ -7,6 +7,7 @@ mod call_laws;
 mod collective_laws;
 mod course;
 mod ends;
+mod facing;
 mod held_laws;
 mod laws;
 mod machines;
@@ -34,7 +35,7 @@ pub use laws::{
     steps_commute, ways_tell_calls,
 };
 pub use machines::Machine;
-pub use matches::{Match, Matches, plain_matches};
+pub use matches::{History, Match, Matches, plain_history, plain_matches};
 pub use posts::{Left, OnItsWay, Posted};
 pub use prims::{Action, Content, Primitive, Source, Standing};
 pub use prints::PrintedItem;

@@ -9,6 +9,7 @@ ghost use Rattle.script_plain.specs.Machine.{on_its_way};
 ghost use Rattle.script_plain.specs.declared.posts.Posted.{Posted};
 
 use crate::ends::UeEnd;
+use crate::facing::Facing;
 use crate::posts::OnItsWay;
 use crate::prims::{Action, Primitive, Source, Standing};
 use crate::prints::{PrintedItem, Prints};
@@ -79,6 +80,7 @@ impl<'s> Machine<'s> {
     ghost use Rattle.script_plain.specs.Rooms.{AreWithin, nothing_held, rooms_of};
     ghost use Rattle.script_plain.specs.declared.prims.Standing.TheVariants as standing;
     ghost use Rattle.script_plain.specs.Moves.{bytes_out, is_passable, is_receiving, is_stopped, length_in, line_out, passed, post_of, refused, taken, went};
+    ghost use Rattle.script_plain.specs.Facing.{facing_of};
     ghost use Rattle.script_plain.specs.Next.{call_of, is_going};
     ghost use Rattle.script_plain.specs.Walk.{IsShort, prim_meant};
     ghost use Rattle.script_plain.specs.declared.posts.Posted.{Posted};
@@ -122,12 +124,12 @@ impl<'s> Machine<'s> {
     }
 
     /// The primitive at which the rank stands.
-    fn prim(&self) -> Option<Primitive<'s>>
-        ensures same { option_map prim_meant result ≡ next_prim self.now.local }
-        ensures short { IfSome result (λ p. IsShort p.action) }
+    fn prim(&self) -> Option<&Primitive<'s>>
+        ensures same { option_map (λ p. prim_meant p.now) result ≡ next_prim self.now.local }
+        ensures short { IfSome result (λ p. IsShort p.now.action) }
     {
         match &self.state {
-            Standing::Running => self.walk.front(),
+            Standing::Running => self.walk.front_lent(),
             Standing::Mismatched { .. } => None,
         }
     }
@@ -220,6 +222,29 @@ impl<'s> Machine<'s> {
         }
     }
 
+    /// Whom the rank faces in what stands next.
+    pub(crate) fn facing(&self) -> Facing
+        ensures { result ≡ facing_of (local_next self.now.local) }
+    {
+        let Some(prim) = self.prim() else {
+            return Facing::Nobody;
+        };
+        match &prim.action {
+            Action::Send { to, .. } => Facing::One { rank: *to },
+            Action::Recv { from, .. } => Facing::One { rank: *from },
+            Action::Gather { from, .. } => Facing::One { rank: *from },
+            Action::Bar { .. } => Facing::Group,
+            Action::Set { .. }
+            | Action::Apply { .. }
+            | Action::Print { .. }
+            | Action::Post { .. }
+            | Action::Begin { .. }
+            | Action::Fold { .. }
+            | Action::Accept { .. }
+            | Action::Finish { .. } => Facing::Nobody,
+        }
+    }
+
     /// The bytes of the send or post that stands next; none where something else does.
     pub fn bytes(&self) -> &[u8]
         ensures { result.now ≡ bytes_out (local_next self.now.local) }
@@ -238,13 +263,13 @@ impl<'s> Machine<'s> {
                     action: Action::Send { source, .. },
                     ..
                 },
-            ) => self.source(source),
+            ) => self.source(*source),
             Some(
                 Primitive {
                     action: Action::Post { reg, .. },
                     ..
                 },
-            ) => self.held.registers.bytes(reg),
+            ) => self.held.registers.bytes(*reg),
             _ => &[],
         }
     }
@@ -286,7 +311,7 @@ impl<'s> Machine<'s> {
                     line,
                     action: Action::Post { .. },
                 },
-            ) => line,
+            ) => *line,
             _ => 0,
         }
     }
@@ -313,6 +338,7 @@ impl<'s> Machine<'s> {
         let Some(prim) = self.prim() else {
             unreachable!()
         };
+        let prim = prim.copy();
         self.walk.advance();
         self.held.work(&prim.action);
     }
@@ -334,6 +360,7 @@ impl<'s> Machine<'s> {
         let Some(prim) = self.prim() else {
             unreachable!()
         };
+        let prim = prim.copy();
         self.walk.advance();
         match prim.action {
             Action::Recv { reg, .. } => self.held.registers.write(reg, bytes),
@@ -350,6 +377,7 @@ impl<'s> Machine<'s> {
         let Some(prim) = self.prim() else {
             unreachable!()
         };
+        let prim = prim.copy();
         let line = prim.line;
         match &prim.action {
             Action::Recv { from, head, .. } => self.stop(line, *from, sent, *head),
@@ -391,7 +419,7 @@ impl<'s> Machine<'s> {
                 asked: *asked,
             };
         }
-        match self.walk.front() {
+        match self.walk.front_lent() {
             None => end_by_slot(post),
             Some(next) => match self.call() {
                 Some(call) => UeEnd::Waits {

@@ -1,13 +1,18 @@
 //! The messages of the plain meaning, in its order: the enabled step with the lowest owner is taken, again and again.
 
-ghost use Rattle.std.specs.Prelude.{◌≡◌, ◌≢◌, ◌<◌, ◌∷◌, ◌++◌, [], IfOk, OnOk, sum_by};
+ghost use Rattle.std.specs.Prelude.{◌≡◌, ◌≢◌, ◌<◌, ◌∷◌, ◌++◌, [], None, is_some, length, IfOk, IfSome, OnOk, sum_by};
 ghost use Rattle.scc_base.specs.Setups.{setup_key};
 ghost use Rattle.script_plain.specs.Code.{BringsAt, BringsLowest, IsRun, config, decision};
+ghost use Rattle.script_plain.specs.Facing.{IsStillTo};
 ghost use Rattle.script_plain.specs.Local.{cost_of, local_next};
 ghost use Rattle.script_plain.specs.Matches.{brought, line_at, line_of, matches_on, plain_matches};
+ghost use Rattle.script_plain.specs.Meaning.{ends_at, plain_ends};
+ghost use Rattle.script_plain.specs.Step.{lowest_step, run_on};
 ghost use Rattle.script_plain.specs.declared.steps.Step.TheVariants as variant;
 
 use crate::barriers::setup_of;
+use crate::ends::{End, end_all};
+use crate::facing::{facing_at, still_to};
 use crate::posts::Left;
 use crate::steps::{Ranks, Step, begin, call_at, decide, take_step};
 use crate::ues::Ue;
@@ -86,8 +91,44 @@ impl Matches {
     }
 }
 
+/// The messages of a run, and its end.
+#[derive(Drop)]
+pub struct History {
+    pub matches: Matches,
+    pub end: End,
+}
+
+/// The same matches and takes with the end of the plain meaning, by one run.
+pub fn plain_history(alloc: Global, scripts: &Scripts) -> Result<History, AllocError>
+    ensures matches { IfOk result (λ h. h.matches ≡ plain_matches scripts.now) }
+    ensures end { IfOk result (λ h. h.end ≡ plain_ends scripts.now) }
+    ensures ranks { IfOk result (λ h. length h.end ≡ scripts.now.nue) }
+{
+    let setup = setup_of(scripts);
+    let Ranks { mut ues, mut slots } = begin(alloc, scripts, &setup)?;
+    let history = history_of(alloc, &setup, &mut ues, &mut slots)?;
+    Ok(history)
+}
+
+/// Takes the enabled step with the lowest owner until no step is enabled, and gives what the steps bring and what the ranks
+/// leave behind.
+fn history_of(
+    alloc: Global,
+    setup: &Setup,
+    ues: &mut [Ue],
+    slots: &mut [Option<Left>],
+) -> Result<History, AllocError>
+    requires run { IsRun setup.now ues.old slots.old }
+    ensures matches { IfOk result (λ h. h.matches ≡ matches_on (setup_key setup.now) local_next line_of (sum_by cost_of ues.old) (config ues.old slots.old)) }
+    ensures end { IfOk result (λ h. h.end ≡ ends_at (run_on (setup_key setup.now) local_next (sum_by cost_of ues.old) (config ues.old slots.old))) }
+{
+    let matches = match_on(alloc, setup, ues, slots)?;
+    let end = end_all(alloc, ues, slots)?;
+    Ok(History { matches, end })
+}
+
 /// The matches and takes of the plain meaning of scripts, in its order: the enabled step with the lowest owner is taken
-/// until no step is enabled. A step looks at each rank up to its owner once.
+/// until no step is enabled. After a step the next one is looked for from the lowest rank on that heeds it.
 pub fn plain_matches(alloc: Global, scripts: &Scripts) -> Result<Matches, AllocError>
     ensures { IfOk result (λ matches. matches ≡ plain_matches scripts.now) }
 {
@@ -105,30 +146,41 @@ fn match_on(
     slots: &mut [Option<Left>],
 ) -> Result<Matches, AllocError>
     requires run { IsRun setup.now ues.old slots.old }
-    ensures { IfOk result (λ matches. matches ≡ matches_on (setup_key setup.now) local_next line_of (sum_by cost_of ues.old) (config ues.old slots.old)) }
+    ensures matches { IfOk result (λ matches. matches ≡ matches_on (setup_key setup.now) local_next line_of (sum_by cost_of ues.old) (config ues.old slots.old)) }
+    ensures end { OnOk result (config ues.new slots.new ≡ run_on (setup_key setup.now) local_next (sum_by cost_of ues.old) (config ues.old slots.old)) }
+    ensures still { OnOk result (lowest_step (setup_key setup.now) local_next (config ues.new slots.new) ≡ None) }
 {
     let mut matches = Matches::new(alloc);
-    while step_lowest(alloc, setup, ues, slots, &mut matches)? {}
+    let mut from = 0;
+    while let Some(next) = step_lowest(alloc, setup, ues, slots, from, &mut matches)? {
+        from = next;
+    }
     Ok(matches)
 }
 
-/// Takes the enabled step with the lowest owner, if there is one, and puts what it brings behind the others.
+/// Takes the enabled step with the lowest owner, if there is one, and puts what it brings behind the others. No rank below
+/// `from` owns one. Answers up to which rank none owns one then.
 fn step_lowest(
     alloc: Global,
     setup: &Setup,
     ues: &mut [Ue],
     slots: &mut [Option<Left>],
+    from: u8,
     matches: &mut Matches,
-) -> Result<bool, AllocError>
+) -> Result<Option<u8>, AllocError>
     requires run { IsRun setup.now ues.old slots.old }
-    ensures { IfOk result (λ moved. BringsLowest (setup_key setup.now) moved (config ues.old slots.old) (config ues.new slots.new) matches.old matches.new) }
+    requires still { IsStillTo (setup_key setup.now) from (config ues.old slots.old) }
+    ensures brings { IfOk result (λ next. BringsLowest (setup_key setup.now) (is_some next) (config ues.old slots.old) (config ues.new slots.new) matches.old matches.new) }
+    ensures still { IfOk result (λ next. IfSome next (λ n. IsStillTo (setup_key setup.now) n (config ues.new slots.new))) }
 {
-    for number in 0..setup.nue() {
-        if step_by(alloc, setup, ues, slots, Rank::of(number), matches)? {
-            return Ok(true);
+    for number in from..setup.nue() {
+        let rank = Rank::of(number);
+        let facing = facing_at(ues, rank);
+        if step_by(alloc, setup, ues, slots, rank, matches)? {
+            return Ok(Some(still_to(ues, rank, facing)));
         }
     }
-    Ok(false)
+    Ok(None)
 }
 
 /// Takes the step that a rank owns, if it is enabled, and puts what it brings behind the others.

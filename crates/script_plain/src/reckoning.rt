@@ -344,7 +344,7 @@ pub fn reckon<'s>(
     ensures again { IfOk result (λ r. r.walk ≡ record walk.entry { left = program_of walk.entry.script walk.entry.rank }) }
 {
     let mut reckoning = Reckoning::new(alloc, count)?;
-    while let Some(prim) = walk.front() {
+    while let Some(prim) = walk.front_lent() {
         reckoning.within_law();
         reckoning.go(&prim.action)?;
         walk.advance();

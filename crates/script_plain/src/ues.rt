@@ -2,6 +2,7 @@
 #![tactic(auto, unfolding(crate::specs::Local::local_next))]
 
 use crate::ends::UeEnd;
+use crate::facing::Facing;
 use crate::machines::Machine;
 use crate::posts::{Left, Posted, in_slot};
 use crate::prints::Prints;
@@ -31,6 +32,7 @@ impl<'s> Model for Ue<'s> {
 impl<'s> Ue<'s> {
     ghost use Rattle.std.specs.Prelude.{◌≡◌, ◌<◌, false, length, IfOk, IsTrue};
     ghost use Rattle.script_plain.specs.Local.{end_of, local_next, local_start};
+    ghost use Rattle.script_plain.specs.Facing.{facing_of};
     ghost use Rattle.script_plain.specs.Next.{call_of, is_at_barrier, is_going, past_barrier};
     ghost use Rattle.script_plain.specs.Next.Next.{Goes};
     ghost use Rattle.script_reader.specs.Script.{rules_of};
@@ -67,6 +69,13 @@ impl<'s> Ue<'s> {
         ensures { result ≡ call_of (local_next self.now) }
     {
         self.machine.call()
+    }
+
+    /// Whom the rank faces.
+    pub fn facing(&self) -> Facing
+        ensures { result ≡ facing_of (local_next self.now) }
+    {
+        self.machine.facing()
     }
 
     /// The line of the statement at which the rank stands.

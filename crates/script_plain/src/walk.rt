@@ -77,6 +77,17 @@ impl<'s> Walk<'s> {
         }
     }
 
+    /// The same, lent.
+    pub(crate) fn front_lent(&self) -> Option<&Primitive<'s>>
+        ensures same { option_map (λ p. prim_meant p.now) result ≡ slice_get self.now.left 0 }
+        ensures short { IfSome result (λ p. IsShort p.now.action) }
+    {
+        match &self.next {
+            Some(next) => Some(next),
+            None => None,
+        }
+    }
+
     /// Goes back to the first primitive.
     pub fn restart(&mut self)
         requires ranks { self.old.setup.nue ≡ self.old.script.nue }

@@ -24,7 +24,7 @@ returns c =
     let script = c.args.scripts.now in
     let start = locals_of (start_of script) in
     let slots : c.deref_mut-2.result.now ≡ replicate script.nue None = c.deref_mut-2.ensures.value ∙ c.in_ok-ues.ensures.slots in
-    c.in_ok-matches.ensures
+    c.in_ok-matches.ensures.matches
     ∙ ap (λ (comms : List CommRule). matches_on (key_of comms) local_next line_of (sum_by cost_of c.deref_mut.result.now) (config c.deref_mut.result.now c.deref_mut-2.result.now)) c.setup_of-setup.ensures.communicators
     ∙ ap (λ (us : List Local). matches_on (keys_of script) local_next line_of (sum_by cost_of us) (config us c.deref_mut-2.result.now)) (c.deref_mut.ensures.value ∙ c.in_ok-ues.ensures.cells)
     ∙ ap (λ (ss : List (Option Posted)). matches_on (keys_of script) local_next line_of (sum_by cost_of start) (config start ss)) slots

@@ -1,9 +1,10 @@
-use Rattle.std.proofs.Common.{◌≡◌, ◌∙◌, ap, arith, drop, refl, slice_get, sym, Some}
+use Rattle.std.proofs.Common.{◌≡◌, ◌∙◌, Bor, ap, arith, drop, refl, slice_get, sym, Some}
 use Rattle.std.specs.Option.{option_map}
 use Rattle.script_plain.specs.Lengths.{lengths_after}
 use Rattle.script_reader.specs.Script.{rules_of}
 use Rattle.script_plain.specs.Program.{Prim, program_of}
 use Rattle.script_plain.specs.Rooms.{nothing_held, rooms_of}
+use Rattle.script_plain.specs.declared.prims.Primitive.{Primitive}
 use Rattle.script_plain.specs.Walk.{WalkView, prim_meant}
 use Rattle.script_plain.proofs.RoomLaws.{held_by, none_found, wider_same, wider_wider, within_before, within_end, within_within}
 use Rattle.script_plain.proofs.reckoning.reckon.Goals as goal
@@ -13,8 +14,8 @@ loop-prim-preserved c = record {
   holds = λ room wider within.
       let r = c.loop-prim.reckoning in
       let left = c.loop-prim.walk.left in
-      let prim = prim_meant c.in-Some.prim in
-      let here : slice_get left 0 ≡ Some prim = sym c.front.ensures.same ∙ ap (option_map prim_meant) c.in-Some.is in
+      let prim = prim_meant c.in-Some.prim.now in
+      let here : slice_get left 0 ≡ Some prim = sym c.front_lent.ensures.same ∙ ap (option_map (λ (p : Bor Primitive). prim_meant p.now)) c.in-Some.is in
       let all = wider_wider r.most c.go.new.self.most room c.in_ok-go.ensures.wider wider in
       let gone = ap (λ (w : WalkView). w.left) c.advance.ensures in
       let next = held_by room room c.go.new.self.lengths (lengths_after r.lengths prim.act) c.advance.new.self.left (drop 1 left) refl (sym c.in_ok-go.ensures.after) (sym gone) within in
@@ -39,7 +40,7 @@ pub returns-clause-holds : goal.returns-clause-holds
 returns-clause-holds c =
     let r = c.loop-prim.reckoning in
     let left = c.loop-prim.walk.left in
-    let none = none_found c.front.result (slice_get left 0) c.front.ensures.same c.in_default.not-Some in
+    let none = none_found c.front_lent.result (slice_get left 0) c.front_lent.ensures.same c.in_default.not-Some in
     held_by r.most (rooms_of c.needs-needs.result) (nothing_held c.args.count) (nothing_held c.args.count) c.args.walk.left c.args.walk.left c.needs-needs.ensures refl refl
     (c.loop-prim.invariant.holds r.most (wider_same r.most) (within_end r.most r.lengths left none c.within_law-2.ensures))
 

@@ -16,16 +16,16 @@ pub work-requires : goal.work-requires
 work-requires c =
     let m = c.self.inside in
     let u = local_with m.held m.walk m.state in
-    let prim = c.in-Some.prim in
-    let here = prim_here c.args.self.now.local u c.prim.result prim prim.action (ap (λ (v : MachineView). v.local) (sym c.self.view_is)) c.prim.ensures.same c.in-Some.is refl in
+    let prim = c.copy-prim.result in
+    let here = prim_here c.args.self.now.local u c.prim.result c.in-Some.prim prim prim.action (ap (λ (v : MachineView). v.local) (sym c.self.view_is)) c.prim.ensures.same c.in-Some.is c.copy-prim.ensures refl in
     room_for m.held m.walk m.state prim.line prim.action here c.self.invariant
 
 pub invariant_of-self : goal.invariant_of-self
 invariant_of-self c =
     let m = c.self.inside in
     let u = local_with m.held m.walk m.state in
-    let prim = c.in-Some.prim in
-    let here = prim_here c.args.self.now.local u c.prim.result prim prim.action (ap (λ (v : MachineView). v.local) (sym c.self.view_is)) c.prim.ensures.same c.in-Some.is refl in
+    let prim = c.copy-prim.result in
+    let here = prim_here c.args.self.now.local u c.prim.result c.in-Some.prim prim prim.action (ap (λ (v : MachineView). v.local) (sym c.self.view_is)) c.prim.ensures.same c.in-Some.is c.copy-prim.ensures refl in
     let n = next_by_act u prim.line (prim_meant prim).act in
     let next = next_here u (prim_meant prim) here in
     let going : is_going n ≡ true = ap is_going (sym next) ∙ ap (λ (v : MachineView). is_going (local_next v.local)) c.self.view_is ∙ c.requires in
@@ -39,8 +39,8 @@ pub returns : goal.returns
 returns c =
     let m = c.self.inside in
     let u = local_with m.held m.walk m.state in
-    let prim = c.in-Some.prim in
-    let here = prim_here c.args.self.now.local u c.prim.result prim prim.action (ap (λ (v : MachineView). v.local) (sym c.self.view_is)) c.prim.ensures.same c.in-Some.is refl in
+    let prim = c.copy-prim.result in
+    let here = prim_here c.args.self.now.local u c.prim.result c.in-Some.prim prim prim.action (ap (λ (v : MachineView). v.local) (sym c.self.view_is)) c.prim.ensures.same c.in-Some.is c.copy-prim.ensures refl in
     let n = next_by_act u prim.line (prim_meant prim).act in
     let next = next_here u (prim_meant prim) here in
     let going : is_going n ≡ true = ap is_going (sym next) ∙ ap (λ (v : MachineView). is_going (local_next v.local)) c.self.view_is ∙ c.requires in
