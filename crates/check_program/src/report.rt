@@ -13,7 +13,7 @@ use crate::lines::MatchLine;
 use crate::trouble::{Found, all_found};
 use rcce_io::{Buffer, Sink, WriteFault, write_texts};
 use scc_base::Rank;
-use script_plain::{End, Matches, UeEnd, plain_matches, plain_run};
+use script_plain::{End, History, Matches, UeEnd, plain_history};
 use script_reader::Scripts;
 use std::alloc::{AllocError, Global};
 
@@ -61,8 +61,7 @@ fn write_matches<S: Sink>(sink: &mut S, matches: &Matches) -> Result<(), WriteFa
 pub fn report_of(alloc: Global, script: &Scripts) -> Result<Report, AllocError>
     ensures { IfOk result (λ report. report_ran report ≡ ran_of (keys_of script.now) (plain_matches script.now) (plain_ends script.now)) }
 {
-    let end = plain_run(alloc, script)?;
-    let matches = plain_matches(alloc, script)?;
+    let History { matches, end } = plain_history(alloc, script)?;
     let found = all_found(alloc, &end, script)?;
     Ok(Report {
         finished: is_finished(&end, script),

@@ -9,7 +9,7 @@ use crate::lines::write_mesh;
 use mesh_load::{Load, load};
 use rcce_io::{Sink, WriteFault, write_all};
 use scc_base::{CoreId, Rank};
-use script_plain::{End, UeEnd, plain_matches, plain_run};
+use script_plain::{End, UeEnd, plain_history};
 use script_reader::Scripts;
 use std::alloc::{AllocError, Global};
 
@@ -45,11 +45,10 @@ impl outcomes::Report for Report {
 pub fn report_of(alloc: Global, at: &[CoreId; 48], script: &Scripts) -> Result<Report, AllocError>
     ensures { IfOk result (λ report. IsReportOf at.now script.now report) }
 {
-    let end = plain_run(alloc, script)?;
-    let matches = plain_matches(alloc, script)?;
+    let history = plain_history(alloc, script)?;
     Ok(Report {
-        finished: is_finished(&end, script),
-        load: load(&matches, at),
+        finished: is_finished(&history.end, script),
+        load: load(&history.matches, at),
     })
 }
 
