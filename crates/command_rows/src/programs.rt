@@ -4,11 +4,11 @@ ghost use Rattle.std.specs.Thread.{IsSync};
 
 use audit_program::rcceaudit;
 use check_program::rccecheck;
+use chip_run::Open;
 use coll_program::rccecoll;
 use mesh_program::rccemesh;
 use outcomes::Status;
 use rcce_io::{Files, Sink};
-use rcce_run::Open;
 use run_program::rccerun;
 use scc_mesh::Chip;
 use std::alloc::Global;

@@ -1,8 +1,8 @@
 //! What the launcher's words say of the chip on which it runs: its flags, and the core of each rank.
 
 use crate::cases::{FOUR_BYTES, words_of};
+use chip_run::Open;
 use rcce_io::{MemFiles, MemSink};
-use rcce_run::Open;
 use run_program::rccerun;
 use scc_base::Rank;
 use scc_mesh::Chip;

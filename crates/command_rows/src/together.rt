@@ -2,9 +2,9 @@
 
 use crate::cases::{Given, NOWHERE, run};
 use crate::programs::Program;
+use chip_run::Gate;
 use outcomes::Status;
 use rcce_io::{Files, Sink};
-use rcce_run::Gate;
 use run_program::rccerun;
 use scc_base::Rank;
 use scc_mesh::Chip;

@@ -11,7 +11,7 @@ use Rattle.script_plain.specs.Ends.{Ended, all_finished, ended_at, is_finished, 
 use Rattle.script_plain.specs.Meaning.{locals_of, plain_end, plain_ends}
 use Rattle.script_plain.proofs.PlainLaws.{length-plain_end}
 use Rattle.rcce_run.specs.Crews.{EndsAs}
-use Rattle.rcce_run.specs.declared.ends.RunEnd.TheVariants as run_end
+use Rattle.chip_run.specs.declared.ends.RunEnd.TheVariants as run_end
 
 -- one end for each rank
 pub plain_count : (script : Script) → length (plain_ends script) ≡ script.nue

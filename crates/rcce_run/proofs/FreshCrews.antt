@@ -6,8 +6,8 @@ use Rattle.scc_mesh.specs.Scenes.{ChipView, IsNew}
 use Rattle.script_reader.specs.Script.{Script}
 use Rattle.rcce_ue.specs.Ues.{UeView}
 use Rattle.rcce_run.specs.UeRuns.{AreFresh, IsFreshCrew, IsFreshMember, IsFreshUe}
-use Rattle.rcce_run.specs.declared.members.Member.{Member}
-use Rattle.rcce_run.proofs.CrewGrowth.{each_more}
+use Rattle.chip_run.specs.declared.members.Member.{Member}
+use Rattle.chip_run.proofs.CrewGrowth.{each_more}
 
 -- fresh members of the ranks below n, and one more: with no token, and with a UE that was made for rank n
 pub fresh_more : (script : Script) (s t : SetupView) (n r : ℕ) (crew later : List (Member UeView)) (ue : UeView) (member : Member UeView) → AreFresh script s n crew

@@ -19,8 +19,9 @@ use Rattle.scc_proto.proofs.Tests.{same_or_other, peers_are}
 use Rattle.script_plain.specs.declared.posts.Posted.{Posted}
 use Rattle.script_plain.specs.Next.{Next, call_of}
 use Rattle.script_plain.specs.Next.Next.{Ends, Goes, Posts, Sends, Recvs, Bars}
-use Rattle.rcce_run.specs.Scripts.{NoneDrafts}
-use Rattle.rcce_run.specs.Sweep.{TakeWaits, IsLooking, BarWaits, AtRoot, AtMember, Vain, Swept}
+use Rattle.chip_run.specs.Waiting.{NoneDrafts}
+use Rattle.chip_run.specs.Waiting.{TakeWaits, IsLooking, BarWaits, AtRoot, AtMember}
+use Rattle.rcce_run.specs.Sweep.{Vain, Swept}
 use Rattle.rcce_run.proofs.Refusals.{posting, sending}
 
 -- between two chunks: what the sender's side can be while the receiver's `sent` is not set

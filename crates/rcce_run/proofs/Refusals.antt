@@ -30,10 +30,12 @@ use Rattle.script_plain.specs.Step.{Configuration, IsStep, next_at, slot_at, sam
 use Rattle.script_plain.proofs.MessageLaws.{same_heads}
 use Rattle.script_plain.proofs.StepLaws as steps
 use Rattle.script_plain.proofs.StepLaws.Takes.{RefusedPost, RefusedSend}
-use Rattle.rcce_run.specs.Sweep.{Refused, Stood, Running, Stopped, IsLooking, BarWaits, AtRoot, AtMember, Vain, Swept, keep, slots_by, outgoing, Holds}
+use Rattle.chip_run.specs.Waiting.{IsLooking, BarWaits, AtRoot, AtMember}
+use Rattle.rcce_run.specs.Sweep.{Refused, Stood, Running, Stopped, Vain, Swept, keep, slots_by, outgoing, Holds}
 use Rattle.rcce_run.proofs.Holding.{posted_there, mixed, mixed_here, mixed_next, rank_after_rank, holds_same, holds_cell, next_held, slot_held}
 use Rattle.rcce_run.proofs.Reach.{Leads, reach}
-use Rattle.rcce_run.proofs.Still.{message_on, none_passed, one_ahead, slot_full}
+use Rattle.chip_run.proofs.Offers.{message_on, one_ahead, slot_full}
+use Rattle.rcce_run.proofs.Still.{none_passed}
 
 -- heads that differ
 pub other_heads : (sent asked : MessageHead) → sent ≢ asked → same_head sent asked ≡ false

@@ -25,10 +25,11 @@ use Rattle.script_plain.proofs.CameDid.{did_matched, logged}
 use Rattle.script_plain.proofs.EndLaws.{is_still, reached}
 use Rattle.script_plain.proofs.PlainLaws.{plain_end_still}
 use Rattle.rcce_run.specs.Scripts.{IsSwept}
-use Rattle.rcce_run.specs.Sweep.{Stood, Running, Stopped, SlotWaits, keep, slots_by, outgoing, at_rank, Holds}
+use Rattle.chip_run.specs.Waiting.{SlotWaits}
+use Rattle.rcce_run.specs.Sweep.{Stood, Running, Stopped, keep, slots_by, outgoing, at_rank, Holds}
 use Rattle.rcce_run.proofs.Holding.{at_below, at_past, posted_there}
 use Rattle.rcce_run.proofs.Refusals.{told}
-use Rattle.rcce_run.proofs.Still.{message_on, post_in_slot}
+use Rattle.chip_run.proofs.Offers.{message_on, post_in_slot}
 use Rattle.rcce_run.proofs.SweepLaw.{swept_ends}
 
 -- the start of a script, read by rank

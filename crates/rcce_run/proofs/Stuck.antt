@@ -18,9 +18,11 @@ use Rattle.script_plain.specs.Step.{Configuration, IsStep, next_at, slot_at, all
 use Rattle.script_plain.proofs.RunLaws.{stands_there}
 use Rattle.script_plain.proofs.StepLaws as steps
 use Rattle.script_plain.proofs.StepLaws.Takes.{Alone, Left, Met, Fetched, RefusedPost, RefusedSend, Passed}
-use Rattle.rcce_run.specs.Sweep.{SlotWaits, RaiseWaits, BarWaits, Vain, Swept, slots_by, outgoing, Holds}
+use Rattle.chip_run.specs.Waiting.{SlotWaits, RaiseWaits, BarWaits}
+use Rattle.rcce_run.specs.Sweep.{Vain, Swept, slots_by, outgoing, Holds}
 use Rattle.rcce_run.proofs.Holding.{at_below, stands_below, full_below, slot_held}
-use Rattle.rcce_run.proofs.Still.{no_barrier, no_fetch, no_take, post_in_slot, raise_out}
+use Rattle.chip_run.proofs.Offers.{no_fetch, no_take, post_in_slot, raise_out}
+use Rattle.rcce_run.proofs.Still.{no_barrier}
 
 module _ {U : Type 0} (next : U → Next U) (s : SetupView) (memory : Memory) (records : ℕ → Record) (starts states : ℕ → U) (lasts : ℕ → Option Posted) (sw : Swept next s memory records starts states lasts) where
   -- what a rank waits for, by what stands next

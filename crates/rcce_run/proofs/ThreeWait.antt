@@ -27,7 +27,8 @@ use Rattle.script_plain.specs.Paths.Did.{Here, Left}
 use Rattle.script_plain.specs.Program.{unrolled}
 use Rattle.rcce_run.specs.Examples.{three_items, three_script, three_setup, three_events, three_words, three_records, three_message, three_states, three_lasts}
 use Rattle.rcce_run.specs.Scripts.{IsSwept}
-use Rattle.rcce_run.specs.Sweep.{Stood, Running, Stopped, AtMember, Vain, keep, slots_by}
+use Rattle.chip_run.specs.Waiting.{AtMember}
+use Rattle.rcce_run.specs.Sweep.{Stood, Running, Stopped, Vain, keep, slots_by}
 
 -- ---- the setup, and the agreement
 

@@ -22,7 +22,7 @@ use Rattle.script_plain.specs.Ends.{Ended, ended, ended_at}
 use Rattle.script_plain.specs.Local.{Local, local_next}
 use Rattle.script_plain.specs.Machine.{MachineView}
 use Rattle.script_plain.specs.Meaning.{State, next_of, plain_end, plain_ends, recorded}
-use Rattle.script_plain.specs.Moves.{is_ended, is_stopped}
+use Rattle.script_plain.specs.Moves.{is_stopped}
 use Rattle.script_plain.specs.Next.{Next, call_of, is_going}
 use Rattle.script_plain.specs.Next.Next.{Ends, Goes, Posts, Sends, Recvs, Bars}
 use Rattle.script_plain.proofs.CollectiveLaws.{plain_end_collectives}
@@ -30,25 +30,31 @@ use Rattle.script_plain.proofs.OrderLaws.{list_same}
 use Rattle.send_recv.specs.Ops.{SlotAt}
 use Rattle.rcce_ue.specs.Standing.{Tied}
 use Rattle.rcce_ue.specs.Ues.{UeView, in_slot}
-use Rattle.rcce_run.specs.declared.members.Member.{Member}
-use Rattle.rcce_run.specs.Crews.{AllRest, AllRun, IsCrew}
-use Rattle.rcce_run.specs.UeRuns.{HasPlainCalls, IsFreshCrew, ShowsEnd, WaitsOpen, member_seen, member_tied, shown, state_shown}
+use Rattle.chip_run.specs.declared.members.Member.{Member}
+use Rattle.chip_run.specs.Crews.{AllRest, IsCrew}
+use Rattle.chip_run.specs.Turns.{RestsAt}
+use Rattle.chip_run.proofs.WaitsLike.{slot_like}
+use Rattle.rcce_run.specs.Crews.{AllRun}
+use Rattle.rcce_run.specs.UeRuns.{HasPlainCalls, IsFreshCrew, ShowsEnd, WaitsOpen, shown, state_shown, ue_members, ue_of}
 use Rattle.rcce_run.specs.Scripts.{IsSwept}
-use Rattle.rcce_run.specs.Sweep.{Holds, SlotWaits, Stood, slots_by}
-use Rattle.rcce_run.specs.Turns.{RestsAt, state_of}
+use Rattle.chip_run.specs.Waiting.{SlotWaits}
+use Rattle.rcce_run.specs.Sweep.{Holds, Stood, slots_by}
+use Rattle.rcce_ue.specs.Workers.{slot_awaited, ue_seen}
+use Rattle.rcce_ue.proofs.WorkerTurns.{ue_stands}
+use Rattle.rcce_run.specs.Ues.{state_of}
 use Rattle.rcce_run.proofs.Holding.{at_below, at_past}
 use Rattle.rcce_run.proofs.OpenCalls.{open_is_next}
 use Rattle.rcce_run.proofs.PlainEnds.{call_waits, end_same, plain_ended_at}
-use Rattle.rcce_run.proofs.RunEnds.{is_swept, vain_stays}
+use Rattle.rcce_run.proofs.RunEnds.{RunsUes, is_swept, none_on_its_way, over_ends, rests_as}
 use Rattle.rcce_run.proofs.ScriptSweep.{script_empty, script_ends, script_waits}
 use Rattle.rcce_run.proofs.ShownStates.{any_slots}
-use Rattle.rcce_run.proofs.UeFits.{some_sight, tied_stood, ue_stands}
-use Rattle.rcce_run.proofs.VainLike.{slot_like}
+use Rattle.rcce_run.proofs.UeFits.{some_sight, tied_stood}
+use Rattle.rcce_run.proofs.UeWants.{waits_at_end, waits_pauses}
 
 -- ---- the start
 
 -- fresh UEs are a crew, which runs their script
-pub fresh_crew : (script : Script) (chip : ChipView) (crew : List (Member UeView)) → IsFreshCrew script chip crew → IsCrew member_tied chip crew
+pub fresh_crew : (script : Script) (chip : ChipView) (crew : List (Member UeView)) → IsFreshCrew script chip crew → IsCrew ue_members chip crew
 fresh_crew script chip crew fresh = record {
   whole = fresh.whole;
   each = fresh.members.count;
@@ -62,7 +68,7 @@ fresh_crew script chip crew fresh = record {
       };
 }
 
-pub fresh_run : (script : Script) (chip : ChipView) (crew : List (Member UeView)) → IsFreshCrew script chip crew → AllRun member_seen script crew
+pub fresh_run : (script : Script) (chip : ChipView) (crew : List (Member UeView)) → IsFreshCrew script chip crew → AllRun ue_of script crew
 fresh_run script chip crew fresh k d low = ap (λ (m : MachineView). m.script) (fresh.members.each k d (subst (λ (n : ℕ). k < n) fresh.members.count low)).fresh.machine
 
 pub fresh_some : (script : Script) (chip : ChipView) (crew : List (Member UeView)) (s : SetupView) → IsFreshCrew script chip crew → s ≡ about_in chip → 1 ≤ s.nue → 0 < length crew
@@ -70,6 +76,15 @@ fresh_some script chip crew s fresh same ranks =
     let each = fresh.members.count in
     let some : 1 ≤ (about_in chip).nue = subst (λ (x : SetupView). 1 ≤ x.nue) same ranks in
     omega (arith, each, some)
+
+-- members run their UEs
+pub members_run : RunsUes ue_members ue_of
+members_run = record {
+  shows = λ s rank x. refl;
+  stands = λ x s rank events home. home.ties;
+  moved = λ x y moves. moves.script;
+  stayed = λ x y stays. stays.script;
+}
 
 -- ---- the end
 
@@ -87,8 +102,8 @@ recorded_call done (Sends to head bytes after) = refl
 recorded_call done (Recvs from head take refuse) = refl
 recorded_call done (Bars comm after) = refl
 
-module _ (script : Script) (chip : ChipView) (crew : List (Member UeView)) (memory : Memory) (agrees : Agrees (about_in chip) memory (records_in chip)) (is_crew : IsCrew member_tied chip crew)
-    (all_run : AllRun member_seen script crew) (some : 0 < length crew) (d : Member UeView) (rests : AllRest member_seen chip crew (about_in chip).nue) where
+module _ (script : Script) (chip : ChipView) (crew : List (Member UeView)) (memory : Memory) (agrees : Agrees (about_in chip) memory (records_in chip)) (is_crew : IsCrew ue_members chip crew)
+    (all_run : AllRun ue_of script crew) (some : 0 < length crew) (d : Member UeView) (rests : AllRest ue_members chip crew (about_in chip).nue) where
   abbrev s : SetupView
   s = about_in chip
 
@@ -126,7 +141,7 @@ module _ (script : Script) (chip : ChipView) (crew : List (Member UeView)) (memo
 
   sw : IsSwept script s memory records states lasts
   sw =
-      let found = is_swept member_seen member_tied (λ m s r events home. home.ties.fits) script chip crew memory agrees is_crew all_run some d rests in
+      let found = is_swept ue_members ue_of members_run script chip crew memory agrees is_crew all_run some d rests in
       record { ranks = found.ranks; comms = found.comms; swept = record { agrees = agrees; stands = λ k low. stood_by k (cases_lt k s.nue) low; vain = found.swept.vain } }
 
   holds : Holds script.nue (plain_end script) states (slots_by s records lasts)
@@ -139,10 +154,11 @@ module _ (script : Script) (chip : ChipView) (crew : List (Member UeView)) (memo
   below k low = subst (λ (n : ℕ). k < n) (sym sw.ranks) low
 
   -- a rank that rests stands at no statement of its own
-  stays : (k : ℕ) (b : Bool) → RestsAt b s records k (locals k) → is_going (local_next (locals k)) ≡ false
-  stays k true at = ap is_going at.over.ends
-  stays k false (inl at) = ap is_going at.over.ends
-  stays k false (inr waits) = vain_stays s (view_of s waits.memory) k (waits.records k) (records k).calls (local_next (locals k)) waits.waits.vain
+  stays : (k : ℕ) (b : Bool) → RestsAt b s records k (ue_seen (ue_at k)) → is_going (local_next (locals k)) ≡ false
+  stays k true at = ap is_going (over_ends (ue_at k) (records k) at.over)
+  stays k false (inl at) = ap is_going (over_ends (ue_at k) (records k) at.over)
+  stays k false (inr waits) =
+      waits_pauses s (view_of s waits.memory) k (waits.records k) (slot_awaited (ue_at k)) (local_next (locals k)) waits.waits
 
   module _ (k : ℕ) (low : k < s.nue) (tied : Tied (ue_at k) (some_sight s k (events_in chip k))) (same : lasts k ≡ tied.last) where
     slot_is : (ue_at k).slot.to ≡ option_map (λ (post : OnItsWay). post.to) (records k).post
@@ -150,17 +166,18 @@ module _ (script : Script) (chip : ChipView) (crew : List (Member UeView)) (memo
     slot_is = tied.slot_is.to
 
     -- where nothing is left, the UE's slot is that of the plain end
-    slot_same : (b : Bool) → RestsAt b s records k (locals k) → local_next (locals k) ≡ Ends → is_stopped (locals k) ≡ false → in_slot (ue_at k).slot tied.last ≡ slots_by s records lasts k
+    slot_same : (b : Bool) → RestsAt b s records k (ue_seen (ue_at k)) → local_next (locals k) ≡ Ends → is_stopped (locals k) ≡ false → in_slot (ue_at k).slot tied.last ≡ slots_by s records lasts k
     slot_same true at ends running =
-        in_slot_none (ue_at k).slot tied.last (slot_is ∙ ap (option_map (λ (post : OnItsWay). post.to)) at.slot) ∙ sym (script_empty script s memory records states lasts sw k at.slot)
+        let empty = none_on_its_way (ue_at k) (records k) slot_is at in
+        in_slot_none (ue_at k).slot tied.last (slot_is ∙ ap (option_map (λ (post : OnItsWay). post.to)) empty) ∙ sym (script_empty script s memory records states lasts sw k empty)
     slot_same false (inl at) ends running = absurd (let stopped = at.stopped in cc (stopped, running))
     slot_same false (inr waits) ends running =
         let slot : SlotWaits (view_of s memory) k (records k) = slot_like s waits.memory memory waits.records records waits.agrees agrees waits.alike k low
-        (waits.waits.at_end (ap (λ (n : Next Local). is_ended (recorded (records k).calls n)) ends)) in
+        (waits_at_end s (view_of s waits.memory) k (waits.records k) (slot_awaited (ue_at k)) (local_next (locals k)) ends waits.waits) in
         let (message, last, there) = script_waits script s memory records states lasts sw k low slot in
         in_slot_full (ue_at k).slot tied.last slot.post.to (slot_is ∙ ap (option_map (λ (post : OnItsWay). post.to)) slot.is_posted) ∙ sym same ∙ last ∙ sym there
 
-    shows_by : k < script.nue → (b : Bool) → RestsAt b s records k (locals k) → ShowsEnd (ended_at (plain_ends script) k) (ue_at k)
+    shows_by : k < script.nue → (b : Bool) → RestsAt b s records k (ue_seen (ue_at k)) → ShowsEnd (ended_at (plain_ends script) k) (ue_at k)
     shows_by less b at = record {
       pausing = stays k b at;
       last = tied.last;

@@ -1,12 +1,12 @@
 -- The state of a UE fits the record of its rank.
-use Rattle.std.proofs.Common.{◌≡◌, ℕ, ◌<◌, ◌++◌, [], ◌∷◌, List, Option, refl, sym, ap, ◌∙◌, subst}
+use Rattle.std.proofs.Common.{◌≡◌, ℕ, ◌<◌, ◌++◌, [], ◌∷◌, List, Option, option_map, refl, sym, ap, ◌∙◌, subst}
 use Rattle.scc_base.specs.Calls.DataCall.{Recv}
 use Rattle.scc_base.specs.Setups.{SetupView}
 use Rattle.scc_base.specs.declared.events.Event.{Event}
 use Rattle.scc_proto.specs.Messages.{has_all, head_of, is_head}
 use Rattle.scc_proto.specs.Ports.{Sight, record_in}
 use Rattle.scc_proto.specs.Records.{record_of}
-use Rattle.scc_proto.specs.Stages.{Record}
+use Rattle.scc_proto.specs.Stages.{OnItsWay, Record}
 use Rattle.scc_proto.proofs.Tests.{both_first, peers_from}
 use Rattle.scc_mesh.specs.Scenes.{no_table, sight_away}
 use Rattle.script_reader.specs.Script.{Script}
@@ -24,8 +24,7 @@ use Rattle.script_plain.proofs.StoppedLaws.{stopped_ends}
 use Rattle.rcce_ue.specs.Standing as ue
 use Rattle.rcce_ue.specs.Ues.{UeView}
 use Rattle.rcce_run.specs.Sweep.{Stood, Running, Stopped}
-use Rattle.rcce_run.specs.Turns.{Fits, state_of}
-use Rattle.rcce_run.specs.Ues.{UeStands, ue_seen}
+use Rattle.rcce_run.specs.Ues.{Fits, state_of}
 
 -- a port at which a rank of a setup has these events
 abbrev pub some_sight : SetupView → ℕ → List Event → Sight
@@ -63,10 +62,11 @@ module _ (x : UeView) (s : SetupView) (rank : ℕ) (events : List Event) (tied :
       stood_of x.machine.script s rank (record_of s rank events) x.machine.local tied.last tied.begun.whole ranks (subst (λ (k : ℕ). k < x.machine.script.nue) (sym tied.rank_is) tied.begun.within)
       (subst (λ (k : ℕ). ue.Stood (started x.machine.script k) (record_of s rank events) x.machine.local tied.last) (sym tied.rank_is) tied.stood)
 
-  pub tied_fits : Fits (ue_seen x) s rank events
+  pub tied_fits : Fits x s rank events
   unfolding record_in
-  tied_fits = record { ranks = ranks; comms = ap (λ (y : SetupView). y.comms) tied.setup_is ∙ tied.begun.comms; last = tied.last; stood = tied_stood; hands = tied.hands }
+  tied_fits = record { ranks = ranks; comms = ap (λ (y : SetupView). y.comms) tied.setup_is ∙ tied.begun.comms; last = tied.last; stood = tied_stood }
 
--- where a UE fits every port at which its rank has these events, its state fits the rank's record
-pub ue_stands : (x : UeView) (s : SetupView) (rank : ℕ) (events : List Event) → ((sight : Sight) → sight.seat.setup ≡ s → sight.seat.rank ≡ rank → sight.events ≡ events → ue.Tied x sight) → UeStands x s rank events
-ue_stands x s rank events tied = record { tied = tied; fits = tied_fits x s rank events (tied (some_sight s rank events) refl refl refl) }
+  -- its slot is as the record says
+  pub tied_slot : x.slot.to ≡ option_map (λ (post : OnItsWay). post.to) (record_of s rank events).post
+  unfolding record_in
+  tied_slot = tied.slot_is.to

@@ -1,11 +1,7 @@
 pub mod Sweep
 pub mod Scripts
-pub mod Turns
 pub mod Crews
 pub mod Examples
-pub mod Away
 pub mod Ues
 pub mod UeRuns
-pub mod Orders
-pub mod Runs
 pub mod Sent

@@ -1,9 +1,9 @@
 -- A sweep in which no UE of a script moves.
-use Rattle.std.specs.Prelude.{◌≡◌, ℕ, ◌<◌, Option, Some, None}
+use Rattle.std.specs.Prelude.{◌≡◌, ℕ, ◌<◌, Option, Some}
 use Rattle.scc_base.specs.Calls.{DataCall, call_of}
 use Rattle.scc_base.specs.Setups.{SetupView}
 use Rattle.scc_proto.specs.Passed.{open_call}
-use Rattle.scc_proto.specs.Stages.{Idle, Record}
+use Rattle.scc_proto.specs.Stages.{Record}
 use Rattle.scc_proto.specs.Words.{Memory}
 use Rattle.script_reader.specs.Script.{Script, rules_of}
 use Rattle.script_plain.specs.declared.posts.Posted.{Posted}
@@ -22,7 +22,3 @@ pub record IsSwept (script : Script) (s : SetupView) (memory : Memory) (records 
 abbrev pub IsOpenCall : SetupView → (ℕ → Record) → (ℕ → State) → Type 0
 IsOpenCall s records states =
     (k : ℕ) → k < s.nue → (call : DataCall) → open_call s (records k) ≡ Some call → next.call_of (next_of (states k)) ≡ Some (call_of call)
-
--- no rank has a message in draft: one that has no call open is in the midst of nothing
-abbrev pub NoneDrafts : SetupView → (ℕ → Record) → Type 0
-NoneDrafts s records = (k : ℕ) → k < s.nue → open_call s (records k) ≡ None → (records k).stage ≡ Idle

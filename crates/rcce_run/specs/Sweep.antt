@@ -1,21 +1,21 @@
 -- A sweep in which no rank moves: how the rank's program and its record fit together, and what every rank waits for
 -- (this project's profile). All is said of any program: `next` tells what stands next at a state.
-use Rattle.std.specs.Prelude.{◌≡◌, ◌≢◌, ℕ, suc, ◌%◌, ◌<◌, ◌⊎◌, true, nat_lt, if◌then◌else◌, List, Option, Some, None, slice_get}
+use Rattle.std.specs.Prelude.{◌≡◌, ◌≢◌, ℕ, ◌<◌, ◌⊎◌, true, nat_lt, if◌then◌else◌, List, Option, Some, None, slice_get}
 use Rattle.scc_base.specs.Heads.{MessageHead}
-use Rattle.scc_base.specs.Setups.{SetupView, setup_key, place_of}
+use Rattle.scc_base.specs.Setups.{SetupView}
 use Rattle.scc_proto.specs.Agreement.{Agrees}
 use Rattle.scc_proto.specs.Legality.{Outgoing}
-use Rattle.scc_proto.specs.Messages.{Notes, Progress, has_all, head_of}
+use Rattle.scc_proto.specs.Messages.{Notes, has_all, head_of}
 use Rattle.scc_proto.specs.Passed.{slot_of}
-use Rattle.scc_proto.specs.Records.{last_of}
-use Rattle.scc_proto.specs.Stages.{Raised, Stage, Idle, Sending, Between, Barrier, OnItsWay, Record}
+use Rattle.scc_proto.specs.Stages.{Idle, Record}
 use Rattle.scc_proto.specs.Views.{View, view_of}
-use Rattle.scc_proto.specs.Words.{Memory, are_peers, is_present}
+use Rattle.scc_proto.specs.Words.{Memory, are_peers}
 use Rattle.script_plain.specs.declared.posts.Posted.{Posted}
 use Rattle.script_plain.specs.Next.{Next}
 use Rattle.script_plain.specs.Next.Next.{Ends, Goes, Posts, Sends, Recvs, Bars}
 use Rattle.script_plain.specs.Paths.{Did}
 use Rattle.script_plain.specs.Step.{Configuration}
+use Rattle.chip_run.specs.Waiting.{BarWaits, RaiseWaits, SlotWaits, TakeWaits}
 
 -- a rank that a message with another head stopped: it saw the message's `sent`, its noted header words say the head
 pub record Refused {U : Type 0} (next : U → Next U) (s : SetupView) (me : ℕ) (rec : Record) (before now : U) : Type 0 where
@@ -37,43 +37,6 @@ pub record Refused {U : Type 0} (next : U → Next U) (s : SetupView) (me : ℕ)
 pub data Stood {U : Type 0} (next : U → Next U) (s : SetupView) (me : ℕ) (start : U) (rec : Record) (u : U) (last : Option Posted) : Type 0 where
   Running : Did next u last start None rec.calls → Stood next s me start rec u last
   Stopped : (before : U) → Did next before last start None rec.calls → Refused next s me rec before u → Stood next s me start rec u last
-
--- a rank waits until the message that it posted is taken: its `ready` is not set
-pub record SlotWaits (view : View) (me : ℕ) (rec : Record) : Type 0 where
-  pub stage : rec.stage ≡ Idle
-  pub post : OnItsWay
-  pub is_posted : rec.post ≡ Some post
-  pub vain : view.ready me post.to ≢ 1
-
--- a rank waits in a send, with a chunk raised: its `ready` is not set
-pub record RaiseWaits (s : SetupView) (view : View) (me to : ℕ) (head : MessageHead) (rec : Record) : Type 0 where
-  pub peers : are_peers s me to ≡ true
-  pub message : Progress
-  pub chunk : Notes
-  pub stage : rec.stage ≡ Sending to Raised message chunk
-  pub head_is : message.head ≡ head
-  pub vain : view.ready me to ≢ 1
-
--- no chunk is taken: before the message, or between its chunks
-abbrev pub IsLooking : ℕ → Stage → Type 0
-IsLooking from Idle = Unit {0}
-IsLooking from (Between i message) = i ≡ from
-IsLooking from stage = ⊥
-
--- a rank waits in a receive: the `sent` that it looks at is not set
-pub record TakeWaits (s : SetupView) (view : View) (me from : ℕ) (rec : Record) : Type 0 where
-  pub peers : are_peers s from me ≡ true
-  pub stage : IsLooking from rec.stage
-  pub vain : view.sent from me ≢ 1
-
--- a rank waits in a barrier: member 0 for the flip of the first member that it has not seen, any other member for its
--- release
-pub data BarWaits (s : SetupView) (view : View) (me comm : ℕ) (rec : Record) : Type 0 where
-  AtRoot : (seen member : ℕ) → is_present s comm ≡ true → place_of s comm me ≡ 0 → rec.stage ≡ Barrier comm seen 0 → seen < last_of s comm me
-      → member < s.nue → setup_key s comm member ≡ setup_key s comm me → place_of s comm member ≡ suc seen
-      → view.gather comm member ≢ rec.flips comm % 2 → BarWaits s view me comm rec
-  AtMember : is_present s comm ≡ true → place_of s comm me ≢ 0 → rec.stage ≡ Barrier comm 0 0 → view.release comm me ≢ rec.flips comm % 2
-      → BarWaits s view me comm rec
 
 -- what a rank waits for, by what stands next there. At its end nothing is open; a statement of its own does not wait; a
 -- post, and a send before its first chunk, wait for the rank's own slot

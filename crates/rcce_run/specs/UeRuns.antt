@@ -7,13 +7,14 @@ use Rattle.scc_base.specs.declared.events.Event.{Event}
 use Rattle.scc_proto.specs.Legality.{IsLegal}
 use Rattle.scc_proto.specs.Messages.{barriers_of}
 use Rattle.scc_proto.specs.PairMessages.{PairMessages}
-use Rattle.scc_proto.specs.Passed.{passed_calls, slot_of}
+use Rattle.scc_proto.specs.Passed.{open_call, passed_calls, slot_of}
 use Rattle.scc_proto.specs.Ports.{Sight}
 use Rattle.scc_proto.specs.Stages.{Record}
 use Rattle.scc_mesh.specs.Scenes.{ChipView, IsWhole, about_in, events_in, records_in, table_in}
 use Rattle.script_reader.specs.Script.{Script}
 use Rattle.script_plain.specs.declared.ends.UeEnd.TheVariants as ue_end
 use Rattle.script_plain.specs.declared.posts.Posted.{Posted}
+use Rattle.script_plain.specs.Collectives.{CollectivesHold}
 use Rattle.script_plain.specs.Ends.{Ended, ended_at}
 use Rattle.script_plain.specs.Local.{end_of, local_next, local_start}
 use Rattle.script_plain.specs.Machine.{on_its_way}
@@ -22,10 +23,14 @@ use Rattle.script_plain.specs.Next as next
 use Rattle.script_plain.specs.Step.{Configuration}
 use Rattle.rcce_ue.specs.Standing.{Tied}
 use Rattle.rcce_ue.specs.Ues.{UeView, in_slot}
-use Rattle.rcce_run.specs.Away.{IsAtHome}
-use Rattle.rcce_run.specs.Turns.{WorkerView, state_of}
-use Rattle.rcce_run.specs.Ues.{UeStands, ue_seen}
-use Rattle.rcce_run.specs.declared.members.Member.{Member}
+use Rattle.chip_run.specs.declared.ends.RunEnd.{RunEnd}
+use Rattle.chip_run.specs.declared.members.Member.{Member}
+use Rattle.chip_run.specs.Away.{members_of}
+use Rattle.chip_run.specs.Conducts.{Conduct}
+use Rattle.rcce_run.specs.Crews.{EndsAs}
+use Rattle.rcce_run.specs.Sent.{CountsSends}
+use Rattle.rcce_ue.specs.Workers.{ue_conduct}
+use Rattle.rcce_run.specs.Ues.{state_of}
 
 -- a UE before its first turn: it holds what the script starts its rank with, and fits every port of its rank without events
 pub record IsFreshUe (script : Script) (s : SetupView) (rank : ℕ) (ue : UeView) : Type 0 where
@@ -49,13 +54,13 @@ pub record IsFreshCrew (script : Script) (chip : ChipView) (crew : List (Member 
   pub empty : (r : ℕ) → r < (about_in chip).nue → events_in chip r ≡ []
   pub members : AreFresh script (about_in chip) (about_in chip).nue crew
 
--- what a run sees of the UE of a member, and where it stands
-abbrev pub member_seen : Member UeView → WorkerView
-member_seen m = ue_seen m.worker
+-- the UE of a member
+abbrev pub ue_of : Member UeView → UeView
+ue_of m = m.worker
 
--- a UE stands where its rank's events stand, and the place for its token is empty
-abbrev pub member_tied : Member UeView → SetupView → ℕ → List Event → Type 0
-member_tied m = IsAtHome (UeStands m.worker) m.token
+-- how members with UEs conduct themselves in a run
+abbrev pub ue_members : Conduct (Member UeView)
+ue_members = members_of ue_conduct
 
 -- it is the same chip with the same setup, and all its ranks are at home
 pub record IsSameChip (old now : ChipView) : Type 0 where
@@ -106,3 +111,20 @@ state_shown chip member = state_of member.1.worker.machine.local (records_in chi
 -- the states that UEs show, rank by rank, with these messages in the slots
 abbrev pub shown : ChipView → List (Member UeView) → List (Option Posted) → Configuration State
 shown chip crew slots = record { cells = map (state_shown chip) (enumerate_from 0 crew); slots = slots }
+
+-- What a run of a script gives.
+pub record RunGives (script : Script) (end : RunEnd) (chip : ChipView) (crew : List (Member UeView)) : Type 0 where
+  -- it answers Finished where every rank finishes in the plain meaning of the script, and Stuck where one does not
+  pub answer : EndsAs end script
+  -- each UE shows the end of its rank in the plain meaning, and has printed what the rank prints there
+  pub ends : (k : ℕ) (d : Member UeView) → k < script.nue → ShowsEnd (ended_at (plain_ends script) k) (slice_index_or crew k d).worker
+  -- the finished calls of each rank are those that the plain meaning has done for it, with their bytes and in order
+  pub calls : (k : ℕ) → k < script.nue → HasPlainCalls script k (records_in chip k)
+  -- each UE has counted the messages that its rank's finished calls sent, and their bytes
+  pub sent : (k : ℕ) (d : Member UeView) → k < script.nue → CountsSends script k (records_in chip k) (slice_index_or crew k d).worker
+  -- a call that a rank has open is the one at which the plain meaning leaves it waiting. None is open where the rank waits
+  -- for its posted message at its end
+  pub opened : (k : ℕ) (call : DataCall) → k < script.nue → open_call (about_in chip) (records_in chip k) ≡ Some call → WaitsOpen script k call
+  -- in the states that the UEs show, each broadcast that a rank has done gave it the bytes that the root sent, and each
+  -- reduction the fold of what the members gave, whatever messages stand in the slots
+  pub collectives : (slots : List (Option Posted)) → CollectivesHold script (shown chip crew slots)

@@ -1,20 +1,24 @@
--- UEs as the workers of a run (RCCE specification 2.0: UE; the run is this project's profile).
-use Rattle.std.specs.Prelude.{◌≡◌, ℕ, List}
+-- UEs against the script that they run (RCCE specification 2.0: UE; the run is this project's profile).
+use Rattle.std.specs.Prelude.{◌≡◌, ℕ, List, Option}
 use Rattle.scc_base.specs.Setups.{SetupView}
 use Rattle.scc_base.specs.declared.events.Event.{Event}
-use Rattle.scc_proto.specs.Ports.{Sight}
-use Rattle.rcce_ue.specs.Left.{left_of}
-use Rattle.rcce_ue.specs.Standing.{Tied}
+use Rattle.scc_proto.specs.Records.{record_of}
+use Rattle.scc_proto.specs.Stages.{Record}
+use Rattle.script_reader.specs.Script.{rules_of}
+use Rattle.script_plain.specs.declared.posts.Posted.{Posted}
+use Rattle.script_plain.specs.Collectives.{started}
+use Rattle.script_plain.specs.Local.{Local}
+use Rattle.script_plain.specs.Meaning.{State, next_of}
 use Rattle.rcce_ue.specs.Ues.{UeView}
-use Rattle.rcce_run.specs.Turns.{Fits, WorkerView}
+use Rattle.rcce_run.specs.Sweep.{Stood}
 
--- what a run sees of a UE
-abbrev pub ue_seen : UeView → WorkerView
-ue_seen ue = record { script = ue.machine.script; local = ue.machine.local; left = left_of ue }
+-- what a rank holds, with the calls that its record has finished
+abbrev pub state_of : Local → Record → State
+state_of u rec = record { local = u; matched = rec.calls }
 
--- a UE stands where these events of its rank stand
-pub record UeStands (ue : UeView) (s : SetupView) (rank : ℕ) (events : List Event) : Type 0 where
-  -- at whatever port shows them
-  pub tied : (sight : Sight) → sight.seat.setup ≡ s → sight.seat.rank ≡ rank → sight.events ≡ events → Tied ue sight
-  -- and what it holds fits the record of its rank
-  pub fits : Fits (ue_seen ue) s rank events
+-- a UE against the events of its rank: the setup is that of its script, and its state fits the record
+pub record Fits (ue : UeView) (s : SetupView) (rank : ℕ) (events : List Event) : Type 0 where
+  pub ranks : s.nue ≡ ue.machine.script.nue
+  pub comms : s.comms ≡ rules_of ue.machine.script.items
+  pub last : Option Posted
+  pub stood : Stood next_of s rank (started ue.machine.script rank) (record_of s rank events) (state_of ue.machine.local (record_of s rank events)) last

@@ -15,3 +15,5 @@ pub mod OpAnswers
 pub mod StretchTurns
 pub mod WaitLemmas
 pub mod OtherPort
+pub mod UeLooks
+pub mod WorkerTurns

@@ -4,3 +4,4 @@ pub mod Left
 pub mod Turns
 pub mod Bounds
 pub mod Stretches
+pub mod Workers

@@ -6,6 +6,7 @@ mod laws;
 mod receiving;
 mod stretches;
 mod ues;
+mod workers;
 
 pub use laws::{free_law, other_port_law};
 pub use ues::Ue;

@@ -1,8 +1,8 @@
 //! `rccerun`: runs a script of messages between units of execution, and prints what they print.
 #![tactic(auto)]
 
+use chip_run::Open;
 use rcce_io::{HostFiles, StdSink};
-use rcce_run::Open;
 use rcce_words::arguments;
 use run_program::rccerun;
 use scc_mesh::Chip;

@@ -4,8 +4,8 @@ use Rattle.std.proofs.lemmas.List.{length_push}
 use Rattle.line_cache.specs.Choices.{choice_answer}
 use Rattle.line_cache.specs.Eviction.{answers_of}
 use Rattle.rcce_ue.specs.Ues.{UeView}
-use Rattle.rcce_run.specs.declared.members.Member.{Member}
-use Rattle.rcce_run.proofs.CrewGrowth.{each_more}
+use Rattle.chip_run.specs.declared.members.Member.{Member}
+use Rattle.chip_run.proofs.CrewGrowth.{each_more}
 use Rattle.run_program.specs.Evictors.{HaveEvictors, evictor_of}
 
 pub evictors_none : (seed : Option ℕ) → HaveEvictors seed []

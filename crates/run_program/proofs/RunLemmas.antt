@@ -7,13 +7,13 @@ use Rattle.rcce_run.specs.Crews.{EndsAs}
 use Rattle.rcce_ue.specs.Ues.{UeView}
 use Rattle.run_program.specs.Reports.{by_rank, ran_by, unfinished_text}
 use Rattle.rcce_run.proofs.FinishedLaws.{plain_count}
-use Rattle.rcce_run.specs.Scripts.{NoneDrafts}
+use Rattle.chip_run.specs.Waiting.{NoneDrafts}
 use Rattle.rcce_run.specs.Sent.{CountsSends}
 use Rattle.rcce_run.specs.UeRuns.{AreHome, HasPlainCalls, IsSameChip, ShowsEnd, WaitsOpen}
-use Rattle.rcce_run.specs.declared.ends.RunEnd.{RunEnd}
+use Rattle.chip_run.specs.declared.ends.RunEnd.{RunEnd}
 use Rattle.scc_base.specs.Calls.{DataCall}
 use Rattle.scc_proto.specs.Passed.{open_call}
-use Rattle.rcce_run.specs.declared.members.Member.{Member}
+use Rattle.chip_run.specs.declared.members.Member.{Member}
 use Rattle.scc_mesh.specs.Scenes.{ChipView, IsNew, about_in, records_in}
 use Rattle.run_program.specs.History.{Asked, WasRun}
 use Rattle.run_program.specs.Runs.{HaveEnded, IsOver}

@@ -19,7 +19,7 @@ use Rattle.script_gen.specs.Outcome.{all_sends, all_sent_bytes, counts_line, mes
 use Rattle.script_gen.specs.Scripts.{gen_script_of}
 use Rattle.rcce_ue.specs.Standing.{bytes_sent}
 use Rattle.rcce_ue.specs.Ues.{UeView, counted, is_sending}
-use Rattle.rcce_run.specs.declared.members.Member.{Member}
+use Rattle.chip_run.specs.declared.members.Member.{Member}
 use Rattle.rcce_run.specs.Sent.{CountsSends}
 use Rattle.rcce_run.specs.UeRuns.{HasPlainCalls}
 use Rattle.run_program.specs.Runs.{CountsPlain, HaveSent}

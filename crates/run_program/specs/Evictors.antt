@@ -7,7 +7,7 @@ use Rattle.line_cache.specs.Eviction.{answers_of}
 use Rattle.line_cache.specs.declared.evict.Choice.{Choice}
 use Rattle.line_cache.specs.declared.evict.Choice.TheVariants.{Never, Seeded}
 use Rattle.rcce_ue.specs.Ues.{UeView}
-use Rattle.rcce_run.specs.declared.members.Member.{Member}
+use Rattle.chip_run.specs.declared.members.Member.{Member}
 
 -- one that the seed and the rank start, and without a seed one that never evicts
 abbrev pub evictor_of : Option ℕ → ℕ → Choice

@@ -6,12 +6,12 @@ use Rattle.scc_proto.specs.Passed.{open_call}
 use Rattle.scc_mesh.specs.Scenes.{ChipView, IsNew, IsWhole, about_in, records_in}
 use Rattle.script_reader.specs.Script.{Script}
 use Rattle.rcce_ue.specs.Ues.{UeView}
-use Rattle.rcce_run.specs.declared.members.Member.{Member}
-use Rattle.rcce_run.specs.declared.runs.Mode.{Mode}
-use Rattle.rcce_run.specs.declared.runs.Mode.TheVariants as mode
-use Rattle.rcce_run.specs.Runs.{InOrder}
-use Rattle.rcce_run.specs.Scripts.{NoneDrafts}
-use Rattle.rcce_run.specs.UeRuns.{AreFresh, HasPlainCalls, WaitsOpen, member_seen, member_tied}
+use Rattle.chip_run.specs.declared.members.Member.{Member}
+use Rattle.chip_run.specs.declared.runs.Mode.{Mode}
+use Rattle.chip_run.specs.declared.runs.Mode.TheVariants as mode
+use Rattle.chip_run.specs.Runs.{InOrder}
+use Rattle.chip_run.specs.Waiting.{NoneDrafts}
+use Rattle.rcce_run.specs.UeRuns.{AreFresh, HasPlainCalls, WaitsOpen, ue_members}
 use Rattle.rcce_words.specs.declared.command.Job.{Job}
 use Rattle.run_program.specs.Evictors.{HaveEvictors}
 
@@ -39,7 +39,7 @@ pub record WasRun (asked : Asked) (chip : ChipView) : Type 0 where
   pub new : IsNew asked.setup first
   pub fresh : AreFresh asked.script asked.setup asked.setup.nue crew
   pub evictors : HaveEvictors asked.job.evict crew
-  pub order : InOrder member_seen member_tied (mode_by asked.job.serial) first crew chip later
+  pub order : InOrder ue_members (mode_by asked.job.serial) first crew chip later
 
 -- The chip history of a run: all ranks are at home on a chip of the run's setup. The finished calls of each rank's record are
 -- those that the plain meaning did for it, in order and with their bytes. A call is open in a record only where the plain

@@ -7,10 +7,10 @@ use Rattle.script_plain.specs.Meaning.{State, plain_end, plain_ends}
 use Rattle.script_gen.specs.Outcome.{sends_of, sent_bytes_of}
 use Rattle.script_gen.specs.Scripts.{gen_script_of}
 use Rattle.rcce_ue.specs.Ues.{UeView, counted}
-use Rattle.rcce_run.specs.declared.members.Member.{Member}
+use Rattle.chip_run.specs.declared.members.Member.{Member}
 use Rattle.rcce_run.specs.Crews.{EndsAs}
 use Rattle.rcce_run.specs.UeRuns.{ShowsEnd}
-use Rattle.rcce_run.specs.declared.ends.RunEnd.{RunEnd}
+use Rattle.chip_run.specs.declared.ends.RunEnd.{RunEnd}
 use Rattle.scc_mesh.specs.Scenes.{ChipView}
 use Rattle.run_program.specs.History.{Asked, HasRun}
 

@@ -3,9 +3,10 @@
 use crate::counts::{printed_in, sends_in, sent_bytes_in, write_counts};
 use crate::endings::Endings;
 use crate::report::{write_printed, write_unfinished};
+use chip_run::RunEnd;
 use line_cache::Choice;
 use rcce_io::{Sink, WriteFault};
-use rcce_run::{Crew, RunEnd};
+use rcce_run::Crew;
 use scc_base::Rank;
 use script_gen::{generated_scripts_are_short, sent_messages_came};
 use script_plain::{PrintedItem, UeEnd};

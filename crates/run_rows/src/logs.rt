@@ -3,8 +3,8 @@
 ghost use Rattle.std.specs.Prelude.{◌≡◌, ◌<◌};
 
 use crate::scripts::{FOUR_BYTES, setup_of};
+use chip_run::RunEnd;
 use log_run::{LogRun, has_room, run_script};
-use rcce_run::RunEnd;
 use scc_base::{Layout, Rank};
 use scc_mesh::Chip;
 use script_reader::{Scripts, read_script};

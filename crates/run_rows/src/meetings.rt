@@ -4,8 +4,8 @@ ghost use Rattle.std.specs.Prelude.{None, []};
 
 use crate::evictors::PerRank;
 use crate::runs::{NO_MESSAGES, Row, TWO_PAIRS, comes_to};
+use chip_run::{Gate, Mode, Open};
 use line_cache::{Evict, Never};
-use rcce_run::{Gate, Mode, Open};
 use scc_base::{Layout, Rank};
 use std::alloc::Global;
 use std::sync::atomic::{AtomicU64, Ordering};

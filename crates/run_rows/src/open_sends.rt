@@ -6,8 +6,9 @@ ghost use Rattle.script_reader.specs.Script.{rules_of};
 
 use crate::runs::crew_of;
 use crate::scripts::{FOUR_BYTES, chip_with, setup_of};
+use chip_run::{Mode, Open};
 use line_cache::Never;
-use rcce_run::{Mode, Open, run};
+use rcce_run::run;
 use scc_base::{Layout, Place, Rank, Setup};
 use scc_mesh::Chip;
 use scc_proto::Port;

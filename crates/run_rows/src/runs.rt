@@ -7,8 +7,9 @@ ghost use Rattle.script_reader.specs.Script.{rules_of};
 
 use crate::evictors::PerRank;
 use crate::scripts::{End, FOUR_BYTES, chip_with, has_printed, is_at, setup_of};
+use chip_run::{Gate, Mode, Open, RunEnd};
 use line_cache::{Always, Evict, Never, Seeded};
-use rcce_run::{Crew, Gate, Mode, Open, RunEnd, run};
+use rcce_run::{Crew, run};
 use rcce_ue::Ue;
 use scc_base::{Layout, Rank, Setup};
 use script_reader::{Scripts, read_script};
@@ -82,7 +83,7 @@ pub(crate) fn crew_of<'s, V: PerRank>(
 /// Whether the ranks have come to what a row says.
 fn are_as_told<V: Evict + Drop>(crew: &[Crew<'_, V>], row: &Row<'_>) -> bool {
     for (member, (end, printed)) in crew.iter().zip(row.ranks) {
-        if !is_at(member.ue(), end) || !has_printed(member.ue(), printed) {
+        if !is_at(&member.worker, end) || !has_printed(&member.worker, printed) {
             return false;
         }
     }

@@ -1,5 +1,5 @@
 use Rattle.std.proofs.Common.{◌≡◌, ◌<◌, ◌+◌, ◌-◌, ◌^◌, ℕ, ap, arith, min, sum_by, sym, ◌∙◌}
-use Rattle.rcce_run.specs.declared.members.Member.{Member}
+use Rattle.chip_run.specs.declared.members.Member.{Member}
 use Rattle.rcce_ue.specs.Ues.{UeView, counted}
 use Rattle.script_gen.specs.Outcome.{sent_bytes_of}
 use Rattle.script_plain.specs.Meaning.{State}

@@ -3,7 +3,7 @@ use Rattle.line_cache.specs.Choices.{choice_answer}
 use Rattle.line_cache.specs.Eviction.{answers_of}
 use Rattle.rcce_ue.specs.Ues.{UeView}
 use Rattle.rcce_run.specs.UeRuns.{AreFresh}
-use Rattle.rcce_run.specs.declared.members.Member.{Member}
+use Rattle.chip_run.specs.declared.members.Member.{Member}
 use Rattle.rcce_run.proofs.FreshCrews.{fresh_more}
 use Rattle.run_program.specs.Evictors.{HaveEvictors, evictor_of}
 use Rattle.run_program.proofs.EvictorLemmas.{evictors_more, evictors_none}

@@ -1,7 +1,7 @@
 use Rattle.std.proofs.Common.{subst}
-use Rattle.rcce_run.specs.declared.runs.Mode.{Mode}
-use Rattle.rcce_run.specs.Runs.{InOrder}
-use Rattle.rcce_run.specs.UeRuns.{member_seen, member_tied}
+use Rattle.chip_run.specs.declared.runs.Mode.{Mode}
+use Rattle.chip_run.specs.Runs.{InOrder}
+use Rattle.rcce_run.specs.UeRuns.{ue_members}
 use Rattle.run_program.specs.Loading.{asked_by}
 use Rattle.rcce_run.proofs.FreshCrews.{crew_fresh}
 use Rattle.run_program.proofs.RunLemmas.{run_over}
@@ -16,8 +16,9 @@ pub returns-clause-over : goal.returns-clause-over
 returns-clause-over g c =
     let loaded = c.args.loaded.now in
     let fresh = crew_fresh loaded.script loaded.setup _ c.requires.fresh _ c.requires.chip in
+    let gives = c.run.ensures.gives loaded.script fresh in
     run_over (asked_by loaded) _ _ _ _ _ loaded.ranks c.requires.chip c.requires.fresh.count c.run.ensures.stands c.run.ensures.home
-    (c.run.ensures.answer loaded.script fresh) (c.run.ensures.ends loaded.script fresh) (c.run.ensures.calls loaded.script fresh) (c.run.ensures.sent loaded.script fresh) (c.run.ensures.opened loaded.script fresh) c.run.ensures.no_draft
+    gives.answer gives.ends gives.calls gives.sent gives.opened c.run.ensures.no_draft
     (record {
       first = c.args.chip.now;
       crew = c.args.crew.now;
@@ -25,5 +26,5 @@ returns-clause-over g c =
       new = c.requires.chip;
       fresh = c.requires.fresh;
       evictors = c.requires.evictors;
-      order = subst (λ (m : Mode). InOrder member_seen member_tied m c.args.chip.now c.args.crew.now c.run.new.chip c.run.new.crew) c.mode_of.ensures.gives c.run.ensures.order;
+      order = subst (λ (m : Mode). InOrder ue_members m c.args.chip.now c.args.crew.now c.run.new.chip c.run.new.crew) c.mode_of.ensures.gives c.run.ensures.order;
     })

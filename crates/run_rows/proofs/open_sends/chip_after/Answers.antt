@@ -1,7 +1,7 @@
 use Rattle.std.proofs.Common.{List, sym, subst}
 use Rattle.rcce_ue.specs.Ues.{UeView}
 use Rattle.rcce_run.specs.UeRuns.{IsFreshCrew}
-use Rattle.rcce_run.specs.declared.members.Member.{Member}
+use Rattle.chip_run.specs.declared.members.Member.{Member}
 use Rattle.run_rows.proofs.open_sends.chip_after.Goals as goal
 
 pub run-requires-clause-fresh : goal.run-requires-clause-fresh

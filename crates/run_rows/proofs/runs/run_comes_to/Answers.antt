@@ -1,7 +1,7 @@
 use Rattle.std.proofs.Common.{List, sym, subst}
 use Rattle.rcce_ue.specs.Ues.{UeView}
 use Rattle.rcce_run.specs.UeRuns.{IsFreshCrew}
-use Rattle.rcce_run.specs.declared.members.Member.{Member}
+use Rattle.chip_run.specs.declared.members.Member.{Member}
 use Rattle.run_rows.proofs.runs.run_comes_to.Goals as goal
 
 pub run-end-requires-clause-fresh : goal.run-end-requires-clause-fresh

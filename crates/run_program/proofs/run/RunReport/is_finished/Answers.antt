@@ -1,7 +1,7 @@
 use Rattle.std.proofs.Common.{subst, sym, ◌∙◌, ap}
 use Rattle.script_plain.specs.Meaning.{plain_ends}
 use Rattle.rcce_run.specs.Crews.{EndsAs}
-use Rattle.rcce_run.specs.declared.ends.RunEnd.{RunEnd}
+use Rattle.chip_run.specs.declared.ends.RunEnd.{RunEnd}
 use Rattle.script_plain.specs.Ends.{all_finished}
 use Rattle.rcce_run.proofs.FinishedLaws.{finished_all, stuck_one}
 use Rattle.run_program.specs.Reports.{Shown}

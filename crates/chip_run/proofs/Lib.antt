@@ -1,0 +1,15 @@
+pub mod WaitsLike
+pub mod Looks
+pub mod LaterLaws
+pub mod HomeTurns
+pub mod CrewLaws
+pub mod CrewHands
+pub mod RowLaws
+pub mod ServedLaws
+pub mod MemberLaws
+pub mod ThreadLaws
+pub mod OrderLaws
+pub mod RunLaws
+pub mod RestLaws
+pub mod Offers
+pub mod CrewGrowth

@@ -1,0 +1,94 @@
+-- A round in threads: workers whose ranks are away from their chip.
+use Rattle.std.specs.Prelude.{◌≡◌, ◌⊎◌, ℕ, suc, ◌+◌, ◌-◌, ◌*◌, ◌<◌, ◌≤◌, List, [], ◌∷◌, drop, length, slice_get, slice_index_or, Option, Some, None}
+use Rattle.scc_base.specs.Setups.{SetupView}
+use Rattle.scc_base.specs.declared.events.Event.{Event}
+use Rattle.scc_base.specs.declared.events.Turn.{Turn}
+use Rattle.scc_base.specs.declared.events.Turn.TheVariants as turn
+use Rattle.scc_proto.specs.Ports.{Sight, Did}
+use Rattle.scc_mesh.specs.AwayRanks.{Ticket}
+use Rattle.scc_mesh.specs.Spaces.{ChipId}
+use Rattle.scc_mesh.specs.Scenes.{WasSeatStep}
+use Rattle.chip_run.specs.Conducts.{Conduct, Later}
+use Rattle.chip_run.specs.Turns.{Turned}
+use Rattle.chip_run.specs.declared.members.Member.{Member}
+
+-- turns through a port, one after the other, with these answers; the latest stands first
+abbrev pub TookTurns : {A : Type 0} → Conduct A → (List Event → Event → Type 0) → List Turn → A → Sight → A → Sight → Type 0
+TookTurns c stepped [] old s new t = (new ≡ old) × (t ≡ s)
+TookTurns {A} c stepped (answer ∷ before) old s new t =
+    (mid : A) × (m : Sight) × TookTurns c stepped before old s mid m × Turned c stepped mid m new t answer
+
+-- in how many turns in a row a rank has waited, by their answers; the latest stands first
+abbrev pub waited_in : List Turn → ℕ
+waited_in [] = 0
+waited_in (turn.Moved ∷ before) = 0
+waited_in (turn.Waiting spot ∷ before) = suc (waited_in before)
+waited_in (turn.Done ∷ before) = 0
+
+-- behind these answers, of which the latest stands first, a row is at its end: the rank is over, or has waited in so many turns
+-- in a row
+abbrev pub EndsRow : ℕ → List Turn → Type 0
+EndsRow most answers = (slice_get answers 0 ≡ Some turn.Done) ⊎ (waited_in answers ≡ most)
+
+-- it is so behind all these answers, and was so behind no fewer
+pub record IsRow (most : ℕ) (answers : List Turn) : Type 0 where
+  pub ends : EndsRow most answers
+  pub first : (n : ℕ) → EndsRow most (drop (suc n) answers) → ⊥
+
+-- turns through a port, one after the other
+pub record SomeTurns {A : Type 0} (c : Conduct A) (stepped : List Event → Event → Type 0) (answers : List Turn) (old : A) (s : Sight) (new : A) (t : Sight) : Type 0 where
+  pub events : List Event
+  pub did : Did s events t
+  pub later : Later c old new
+  -- no more turns are left
+  pub left : (c.seen s.seat.setup s.seat.rank new).left ≤ (c.seen s.seat.setup s.seat.rank old).left
+  pub took : TookTurns c stepped answers old s new t
+
+-- a row of turns: until the rank is over, or has waited in a thousand turns in a row
+pub record RowOfTurns {A : Type 0} (c : Conduct A) (stepped : List Event → Event → Type 0) (old : A) (s : Sight) (new : A) (t : Sight) : Type 0 where
+  pub answers : List Turn
+  pub is_row : IsRow 1000 answers
+  pub turns : SomeTurns c stepped answers old s new t
+
+-- a worker took a row of turns through a port of this rank of a chip with this setup
+pub record TookRow {A : Type 0} (c : Conduct A) (s : SetupView) (rank : ℕ) (old new : A) : Type 0 where
+  pub first : Sight
+  pub last : Sight
+  pub setup_is : first.seat.setup ≡ s
+  pub rank_is : first.seat.rank ≡ rank
+  pub row : RowOfTurns c (WasSeatStep first.seat) old first new last
+
+-- how many turns in a row were vain after one more, where at the most so many end the row
+abbrev pub vain_by : ℕ → Turn → ℕ → ℕ
+vain_by most turn.Moved vain = 0
+vain_by most (turn.Waiting spot) vain = vain + 1
+vain_by most turn.Done vain = most
+
+-- how many turns of a row are left at most, where so many that do not wait are left to its worker
+abbrev pub row_left : ℕ → ℕ → ℕ → ℕ
+row_left most left vain = most * left + (most - vain)
+
+-- a token of this rank of this chip, where its worker stands
+abbrev pub IsAway : (SetupView → ℕ → List Event → Type 0) → SetupView → ChipId → ℕ → Option Ticket → Type 0
+IsAway stands s table r None = ⊥
+IsAway stands s table r (Some t) = (t.table ≡ table) × (t.rank ≡ r) × stands s r t.events
+
+-- a worker stands where its rank's events stand, and the place for the rank's token is empty
+pub record IsAtHome (tied : SetupView → ℕ → List Event → Type 0) (token : Option Ticket) (s : SetupView) (r : ℕ) (events : List Event) : Type 0 where
+  pub ties : tied s r events
+  pub empty : token ≡ None
+
+-- how the members of a crew conduct themselves, each at home: as their workers do
+abbrev pub members_of : {A : Type 0} → Conduct A → Conduct (Member A)
+members_of c = record {
+  seen = λ s r m. c.seen s r m.worker;
+  tied = λ m. IsAtHome (c.tied m.worker) m.token;
+  moves = λ m n. c.moves m.worker n.worker;
+  stays = λ m n. c.stays m.worker n.worker;
+}
+
+-- the first n of a crew were served, one after the other, and the others are as they were
+pub record Served {A : Type 0} (R : ℕ → A → A → Type 0) (n : ℕ) (old now : List A) : Type 0 where
+  pub count : length now ≡ length old
+  pub done : (k : ℕ) (d : A) → k < n → k < length old → R k (slice_index_or old k d) (slice_index_or now k d)
+  pub left : (k : ℕ) (d : A) → n ≤ k → slice_index_or now k d ≡ slice_index_or old k d

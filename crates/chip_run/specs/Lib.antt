@@ -1,0 +1,8 @@
+pub mod Wants
+pub mod Waiting
+pub mod Conducts
+pub mod Turns
+pub mod Crews
+pub mod Away
+pub mod Orders
+pub mod Runs

@@ -1,0 +1,55 @@
+-- How the rounds of a run go on, in threads and on one thread (this project's profile).
+use Rattle.std.specs.Prelude.{◌≡◌, ℕ, zero, suc, ◌*◌, ◌<◌, List, length, slice_index_or}
+use Rattle.std.specs.List.{range_with_len}
+use Rattle.rand_core.specs.Pcg32Seed.{pcg32_seed}
+use Rattle.rand_pcg.specs.Pcg.{pcg32, pcg32_of_seed}
+use Rattle.scc_mesh.specs.Scenes.{ChipView, about_in}
+use Rattle.chip_run.specs.declared.runs.Mode.{Mode}
+use Rattle.chip_run.specs.declared.runs.Mode.TheVariants as mode
+use Rattle.chip_run.specs.declared.runs.Rounds.{Rounds}
+use Rattle.chip_run.specs.declared.runs.Rounds.TheVariants as rounds
+use Rattle.chip_run.specs.Away.{TookRow}
+use Rattle.chip_run.specs.Crews.{CrewStands}
+use Rattle.chip_run.specs.Orders.{TurnsOf, drawn, drawn_in, named, ranks_by}
+use Rattle.chip_run.specs.Conducts.{Conduct}
+
+-- before the first round: on one thread one generator, made of the seed, serves the whole run
+abbrev pub rounds_of : Mode → Rounds
+rounds_of mode.Threads = rounds.InThreads
+rounds_of (mode.Serial seed) = rounds.Picked (pcg32_of_seed (pcg32_seed 16 seed))
+
+-- in a round in threads each worker took a row of turns
+pub record TookRows {A : Type 0} (c : Conduct A)
+    (chip : ChipView) (crew : List A) (now : ChipView) (later : List A) : Type 0 where
+  pub stands : CrewStands c chip crew now later
+  pub rows : (k : ℕ) (d : A) → k < length crew → TookRow c (about_in chip) k (slice_index_or crew k d) (slice_index_or later k d)
+
+-- so many rounds in threads, each with a sweep of all ranks in their order behind it
+abbrev pub RowsTo : {A : Type 0} → Conduct A → ℕ → ChipView → List A → ChipView → List A → Type 0
+RowsTo c zero chip crew now later = (now ≡ chip) × (later ≡ crew)
+RowsTo {A} c (suc n) chip crew now later =
+    (one : ChipView) × (some : List A) × (two : ChipView) × (more : List A) × RowsTo c n chip crew one some
+    × TookRows c one some two more × TurnsOf c (range_with_len 0 (length more)) two more now later
+
+-- a round: in threads a row of turns of each worker, on one thread a thousand turns for each rank, of the ranks that the
+-- generator's next words name
+abbrev pub NextRound : {A : Type 0} → Conduct A
+    → Rounds → Rounds → ChipView → List A → ChipView → List A → Type 0
+NextRound c rounds.InThreads new chip crew now later = (new ≡ rounds.InThreads) × TookRows c chip crew now later
+NextRound c (rounds.Picked picks) new chip crew now later =
+    (new ≡ rounds.Picked (drawn pcg32 (1000 * length crew) picks))
+    × TurnsOf c (named pcg32 (length crew) (1000 * length crew) picks) chip crew now later
+
+-- so many rounds with a sweep behind each one
+abbrev pub RoundsTo : {A : Type 0} → Conduct A
+    → Rounds → ℕ → Rounds → ChipView → List A → ChipView → List A → Type 0
+RoundsTo c rounds.InThreads n new chip crew now later = (new ≡ rounds.InThreads) × RowsTo c n chip crew now later
+RoundsTo c (rounds.Picked picks) n new chip crew now later =
+    (new ≡ rounds.Picked (drawn_in pcg32 (length crew) n picks)) × TurnsOf c (ranks_by pcg32 (length crew) n picks) chip crew now later
+
+-- on one thread the turns of a run were those of the ranks that the generator of the seed names, in threads each worker took a
+-- row of turns in each round, in whatever order; and behind each round there was a sweep of all ranks in their order
+abbrev pub InOrder : {A : Type 0} → Conduct A → Mode → ChipView → List A → ChipView → List A → Type 0
+InOrder c mode.Threads chip crew now later = (n : ℕ) × RowsTo c n chip crew now later
+InOrder {A} c (mode.Serial seed) chip crew now later =
+    (n : ℕ) × TurnsOf c (ranks_by pcg32 (length crew) n (pcg32_of_seed (pcg32_seed 16 seed))) chip crew now later

@@ -1,0 +1,48 @@
+//! The members of a run.
+
+use crate::workers::Worker;
+use scc_base::Turn;
+use scc_mesh::Token;
+use scc_proto::Port;
+
+/// A worker with a place for its rank's token, which is empty before and after a run.
+#[derive(Drop)]
+pub struct Member<W: Worker + Drop> {
+    pub worker: W,
+    pub token: Option<Token>,
+}
+
+impl<W: Worker + Drop> Member<W> {
+    ghost use Rattle.std.specs.Prelude.{◌≡◌, None};
+
+    /// A member whose rank is at home.
+    pub fn new(worker: W) -> Member<W>
+        ensures worker { result.worker ≡ worker }
+        ensures empty { result.token ≡ None }
+    {
+        Member {
+            worker,
+            token: None,
+        }
+    }
+}
+
+impl<W: Worker + Drop> Worker for Member<W> {
+    ghost use Rattle.chip_run.specs.Away.{members_of};
+
+    ghost conduct = { members_of W.conduct };
+
+    fn turn<P: Port>(&mut self, port: P) -> (Turn, P) {
+        self.worker.turn(port)
+    }
+
+    fn stretch<P: Port>(&mut self, port: P) -> (Turn, P) {
+        self.worker.stretch(port)
+    }
+
+    fn is_stopped(&self) -> bool {
+        self.worker.is_stopped()
+    }
+
+    ghost hands = { λ m s rank events home. W.hands m.worker s rank events home.ties };
+}

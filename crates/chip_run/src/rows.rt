@@ -1,0 +1,65 @@
+//! A row of turns of one worker, in the thread that makes its rank's events.
+
+ghost use Rattle.std.specs.Prelude.{◌≡◌, ◌<◌};
+ghost use Rattle.chip_run.specs.Away.{RowOfTurns, TookRow, vain_by};
+
+use crate::workers::Worker;
+use scc_base::Turn;
+use scc_mesh::{Token, Words};
+use scc_proto::Port;
+use std::thread;
+
+/// How many vain turns in a row end it.
+const VAIN: usize = 1000;
+
+/// From how many vain turns in a row on other threads run behind each.
+const PATIENCE: usize = 16;
+
+/// How many turns in a row were vain after one more.
+fn vain_after(answer: &Turn, vain: usize) -> usize
+    requires below { vain < 1000 }
+    ensures gives { result ≡ vain_by 1000 answer.now vain }
+{
+    match answer {
+        Turn::Moved => 0,
+        Turn::Waiting(_) => vain + 1,
+        Turn::Done => VAIN,
+    }
+}
+
+/// Lets another thread run behind a vain turn, once several were vain: the rank that is waited for may have no processor.
+fn give_way(vain: usize) {
+    if vain >= PATIENCE {
+        thread::yield_now();
+    }
+}
+
+/// Turns of a worker, until it is over or has waited in a thousand turns in a row.
+pub(crate) fn row<W: Worker, P: Port>(worker: &mut W, port: P) -> P
+    requires ties { W.conduct.tied worker.old (P.sight port).seat.setup (P.sight port).seat.rank (P.sight port).events }
+    ensures ties { W.conduct.tied worker.new (P.sight result).seat.setup (P.sight result).seat.rank (P.sight result).events }
+    ensures row { RowOfTurns W.conduct (P.stepped (P.sight port).seat) worker.old (P.sight port) worker.new (P.sight result) }
+{
+    let mut port = port;
+    let mut vain = 0;
+    while vain < VAIN {
+        let (answer, back) = worker.stretch(port);
+        port = back;
+        vain = vain_after(&answer, vain);
+        give_way(vain);
+    }
+    port
+}
+
+/// The same for a rank that is away, by a port of its own.
+pub(crate) fn row_away<W: Worker>(words: Words<'_>, token: Token, worker: &mut W) -> Token
+    requires of_chip { token.table ≡ words.space.now.table }
+    requires ties { W.conduct.tied worker.old words.space.now.about token.rank token.events }
+    ensures table { result.table ≡ token.table }
+    ensures rank { result.rank ≡ token.rank }
+    ensures ties { W.conduct.tied worker.new words.entry.space.now.about result.rank result.events }
+    ensures row { TookRow W.conduct words.entry.space.now.about token.rank worker.old worker.new }
+{
+    let port = row(worker, words.port(token));
+    port.into_token()
+}

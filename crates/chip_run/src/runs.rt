@@ -1,0 +1,99 @@
+//! A run: rounds and sweeps, until a sweep in which no worker moves.
+
+ghost use Rattle.std.specs.Prelude.{◌≡◌, ◌<◌, length};
+ghost use Rattle.chip_run.specs.Away.{members_of};
+ghost use Rattle.chip_run.specs.Crews.{AllRest, CrewStands, EndsWith, IsCrew};
+ghost use Rattle.chip_run.specs.Runs.{InOrder, NextRound, rounds_of};
+ghost use Rattle.chip_run.specs.Waiting.{NoneDrafts};
+ghost use Rattle.scc_mesh.specs.Scenes.{about_in, records_in};
+
+use crate::crews::{round, sweep};
+use crate::ends::RunEnd;
+use crate::gates::Gate;
+use crate::members::Member;
+use crate::threads::round_in_threads;
+use crate::workers::Worker;
+use rand_core::SeedableRng;
+use rand_pcg::Pcg32;
+use scc_mesh::Chip;
+use std::thread::Threads;
+
+/// How the turns of a run are taken.
+#[derive(Clone, Copy, PartialEq, Eq)]
+pub enum Mode {
+    /// Each rank takes its turns in a thread of its own.
+    Threads,
+    /// All turns are taken in this thread, in the order that a generator with this seed names.
+    Serial(u64),
+}
+
+/// How the rounds go on.
+#[derive(Drop)]
+enum Rounds {
+    InThreads,
+    Picked(Pcg32),
+}
+
+impl Rounds {
+    /// Before the first round.
+    fn of(mode: Mode) -> Rounds
+        ensures gives { result ≡ rounds_of mode }
+    {
+        match mode {
+            Mode::Threads => Rounds::InThreads,
+            Mode::Serial(seed) => Rounds::Picked(Pcg32::seed_from_u64(seed)),
+        }
+    }
+}
+
+/// The next round.
+fn next_round<W: Worker + Drop + Send, G: Gate + Sync, R: Threads + Sync>(
+    rt: &R,
+    chip: &mut Chip,
+    crew: &mut [Member<W>],
+    rounds: &mut Rounds,
+    gate: &G,
+)
+    requires crew { IsCrew (members_of W.conduct) chip.old crew.old }
+    requires some { 0 < length crew.old }
+    ensures stands { CrewStands (members_of W.conduct) chip.old crew.old chip.new crew.new }
+    ensures next { NextRound (members_of W.conduct) rounds.old rounds.new chip.old crew.old chip.new crew.new }
+{
+    match rounds {
+        Rounds::InThreads => round_in_threads(rt, chip, crew, gate),
+        Rounds::Picked(picks) => round(chip, crew, picks),
+    }
+}
+
+/// Runs the members of a chip's crew, until a sweep in which none moves. No memory is taken.
+pub fn run<W: Worker + Drop + Send, G: Gate + Sync, R: Threads + Sync>(
+    rt: &R,
+    chip: &mut Chip,
+    crew: &mut [Member<W>],
+    mode: Mode,
+    gate: &G,
+) -> RunEnd
+    requires crew { IsCrew (members_of W.conduct) chip.old crew.old }
+    requires some { 0 < length crew.old }
+    // It is the same chip, whole, with the same members, each as it is after some turns and tied to its rank's events; no member
+    // holds a token.
+    ensures stands { CrewStands (members_of W.conduct) chip.old crew.old chip.new crew.new }
+    // Each worker rests: it has finished, a mismatch stopped it, or it waits.
+    ensures rests { AllRest (members_of W.conduct) chip.new crew.new (length crew.new) }
+    // It answers Finished where all have finished, and Stuck where one has not.
+    ensures answer { EndsWith (members_of W.conduct) result chip.new crew.new }
+    // A rank that has no call open is in the midst of nothing: it has no message in draft.
+    ensures no_draft { NoneDrafts (about_in chip.new) (records_in chip.new) }
+    // Under Serial the turns were those of the ranks that the seed's generator names, and in threads each worker took a row of
+    // turns in each round; with a sweep behind each round.
+    ensures order { InOrder (members_of W.conduct) mode chip.old crew.old chip.new crew.new }
+{
+    let mut rounds = Rounds::of(mode);
+    loop {
+        next_round(rt, chip, crew, &mut rounds, gate);
+        let came = sweep(chip, crew);
+        if let Some(end) = came.end() {
+            return end;
+        }
+    }
+}

@@ -1,0 +1,34 @@
+//! A run by sweeps alone, on one thread.
+
+ghost use Rattle.std.specs.Prelude.{ℕ, length};
+ghost use Rattle.chip_run.specs.Crews.{AllRest, CrewStands, EndsWith, IsCrew};
+ghost use Rattle.chip_run.specs.Orders.{TurnsOf, sweeps_of};
+ghost use Rattle.chip_run.specs.Waiting.{NoneDrafts};
+ghost use Rattle.scc_mesh.specs.Scenes.{about_in, records_in};
+
+use crate::crews::sweep;
+use crate::ends::RunEnd;
+use crate::workers::Worker;
+use scc_mesh::Chip;
+
+/// Runs the workers of a chip by sweeps in rank order alone, until one in which none moves. No memory is taken.
+pub fn run_by_sweeps<W: Worker>(chip: &mut Chip, crew: &mut [W]) -> RunEnd
+    requires crew { IsCrew W.conduct chip.old crew.old }
+    // It is the same chip, whole, with the same workers, each as it is after some turns and tied to its rank's events.
+    ensures stands { CrewStands W.conduct chip.old crew.old chip.new crew.new }
+    // Each worker rests: it has finished, a mismatch stopped it, or it waits.
+    ensures rests { AllRest W.conduct chip.new crew.new (length crew.new) }
+    // It answers Finished where all have finished, and Stuck where one has not.
+    ensures answer { EndsWith W.conduct result chip.new crew.new }
+    // A rank that has no call open is in the midst of nothing: it has no message in draft.
+    ensures no_draft { NoneDrafts (about_in chip.new) (records_in chip.new) }
+    // The turns were those of all ranks in their order, again and again.
+    ensures order { (n : ℕ) × TurnsOf W.conduct (sweeps_of n (length crew.old)) chip.old crew.old chip.new crew.new }
+{
+    loop {
+        let came = sweep(chip, crew);
+        if let Some(end) = came.end() {
+            return end;
+        }
+    }
+}

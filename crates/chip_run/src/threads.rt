@@ -1,0 +1,130 @@
+//! A round in threads: each worker takes a row of turns in a thread of its own.
+
+ghost use Rattle.std.specs.Prelude.{◌≡◌, ◌≢◌, ℕ, ◌+◌, ◌<◌, length, slice_index_or};
+ghost use Rattle.chip_run.specs.Away.{IsAtHome, IsAway, Served, TookRow, members_of};
+ghost use Rattle.chip_run.specs.Crews.{IsCrew};
+ghost use Rattle.chip_run.specs.Runs.{TookRows};
+ghost use Rattle.scc_mesh.specs.Scenes.{IsHomeBelow, IsHomeFrom, IsWhole, about_in, events_in, table_in};
+
+use crate::gates::Gate;
+use crate::members::Member;
+use crate::rows::row_away;
+use crate::workers::Worker;
+use scc_base::Rank;
+use scc_mesh::{Chip, Words};
+use std::thread;
+use std::thread::Threads;
+
+/// Hands out one rank.
+fn give<W: Worker + Drop>(chip: &mut Chip, at: usize, member: &mut Member<W>)
+    requires from { IsHomeFrom chip.old at }
+    requires below { at < (about_in chip.old).nue }
+    requires ties { W.conduct.tied member.old.worker (about_in chip.old) at (events_in chip.old at) }
+    ensures from { IsHomeFrom chip.new (at + 1) }
+    ensures same { (about_in chip.new ≡ about_in chip.old) × (table_in chip.new ≡ table_in chip.old) }
+    ensures others { (q : ℕ) → q ≢ at → events_in chip.new q ≡ events_in chip.old q }
+    ensures away { IsAway (W.conduct.tied member.new.worker) (about_in chip.new) (table_in chip.new) at member.new.token }
+    ensures worker { member.new.worker ≡ member.old.worker }
+{
+    let _ = chip.setup().nue();
+    member.token = Some(chip.spread(Rank::of(at as u8)));
+}
+
+/// Takes one rank home.
+fn bring<W: Worker + Drop>(chip: &mut Chip, at: usize, member: &mut Member<W>)
+    requires home { IsHomeBelow chip.old at }
+    requires below { at < (about_in chip.old).nue }
+    requires away { IsAway (W.conduct.tied member.old.worker) (about_in chip.old) (table_in chip.old) at member.old.token }
+    ensures home { IsHomeBelow chip.new (at + 1) }
+    ensures same { (about_in chip.new ≡ about_in chip.old) × (table_in chip.new ≡ table_in chip.old) }
+    ensures others { (q : ℕ) → q ≢ at → events_in chip.new q ≡ events_in chip.old q }
+    ensures ties { IsAtHome (W.conduct.tied member.new.worker) member.new.token (about_in chip.new) at (events_in chip.new at) }
+    ensures worker { member.new.worker ≡ member.old.worker }
+{
+    let Some(token) = member.token.take() else {
+        unreachable!()
+    };
+    chip.gather(token);
+}
+
+/// One member's row of turns, in its thread.
+fn go<W: Worker + Drop, G: Gate>(words: Words<'_>, gate: &G, at: usize, member: &mut Member<W>)
+    requires away { IsAway (W.conduct.tied member.old.worker) words.space.now.about words.space.now.table at member.old.token }
+    ensures away { IsAway (W.conduct.tied member.new.worker) words.entry.space.now.about words.entry.space.now.table at member.new.token }
+    ensures row { TookRow W.conduct words.entry.space.now.about at member.old.worker member.new.worker }
+{
+    let Some(token) = member.token.take() else {
+        unreachable!()
+    };
+    gate.pass(token.rank());
+    member.token = Some(row_away(words, token, &mut member.worker));
+}
+
+/// Hands out all ranks, in rank order.
+fn hand_out<W: Worker + Drop>(chip: &mut Chip, crew: &mut [Member<W>])
+    requires crew { IsCrew (members_of W.conduct) chip.old crew.old }
+    ensures none { IsHomeBelow chip.new 0 }
+    ensures same { (about_in chip.new ≡ about_in chip.old) × (table_in chip.new ≡ table_in chip.old) }
+    ensures served { Served (λ k m n. (n.worker ≡ m.worker) × IsAway (W.conduct.tied n.worker) (about_in chip.old) (table_in chip.old) k n.token)
+        (length crew.old) crew.old crew.new }
+{
+    for at in 0..crew.len() {
+        give(chip, at, &mut crew[at]);
+    }
+}
+
+/// All members' rows of turns, each in a thread of its own.
+fn in_threads<W: Worker + Drop + Send, G: Gate + Sync, R: Threads + Sync>(
+    rt: &R,
+    words: Words<'_>,
+    gate: &G,
+    crew: &mut [Member<W>],
+)
+    requires some { 0 < length crew.old }
+    requires away { (i : ℕ) (d : _) → i < length crew.old → let m = slice_index_or crew.old i d in IsAway (W.conduct.tied m.worker) words.space.now.about words.space.now.table i m.token }
+    ensures away { (i : ℕ) (d : _) → i < length crew.old → let m = slice_index_or crew.new i d in IsAway (W.conduct.tied m.worker) words.entry.space.now.about words.entry.space.now.table i m.token }
+    ensures rows { (i : ℕ) (d : _) → i < length crew.old → TookRow W.conduct words.entry.space.now.about i (slice_index_or crew.old i d).worker (slice_index_or crew.new i d).worker }
+{
+    let threads = crew.len();
+    thread::for_each_mut(
+        rt,
+        crew,
+        threads,
+        &|at: usize, member: &mut Member<W>|
+            requires { IsAway (W.conduct.tied member.old.worker) words.space.now.about words.space.now.table at member.old.token }
+            ensures { IsAway (W.conduct.tied member.new.worker) words.entry.space.now.about words.entry.space.now.table at member.new.token × TookRow W.conduct words.entry.space.now.about at member.old.worker member.new.worker }
+        { go(words, gate, at, member) },
+    );
+}
+
+/// Takes all ranks home, in rank order.
+fn take_home<W: Worker + Drop>(chip: &mut Chip, crew: &mut [Member<W>])
+    requires none { IsHomeBelow chip.old 0 }
+    requires each { length crew.old ≡ (about_in chip.old).nue }
+    requires away { (i : ℕ) (d : _) → i < length crew.old → let m = slice_index_or crew.old i d in IsAway (W.conduct.tied m.worker) (about_in chip.old) (table_in chip.old) i m.token }
+    ensures whole { IsWhole chip.new }
+    ensures same { (about_in chip.new ≡ about_in chip.old) × (table_in chip.new ≡ table_in chip.old) }
+    ensures served { Served (λ k m n. (n.worker ≡ m.worker) × IsAtHome (W.conduct.tied n.worker) n.token (about_in chip.old) k (events_in chip.new k))
+        (length crew.old) crew.old crew.new }
+{
+    for at in 0..crew.len() {
+        bring(chip, at, &mut crew[at]);
+    }
+}
+
+/// A round in threads: every rank is away while its worker takes turns, and at home again afterwards.
+pub(crate) fn round_in_threads<W: Worker + Drop + Send, G: Gate + Sync, R: Threads + Sync>(
+    rt: &R,
+    chip: &mut Chip,
+    crew: &mut [Member<W>],
+    gate: &G,
+)
+    requires crew { IsCrew (members_of W.conduct) chip.old crew.old }
+    requires some { 0 < length crew.old }
+    // Each worker took a row of turns.
+    ensures took { TookRows (members_of W.conduct) chip.old crew.old chip.new crew.new }
+{
+    hand_out(chip, crew);
+    in_threads(rt, chip.words(), gate, crew);
+    take_home(chip, crew);
+}

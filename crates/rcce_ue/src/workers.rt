@@ -1,0 +1,31 @@
+//! A UE is a worker: what its turns say of the chip is what a run needs of them.
+
+use crate::ues::Ue;
+use chip_run::Worker;
+use line_cache::Evict;
+use scc_base::Turn;
+use scc_proto::Port;
+
+impl<'s, V: Evict> Worker for Ue<'s, V> {
+    ghost use Rattle.rcce_ue.specs.Workers.{ue_conduct};
+
+    ghost conduct = { ue_conduct };
+
+    fn turn<P: Port>(&mut self, port: P) -> (Turn, P) {
+        let mut port = port;
+        let answer = Ue::turn(self, &mut port);
+        (answer, port)
+    }
+
+    fn stretch<P: Port>(&mut self, port: P) -> (Turn, P) {
+        let mut port = port;
+        let answer = Ue::stretch(self, &mut port);
+        (answer, port)
+    }
+
+    fn is_stopped(&self) -> bool {
+        Ue::is_stopped(self)
+    }
+
+    ghost hands = { λ x s rank events stands. stands.hands };
+}
