@@ -163,7 +163,7 @@ module _ (m : MoreAt) (s t : Sight) (c d : Private) (call : PieceCall) (op next 
         means = (
           record { same_op = (λ i. record m { stage = Receiving call (r.means.0 i) }); same_slot = refl; same_dst = same_parts dst later call.first call.len front r.means.1 behind; rest = r.means.3 },
           refl,
-          (λ same. r.means.4 (same ∙ sym here.head), r.means.5, subst (λ (j : ℕ). (record_in t).notes j ≡ Some r.means.5) here.from r.means.6, r.means.7),
+          (r.means.2, λ same. r.means.4 (same ∙ sym here.head), r.means.5, subst (λ (j : ℕ). (record_in t).notes j ≡ Some r.means.5) here.from r.means.6, r.means.7),
         );
         rest = r.rest;
         drafts = none_stored s.seat.setup c r.events r.no_drafts;

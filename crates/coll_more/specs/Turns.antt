@@ -23,6 +23,7 @@ use Rattle.send_recv.specs.Tries.{aim_at}
 use Rattle.send_recv.specs.Turns.{IsAtRest, KeepsAllButMessages, LastHeld, OnlyTries, StoresFromBuffer}
 use Rattle.send_recv.specs.declared.answers.RecvTurn.{RecvTurn}
 use Rattle.send_recv.specs.declared.answers.RecvTurn.TheVariants as turn
+use Rattle.send_recv.specs.declared.stages.RecvStage.TheVariants.{Header}
 use Rattle.sync_flags.specs.Tries.{Aim, Tried, changing_after}
 use Rattle.coll_more.specs.Ops.{MoreAt, Participant, bytes_of, table_of, window}
 use Rattle.coll_more.specs.Standing.{MoreStands}
@@ -69,9 +70,9 @@ is_over_by table ended stage = false
 abbrev pub is_over : Seat → MoreAt → Bool
 is_over seat op = is_over_by (table_of seat op) op.ended op.stage
 
--- a receive has met a message with another head than its own, whose words the record has noted
+-- a receive that looks at the head of a message has met another one than its own, whose words the record has noted
 abbrev pub MetOther : Record → MessageHead → Stage → Type 0
-MetOther rec sent (Receiving call receive) = (sent ≢ plain_head call.len) × (header : Notes) × (rec.notes call.peer ≡ Some header) × SaysHead header sent
+MetOther rec sent (Receiving call receive) = (receive.stage ≡ Header) × (sent ≢ plain_head call.len) × (header : Notes) × (rec.notes call.peer ≡ Some header) × SaysHead header sent
 MetOther rec sent stage = ⊥
 
 -- the op, the slot and dst are as before, and the record but for what it has seen

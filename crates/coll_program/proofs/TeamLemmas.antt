@@ -3,7 +3,7 @@ use Rattle.std.proofs.Common.{◌≡◌, ℕ, ◌+◌, ◌<◌, List, [], ◌∷
 use Rattle.std.specs.List.{range_with_len}
 use Rattle.std.proofs.lemmas.List.{length-map, map-append}
 use Rattle.std.proofs.lemmas.List.FromFn.{length-range_with_len}
-use Rattle.rcce_run.proofs.OrderLaws.{range_more}
+use Rattle.chip_run.proofs.OrderLaws.{range_more}
 use Rattle.coll_more.specs.Tables.{src_len_of}
 use Rattle.coll_run.specs.Teams.{HasJoined, MemberView}
 use Rattle.coll_run.proofs.JoinLemmas.{each_joined}

@@ -1,6 +1,6 @@
 -- One rank more in a team.
 use Rattle.std.proofs.Common.{◌≡◌, ℕ, ◌<◌, ◌≤◌, List, [], ◌∷◌, ◌++◌, length, slice_index_or, refl, sym, ◌∙◌, ap, subst, arith, length-append}
-use Rattle.rcce_run.proofs.CrewGrowth.{each_more}
+use Rattle.chip_run.proofs.CrewGrowth.{each_more}
 use Rattle.coll_more.specs.Standing.{IsFit}
 use Rattle.coll_more.specs.Tables.{dst_len_of, src_len_of}
 use Rattle.coll_more.specs.declared.kinds.More.{More}

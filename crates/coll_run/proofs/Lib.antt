@@ -2,7 +2,6 @@ pub mod OrderLemmas
 pub mod CallLemmas
 pub mod RestLemmas
 pub mod LookLemmas
-pub mod HomeLemmas
-pub mod TeamLemmas
+pub mod CallTurns
 pub mod EndLemmas
 pub mod JoinLemmas

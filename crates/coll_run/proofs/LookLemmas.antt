@@ -1,38 +1,61 @@
 -- What each answer of a collective call's turn means to a run.
-use Rattle.std.proofs.Common.{◌≡◌, ◌⊎◌, inl, inr, ℕ, ◌<◌, true, false, List, [], ◌++◌, Some, refl, sym, ap, ◌∙◌, subst}
+use Rattle.std.proofs.Common.{◌≡◌, ◌⊎◌, inl, inr, ℕ, ◌+◌, ◌||◌, if◌then◌else◌, Bool, true, false, List, [], ◌∷◌, ◌++◌, length, Some, refl, sym, ap, ◌∙◌, subst, arith, length-append}
 use Rattle.std.specs.List.{list_all}
-use Rattle.scc_base.specs.Heads.{MessageHead}
 use Rattle.scc_base.specs.declared.events.Event.{Event}
 use Rattle.scc_base.specs.declared.events.Spot.{Spot}
 use Rattle.scc_proto.specs.Agreement.{Agrees}
 use Rattle.scc_proto.specs.Like.{Like}
-use Rattle.scc_proto.specs.Ports.{Sight, and_then, record_in}
-use Rattle.scc_proto.specs.Records.{record_of}
+use Rattle.scc_proto.specs.Ports.{Seat, Sight, and_then, record_in}
 use Rattle.scc_proto.specs.Resting.{is_resting}
-use Rattle.scc_proto.specs.Stages.{Record}
+use Rattle.scc_proto.specs.Stages.{Idle, Record}
 use Rattle.scc_proto.specs.Views.{view_of}
 use Rattle.scc_proto.specs.Words.{IsStep, Memory}
-use Rattle.scc_proto.proofs.FlagsTold.{like_self}
 use Rattle.put_get.specs.Accesses.{WereSteps}
 use Rattle.send_recv.specs.Ops.{SendAt, SlotAt}
-use Rattle.send_recv.specs.Receiving.{recv_waits}
-use Rattle.send_recv.specs.declared.answers.RecvTurn.{RecvTurn}
 use Rattle.send_recv.specs.declared.answers.RecvTurn.TheVariants as turn
-use Rattle.rcce_run.specs.Sweep.{RaiseWaits, SlotWaits}
-use Rattle.rcce_run.specs.Turns.{NoneElseHolds, Waits}
-use Rattle.rcce_run.proofs.Looks.{waits_same}
-use Rattle.rcce_run.proofs.UeLooks as looks
-use Rattle.rcce_run.proofs.UeLooks.{Tells}
-use Rattle.rcce_run.proofs.UeTurns.{Sought, rest_alike, sought_by, sought_like, sought_tells}
+use Rattle.chip_run.specs.Turns.{HasMoved, HasWaited, IsDone, NoneElseHolds}
+use Rattle.chip_run.specs.Waiting.{RaiseWaits, SlotWaits, Waits}
+use Rattle.chip_run.specs.Wants.{Want}
+use Rattle.chip_run.proofs.Looks.{waits_same}
+use Rattle.rcce_ue.proofs.UeLooks as looks
+use Rattle.rcce_ue.proofs.UeLooks.{Tells}
+use Rattle.rcce_ue.proofs.WorkerTurns.{Sought, rest_alike, sought_by, sought_like, sought_tells}
 use Rattle.coll_more.specs.Ops.{MoreAt, bytes_of, table_of, window, taking_part}
 use Rattle.coll_more.specs.Standing.{MoreStands, StandsAt}
-use Rattle.coll_more.specs.Turns.{MetOther, MoreTurned, aim_by, is_over, left_by, more_left}
+use Rattle.coll_more.specs.Turns.{IsStill, MoreTurned, aim_by, is_over_by, left_by, more_left}
 use Rattle.coll_more.specs.declared.kinds.PieceCall.{PieceCall}
 use Rattle.coll_more.specs.declared.ops.Stage.{Stage}
 use Rattle.coll_more.specs.declared.ops.Stage.TheVariants.{Own, Between, Sending, Receiving}
-use Rattle.coll_run.specs.Resting.{next_at}
+use Rattle.coll_run.specs.Resting.{want_at}
 use Rattle.coll_run.specs.Teams.{MemberView, seat_of}
-use Rattle.coll_run.specs.Turns.{HasStayed, HasWaited, TurnMeans, left_of}
+use Rattle.coll_run.specs.Workers.{Stays, member_conduct, member_seen, member_want}
+
+-- nothing more is nothing
+none_more : (xs ys : List Event) → xs ≡ xs ++ ys → ys ≡ []
+none_more xs [] is = refl
+none_more xs (e ∷ es) is = absurd (let long : length xs ≡ length (xs ++ e ∷ es) = ap length is in omega (arith, long, length-append xs (e ∷ es)))
+
+-- ---- what a turn keeps
+
+-- the numbers of a seat are those of its setup and rank
+left_same : (x : Seat) (op : MoreAt) (slot : SlotAt) (st : Stage) → left_by x op slot st ≡ left_by (seat_of x.setup x.rank) op slot st
+left_same x op slot Own = refl
+left_same x op slot Between = refl
+left_same x op slot (Sending call send) = refl
+left_same x op slot (Receiving call receive) = refl
+
+module _ (s t : Sight) (old new : MemberView) where
+  abbrev Still : Type 0
+  Still = IsStill (taking_part s old.core old.op old.slot old.src old.dst) (taking_part t new.core new.op new.slot old.src new.dst)
+
+  stays_still : Still → new.src ≡ old.src → Stays old new
+  stays_still still src = record { op = still.same_op; slot = still.same_slot; src = src }
+
+  seen_same : new.op ≡ old.op → new.slot ≡ old.slot → new.met ≡ old.met → member_seen s.seat.setup s.seat.rank new ≡ member_seen s.seat.setup s.seat.rank old
+  seen_same op slot met = λ i. member_seen s.seat.setup s.seat.rank (record old { op = op i; slot = slot i; met = met i })
+
+  seen_still : Still → new.met ≡ old.met → member_seen s.seat.setup s.seat.rank new ≡ member_seen s.seat.setup s.seat.rank old
+  seen_still still met = seen_same still.same_op still.same_slot met
 
 -- ---- a turn that waits
 
@@ -57,93 +80,82 @@ module _ (stepped : List Event → Event → Type 0) (s t : Sight) (old new : Me
       tells = sought_tells stepped (aim_by s.seat old.slot old.op.stage) s t turned.events sought turned.did memory records agrees mine others step
 
       abbrev Here : Record → Stage → Type 0
-      Here rec st = Waits s.seat.setup (view_of s.seat.setup memory) s.seat.rank rec (next_at st)
+      Here rec st = Waits s.seat.setup (view_of s.seat.setup memory) s.seat.rank rec (want_at st)
 
       sending_waits : (op : SendAt) (call : PieceCall) → SlotWaits (view_of s.seat.setup memory) s.seat.rank (record_in s)
           ⊎ ((op.posted ≡ false) × RaiseWaits s.seat.setup (view_of s.seat.setup memory) s.seat.rank op.to op.head (records s.seat.rank)) → Here (records s.seat.rank) (Sending call op)
       sending_waits op call (inl slot) =
-          waits_same s.seat.setup (view_of s.seat.setup memory) s.seat.rank (record_in s) (records s.seat.rank) like (next_at (Sending call op))
-          (record { vain = inl slot; at_end = λ e. absurd (cc (e)) })
-      sending_waits op call (inr (own, raise)) = record { vain = inr raise; at_end = λ e. absurd (cc (e)) }
+          waits_same s.seat.setup (view_of s.seat.setup memory) s.seat.rank (record_in s) (records s.seat.rank) like (want_at (Sending call op)) (inl slot)
+      sending_waits op call (inr (own, raise)) = inr raise
 
       waits_by : (st : Stage) → StandsAt s old.core old.slot (table_of s.seat old.op) old.op.ended old.src old.dst st → aim_by s.seat old.slot st ≡ Some sought.aim → Here (records s.seat.rank) st
       waits_by Own st is = absurd (cc (is))
       waits_by Between st is = absurd (cc (is))
       waits_by (Sending call op) st is =
           sending_waits op call (looks.send_waits s.seat memory records agrees (record_in s) like old.core op old.slot (bytes_of call old.src old.dst) sought.aim tells st.2 is)
-      waits_by (Receiving call op) st is = record {
-        vain = looks.recv_waits s.seat memory records agrees (record_in s) like old.core op (window call.first call.len old.dst) sought.aim tells st.3 is;
-        at_end = λ e. absurd (cc (e));
-      }
+      waits_by (Receiving call op) st is = looks.recv_waits s.seat memory records agrees (record_in s) like old.core op (window call.first call.len old.dst) sought.aim tells st.3 is
 
       waits_old : Here (records s.seat.rank) old.op.stage
       waits_old = waits_by old.op.stage stands.at sought.aim_is
 
-      waits_here : Here (records s.seat.rank) new.op.stage
-      waits_here = let still = turned.means.0 in subst (λ (x : MoreAt). Here (records s.seat.rank) x.stage) (sym still.same_op) waits_old
+      -- so it waits for what it wants
+      waits_here : old.met ≡ false → Waits s.seat.setup (view_of s.seat.setup memory) s.seat.rank (records s.seat.rank) (member_want s.seat.setup s.seat.rank old)
+      waits_here running =
+          let still = turned.means in
+          let is : want_at old.op.stage ≡ member_want s.seat.setup s.seat.rank old =
+          λ i. if sym running i || sym still.1 i then Want.Nothing else want_at old.op.stage in
+          subst (λ (w : Want). Waits s.seat.setup (view_of s.seat.setup memory) s.seat.rank (records s.seat.rank) w) is waits_old
 
-    pub has_waited : HasWaited stepped s.seat.setup s.seat.rank s.events turned.events old new
+    pub has_waited : old.met ≡ false → new.met ≡ old.met → new.src ≡ old.src → HasWaited member_conduct stepped s.seat.setup s.seat.rank s.events turned.events old new
     unfolding record_in
-    has_waited = record {
-      stayed = record {
-        op = (let still = turned.means.0 in still.same_op);
-        slot = (let still = turned.means.0 in still.same_slot);
-        alike = subst (λ (r : Record). Like (record_in s) r) (ap record_in turned.did.continues) alike;
-      };
+    has_waited running met src = record {
+      stays = stays_still s t old new turned.means.0 src;
+      seen = seen_still s t old new turned.means.0 met;
       rests = rests;
+      alike = subst (λ (r : Record). Like (record_in s) r) (ap record_in turned.did.continues) alike;
       look = record {
         before = sought.look.before;
         look = sought.look.event;
         behind = sought.look.behind;
         is = sought.look.is;
         step = sought.look.step;
-        waits = λ memory records agrees mine others step. waits_here memory records agrees mine others step;
+        waits = λ memory records agrees mine others step. waits_here memory records agrees mine others step running;
       };
     }
 
-  -- ---- the other answers
+-- ---- the other answers
 
-  left_same : (op : MoreAt) (slot : SlotAt) (st : Stage) → left_by s.seat op slot st ≡ left_by (seat_of s.seat.setup s.seat.rank) op slot st
-  left_same op slot Own = refl
-  left_same op slot Between = refl
-  left_same op slot (Sending call send) = refl
-  left_same op slot (Receiving call receive) = refl
+module _ (s t : Sight) (old new : MemberView) (running : old.met ≡ false) where
+  abbrev seat : Seat
+  seat = s.seat
 
-  moved_left : more_left s.seat new.op new.slot < more_left s.seat old.op old.slot → left_of s.seat.setup s.seat.rank new < left_of s.seat.setup s.seat.rank old
-  moved_left less =
-      subst (λ (n : ℕ). n < left_of s.seat.setup s.seat.rank old) (left_same new.op new.slot new.op.stage)
-      (subst (λ (n : ℕ). more_left s.seat new.op new.slot < n) (left_same old.op old.slot old.op.stage) less)
+  pub left_running : (m : MemberView) → m.met ≡ false → (member_seen seat.setup seat.rank m).left ≡ more_left seat m.op m.slot + 1
+  left_running m off =
+      ap (λ (b : Bool). if b then 0 else more_left (seat_of seat.setup seat.rank) m.op m.slot + 1) off ∙ ap (λ (n : ℕ). n + 1) (sym (left_same seat m.op m.slot m.op.stage))
 
-  module _ (turned : MoreTurned (taking_part s old.core old.op old.slot old.src old.dst) (taking_part t new.core new.op new.slot old.src new.dst) turn.Done) where
-    pub has_ended : HasStayed s.seat.setup s.seat.rank s.events turned.events old new × (is_over (seat_of s.seat.setup s.seat.rank) new.op ≡ true)
+  module _ (turned : MoreTurned (taking_part s old.core old.op old.slot old.src old.dst) (taking_part t new.core new.op new.slot old.src new.dst) turn.Moved) where
+    pub has_moved : new.met ≡ old.met → new.src ≡ old.src → HasMoved member_conduct seat.setup seat.rank old new
+    has_moved met src = record {
+      moves = record { more = turned.same.0; len = turned.same.1; src = src };
+      less = (let less = turned.means.0 in omega (arith, less, left_running old running, left_running new (met ∙ running)));
+    }
+
+  module _ (turned : MoreTurned (taking_part s old.core old.op old.slot old.src old.dst) (taking_part t new.core new.op new.slot old.src new.dst) turn.Done)
+      (stands : MoreStands [] (taking_part s old.core old.op old.slot old.src old.dst)) where
+    over_idle : (table : List PieceCall) (ended : ℕ) (st : Stage) → is_over_by table ended st ≡ true → StandsAt s old.core old.slot table ended old.src old.dst st → (record_in s).stage ≡ Idle
+    over_idle table ended Own over at = absurd (cc (over))
+    over_idle table ended Between over at = at.between.stage
+    over_idle table ended (Sending call op) over at = absurd (cc (over))
+    over_idle table ended (Receiving call op) over at = absurd (cc (over))
+
+    pub has_ended : new.met ≡ old.met → new.src ≡ old.src → IsDone member_conduct seat.setup seat.rank s.events turned.events old new
     unfolding record_in
-    has_ended = (
-      record {
-        op = turned.means.0;
-        slot = turned.means.1;
-        alike = subst (λ (r : Record). Like (record_in s) r) (sym (ap record_in turned.means.3) ∙ ap record_in turned.did.continues) (like_self (record_in s));
-      },
-      subst (λ (x : MoreAt). is_over (seat_of s.seat.setup s.seat.rank) x ≡ true) (sym turned.means.0) turned.means.5,
-    )
-
-  module _ (sent : MessageHead) (turned : MoreTurned (taking_part s old.core old.op old.slot old.src old.dst) (taking_part t new.core new.op new.slot old.src new.dst) (turn.Mismatch sent)) where
-    pub has_met : HasStayed s.seat.setup s.seat.rank s.events turned.events old new × MetOther (record_of s.seat.setup s.seat.rank (s.events ++ turned.events)) sent new.op.stage
-    unfolding record_in
-    has_met =
-        let still = turned.means.0 in (
-          record {
-            op = still.same_op;
-            slot = still.same_slot;
-            alike = subst (λ (r : Record). Like (record_in s) r) (ap record_in turned.did.continues) (rest_alike (record_in s) (record_in t) still.rest);
-          },
-          subst (λ (x : MoreAt). MetOther (record_of s.seat.setup s.seat.rank (s.events ++ turned.events)) sent x.stage) (sym still.same_op)
-              (subst (λ (r : Record). MetOther r sent old.op.stage) (ap record_in turned.did.continues) turned.means.2),
-        )
-
-  -- what each answer means
-  pub means_by : (answer : RecvTurn) → MoreStands [] (taking_part s old.core old.op old.slot old.src old.dst) → (turned : MoreTurned (taking_part s old.core old.op old.slot old.src old.dst) (taking_part t new.core new.op new.slot old.src new.dst) answer)
-      → ((spot : Spot) → recv_waits answer ≡ Some spot → WereSteps stepped s.events turned.events) → TurnMeans stepped s.seat.setup s.seat.rank s.events turned.events old new answer
-  means_by turn.Moved stands turned steps = moved_left turned.means.0
-  means_by (turn.Waiting spot) stands turned steps = has_waited spot stands turned (steps spot refl)
-  means_by turn.Done stands turned steps = has_ended turned
-  means_by (turn.Mismatch sent) stands turned steps = has_met sent turned
+    has_ended met src = record {
+      stays = record { op = turned.means.0; slot = turned.means.1; src = src };
+      seen = seen_same s t old new turned.means.0 turned.means.1 met;
+      nothing = none_more s.events turned.events (ap (λ (x : Sight). x.events) (sym turned.means.3 ∙ turned.did.continues));
+      over = record {
+        ends = λ i. if running i || turned.means.5 i then Want.Nothing else want_at old.op.stage;
+        idle = over_idle (table_of seat old.op) old.op.ended old.op.stage turned.means.5 stands.at;
+      };
+    }

@@ -31,8 +31,8 @@ use Rattle.send_recv.specs.Receiving as recv
 use Rattle.send_recv.specs.Receiving.{SaysHead, progress_at}
 use Rattle.send_recv.specs.declared.stages.RecvStage.{RecvStage}
 use Rattle.send_recv.specs.declared.stages.RecvStage.TheVariants as receive
-use Rattle.rcce_run.specs.Sweep.{RaiseWaits, SlotWaits, TakeWaits, Vain}
-use Rattle.rcce_run.proofs.Still.{as_many, no_take, post_in_slot, raise_out}
+use Rattle.chip_run.specs.Waiting.{RaiseWaits, SlotWaits, TakeWaits, Waits}
+use Rattle.chip_run.proofs.Offers.{as_many, no_take, post_in_slot, raise_out}
 use Rattle.coll_more.specs.Ops.{data_of, is_taking, table_of}
 use Rattle.coll_more.specs.Standing.{StandsAt}
 use Rattle.coll_more.specs.Tables.{calls_of}
@@ -45,7 +45,7 @@ use Rattle.coll_more.specs.declared.ops.Stage.{Stage}
 use Rattle.coll_more.specs.declared.ops.Stage.TheVariants.{Own, Between, Sending, Receiving}
 use Rattle.coll_more.proofs.ListLemmas.{some_same}
 use Rattle.coll_run.specs.Order.{IsOtherSide, number_at, number_by, number_of}
-use Rattle.coll_run.specs.Resting.{AtEnd, HaveRested, Met, Rests, Waits, next_at}
+use Rattle.coll_run.specs.Resting.{AtEnd, HaveRested, Looks, Met, Rests, want_at}
 use Rattle.coll_run.specs.Teams.{MemberView, seat_of, sight_of}
 use Rattle.coll_run.proofs.CallLemmas.{at_taken, got_some, is_plain, none_left, plain_made, sent_some, some_before, some_got, some_sent, taken_at}
 use Rattle.coll_run.proofs.OrderLemmas.{mirrored, rises}
@@ -149,7 +149,7 @@ module _ (more : More) (len : ℕ) (s : SetupView) (memory : Memory) (lists : �
       → SlotWaits view k (recs k) ⊎ RaiseWaits s view k op.to op.head (recs k)
   sending_waits k call op is (AtEnd over) =
       absurd (let goes : is_over (seat_of s k) (members k).op ≡ false = ap (is_over_by (table_of (seat_of s k) (members k).op) (done k)) is in cc (goes, over))
-  sending_waits k call op is (Waits vain) = subst (λ (st : Stage). Vain s view k (recs k) (next_at st)) is vain
+  sending_waits k call op is (Looks vain) = subst (λ (st : Stage). Waits s view k (recs k) (want_at st)) is vain
   sending_waits k call op is (Met sent met) = absurd (subst (λ (st : Stage). MetOther (recs k) sent st) is met)
 
   -- a receive waits, or has met another head
@@ -157,9 +157,9 @@ module _ (more : More) (len : ℕ) (s : SetupView) (memory : Memory) (lists : �
       → TakeWaits s view k op.from (recs k) ⊎ HasMet (recs k) call.peer call.len
   receiving_waits k call op is (AtEnd over) =
       absurd (let goes : is_over (seat_of s k) (members k).op ≡ false = ap (is_over_by (table_of (seat_of s k) (members k).op) (done k)) is in cc (goes, over))
-  receiving_waits k call op is (Waits vain) = inl (subst (λ (st : Stage). Vain s view k (recs k) (next_at st)) is vain)
+  receiving_waits k call op is (Looks vain) = inl (subst (λ (st : Stage). Waits s view k (recs k) (want_at st)) is vain)
   receiving_waits k call op is (Met sent met) =
-      let (other, header, noted, says) = subst (λ (st : Stage). MetOther (recs k) sent st) is met in
+      let (at_head, other, header, noted, says) = subst (λ (st : Stage). MetOther (recs k) sent st) is met in
       inr (record { sent = sent; other = other; header = header; noted = noted; says = says })
 
   none_open : (k : ℕ) → k < s.nue → passed_open s k (recs k).stage recs ≡ []
@@ -209,11 +209,11 @@ module _ (more : More) (len : ℕ) (s : SetupView) (memory : Memory) (lists : �
   abbrev Raises : ℕ → PieceCall → Type 0
   Raises k c = (is_taking c.way ≡ false) × RaiseWaits s view k c.peer (plain_head c.len) (recs k)
 
-  abbrev Looks : ℕ → PieceCall → Type 0
-  Looks k c = (is_taking c.way ≡ true) × (TakeWaits s view k c.peer (recs k) ⊎ HasMet (recs k) c.peer c.len)
+  abbrev Awaits : ℕ → PieceCall → Type 0
+  Awaits k c = (is_taking c.way ≡ true) × (TakeWaits s view k c.peer (recs k) ⊎ HasMet (recs k) c.peer c.len)
 
   abbrev Stuck : ℕ → PieceCall → Type 0
-  Stuck k c = Raises k c ⊎ Looks k c
+  Stuck k c = Raises k c ⊎ Awaits k c
 
   raises_at : (k : ℕ) → k < s.nue → (call : PieceCall) (op : SendAt) → op.to ≡ call.peer → op.head ≡ plain_head call.len → is_taking call.way ≡ false
       → SlotWaits view k (recs k) ⊎ RaiseWaits s view k op.to op.head (recs k) → Stuck k call
@@ -233,13 +233,13 @@ module _ (more : More) (len : ℕ) (s : SetupView) (memory : Memory) (lists : �
 
       own_rests : (members k).op.stage ≡ Own → Rests s memory (recs k) k (members k).op → ⊥
       own_rests is (AtEnd over) = let goes : is_over (seat_of s k) (members k).op ≡ false = ap (is_over_by (table_of (seat_of s k) (members k).op) (done k)) is in cc (goes, over)
-      own_rests is (Waits vain) = subst (λ (st : Stage). Vain s view k (recs k) (next_at st)) is vain
+      own_rests is (Looks vain) = subst (λ (st : Stage). Waits s view k (recs k) (want_at st)) is vain
       own_rests is (Met sent met) = subst (λ (st : Stage). MetOther (recs k) sent st) is met
 
       between_rests : (members k).op.stage ≡ Between → Rests s memory (recs k) k (members k).op → ⊥
       between_rests is (AtEnd over) =
           no_more_is (slice_get (table_of (seat_of s k) (members k).op) (done k)) c (sym (ap (is_over_by (table_of (seat_of s k) (members k).op) (done k)) is) ∙ over) here
-      between_rests is (Waits vain) = subst (λ (st : Stage). Vain s view k (recs k) (next_at st)) is vain
+      between_rests is (Looks vain) = subst (λ (st : Stage). Waits s view k (recs k) (want_at st)) is vain
       between_rests is (Met sent met) = subst (λ (st : Stage). MetOther (recs k) sent st) is met
 
       by : (st : Stage) → (members k).op.stage ≡ st → At k st → Stuck k c
@@ -364,7 +364,7 @@ module _ (more : More) (len : ℕ) (s : SetupView) (memory : Memory) (lists : �
       next : (call : PieceCall) → slice_get (table_of (seat_of s k) (members k).op) (done k) ≡ Some call → ⊥
       next call at = none_left_at k call low (ap (λ (xs : List PieceCall). slice_get xs (done k)) (sym (table_is k low)) ∙ at)
 
-      by_stage : (st : Stage) → (members k).op.stage ≡ st → At k st → Vain s view k (recs k) (next_at st) → ⊥
+      by_stage : (st : Stage) → (members k).op.stage ≡ st → At k st → Waits s view k (recs k) (want_at st) → ⊥
       by_stage Own is at vain = vain
       by_stage Between is at vain = vain
       by_stage (Sending call op) is at vain = next call at.0
@@ -378,5 +378,5 @@ module _ (more : More) (len : ℕ) (s : SetupView) (memory : Memory) (lists : �
 
       by : Rests s memory (recs k) k (members k).op → is_over (seat_of s k) (members k).op ≡ true
       by (AtEnd over) = over
-      by (Waits vain) = absurd (by_stage (members k).op.stage refl (h.stands k low).stands.at vain)
+      by (Looks vain) = absurd (by_stage (members k).op.stage refl (h.stands k low).stands.at vain)
       by (Met sent met) = absurd (by_met (members k).op.stage sent (h.stands k low).stands.at met)

@@ -1,4 +1,4 @@
 pub mod Order
 pub mod Teams
 pub mod Resting
-pub mod Turns
+pub mod Workers

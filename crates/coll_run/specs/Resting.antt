@@ -1,5 +1,5 @@
 -- Ranks that rest: each is at its end, waits, or has met a message with another head than it asks for.
-use Rattle.std.specs.Prelude.{◌≡◌, ℕ, ◌<◌, true, List, []}
+use Rattle.std.specs.Prelude.{◌≡◌, ℕ, ◌<◌, true, List}
 use Rattle.scc_base.specs.Heads.{MessageHead}
 use Rattle.scc_base.specs.Setups.{SetupView}
 use Rattle.scc_base.specs.declared.events.Event.{Event}
@@ -8,9 +8,8 @@ use Rattle.scc_proto.specs.Stages.{Record}
 use Rattle.scc_proto.specs.Views.{view_of}
 use Rattle.scc_proto.specs.Words.{Memory}
 use Rattle.scc_mesh.specs.Keeping.{records_by}
-use Rattle.script_plain.specs.Next.{Next}
-use Rattle.script_plain.specs.Next.Next.{Goes, Sends, Recvs}
-use Rattle.rcce_run.specs.Sweep.{Vain}
+use Rattle.chip_run.specs.Waiting.{Waits}
+use Rattle.chip_run.specs.Wants.{Want}
 use Rattle.coll_more.specs.Ops.{MoreAt}
 use Rattle.coll_more.specs.Turns.{MetOther, is_over}
 use Rattle.coll_more.specs.declared.kinds.More.{More}
@@ -18,17 +17,17 @@ use Rattle.coll_more.specs.declared.ops.Stage.{Stage}
 use Rattle.coll_more.specs.declared.ops.Stage.TheVariants.{Own, Between, Sending, Receiving}
 use Rattle.coll_run.specs.Teams.{MemberStands, MemberView, seat_of}
 
--- what stands next at a rank, as the run's words for waiting take it: a send, a receive, or a step of its own
-abbrev pub next_at : Stage → Next (Unit {0})
-next_at Own = Goes tt
-next_at Between = Goes tt
-next_at (Sending call op) = Sends op.to op.head [] tt
-next_at (Receiving call op) = Recvs op.from op.head (λ bytes. tt) (λ head. tt)
+-- what a rank wants by what comes next: a send, a receive, or a step of its own
+abbrev pub want_at : Stage → Want
+want_at Own = Want.Own
+want_at Between = Want.Own
+want_at (Sending call op) = Want.Send op.to op.head
+want_at (Receiving call op) = Want.Recv op.from
 
 -- a rank rests: its call is at its end; or the look that it waits at is vain; or it has met another head
 pub data Rests (s : SetupView) (memory : Memory) (rec : Record) (rank : ℕ) (op : MoreAt) : Type 0 where
   AtEnd : is_over (seat_of s rank) op ≡ true → Rests s memory rec rank op
-  Waits : Vain s (view_of s memory) rank rec (next_at op.stage) → Rests s memory rec rank op
+  Looks : Waits s (view_of s memory) rank rec (want_at op.stage) → Rests s memory rec rank op
   Met : (sent : MessageHead) → MetOther rec sent op.stage → Rests s memory rec rank op
 
 -- every rank of a run rests, where its events stand

@@ -1,5 +1,5 @@
 -- The ranks of a run of one collective call: where it begins, and what it leaves (this project's profile).
-use Rattle.std.specs.Prelude.{◌≡◌, ℕ, ◌<◌, List, [], ◌∷◌, ◌++◌, length, None, slice_index_or}
+use Rattle.std.specs.Prelude.{◌≡◌, ℕ, ◌<◌, Bool, false, List, [], ◌∷◌, ◌++◌, length, None, slice_index_or}
 use base.Stored.{gnil}
 use Rattle.scc_base.specs.Setups.{SetupView}
 use Rattle.scc_base.specs.declared.events.Event.{Event}
@@ -15,13 +15,15 @@ use Rattle.coll_more.specs.Pieces.{pieces_for}
 use Rattle.coll_more.specs.Standing.{IsFit, MoreStands}
 use Rattle.coll_more.specs.declared.kinds.More.{More}
 
--- what is seen of a rank: its core, its slot, its call, the bytes that it hands in and those that it gets
+-- what is seen of a rank: its core, its slot, its call, the bytes that it hands in and those that it gets, and whether it has
+-- met a message with another head than it asked for
 pub record MemberView : Type 0 where
   pub core : Private
   pub slot : SlotAt
   pub op : MoreAt
   pub src : List ℕ
   pub dst : List ℕ
+  pub met : Bool
 
 -- a rank of a setup, and its events, as a port of its own would show them
 abbrev pub seat_of : SetupView → ℕ → Seat
@@ -36,6 +38,7 @@ pub record IsFreshMember (more : More) (len : ℕ) (m : MemberView) : Type 0 whe
   pub op : m.op ≡ new_more more len
   pub slot : m.slot ≡ empty_slot
   pub buffer : m.core.out ≡ None
+  pub met : m.met ≡ false
 
 -- a rank stands where its events stand: this call is the first of its rank, which holds no register between turns
 pub record MemberStands (more : More) (len : ℕ) (m : MemberView) (s : SetupView) (rank : ℕ) (events : List Event) : Type 0 where
@@ -43,12 +46,6 @@ pub record MemberStands (more : More) (len : ℕ) (m : MemberView) (s : SetupVie
   pub len_is : m.op.len ≡ len
   pub stands : MoreStands [] (taking_part (sight_of s rank events) m.core m.op m.slot m.src m.dst)
   pub hands : (core : ℕ) → (record_of s rank events).held core ≡ None
-
--- all ranks of a chip, at home, each where its events stand
-pub record IsTeam (more : More) (len : ℕ) (chip : ChipView) (team : List MemberView) : Type 0 where
-  pub whole : IsWhole chip
-  pub each : length team ≡ (about_in chip).nue
-  pub stands : (k : ℕ) (d : MemberView) → k < length team → MemberStands more len (slice_index_or team k d) (about_in chip) k (events_in chip k)
 
 -- ranks before their first turn, from rank 0 on, with src and dst of their lengths
 pub record AreFresh (more : More) (len nue : ℕ) (team : List MemberView) : Type 0 where

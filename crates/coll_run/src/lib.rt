@@ -4,7 +4,7 @@
 mod laws;
 mod members;
 mod runs;
-mod turns;
+mod workers;
 
 pub use laws::{order_law, rest_law};
 pub use members::{Member, join};

@@ -12,7 +12,8 @@ use send_recv::Slot;
 use std::alloc::{AllocError, Global};
 use std::marker::Model;
 
-/// One rank with its collective call: its core, its slot, the call, the bytes that it hands in and those that it gets.
+/// One rank with its collective call: its core, its slot, the call, the bytes that it hands in and those that it gets, and
+/// whether it has met a message with another head.
 #[derive(Drop)]
 pub struct Member<V: Evict + Drop> {
     pub(crate) core: Core<V>,
@@ -20,6 +21,7 @@ pub struct Member<V: Evict + Drop> {
     pub(crate) op: MoreOp,
     pub(crate) src: Vec<u8>,
     pub(crate) dst: Vec<u8>,
+    pub(crate) met: bool,
 }
 
 impl<V: Evict + Drop> Model for Member<V> {
@@ -33,6 +35,7 @@ impl<V: Evict + Drop> Model for Member<V> {
       op = m.op;
       src = m.src.items;
       dst = m.dst.items;
+      met = m.met;
     } };
 }
 
@@ -52,6 +55,7 @@ impl<V: Evict + Drop> Member<V> {
             op: MoreOp::new(more, len),
             src,
             dst,
+            met: false,
         }
     }
 
