@@ -4,11 +4,11 @@ ghost use Rattle.std.specs.Prelude.{◌≡◌};
 ghost use Rattle.rcce_audit.specs.Held.{held_view};
 ghost use Rattle.audit_program.specs.Program.{script_log};
 
+use chip_run::RunEnd;
 use log_run::LogRun;
 use outcomes::Report;
 use rcce_audit::{CallList, HeldLog};
 use rcce_io::{Sink, TextSource, WriteFault};
-use rcce_run::RunEnd;
 use scc_base::Rank;
 
 /// A run whose log is to be written.

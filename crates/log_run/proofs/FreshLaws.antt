@@ -11,23 +11,24 @@ use Rattle.script_reader.specs.Settled.{IsWhole}
 use Rattle.script_plain.specs.Machine.{MachineView}
 use Rattle.script_plain.specs.CallLists.{calls_of}
 use Rattle.rcce_ue.specs.Ues.{UeView}
-use Rattle.rcce_run.specs.declared.ends.RunEnd.{RunEnd}
-use Rattle.rcce_run.specs.Crews.{AllRun, EndsAs, IsCrew}
-use Rattle.rcce_run.specs.Scripts.{NoneDrafts}
+use Rattle.chip_run.specs.declared.ends.RunEnd.{RunEnd}
+use Rattle.chip_run.specs.Crews.{IsCrew}
+use Rattle.rcce_run.specs.Crews.{AllRun, EndsAs}
+use Rattle.chip_run.specs.Waiting.{NoneDrafts}
 use Rattle.rcce_run.specs.UeRuns.{IsSameChip, WaitsOpen}
-use Rattle.rcce_run.proofs.CrewGrowth.{each_more}
-use Rattle.rcce_run.proofs.UeFits.{ue_stands}
+use Rattle.chip_run.proofs.CrewGrowth.{each_more}
+use Rattle.rcce_ue.proofs.WorkerTurns.{ue_stands}
 use Rattle.call_tap.specs.declared.taps.Tap.{Tap}
 use Rattle.call_tap.specs.Kept.{AreKept, HasRoom}
 use Rattle.call_tap.specs.Planned.{has_room_for}
 use Rattle.log_run.specs.declared.loggers.Logger.{Logger}
 use Rattle.log_run.specs.Loggers.{IsTapped}
-use Rattle.log_run.specs.LogRuns.{AreFresh, AreLegalCalls, HaveKept, IsFresh, IsFreshCrew, IsOver, IsOwnCall, KeepsCalls, logger_seen, logger_tied, plain_calls}
+use Rattle.log_run.specs.LogRuns.{AreFresh, AreLegalCalls, HaveKept, IsFresh, IsFreshCrew, IsOver, IsOwnCall, KeepsCalls, plain_calls, ue_loggers, ue_of}
 use Rattle.log_run.specs.Sizes.{has_room_for_all}
 use Rattle.log_run.proofs.RoomLaws.{each_room}
 
 -- fresh loggers are a crew, which runs their script
-pub fresh_is_crew : (script : Script) (chip : ChipView) (crew : List (Logger UeView)) → IsFreshCrew script chip crew → IsCrew logger_tied chip crew
+pub fresh_is_crew : (script : Script) (chip : ChipView) (crew : List (Logger UeView)) → IsFreshCrew script chip crew → IsCrew ue_loggers chip crew
 fresh_is_crew script chip crew fresh = record {
   whole = fresh.whole;
   each = fresh.loggers.count;
@@ -40,7 +41,7 @@ fresh_is_crew script chip crew fresh = record {
       };
 }
 
-pub fresh_runs : (script : Script) (chip : ChipView) (crew : List (Logger UeView)) → IsFreshCrew script chip crew → AllRun logger_seen script crew
+pub fresh_runs : (script : Script) (chip : ChipView) (crew : List (Logger UeView)) → IsFreshCrew script chip crew → AllRun ue_of script crew
 fresh_runs script chip crew fresh k d low = ap (λ (m : MachineView). m.script) (fresh.loggers.each k d low).fresh.machine
 
 pub fresh_some : (script : Script) (chip : ChipView) (crew : List (Logger UeView)) (s : SetupView) → IsFreshCrew script chip crew → s ≡ about_in chip → 1 ≤ s.nue → 0 < length crew

@@ -1,5 +1,5 @@
 pub mod PathLaws
-pub mod TurnLaws
+pub mod LoggerLaws
 pub mod LogEnds
 pub mod RoomLaws
 pub mod FreshLaws

@@ -33,18 +33,18 @@ use Rattle.call_tap.specs.Kept.{AreKept, HasRoom}
 use Rattle.call_tap.specs.Planned.{has_room_for}
 use Rattle.call_tap.specs.Taps.{HasRead}
 use Rattle.rcce_ue.specs.Ues.{UeView}
-use Rattle.rcce_run.specs.Crews.{AllRest, AllRun, IsAtEnd, IsCrew, locals_of}
-use Rattle.rcce_run.specs.Scripts.{NoneDrafts}
+use Rattle.chip_run.specs.Crews.{AllRest, IsCrew}
+use Rattle.rcce_run.specs.Crews.{AllRun, IsAtEnd, locals_of}
 use Rattle.rcce_run.specs.UeRuns.{WaitsOpen}
 use Rattle.rcce_run.specs.Sweep.{Stood, slots_by}
-use Rattle.rcce_run.specs.Turns.{Fits, state_of}
+use Rattle.rcce_run.specs.Ues.{Fits, state_of}
 use Rattle.rcce_run.proofs.Holding.{at_below, at_past}
 use Rattle.rcce_run.proofs.PlainEnds.{call_waits, plain_ended_at}
-use Rattle.rcce_run.proofs.RunEnds.{at_end, fit, is_swept}
+use Rattle.rcce_run.proofs.RunEnds.{RunsUes, at_end, fit, is_swept}
 use Rattle.rcce_run.proofs.Still.{none_passed}
 use Rattle.log_run.specs.declared.loggers.Logger.{Logger}
 use Rattle.log_run.specs.Loggers.{IsTapped}
-use Rattle.log_run.specs.LogRuns.{AreLegalCalls, KeepsCalls, done_at, logger_seen, logger_tied, plain_calls}
+use Rattle.log_run.specs.LogRuns.{AreLegalCalls, KeepsCalls, done_at, plain_calls, ue_loggers, ue_of}
 use Rattle.log_run.proofs.PathLaws.{AreFirst, are_first}
 
 recorded_call : (done : List DataCall) (n : Next Local) → call_of (recorded done n) ≡ call_of n
@@ -55,9 +55,14 @@ recorded_call done (Sends to head bytes after) = refl
 recorded_call done (Recvs from head take refuse) = refl
 recorded_call done (Bars comm after) = refl
 
--- a state of a UE fits the record of its rank
-logger_fits : (l : Logger UeView) (s : SetupView) (rank : ℕ) (events : List Event) → logger_tied l s rank events → Fits (logger_seen l) s rank events
-logger_fits l s rank events logging = logging.ties.fits
+-- loggers run their UEs
+pub loggers_run : RunsUes ue_loggers ue_of
+loggers_run = record {
+  shows = λ s rank x. refl;
+  stands = λ x s rank events logging. logging.ties;
+  moved = λ x y moves. moves.script;
+  stayed = λ x y stays. stays.script;
+}
 
 -- a tap in its place keeps what it has read, where it has room
 tap_keeps : (kept : (tap : Tap) (s : SetupView) (rank : ℕ) (events : List Event) → HasRead tap s rank events → s.layout ≡ LineFlags → HasRoom (record_of s rank events).calls → AreKept tap.kept (record_of s rank events).calls)
@@ -65,8 +70,8 @@ tap_keeps : (kept : (tap : Tap) (s : SetupView) (rank : ℕ) (events : List Even
 tap_keeps kept None s rank events tapped lines room = tapped
 tap_keeps kept (Some tap) s rank events tapped lines room = kept tap s rank events tapped lines room
 
-module _ (script : Script) (chip : ChipView) (crew : List (Logger UeView)) (memory : Memory) (agrees : Agrees (about_in chip) memory (records_in chip)) (is_crew : IsCrew logger_tied chip crew)
-    (all_run : AllRun logger_seen script crew) (some : 0 < length crew) (d : Logger UeView) where
+module _ (script : Script) (chip : ChipView) (crew : List (Logger UeView)) (memory : Memory) (agrees : Agrees (about_in chip) memory (records_in chip)) (is_crew : IsCrew ue_loggers chip crew)
+    (all_run : AllRun ue_of script crew) (some : 0 < length crew) (d : Logger UeView) where
   abbrev s : SetupView
   s = about_in chip
 
@@ -74,13 +79,13 @@ module _ (script : Script) (chip : ChipView) (crew : List (Logger UeView)) (memo
   records = records_in chip
 
   abbrev locals : ℕ → Local
-  locals = locals_of logger_seen crew d
+  locals = locals_of ue_of crew d
 
   within : (k : ℕ) → k < s.nue → k < length crew
   within k low = subst (λ (n : ℕ). k < n) (sym is_crew.each) low
 
-  fit_at : (k : ℕ) → k < s.nue → Fits (logger_seen (slice_index_or crew k d)) s k (events_in chip k)
-  fit_at k low = fit logger_seen logger_tied logger_fits script chip crew memory agrees is_crew all_run some d k low
+  fit_at : (k : ℕ) → k < s.nue → Fits (ue_of (slice_index_or crew k d)) s k (events_in chip k)
+  fit_at k low = fit ue_loggers ue_of loggers_run script chip crew memory agrees is_crew all_run some d k low
 
   -- the finished calls of a rank are the first of those that its program names
   module _ (known : (rank : ℕ) (u : Local) (last : Option Posted) (done : List DataCall) → Did local_next u last (local_start script rank) None done → calls_of script rank ≡ map calls.call_of done ++ calls_from (lengths_of u) u.left)
@@ -113,9 +118,9 @@ module _ (script : Script) (chip : ChipView) (crew : List (Logger UeView)) (memo
       let low : 0 < s.nue = subst (λ (n : ℕ). 0 < n) is_crew.each some in
       (fit_at 0 low).ranks ∙ ap (λ (x : Script). x.nue) (all_run 0 d some)
 
-  module _ (rests : AllRest logger_seen chip crew s.nue) where
+  module _ (rests : AllRest ue_loggers chip crew s.nue) where
     ended : IsAtEnd script s records locals
-    ended = at_end logger_seen logger_tied logger_fits script chip crew memory agrees is_crew all_run some d rests
+    ended = at_end ue_loggers ue_of loggers_run script chip crew memory agrees is_crew all_run some d rests
 
     abbrev states : ℕ → State
     states k = state_of (locals k) (records k)
@@ -135,10 +140,6 @@ module _ (script : Script) (chip : ChipView) (crew : List (Logger UeView)) (memo
           waits = ap (λ (e : Ended). e.end) (plain_ended_at script states (slots_by s records ended.lasts) ended.ends k less) ∙ waits;
         }
 
-    -- no rank has a message in draft
-    pub none_drafts : NoneDrafts s records
-    none_drafts = ended.no_draft
-
     -- nothing open is passed, so the finished calls are legal
     module _ (beyond : (r : ℕ) → s.nue ≤ r → events_in chip r ≡ []) where
       past_passed : (k : ℕ) → s.nue ≤ k → passed_calls s records k ≡ (records k).calls
@@ -150,7 +151,7 @@ module _ (script : Script) (chip : ChipView) (crew : List (Logger UeView)) (memo
       all_passed k =
           ⊎_elim
           (λ (low : k < s.nue). none_passed next_of s memory records (started script) _ _
-          (is_swept logger_seen logger_tied logger_fits script chip crew memory agrees is_crew all_run some d rests).swept k low)
+          (is_swept ue_loggers ue_of loggers_run script chip crew memory agrees is_crew all_run some d rests).swept k low)
           (λ (past : s.nue ≤ k). past_passed k past)
           (cases_lt k s.nue)
 

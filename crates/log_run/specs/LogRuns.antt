@@ -16,26 +16,27 @@ use Rattle.script_reader.specs.Script.{Script, rules_of}
 use Rattle.script_reader.specs.Settled as settled
 use Rattle.script_plain.specs.Meaning.{State, plain_end}
 use Rattle.rcce_ue.specs.Ues.{UeView}
-use Rattle.rcce_run.specs.declared.ends.RunEnd.{RunEnd}
+use Rattle.chip_run.specs.declared.ends.RunEnd.{RunEnd}
 use Rattle.rcce_run.specs.Crews.{EndsAs}
-use Rattle.rcce_run.specs.Scripts.{NoneDrafts}
-use Rattle.rcce_run.specs.Turns.{WorkerView}
+use Rattle.chip_run.specs.Waiting.{NoneDrafts}
 use Rattle.rcce_run.specs.UeRuns.{IsFreshUe, WaitsOpen}
-use Rattle.rcce_run.specs.Ues.{UeStands, ue_seen}
+use Rattle.rcce_ue.specs.Workers.{ue_conduct}
+use Rattle.chip_run.specs.Conducts.{Conduct}
 use Rattle.log_run.specs.declared.loggers.Logger.{Logger}
-use Rattle.log_run.specs.Loggers.{IsLogging, IsTapped}
+use Rattle.log_run.specs.Loggers.{IsTapped, loggers_of}
 
 -- a UE before its first turn, with a tap that has read nothing
 pub record IsFresh (script : Script) (s : SetupView) (rank : ℕ) (logger : Logger UeView) : Type 0 where
   pub fresh : IsFreshUe script s rank logger.worker
   pub tapped : IsTapped logger.tap s rank []
 
--- what a run sees of the UE, and where it stands
-abbrev pub logger_seen : Logger UeView → WorkerView
-logger_seen logger = ue_seen logger.worker
+-- the UE of a logger
+abbrev pub ue_of : Logger UeView → UeView
+ue_of logger = logger.worker
 
-abbrev pub logger_tied : Logger UeView → SetupView → ℕ → List Event → Type 0
-logger_tied logger = IsLogging (UeStands logger.worker) logger.tap
+-- how loggers with UEs conduct themselves in a run
+abbrev pub ue_loggers : Conduct (Logger UeView)
+ue_loggers = loggers_of ue_conduct
 
 -- the tap is in its place, and keeps these calls
 abbrev pub KeepsCalls : Option Tap → List DataCall → Type 0

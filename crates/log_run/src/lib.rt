@@ -4,15 +4,11 @@
 mod crew;
 mod loggers;
 mod rooms;
-mod runs;
 mod script_runs;
 mod sizes;
-mod sweeps;
-mod turns;
 mod ue_runs;
 
 pub use loggers::Logger;
 pub use rooms::has_room;
-pub use runs::run_loggers;
 pub use script_runs::{LogRun, run_script};
 pub use ue_runs::log_run;

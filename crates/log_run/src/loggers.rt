@@ -1,7 +1,9 @@
 //! A worker whose calls are kept.
 
-use call_tap::Tap;
-use rcce_run::Worker;
+use call_tap::{Tap, Tapped};
+use chip_run::Worker;
+use scc_base::Turn;
+use scc_proto::Port;
 
 /// A worker with the tap on its rank's port. The tap is away only while a turn lasts.
 #[derive(Drop)]
@@ -23,4 +25,31 @@ impl<W: Worker + Drop> Logger<W> {
             tap: Some(tap),
         }
     }
+}
+
+// A turn goes through the worker's port with the tap on it.
+impl<W: Worker + Drop> Worker for Logger<W> {
+    ghost use Rattle.log_run.specs.Loggers.{loggers_of};
+
+    ghost conduct = { loggers_of W.conduct };
+
+    fn turn<P: Port>(&mut self, port: P) -> (Turn, P) {
+        let Some(tap) = self.tap.take() else {
+            unreachable!()
+        };
+        let (answer, tapped) = self.worker.turn(Tapped::new(tap, port));
+        let (tap, port) = tapped.apart();
+        self.tap = Some(tap);
+        (answer, port)
+    }
+
+    fn stretch<P: Port>(&mut self, port: P) -> (Turn, P) {
+        self.turn(port)
+    }
+
+    fn is_stopped(&self) -> bool {
+        self.worker.is_stopped()
+    }
+
+    ghost hands = { λ l s rank events logging. W.hands l.worker s rank events logging.ties };
 }

@@ -4,7 +4,7 @@ ghost use Rattle.std.specs.Prelude.{◌≡◌, ◌<◌, All, length, ℕ, slice_
 ghost use Rattle.call_tap.specs.Kept.{HasRoom};
 ghost use Rattle.call_tap.specs.Planned.{has_room_for};
 ghost use Rattle.rcce_run.specs.Crews.{EndsAs};
-ghost use Rattle.rcce_run.specs.Scripts.{NoneDrafts};
+ghost use Rattle.chip_run.specs.Waiting.{NoneDrafts};
 ghost use Rattle.rcce_run.specs.UeRuns.{IsSameChip, WaitsOpen};
 ghost use Rattle.rcce_ue.specs.Ues.{UeView};
 ghost use Rattle.scc_base.specs.Calls.{DataCall, HasItsBytes};
@@ -17,10 +17,9 @@ ghost use Rattle.log_run.specs.declared.loggers.Logger.{Logger};
 ghost use Rattle.log_run.specs.LogRuns.{AreLegalCalls, IsFreshCrew, IsOwnCall, KeepsCalls, plain_calls};
 
 use crate::loggers::Logger;
-use crate::runs::run_loggers;
 use call_tap::{kept_law, room_law};
+use chip_run::{RunEnd, run_by_sweeps};
 use line_cache::Evict;
-use rcce_run::RunEnd;
 use rcce_ue::Ue;
 use scc_mesh::Chip;
 use script_plain::{calls_are_known_before, calls_can_be_made};
@@ -56,7 +55,7 @@ pub fn log_run<V: Evict + Drop>(chip: &mut Chip, crew: &mut [Logger<Ue<'_, V>>])
         → HasRoom (records_in chip.new k).calls }
 {
     let _ = chip.setup().nue();
-    let end = run_loggers(chip, crew);
+    let end = run_by_sweeps(chip, crew);
     chip.agrees();
     calls_are_known_before();
     calls_can_be_made();

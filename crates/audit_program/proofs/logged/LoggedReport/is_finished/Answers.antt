@@ -1,6 +1,6 @@
 use Rattle.std.proofs.Common.{subst, sym}
 use Rattle.rcce_run.specs.Crews.{EndsAs}
-use Rattle.rcce_run.specs.declared.ends.RunEnd.{RunEnd}
+use Rattle.chip_run.specs.declared.ends.RunEnd.{RunEnd}
 use Rattle.rcce_run.proofs.FinishedLaws.{finished_all, stuck_one}
 use Rattle.audit_program.proofs.logged.LoggedReport.is_finished.Goals as goal
 
