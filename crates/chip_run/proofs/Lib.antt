@@ -8,6 +8,7 @@ pub mod RowLaws
 pub mod ServedLaws
 pub mod MemberLaws
 pub mod ThreadLaws
+pub mod TogetherLaws
 pub mod OrderLaws
 pub mod RunLaws
 pub mod RestLaws

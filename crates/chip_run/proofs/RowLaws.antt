@@ -14,7 +14,7 @@ use Rattle.chip_run.specs.Turns.{Turned, TurnMeans, TurnsMoved, OneMoved, MoreMo
 -- ---- where a row ends
 
 -- behind no answer a row is not at its end
-none_yet : EndsRow 1000 [] → ⊥
+pub none_yet : EndsRow 1000 [] → ⊥
 none_yet (inl over) = absurd (cc (over))
 none_yet (inr many) = absurd (omega (arith, many))
 
@@ -96,7 +96,7 @@ module _ {A : Type 0} (c : Conduct A) where
   left_after stepped s rank own events old new (turn.Waiting spot) means = let same = ap (λ (w : WorkerView). w.left) means.seen in omega (arith, same)
   left_after stepped s rank own events old new turn.Done means = let same = ap (λ (w : WorkerView). w.left) means.seen in omega (arith, same)
 
-  later_on : (stepped : List Event → Event → Type 0) (s : SetupView) (rank : ℕ) (own events : List Event) (first old new : A) (answer : Turn) → Later c first old → TurnMeans c stepped s rank own events old new answer → Later c first new
+  pub later_on : (stepped : List Event → Event → Type 0) (s : SetupView) (rank : ℕ) (own events : List Event) (first old new : A) (answer : Turn) → Later c first old → TurnMeans c stepped s rank own events old new answer → Later c first new
   later_on stepped s rank own events first old new turn.Moved before means = Moving old new before means.moves
   later_on stepped s rank own events first old new (turn.Waiting spot) before means = Staying old new before means.stays
   later_on stepped s rank own events first old new turn.Done before means = Staying old new before means.stays

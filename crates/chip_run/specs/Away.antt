@@ -7,9 +7,10 @@ use Rattle.scc_base.specs.declared.events.Turn.TheVariants as turn
 use Rattle.scc_proto.specs.Ports.{Sight, Did}
 use Rattle.scc_mesh.specs.AwayRanks.{Ticket}
 use Rattle.scc_mesh.specs.Spaces.{ChipId}
-use Rattle.scc_mesh.specs.Scenes.{WasSeatStep}
+use Rattle.scc_mesh.specs.Scenes.{WasSeatStep, sight_away}
 use Rattle.chip_run.specs.Conducts.{Conduct, Later}
-use Rattle.chip_run.specs.Turns.{Turned}
+use Rattle.chip_run.specs.Crews.{sum_from}
+use Rattle.chip_run.specs.Turns.{Stretched, Turned}
 use Rattle.chip_run.specs.declared.members.Member.{Member}
 
 -- turns through a port, one after the other, with these answers; the latest stands first
@@ -68,6 +69,23 @@ vain_by most turn.Done vain = most
 abbrev pub row_left : ℕ → ℕ → ℕ → ℕ
 row_left most left vain = most * left + (most - vain)
 
+-- the next stretch of a row of a rank that is away, in which so many turns in a row were vain before it, and are behind it
+pub record NextStretch {A : Type 0} (c : Conduct A) (s : SetupView) (old : A) (token : Option Ticket) (vain : ℕ) (new : A) (later : Option Ticket) (now : ℕ) : Type 0 where
+  pub going : vain < 1000
+  pub first : Ticket
+  pub last : Ticket
+  pub before : token ≡ Some first
+  pub behind : later ≡ Some last
+  pub answer : Turn
+  pub stretched : Stretched c (WasSeatStep (sight_away s first).seat) old (sight_away s first) new (sight_away s last) answer
+  pub counts : now ≡ vain_by 1000 answer vain
+
+-- stretches of a row of a rank that is away, one after the other
+pub data Stretches {A : Type 0} (c : Conduct A) (s : SetupView) (old : A) (token : Option Ticket) (vain : ℕ) : A → Option Ticket → ℕ → Type 0 where
+  NoStretch : Stretches c s old token vain old token vain
+  OneStretch : (mid new : A) (some later : Option Ticket) (half now : ℕ) → Stretches c s old token vain mid some half
+      → NextStretch c s mid some half new later now → Stretches c s old token vain new later now
+
 -- a token of this rank of this chip, where its worker stands
 abbrev pub IsAway : (SetupView → ℕ → List Event → Type 0) → SetupView → ChipId → ℕ → Option Ticket → Type 0
 IsAway stands s table r None = ⊥
@@ -86,6 +104,10 @@ members_of c = record {
   moves = λ m n. c.moves m.worker n.worker;
   stays = λ m n. c.stays m.worker n.worker;
 }
+
+-- how many turns of the rows of some members are left at most, the first of them that of this rank
+abbrev pub rows_left : {A : Type 0} → Conduct A → SetupView → ℕ → List (Member A) → ℕ
+rows_left c s start members = sum_from (λ k m. row_left 1000 (c.seen s k m.worker).left m.vain) start members
 
 -- the first n of a crew were served, one after the other, and the others are as they were
 pub record Served {A : Type 0} (R : ℕ → A → A → Type 0) (n : ℕ) (old now : List A) : Type 0 where

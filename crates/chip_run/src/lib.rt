@@ -7,10 +7,12 @@ mod gates;
 mod laws;
 mod members;
 mod rests;
+mod rolls;
 mod rows;
 mod runs;
 mod sweeps;
 mod threads;
+mod together;
 mod workers;
 
 pub use ends::RunEnd;

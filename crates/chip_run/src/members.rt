@@ -10,6 +10,8 @@ use scc_proto::Port;
 pub struct Member<W: Worker + Drop> {
     pub worker: W,
     pub token: Option<Token>,
+    /// How many turns in a row it has waited, of a row that is taken a stretch at a time.
+    pub vain: usize,
 }
 
 impl<W: Worker + Drop> Member<W> {
@@ -23,6 +25,7 @@ impl<W: Worker + Drop> Member<W> {
         Member {
             worker,
             token: None,
+            vain: 0,
         }
     }
 }

@@ -3,20 +3,17 @@
 ghost use Rattle.std.specs.Prelude.{◌≡◌, ◌<◌};
 ghost use Rattle.chip_run.specs.Away.{RowOfTurns, TookRow, vain_by};
 
+use crate::rolls::Roll;
 use crate::workers::Worker;
 use scc_base::Turn;
 use scc_mesh::{Token, Words};
 use scc_proto::Port;
-use std::thread;
 
 /// How many vain turns in a row end it.
-const VAIN: usize = 1000;
-
-/// From how many vain turns in a row on other threads run behind each.
-const PATIENCE: usize = 16;
+pub(crate) const VAIN: usize = 1000;
 
 /// How many turns in a row were vain after one more.
-fn vain_after(answer: &Turn, vain: usize) -> usize
+pub(crate) fn vain_after(answer: &Turn, vain: usize) -> usize
     requires below { vain < 1000 }
     ensures gives { result ≡ vain_by 1000 answer.now vain }
 {
@@ -27,15 +24,8 @@ fn vain_after(answer: &Turn, vain: usize) -> usize
     }
 }
 
-/// Lets another thread run behind a vain turn, once several were vain: the rank that is waited for may have no processor.
-fn give_way(vain: usize) {
-    if vain >= PATIENCE {
-        thread::yield_now();
-    }
-}
-
 /// Turns of a worker, until it is over or has waited in a thousand turns in a row.
-pub(crate) fn row<W: Worker, P: Port>(worker: &mut W, port: P) -> P
+pub(crate) fn row<W: Worker, P: Port>(worker: &mut W, port: P, roll: &Roll) -> P
     requires ties { W.conduct.tied worker.old (P.sight port).seat.setup (P.sight port).seat.rank (P.sight port).events }
     ensures ties { W.conduct.tied worker.new (P.sight result).seat.setup (P.sight result).seat.rank (P.sight result).events }
     ensures row { RowOfTurns W.conduct (P.stepped (P.sight port).seat) worker.old (P.sight port) worker.new (P.sight result) }
@@ -46,13 +36,18 @@ pub(crate) fn row<W: Worker, P: Port>(worker: &mut W, port: P) -> P
         let (answer, back) = worker.stretch(port);
         port = back;
         vain = vain_after(&answer, vain);
-        give_way(vain);
+        roll.give_way(vain);
     }
     port
 }
 
 /// The same for a rank that is away, by a port of its own.
-pub(crate) fn row_away<W: Worker>(words: Words<'_>, token: Token, worker: &mut W) -> Token
+pub(crate) fn row_away<W: Worker>(
+    words: Words<'_>,
+    token: Token,
+    worker: &mut W,
+    roll: &Roll,
+) -> Token
     requires of_chip { token.table ≡ words.space.now.table }
     requires ties { W.conduct.tied worker.old words.space.now.about token.rank token.events }
     ensures table { result.table ≡ token.table }
@@ -60,6 +55,6 @@ pub(crate) fn row_away<W: Worker>(words: Words<'_>, token: Token, worker: &mut W
     ensures ties { W.conduct.tied worker.new words.entry.space.now.about result.rank result.events }
     ensures row { TookRow W.conduct words.entry.space.now.about token.rank worker.old worker.new }
 {
-    let port = row(worker, words.port(token));
+    let port = row(worker, words.port(token), roll);
     port.into_token()
 }

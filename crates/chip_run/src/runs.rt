@@ -21,7 +21,7 @@ use std::thread::Threads;
 /// How the turns of a run are taken.
 #[derive(Clone, Copy, PartialEq, Eq)]
 pub enum Mode {
-    /// Each rank takes its turns in a thread of its own.
+    /// Each rank takes its turns in a thread of its own, or in one that it shares where the system refuses some.
     Threads,
     /// All turns are taken in this thread, in the order that a generator with this seed names.
     Serial(u64),
@@ -46,21 +46,24 @@ impl Rounds {
     }
 }
 
-/// The next round.
+/// The next round, which asks for so many threads if it is in threads, and then tells how many the one behind it asks for.
 fn next_round<W: Worker + Drop + Send, G: Gate + Sync, R: Threads + Sync>(
     rt: &R,
     chip: &mut Chip,
     crew: &mut [Member<W>],
     rounds: &mut Rounds,
     gate: &G,
+    threads: &mut usize,
 )
     requires crew { IsCrew (members_of W.conduct) chip.old crew.old }
     requires some { 0 < length crew.old }
+    requires threads { 0 < threads.old }
+    ensures threads { 0 < threads.new }
     ensures stands { CrewStands (members_of W.conduct) chip.old crew.old chip.new crew.new }
     ensures next { NextRound (members_of W.conduct) rounds.old rounds.new chip.old crew.old chip.new crew.new }
 {
     match rounds {
-        Rounds::InThreads => round_in_threads(rt, chip, crew, gate),
+        Rounds::InThreads => *threads = round_in_threads(rt, chip, crew, gate, *threads),
         Rounds::Picked(picks) => round(chip, crew, picks),
     }
 }
@@ -89,8 +92,9 @@ pub fn run<W: Worker + Drop + Send, G: Gate + Sync, R: Threads + Sync>(
     ensures order { InOrder (members_of W.conduct) mode chip.old crew.old chip.new crew.new }
 {
     let mut rounds = Rounds::of(mode);
+    let mut threads = crew.len();
     loop {
-        next_round(rt, chip, crew, &mut rounds, gate);
+        next_round(rt, chip, crew, &mut rounds, gate, &mut threads);
         let came = sweep(chip, crew);
         if let Some(end) = came.end() {
             return end;

@@ -1,6 +1,6 @@
-//! A round in threads: each worker takes a row of turns in a thread of its own.
+//! A round in threads: each worker takes a row of turns, in a thread of its own where the system grants so many.
 
-ghost use Rattle.std.specs.Prelude.{◌≡◌, ◌≢◌, ℕ, ◌+◌, ◌<◌, length, slice_index_or};
+ghost use Rattle.std.specs.Prelude.{◌≡◌, ◌≢◌, ℕ, ◌+◌, ◌^◌, ◌<◌, length, slice_index_or};
 ghost use Rattle.chip_run.specs.Away.{IsAtHome, IsAway, Served, TookRow, members_of};
 ghost use Rattle.chip_run.specs.Crews.{IsCrew};
 ghost use Rattle.chip_run.specs.Runs.{TookRows};
@@ -8,7 +8,9 @@ ghost use Rattle.scc_mesh.specs.Scenes.{IsHomeBelow, IsHomeFrom, IsWhole, about_
 
 use crate::gates::Gate;
 use crate::members::Member;
+use crate::rolls::Roll;
 use crate::rows::row_away;
+use crate::together::rows_together;
 use crate::workers::Worker;
 use scc_base::Rank;
 use scc_mesh::{Chip, Words};
@@ -48,7 +50,13 @@ fn bring<W: Worker + Drop>(chip: &mut Chip, at: usize, member: &mut Member<W>)
 }
 
 /// One member's row of turns, in its thread.
-fn go<W: Worker + Drop, G: Gate>(words: Words<'_>, gate: &G, at: usize, member: &mut Member<W>)
+fn go<W: Worker + Drop, G: Gate>(
+    words: Words<'_>,
+    gate: &G,
+    roll: &Roll,
+    at: usize,
+    member: &mut Member<W>,
+)
     requires away { IsAway (W.conduct.tied member.old.worker) words.space.now.about words.space.now.table at member.old.token }
     ensures away { IsAway (W.conduct.tied member.new.worker) words.entry.space.now.about words.entry.space.now.table at member.new.token }
     ensures row { TookRow W.conduct words.entry.space.now.about at member.old.worker member.new.worker }
@@ -56,8 +64,9 @@ fn go<W: Worker + Drop, G: Gate>(words: Words<'_>, gate: &G, at: usize, member: 
     let Some(token) = member.token.take() else {
         unreachable!()
     };
+    roll.begin();
     gate.pass(token.rank());
-    member.token = Some(row_away(words, token, &mut member.worker));
+    member.token = Some(row_away(words, token, &mut member.worker, roll));
 }
 
 /// Hands out all ranks, in rank order.
@@ -78,6 +87,7 @@ fn in_threads<W: Worker + Drop + Send, G: Gate + Sync, R: Threads + Sync>(
     rt: &R,
     words: Words<'_>,
     gate: &G,
+    roll: &Roll,
     crew: &mut [Member<W>],
 )
     requires some { 0 < length crew.old }
@@ -93,8 +103,56 @@ fn in_threads<W: Worker + Drop + Send, G: Gate + Sync, R: Threads + Sync>(
         &|at: usize, member: &mut Member<W>|
             requires { IsAway (W.conduct.tied member.old.worker) words.space.now.about words.space.now.table at member.old.token }
             ensures { IsAway (W.conduct.tied member.new.worker) words.entry.space.now.about words.entry.space.now.table at member.new.token × TookRow W.conduct words.entry.space.now.about at member.old.worker member.new.worker }
-        { go(words, gate, at, member) },
+        { go(words, gate, roll, at, member) },
     );
+}
+
+/// All members' rows of turns, where so many share a thread.
+fn in_few_threads<W: Worker + Drop + Send, G: Gate + Sync, R: Threads + Sync>(
+    rt: &R,
+    words: Words<'_>,
+    gate: &G,
+    roll: &Roll,
+    crew: &mut [Member<W>],
+    each: usize,
+)
+    requires each { 0 < each }
+    requires away { (i : ℕ) (d : _) → i < length crew.old → let m = slice_index_or crew.old i d in IsAway (W.conduct.tied m.worker) words.space.now.about words.space.now.table i m.token }
+    ensures away { (i : ℕ) (d : _) → i < length crew.old → let m = slice_index_or crew.new i d in IsAway (W.conduct.tied m.worker) words.entry.space.now.about words.entry.space.now.table i m.token }
+    ensures rows { (i : ℕ) (d : _) → i < length crew.old → TookRow W.conduct words.entry.space.now.about i (slice_index_or crew.old i d).worker (slice_index_or crew.new i d).worker }
+{
+    thread::for_each_chunk_mut(
+        rt,
+        crew,
+        each,
+        &|start: usize, members: &mut [Member<W>]|
+            requires { (start + length members.old < 2 ^ 64) × ((k : ℕ) (d : _) → k < length members.old → let m = slice_index_or members.old k d in IsAway (W.conduct.tied m.worker) words.space.now.about words.space.now.table (start + k) m.token) }
+            ensures { (k : ℕ) (d : _) → k < length members.old → let m = slice_index_or members.new k d in IsAway (W.conduct.tied m.worker) words.entry.space.now.about words.entry.space.now.table (start + k) m.token
+                × TookRow W.conduct words.entry.space.now.about (start + k) (slice_index_or members.old k d).worker m.worker }
+        { rows_together(words, gate, roll, start, members) },
+    );
+}
+
+/// All members' rows of turns, so many in a thread at the most.
+fn all_rows<W: Worker + Drop + Send, G: Gate + Sync, R: Threads + Sync>(
+    rt: &R,
+    words: Words<'_>,
+    gate: &G,
+    roll: &Roll,
+    crew: &mut [Member<W>],
+    each: usize,
+)
+    requires some { 0 < length crew.old }
+    requires each { 0 < each }
+    requires away { (i : ℕ) (d : _) → i < length crew.old → let m = slice_index_or crew.old i d in IsAway (W.conduct.tied m.worker) words.space.now.about words.space.now.table i m.token }
+    ensures away { (i : ℕ) (d : _) → i < length crew.old → let m = slice_index_or crew.new i d in IsAway (W.conduct.tied m.worker) words.entry.space.now.about words.entry.space.now.table i m.token }
+    ensures rows { (i : ℕ) (d : _) → i < length crew.old → TookRow W.conduct words.entry.space.now.about i (slice_index_or crew.old i d).worker (slice_index_or crew.new i d).worker }
+{
+    if each > 1 {
+        in_few_threads(rt, words, gate, roll, crew, each);
+    } else {
+        in_threads(rt, words, gate, roll, crew);
+    }
 }
 
 /// Takes all ranks home, in rank order.
@@ -112,19 +170,26 @@ fn take_home<W: Worker + Drop>(chip: &mut Chip, crew: &mut [Member<W>])
     }
 }
 
-/// A round in threads: every rank is away while its worker takes turns, and at home again afterwards.
+/// A round in threads: every rank is away while its worker takes turns, and at home again afterwards. It asks for so many
+/// threads, one for each rank at the most, and tells how many the next round asks for.
 pub(crate) fn round_in_threads<W: Worker + Drop + Send, G: Gate + Sync, R: Threads + Sync>(
     rt: &R,
     chip: &mut Chip,
     crew: &mut [Member<W>],
     gate: &G,
-)
+    threads: usize,
+) -> usize
     requires crew { IsCrew (members_of W.conduct) chip.old crew.old }
     requires some { 0 < length crew.old }
+    requires threads { 0 < threads }
     // Each worker took a row of turns.
     ensures took { TookRows (members_of W.conduct) chip.old crew.old chip.new crew.new }
+    ensures next { 0 < result }
 {
+    let each = crew.len().div_ceil(threads);
+    let roll = Roll::new(crew.len().div_ceil(each));
     hand_out(chip, crew);
-    in_threads(rt, chip.words(), gate, crew);
+    all_rows(rt, chip.words(), gate, &roll, crew, each);
     take_home(chip, crew);
+    roll.next()
 }

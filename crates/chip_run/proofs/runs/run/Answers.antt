@@ -1,4 +1,4 @@
-use Rattle.std.proofs.Common.{◌≡◌, ℕ, ◌+◌, ◌<◌, length, subst, sym, ◌∙◌}
+use Rattle.std.proofs.Common.{ℕ, ◌+◌, length, subst, sym, ◌∙◌}
 use Rattle.scc_mesh.specs.Scenes.{about_in}
 use Rattle.chip_run.specs.declared.runs.Rounds.{Rounds}
 use Rattle.chip_run.specs.Away.{members_of}
@@ -12,6 +12,7 @@ use Rattle.chip_run.proofs.runs.run.Goals as goal
 pub loop-end-init : goal.loop-end-init
 loop-end-init g c = record {
   stands = stands_first (members_of g.W.Worker.conduct) c.args.chip.now c.args.crew.now c.requires.crew;
+  threads = c.requires.some;
   order = (
     0,
     subst (λ (w : Rounds). RoundsTo (members_of g.W.Worker.conduct) (rounds_of c.args.mode) 0 w c.args.chip.now c.args.crew.now c.args.chip.now c.args.crew.now)
@@ -26,6 +27,7 @@ loop-end-preserved g c = record {
       (stands_both (members_of g.W.Worker.conduct) c.args.chip.now c.loop-end.chip c.next_round.new.chip c.args.crew.now c.loop-end.crew c.next_round.new.crew
       c.loop-end.invariant.stands c.next_round.ensures.stands)
       c.sweep-came.ensures.swept.stands;
+  threads = c.next_round.ensures.threads;
   order = (
     c.loop-end.invariant.order.0 + 1,
     rounds_on (members_of g.W.Worker.conduct) (rounds_of c.args.mode) c.loop-end.rounds c.next_round.new.rounds c.loop-end.invariant.order.0

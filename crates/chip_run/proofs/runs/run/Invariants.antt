@@ -1,4 +1,4 @@
-use Rattle.std.specs.Prelude.{ℕ}
+use Rattle.std.specs.Prelude.{ℕ, ◌<◌}
 use Rattle.scc_mesh.specs.Scenes.{about_in}
 use Rattle.chip_run.specs.Away.{members_of}
 use Rattle.chip_run.specs.Crews.{CrewStands, all_left}
@@ -8,6 +8,7 @@ use Rattle.chip_run.proofs.runs.run.Given as goal
 abbrev pub invariant-loop-end : goal.invariant-loop-end
 invariant-loop-end g l = record {
   stands : CrewStands (members_of g.W.Worker.conduct) l.fn.chip l.fn.crew l.chip l.crew;
+  threads : 0 < l.threads;
   order : (n : ℕ) × RoundsTo (members_of g.W.Worker.conduct) (rounds_of l.fn.mode) n l.rounds l.fn.chip l.fn.crew l.chip l.crew;
 }
 

@@ -1,0 +1,28 @@
+use Rattle.std.proofs.Common.{ℕ, ◌+◌, ◌<◌, length, refl, ap, subst, arith, slice_index_or}
+use Rattle.chip_run.specs.Away.{IsAway, Stretches, row_left}
+use Rattle.chip_run.specs.declared.members.Member.{Member}
+use Rattle.chip_run.proofs.ServedLaws.{one_entry, sum_set}
+use Rattle.chip_run.proofs.TogetherLaws.{left_on, over_one, served_one}
+use Rattle.chip_run.proofs.together.pass.Goals as goal
+
+pub loop-at-preserved : goal.loop-at-preserved
+loop-at-preserved g c =
+    let d = c.index-members-at.result in
+    let now = c.loop-at.members in
+    let old = slice_index_or now c.loop-at.at d in
+    let new = c.go_on-goes.new.member in
+    let about = c.args.words.space.now.about in
+    let left : ℕ → Member _ → ℕ = λ k m. row_left 1000 (g.W.Worker.conduct.seen about k m.worker).left m.vain in
+    let so = c.loop-at.invariant.served in
+    let many = so.count in
+    let inside : c.loop-at.at < length c.args.members.now = omega (arith, c.loop-at-test.true, c.loop-at.auto.at-end) in
+    let low : c.loop-at.at < length c.loop-at.members = omega (arith, inside, many) in
+    record {
+      served = served_one (λ k m n. IsAway (g.W.Worker.conduct.tied n.worker) about c.args.words.space.now.table (c.args.start + k) n.token
+          × Stretches g.W.Worker.conduct about m.worker m.token m.vain n.worker n.token n.vain) c.args.members.now now c.loop-at.at new d inside so
+          (c.go_on-goes.ensures.away, subst (λ o. Stretches g.W.Worker.conduct about o.worker o.token o.vain new.worker new.token new.vain) (so.left c.loop-at.at d (omega arith)) c.go_on-goes.ensures.stretches);
+      left = left_on c.loop-at.goes c.go_on-goes.result _ _ _ (left (c.args.start + c.loop-at.at) old) (left (c.args.start + c.loop-at.at) new) c.loop-at.invariant.left
+          (sum_set left c.args.start c.loop-at.at (c.args.start + c.loop-at.at) now old new refl low (one_entry now c.loop-at.at d old low))
+          c.go_on-goes.ensures.less (λ no. ap (left (c.args.start + c.loop-at.at)) (c.go_on-goes.ensures.over no).0);
+      over = over_one (λ m. m.vain) c.loop-at.goes c.go_on-goes.result now c.loop-at.at new low c.loop-at.invariant.over (λ no. (c.go_on-goes.ensures.over no).1);
+    }

@@ -1,0 +1,41 @@
+use Rattle.std.proofs.Common.{rules, ℕ, ◌+◌, ◌<◌, sym, ◌∙◌, subst, arith, slice_index_or}
+use Rattle.chip_run.specs.Away.{IsAway, NoStretch, Stretches}
+use Rattle.chip_run.proofs.TogetherLaws.{stretches_both, took_row}
+use Rattle.chip_run.proofs.together.rows_together.Goals as goal
+
+pub loop-start-init : goal.loop-start-init
+loop-start-init g c = record {
+  count = c.begin_all.ensures.served.count;
+  done = λ k d low within.
+      subst
+      (λ n. IsAway (g.W.Worker.conduct.tied n.worker) c.args.words.space.now.about c.args.words.space.now.table (c.args.start + k) n.token
+      × Stretches g.W.Worker.conduct c.args.words.space.now.about (slice_index_or c.args.members.now k d).worker (slice_index_or c.args.members.now k d).token 0 n.worker n.token n.vain)
+      (sym (c.begin_all.ensures.served.done k d low within))
+      (c.requires.away k d within, NoStretch);
+  left = c.begin_all.ensures.served.left;
+}
+
+pub loop-start-preserved : goal.loop-start-preserved
+loop-start-preserved g c =
+    let so = c.loop-start.invariant in
+    let on = c.pass.ensures.served in record {
+      count = on.count ∙ so.count;
+      done = λ k d low within.
+          let before = so.done k d low within in
+          let inside = subst (λ (n : ℕ). k < n) (sym so.count) within in
+          let step = on.done k d inside inside in
+          (step.0, stretches_both g.W.Worker.conduct c.args.words.space.now.about _ _ _ _ 0 _ before.1 _ _ _ step.1);
+      left = λ k d past. on.left k d (omega (arith, past, so.count)) ∙ so.left k d past;
+    }
+
+pub returns-then-not-pass-clause-rows : goal.returns-then-not-pass-clause-rows
+returns-then-not-pass-clause-rows g c = λ k d within.
+    let so = c.loop-start.invariant in
+    let on = c.pass.ensures.served in
+    let before = so.done k d within within in
+    let inside = subst (λ (n : ℕ). k < n) (sym so.count) within in
+    let step = on.done k d inside inside in
+    took_row g.W.Worker.conduct (g.W.Worker.conduct.tied (slice_index_or c.args.members.now k d).worker) c.args.words.space.now.about c.args.words.space.now.table (c.args.start + k)
+    _ _ (slice_index_or c.args.members.now k d).token (slice_index_or c.pass.new.members k d).token (slice_index_or c.pass.new.members k d).vain (c.requires.away k d within)
+    (stretches_both g.W.Worker.conduct c.args.words.space.now.about _ _ _ _ 0 _ before.1 _ _ _ step.1)
+    (c.pass.ensures.over (search rules) k d (subst (λ (n : ℕ). k < n) (sym on.count) inside))

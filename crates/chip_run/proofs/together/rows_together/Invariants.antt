@@ -1,0 +1,11 @@
+use Rattle.std.specs.Prelude.{◌+◌, length}
+use Rattle.chip_run.specs.Away.{IsAway, Served, Stretches, rows_left}
+use Rattle.chip_run.proofs.together.rows_together.Given as goal
+
+abbrev pub invariant-loop-start : goal.invariant-loop-start
+invariant-loop-start g l =
+    Served (λ k m n. IsAway (g.W.Worker.conduct.tied n.worker) l.fn.words.space.now.about l.fn.words.space.now.table (l.fn.start + k) n.token
+    × Stretches g.W.Worker.conduct l.fn.words.space.now.about m.worker m.token 0 n.worker n.token n.vain) (length l.fn.members) l.fn.members l.members
+
+abbrev pub decreases-loop-start : goal.decreases-loop-start
+decreases-loop-start g l = rows_left g.W.Worker.conduct l.fn.words.space.now.about l.fn.start l.members
