@@ -1,11 +1,10 @@
 -- What a run of a job comes to, and what words come to.
-use Rattle.std.proofs.Common.{◌≡◌, inl, inr, ℕ, ◌<◌, ◌≤◌, List, length, codes, None, Some, Option, Result, Ok, Err, refl, sym, ◌∙◌, ap, subst, arith}
+use Rattle.std.proofs.Common.{◌≡◌, inl, inr, ℕ, ◌<◌, ◌≤◌, List, [], ◌∷◌, length, codes, None, Some, Option, Result, Ok, Err, refl, sym, ◌∙◌, ap, subst, arith}
 use Rattle.scc_base.specs.Setups.{SetupView}
 use Rattle.scc_mesh.specs.Scenes.{ChipView, IsNew, about_in}
 use Rattle.coll_more.specs.Ops.{data_calls}
 use Rattle.coll_more.specs.Pieces.{pieces_for}
 use Rattle.coll_run.specs.Teams.{AreFresh, HaveEnded, IsFreshTeam, MemberView, srcs_of}
-use Rattle.coll_run.proofs.TeamLemmas.{some_member}
 use Rattle.outcomes.specs.Coming.{IsMeant}
 use Rattle.outcomes.specs.Complaints.{complaint_outcome}
 use Rattle.outcomes.specs.Outcomes.{Outcome, no_memory, run_outcome, words_refused}
@@ -31,6 +30,11 @@ fresh_team job chip team new is =
       each = is.each ∙ sym nue;
       fresh = subst (λ (n : ℕ). AreFresh job.more job.len n team) (sym nue) is.fresh;
     }
+
+-- the first of a team
+some_member : (team : List MemberView) → 1 ≤ length team → MemberView
+some_member [] some = absurd (omega (arith, some))
+some_member (m ∷ ms) some = m
 
 module _ (job : Job) (chip now : ChipView) (team later : List MemberView) (some : 1 ≤ job.nue) (new : IsNew (setup_of job.nue) chip) (is : IsTeamOf job team)
     (ended : HaveEnded job.more job.len chip team now later) where
