@@ -1,6 +1,6 @@
 """Which call each event of a trace belongs to: a rank's record is followed, and an event that no record permits belongs to none.
 
-This is for showing alone: whether a trace keeps the protocol is what rccetrace tells."""
+This is for showing alone, and judges nothing."""
 from __future__ import annotations
 
 from dataclasses import dataclass, field
