@@ -3,7 +3,7 @@ use Rattle.rcce_io.specs.Sending.{Sends}
 use Rattle.script_reader.specs.Script.{Script}
 use Rattle.script_plain.specs.Meaning.{plain_ends}
 use Rattle.script_gen.specs.Outcome.{printed_sum, script_line}
-use Rattle.rcce_run.proofs.RunEnds.{some_worker}
+use Rattle.chip_run.proofs.ServedLaws.{some_worker}
 use Rattle.run_program.specs.Reports.{Shown}
 use Rattle.run_program.specs.Runs.{IsMadeOf}
 use Rattle.rcce_run.proofs.FinishedLaws.{plain_count}
