@@ -1,6 +1,7 @@
 -- How many calls a rank's program makes, and how many bytes they move, counted along it.
 use Rattle.std.proofs.Common.{◌≡◌, ◌⊎◌, inl, inr, ℕ, suc, ◌+◌, ◌<◌, ◌≤◌, Bool, true, false, ◌&&◌, List, [], ◌∷◌, ◌++◌, drop, length, length-append, min, slice_get, slice_index_or, slice_set, Option, Some, None, refl, sym, ap, ◌∙◌, arith}
 use Rattle.std.specs.Prelude.{nat_le}
+use Rattle.std.specs.Option.{option_map}
 use Rattle.std.specs.List.{list_all, range_with_len}
 use Rattle.std.proofs.Math.Nat.{eq-or-lt_of_le}
 use Rattle.std.proofs.lemmas.Bool.{le-leb, leb-true}
@@ -162,3 +163,8 @@ pub start_counted : (script : Script) (rank : ℕ) (l : Lengths) (left : List Pr
 start_counted script rank l left sizes all =
     let same : calls_of script rank ≡ calls_from l left = λ i. calls_from ((start_held script rank ∙ sym sizes) i) (sym all i) in
     record { count = omega (arith, ap length same); sum = omega (arith, ap bytes_planned same) }
+
+-- nothing is left where nothing is found
+pub nothing_found : {X Y : Type 0} (meant : X → Y) (found : Option X) (left : Option Y) → option_map meant found ≡ left → ((p : X) → found ≡ Some p → ⊥) → left ≡ None
+nothing_found meant None left is none = sym is
+nothing_found meant (Some p) left is none = absurd (none p refl)

@@ -8,8 +8,7 @@ use Rattle.script_plain.specs.CallLists.{calls_of}
 use Rattle.script_plain.specs.Lengths.{lengths_after}
 use Rattle.script_plain.specs.Rooms.{nothing_held}
 use Rattle.script_plain.specs.Walk.{WalkView, prim_meant}
-use Rattle.script_plain.proofs.RoomLaws.{none_found}
-use Rattle.log_run.proofs.RoomLaws.{AreCounted, counted_on, no_room, nothing_left, some_room, start_counted}
+use Rattle.log_run.proofs.RoomLaws.{AreCounted, counted_on, no_room, nothing_found, nothing_left, some_room, start_counted}
 use Rattle.log_run.proofs.rooms.rank_has_room.Goals as goal
 
 pub loop-prim-init : goal.loop-prim-init
@@ -51,7 +50,7 @@ pub returns : goal.returns
 returns c =
     let planned = calls_of c.args.scripts.now c.args.rank in
     let left = c.loop-prim.walk.left in
-    let none = none_found c.front.result (slice_get left 0) c.front.ensures.same c.in_default.not-Some in
+    let none = nothing_found prim_meant c.front.result (slice_get left 0) c.front.ensures.same c.in_default.not-Some in
     some_room planned c.loop-prim.tally.calls c.loop-prim.tally.bytes
     (subst (λ (rest : List Call). AreCounted planned c.loop-prim.tally.calls c.loop-prim.tally.bytes rest) (nothing_left c.loop-prim.sizes left none) c.loop-prim.invariant.counted)
     c.loop-prim.invariant.few c.loop-prim.invariant.small
