@@ -1,2 +1,3 @@
 pub mod OpLemmas
 pub mod RunnerLemmas
+pub mod RingLemmas

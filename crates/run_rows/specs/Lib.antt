@@ -1,2 +1,3 @@
 pub mod AwayPlayers
 pub mod CollMembers
+pub mod Rings

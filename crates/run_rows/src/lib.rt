@@ -20,6 +20,8 @@ mod meetings;
 #[cfg(test)]
 mod open_sends;
 #[cfg(test)]
+mod rings;
+#[cfg(test)]
 mod runs;
 #[cfg(test)]
 mod scripts;
