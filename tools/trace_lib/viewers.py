@@ -66,7 +66,9 @@ def _chunks(calls: list[list[Span]]) -> Iterator[tuple[tuple[int, int], tuple[in
             ends[pair] += span.chunks
     for (sender, receiver), numbers in sorted(raised.items()):
         for start, end in zip(numbers, lowered[sender, receiver]):
-            yield (sender, start), (receiver, end)
+            # in a trace that is not legal a chunk may be taken before it is there
+            if start < end:
+                yield (sender, start), (receiver, end)
 
 
 def of_log(name: str, log: Log) -> Iterator[Object]:
