@@ -1,0 +1,20 @@
+-- The faults of a lab, and what a reading gives (this project's profile).
+use Rattle.std.specs.Prelude.{◌≡◌, ℕ, List, codes, Result, Ok, Err}
+use Rattle.lab_reader.specs.declared.faults.LabKind.{LabKind}
+use Rattle.lab_reader.specs.declared.faults.LabKind.TheVariants as kind
+use Rattle.lab_reader.specs.declared.faults.LabFault.{LabFault}
+use Rattle.lab_reader.specs.declared.faults.LabStop.{LabStop}
+use Rattle.lab_reader.specs.declared.faults.LabStop.TheVariants as stop
+
+-- the name of a kind of fault
+abbrev pub kind_name : LabKind → List ℕ
+kind_name kind.TooLong = codes "TooLong"
+kind_name kind.NotText = codes "NotText"
+kind_name kind.BadCore = codes "BadCore"
+kind_name kind.BadStep = codes "BadStep"
+
+-- a reading gives what the grammar says, seen through a view: its value or its fault. It may end for want of memory
+abbrev pub Gives : {A X : Type 0} → (X → A) → Result X LabStop → Result A LabFault → Type 0
+Gives view (Ok x) said = said ≡ Ok (view x)
+Gives view (Err (stop.Fault fault)) said = said ≡ Err fault
+Gives view (Err stop.Memory) said = Unit {0}

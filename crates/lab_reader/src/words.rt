@@ -1,0 +1,106 @@
+//! Lines, words and values.
+
+ghost use Rattle.std.specs.Prelude.{◌≡◌, ◌<◌, ◌≤◌, ◌==◌, IfOk, IfSome, length, map, option_map};
+ghost use Rattle.std.specs.List.{position};
+ghost use Rattle.script_reader.specs.Words.{is_blank, lines_of, words_of};
+ghost use Rattle.lab_reader.specs.Words.{cut_at, hex_digit, range_said, value_said};
+ghost use Rattle.lab_reader.specs.Cuts.{cut_of};
+
+use script_reader::{number, uncommented};
+use std::alloc::{AllocError, Global};
+
+fn is_blank(b: u8) -> bool
+    ensures { result ≡ is_blank b }
+{
+    b == b'\t' || b == b'\r' || b == b' '
+}
+
+/// The lines of a file, each without its line feed.
+pub(crate) fn lines(alloc: Global, bytes: &[u8]) -> Result<Vec<&[u8]>, AllocError>
+    ensures { IfOk result (λ v. map (λ line. line.now) v.items ≡ lines_of bytes.now) }
+{
+    bytes.split(|b| *b == b'\n').collect(alloc)
+}
+
+/// The words of a line.
+pub(crate) fn words(alloc: Global, line: &[u8]) -> Result<Vec<&[u8]>, AllocError>
+    ensures { IfOk result (λ v. map (λ word. word.now) v.items ≡ words_of line.now) }
+{
+    uncommented(line)
+        .split(|b| is_blank(*b))
+        .filter(|word| !word.is_empty())
+        .collect(alloc)
+}
+
+/// A number from 0 to a limit.
+pub(crate) fn range_said(word: &[u8], most: u32) -> Option<u32>
+    ensures gives { result ≡ range_said most word.now }
+    ensures most { IfSome result (λ n. n ≤ most) }
+{
+    match number(word) {
+        Some(n) if n <= most => Some(n),
+        _ => None,
+    }
+}
+
+/// A word that was cut: what stands before the mark, and behind it.
+#[derive(Clone, Copy)]
+pub(crate) struct Parts<'a> {
+    pub(crate) front: &'a [u8],
+    pub(crate) back: &'a [u8],
+}
+
+/// The place of the first byte of a kind.
+fn place_of(word: &[u8], mark: u8) -> Option<usize>
+    ensures found { result ≡ position (λ b. b == mark) word.now }
+    ensures within { IfSome result (λ at. at < length word.now) }
+{
+    word.iter().position(|b| *b == mark)
+}
+
+/// A word, cut at the first byte of a kind.
+pub(crate) fn cut_at(word: &[u8], mark: u8) -> Option<Parts<'_>>
+    ensures { option_map cut_of result ≡ cut_at mark word.now }
+{
+    match place_of(word, mark) {
+        Some(at) => Some(Parts {
+            front: &word[..at],
+            back: &word[at + 1..],
+        }),
+        None => None,
+    }
+}
+
+/// The value of a hex digit.
+fn hex_digit(b: u8) -> Option<u8>
+    ensures gives { result ≡ hex_digit b }
+    ensures below { IfSome result (λ digit. digit < 16) }
+{
+    match b {
+        b'0'..=b'9' => Some(b - b'0'),
+        b'a'..=b'f' => Some(b - b'a' + 10),
+        b'A'..=b'F' => Some(b - b'A' + 10),
+        _ => None,
+    }
+}
+
+/// The value of hex digits, as long as it has at most 64 bits.
+pub(crate) fn value_said(word: &[u8]) -> Option<u64>
+    ensures { result ≡ value_said word.now }
+{
+    if word.is_empty() {
+        return None;
+    }
+    let mut value: u64 = 0;
+    for b in word {
+        let Some(digit) = hex_digit(*b) else {
+            return None;
+        };
+        let next = value as u128 * 16 + digit as u128;
+        if next > u64::MAX as u128 {
+            return None;
+        }
+        value = next as u64;
+    }
+    Some(value)
+}
