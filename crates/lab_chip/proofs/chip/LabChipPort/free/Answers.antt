@@ -1,0 +1,26 @@
+use Rattle.std.proofs.Common.{subst, sym}
+use Rattle.scc_base.specs.Events.{free_of}
+use Rattle.scc_proto.specs.Ports.{MayMake, record_in}
+use Rattle.lab_chip.specs.Chips.{ChipView, WasStepHere, sight_of}
+use Rattle.lab_chip.proofs.ChipLaws.{went_free}
+use Rattle.lab_chip.proofs.chip.LabChipPort.free.Goals as goal
+
+pub invariant_of-self : goal.invariant_of-self
+invariant_of-self c =
+    let p = c.self.inside in
+    let own = c.and-self-inside in
+    let all = c.and-self-inside-2 in
+    let w = went_free p.setup p.rank p.words.items p.all.items p.own.items c.self.invariant c.free-event.result all.result.items all.ensures own.result.items own.ensures
+    c.number_of_register.result c.args.c c.number_of_register.ensures.core c.number_of_register.ensures.gives
+    (subst (λ (v : ChipView). MayMake (sight_of v).seat (record_in (sight_of v)) (free_of c.args.c)) (sym c.self.view_is) c.requires.permitted) c.free-event.ensures.gives in
+    w.chip
+
+pub returns-clause-sound : goal.returns-clause-sound
+returns-clause-sound c =
+    let p = c.self.inside in
+    let own = c.and-self-inside in
+    let all = c.and-self-inside-2 in
+    let w = went_free p.setup p.rank p.words.items p.all.items p.own.items c.self.invariant c.free-event.result all.result.items all.ensures own.result.items own.ensures
+    c.number_of_register.result c.args.c c.number_of_register.ensures.core c.number_of_register.ensures.gives
+    (subst (λ (v : ChipView). MayMake (sight_of v).seat (record_in (sight_of v)) (free_of c.args.c)) (sym c.self.view_is) c.requires.permitted) c.free-event.ensures.gives in
+    w.sound

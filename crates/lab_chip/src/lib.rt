@@ -1,0 +1,7 @@
+//! A chip in memory whose ranks make their events one after the other, so that each word is what was stored last.
+#![tactic(auto)]
+
+mod chip;
+mod history;
+
+pub use chip::LabChip;
