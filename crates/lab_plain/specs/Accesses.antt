@@ -1,0 +1,8 @@
+-- How the line of an access is held.
+use Rattle.std.specs.Prelude.{ℕ, if◌then◌else◌, List, []}
+use Rattle.lab_plain.specs.declared.lines.Access.{Access}
+use Rattle.lab_plain.specs.Texts.{access_text}
+
+-- the line of an access to a word, where it is made
+abbrev pub access_line : Access → List ℕ
+access_line a = if a.made then access_text a.core a.access.now a.at a.value else []

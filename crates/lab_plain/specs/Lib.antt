@@ -1,0 +1,5 @@
+pub mod Texts
+pub mod Scenes
+pub mod Meaning
+pub mod Accesses
+pub mod Examples

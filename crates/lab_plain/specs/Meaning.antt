@@ -1,0 +1,186 @@
+-- What a lab means: its steps, done one after the other, until one stops it (this project's profile).
+use Rattle.std.specs.Prelude.{ℕ, ◌==◌, Bool, true, false, not, if◌then◌else◌, List, [], ◌∷◌, ◌++◌, replicate, slice_index, slice_index_or, slice_set, Option, Some, None, is_none}
+use Rattle.scc_base.specs.Places.{LineAt, WordAt, word_of_line}
+use Rattle.scc_base.specs.Events.{take_of, free_of}
+use Rattle.scc_proto.specs.Words.{Memory, zeros, memory_after}
+use Rattle.line_cache.specs.declared.cache.Entry.{Entry}
+use Rattle.write_combine.specs.declared.combiner.Out.{Out}
+use Rattle.lab_reader.specs.declared.steps.Action.{Action}
+use Rattle.lab_reader.specs.declared.steps.Action.TheVariants as action
+use Rattle.lab_reader.specs.declared.steps.Step.{Step}
+use Rattle.lab_plain.specs.declared.said.Said.{Said}
+use Rattle.lab_plain.specs.declared.said.Said.TheVariants as said
+use Rattle.lab_plain.specs.declared.said.Stopped.{Stopped}
+use Rattle.lab_plain.specs.declared.said.Stopped.TheVariants as stopped
+use Rattle.lab_plain.specs.Scenes.{Scene, flushed, word_written, line_written, line_put, word_read, line_read, line_got, invalidated, printed, answer, line_answer, line_in}
+
+-- what a core holds: its cached lines, and the line in its write-combining buffer
+pub record Holds : Type 0 where
+  pub lines : List Entry
+  pub out : Option Out
+
+-- the shared words, what each core holds, which core has each register, and what was printed
+pub record Stand : Type 0 where
+  pub memory : Memory
+  pub cores : List Holds
+  pub holders : List (Option ℕ)
+  pub said : List Said
+
+-- a step was made: what it left, and why the lab stops at it, if it does
+pub record Done : Type 0 where
+  pub stand : Stand
+  pub stop : Option Stopped
+
+-- nothing is held
+abbrev pub holds_nothing : Holds
+holds_nothing = record { lines = []; out = None }
+
+-- what a core holds
+abbrev pub core_at : List Holds → ℕ → Holds
+core_at cores me = slice_index_or cores me holds_nothing
+
+-- a core at work, and the stand that it leaves
+abbrev pub scene_at : ℕ → Stand → Scene
+scene_at me t = record { memory = t.memory; lines = (core_at t.cores me).lines; out = (core_at t.cores me).out; said = t.said }
+
+abbrev pub with_scene : ℕ → Stand → Scene → Stand
+with_scene me t s = record { memory = s.memory; cores = slice_set t.cores me (record { lines = s.lines; out = s.out }); holders = t.holders; said = s.said }
+
+-- what a core's action leaves, but for those on registers
+abbrev pub acted : ℕ → Action → Scene → Scene
+acted me (action.WriteWord at value) s = word_written me at value s
+acted me (action.WriteLine at words) s = line_written me at words s
+acted me (action.ReadWord at evict expect) s = word_read me at evict s
+acted me (action.ReadLine at evict expect) s = line_read me at evict s
+acted me action.Flush s = flushed me s
+acted me action.Invalidate s = invalidated s
+acted me (action.Put at words) s = line_put me at words s
+acted me (action.Get at expect) s = line_got me at s
+acted me (action.Take register expect) s = s
+acted me (action.Free register) s = s
+acted me action.Print s = printed me s
+
+-- another value came than was expected
+abbrev pub unmet_word : ℕ → WordAt → ℕ → Option ℕ → Option Stopped
+unmet_word line at came None = None
+unmet_word line at came (Some expected) = if came == expected then None else Some (stopped.Value line at came expected)
+
+-- the first, or else the second
+abbrev pub or_else : {A : Type 0} → Option A → Option A → Option A
+or_else (Some x) other = Some x
+or_else None other = other
+
+-- of a line: the first word that is another one
+abbrev pub unmet_line : ℕ → LineAt → List ℕ → Option (List ℕ) → Option Stopped
+unmet_line line at came None = None
+unmet_line line at came (Some expected) =
+    or_else (unmet_word line (word_of_line at 0) (slice_index came 0) (Some (slice_index expected 0)))
+    (or_else (unmet_word line (word_of_line at 1) (slice_index came 1) (Some (slice_index expected 1)))
+    (or_else (unmet_word line (word_of_line at 2) (slice_index came 2) (Some (slice_index expected 2)))
+    (unmet_word line (word_of_line at 3) (slice_index came 3) (Some (slice_index expected 3)))))
+
+-- why a lab stops at a core's action, but for those on registers
+abbrev pub act_stop : ℕ → ℕ → Action → Scene → Option Stopped
+act_stop line me (action.WriteWord at value) s = None
+act_stop line me (action.WriteLine at words) s = None
+act_stop line me (action.ReadWord at evict expect) s = unmet_word line at (answer at s) expect
+act_stop line me (action.ReadLine at evict expect) s = unmet_line line at (line_answer me at evict s) expect
+act_stop line me action.Flush s = None
+act_stop line me action.Invalidate s = None
+act_stop line me (action.Put at words) s = None
+act_stop line me (action.Get at expect) s = unmet_line line at (line_in (flushed me s).memory at) expect
+act_stop line me (action.Take register expect) s = None
+act_stop line me (action.Free register) s = None
+act_stop line me action.Print s = None
+
+-- which core has a register
+abbrev pub holder_of : List (Option ℕ) → ℕ → Option ℕ
+holder_of holders register = slice_index_or holders register None
+
+-- whether it is this one
+abbrev pub is_holder : ℕ → Option ℕ → Bool
+is_holder me None = false
+is_holder me (Some core) = core == me
+
+-- whether a take answered what was expected
+abbrev pub is_same : Bool → Bool → Bool
+is_same true expected = expected
+is_same false expected = not expected
+
+-- a take answered otherwise than was expected
+abbrev pub unmet_take : ℕ → Bool → Option Bool → Option Stopped
+unmet_take line took None = None
+unmet_take line took (Some expected) = if is_same took expected then None else Some (stopped.Take line took)
+
+-- a register was read, and taken or not
+abbrev pub register_read : ℕ → ℕ → Bool → Stand → Stand
+register_read me register took t = record {
+  memory = memory_after t.memory (take_of register took);
+  cores = t.cores;
+  holders = if took then slice_set t.holders register (Some me) else t.holders;
+  said = t.said ++ said.Takes me register took ∷ [];
+}
+
+-- a take: a register that nobody has is taken, one that another core has is found taken, and a core does not take its own again
+abbrev pub taken : ℕ → ℕ → ℕ → Option Bool → Stand → Option ℕ → Done
+taken line me register expect t holder =
+    if is_holder me holder then (record { stand = t; stop = Some (stopped.Holds line me register) })
+    else (record { stand = register_read me register (is_none holder) t; stop = unmet_take line (is_none holder) expect })
+
+-- a register was freed
+abbrev pub register_freed : ℕ → ℕ → Stand → Stand
+register_freed me register t = record {
+  memory = memory_after t.memory (free_of register);
+  cores = t.cores;
+  holders = slice_set t.holders register None;
+  said = t.said ++ said.Frees me register ∷ [];
+}
+
+-- a free, which the core may make that has the register
+abbrev pub freed : ℕ → ℕ → ℕ → Stand → Option ℕ → Done
+freed line me register t holder =
+    if is_holder me holder then (record { stand = register_freed me register t; stop = None })
+    else (record { stand = t; stop = Some (stopped.HoldsNot line me register) })
+
+-- a core's action, by what it is
+abbrev pub core_done : ℕ → ℕ → Action → Stand → Done
+core_done line me act t = record { stand = with_scene me t (acted me act (scene_at me t)); stop = act_stop line me act (scene_at me t) }
+
+abbrev pub action_done : ℕ → ℕ → Action → Stand → Done
+action_done line me (action.Take register expect) t = taken line me register expect t (holder_of t.holders register)
+action_done line me (action.Free register) t = freed line me register t (holder_of t.holders register)
+action_done line me (action.WriteWord at value) t = core_done line me (action.WriteWord at value) t
+action_done line me (action.WriteLine at words) t = core_done line me (action.WriteLine at words) t
+action_done line me (action.ReadWord at evict expect) t = core_done line me (action.ReadWord at evict expect) t
+action_done line me (action.ReadLine at evict expect) t = core_done line me (action.ReadLine at evict expect) t
+action_done line me action.Flush t = core_done line me action.Flush t
+action_done line me action.Invalidate t = core_done line me action.Invalidate t
+action_done line me (action.Put at words) t = core_done line me (action.Put at words) t
+action_done line me (action.Get at expect) t = core_done line me (action.Get at expect) t
+action_done line me action.Print t = core_done line me action.Print t
+
+-- a step begins: its line is printed
+abbrev pub begun : Step → Stand → Stand
+begun step t = record t { said = t.said ++ said.Begins step.line step.text ∷ [] }
+
+-- a step
+abbrev pub step_done : Step → Stand → Done
+step_done step t = action_done step.line step.core step.action (begun step t)
+
+-- what follows a step, unless it stops the lab
+abbrev pub unless_stopped : Stand → Option Stopped → (Stand → Done) → Done
+unless_stopped t (Some why) next = record { stand = t; stop = Some why }
+unless_stopped t None next = next t
+
+-- the steps of a lab, one after the other
+abbrev pub steps_done : List Step → Stand → Done
+steps_done [] t = record { stand = t; stop = None }
+steps_done (step ∷ steps) t = unless_stopped (step_done step t).stand (step_done step t).stop (steps_done steps)
+
+-- all words are 0, all registers are free, and no core holds anything
+unfoldable pub start : Stand
+start = record { memory = zeros; cores = replicate 48 holds_nothing; holders = replicate 48 None; said = [] }
+
+-- what a lab comes to
+abbrev pub lab_done : List Step → Done
+lab_done steps = steps_done steps start

@@ -1,0 +1,190 @@
+-- What one core does to the shared words and to what it holds: a plain meaning, of shared words, a list of cached lines a core and
+-- one buffered line a core (SCC External Architecture Specification; the order of its stores and loads is this project's profile).
+use Rattle.std.specs.Prelude.{ℕ, zero, suc, Bool, not, ◌&&◌, if◌then◌else◌, List, [], ◌∷◌, ◌++◌, filter, map, slice_index, slice_index_or, true, false, Option, Some, None, is_some}
+use Rattle.std.specs.Option.{unwrap_or}
+use Rattle.scc_base.specs.Places.{LineAt, WordAt, line_of_word, word_of_line, same_line}
+use Rattle.scc_base.specs.declared.events.Event.{Event}
+use Rattle.scc_proto.specs.Words.{Memory, memory_after, word_at}
+use Rattle.line_cache.specs.declared.cache.Entry.{Entry}
+use Rattle.line_cache.specs.Lines.{held, filled, noted, line_noted}
+use Rattle.write_combine.specs.declared.combiner.Out.{Out}
+use Rattle.write_combine.specs.Combining.{handed_out, held_after}
+use Rattle.put_get.specs.Accesses.{stores_of, stores_of_line, whole_line}
+use Rattle.lab_plain.specs.declared.said.Said.{Said}
+use Rattle.lab_plain.specs.declared.said.Said.TheVariants as said
+use Rattle.lab_plain.specs.declared.said.Source.{Source}
+use Rattle.lab_plain.specs.declared.said.Source.TheVariants as source
+
+-- a core at work: the shared words, its cached lines, the line in its write-combining buffer, and what was printed
+pub record Scene : Type 0 where
+  pub memory : Memory
+  pub lines : List Entry
+  pub out : Option Out
+  pub said : List Said
+
+-- the shared words after accesses
+abbrev pub after_all : Memory → List Event → Memory
+after_all memory [] = memory
+after_all memory (e ∷ es) = after_all (memory_after memory e) es
+
+-- the four words of a line, as they are shared
+abbrev pub line_in : Memory → LineAt → List ℕ
+line_in memory line =
+    word_at memory (word_of_line line 0) ∷ word_at memory (word_of_line line 1) ∷ word_at memory (word_of_line line 2)
+    ∷ word_at memory (word_of_line line 3) ∷ []
+
+-- what is printed of a line that leaves the write-combining buffer
+abbrev pub say_stores : ℕ → Option Out → List Said
+say_stores me None = []
+say_stores me (Some o) = said.Stores me o.line o.words o.mask ∷ []
+
+-- a flush: what the buffer holds is stored
+abbrev pub flushed : ℕ → Scene → Scene
+flushed me s = record {
+  memory = after_all s.memory (stores_of s.out);
+  lines = s.lines;
+  out = None;
+  said = s.said ++ say_stores me s.out;
+}
+
+-- a write of a word: another line in the buffer is stored first; the word goes into the cache, where its line is held, and into the
+-- buffer
+abbrev pub word_written : ℕ → WordAt → ℕ → Scene → Scene
+word_written me p v s = record {
+  memory = after_all s.memory (stores_of (handed_out s.out (line_of_word p)));
+  lines = noted s.lines p v;
+  out = Some (held_after s.out p v);
+  said = s.said ++ say_stores me (handed_out s.out (line_of_word p));
+}
+
+-- a write of a line: of its words, one after the other
+abbrev pub line_written : ℕ → LineAt → List ℕ → Scene → Scene
+line_written me line words s =
+    word_written me (word_of_line line 3) (slice_index words 3)
+    (word_written me (word_of_line line 2) (slice_index words 2)
+    (word_written me (word_of_line line 1) (slice_index words 1)
+    (word_written me (word_of_line line 0) (slice_index words 0) s)))
+
+-- a whole line is stored at once, behind a flush
+abbrev pub line_stored : ℕ → LineAt → List ℕ → Scene → Scene
+line_stored me line words s = record {
+  memory = after_all s.memory (stores_of_line (whole_line line words));
+  lines = line_noted s.lines line words;
+  out = s.out;
+  said = s.said ++ said.Stores me line words (true ∷ true ∷ true ∷ true ∷ []) ∷ [];
+}
+
+-- a put of a line
+abbrev pub line_put : ℕ → LineAt → List ℕ → Scene → Scene
+line_put me line words s = line_stored me line words (flushed me s)
+
+-- the word that waits in the write-combining buffer, if it was written there
+abbrev pub buffered : Option Out → WordAt → Option ℕ
+buffered None p = None
+buffered (Some o) p = if same_line o.line (line_of_word p) && slice_index_or o.mask p.word false then Some (slice_index o.words p.word) else None
+
+-- a read was answered
+abbrev pub answered : WordAt → ℕ → Source → Scene → Scene
+answered p v from s = record s { said = s.said ++ said.Answers p v from ∷ [] }
+
+-- the cached lines without one
+abbrev pub without : LineAt → List Entry → List Entry
+without line es = filter (λ (e : Entry). not (same_line e.line line)) es
+
+-- the cached lines without the one that an evictor names, if it names one
+abbrev pub left_by : Option LineAt → List Entry → List Entry
+left_by None es = es
+left_by (Some line) es = without line es
+
+-- whether it is cached, so that it leaves
+abbrev pub is_evicted : Option LineAt → List Entry → Bool
+is_evicted None es = false
+is_evicted (Some line) es = is_some (held es line)
+
+-- what is printed of it, if it left
+abbrev pub say_left : Option LineAt → Bool → List Said
+say_left None left = []
+say_left (Some line) left = if left then said.Evicted line ∷ [] else []
+
+abbrev pub say_evicted : Option LineAt → List Entry → List Said
+say_evicted evict es = say_left evict (is_evicted evict es)
+
+-- a read of a word whose line is not cached: its four words are loaded, the line comes in, and the line that the evictor names leaves
+abbrev pub word_loaded : ℕ → WordAt → Option LineAt → Scene → Scene
+word_loaded me p evict s =
+    let line = line_of_word p in
+    let words = line_in s.memory line in
+    let came = filled s.lines line words in
+    record {
+      memory = s.memory;
+      lines = left_by evict came;
+      out = s.out;
+      said = s.said ++ said.Loads me line words ∷ said.Answers p (slice_index words p.word) source.Words ∷ say_evicted evict came;
+    }
+
+-- a read of a word that does not wait in the buffer, by what is cached of its line
+abbrev pub word_fetched : ℕ → WordAt → Option LineAt → Scene → Option (List ℕ) → Scene
+word_fetched me p evict s (Some words) = answered p (slice_index words p.word) source.Cache s
+word_fetched me p evict s None = word_loaded me p evict s
+
+-- a read of a word, by what waits of it in the buffer
+abbrev pub word_read_by : ℕ → WordAt → Option LineAt → Scene → Option ℕ → Scene
+word_read_by me p evict s (Some v) = answered p v source.BufferLine s
+word_read_by me p evict s None = word_fetched me p evict s (held s.lines (line_of_word p))
+
+-- a read of a word
+abbrev pub word_read : ℕ → WordAt → Option LineAt → Scene → Scene
+word_read me p evict s = word_read_by me p evict s (buffered s.out p)
+
+-- what it answers: the word in the buffer, or else in the cache, or else the shared word
+abbrev pub answer : WordAt → Scene → ℕ
+answer p s = unwrap_or (buffered s.out p) (slice_index (unwrap_or (held s.lines (line_of_word p)) (line_in s.memory (line_of_word p))) p.word)
+
+-- a read of a line: of its words, one after the other. The scene before the read of a word, and what they answer
+abbrev pub before_word : ℕ → LineAt → Option LineAt → Scene → ℕ → Scene
+before_word me line evict s zero = s
+before_word me line evict s (suc n) = word_read me (word_of_line line n) evict (before_word me line evict s n)
+
+abbrev pub line_read : ℕ → LineAt → Option LineAt → Scene → Scene
+line_read me line evict s = before_word me line evict s 4
+
+abbrev pub line_answer : ℕ → LineAt → Option LineAt → Scene → List ℕ
+line_answer me line evict s =
+    answer (word_of_line line 0) (before_word me line evict s 0) ∷ answer (word_of_line line 1) (before_word me line evict s 1)
+    ∷ answer (word_of_line line 2) (before_word me line evict s 2) ∷ answer (word_of_line line 3) (before_word me line evict s 3) ∷ []
+
+-- what a get prints of a line with these words
+abbrev pub say_got : ℕ → LineAt → List ℕ → List Said
+say_got me line words =
+    said.Loads me line words ∷ said.Answers (word_of_line line 0) (slice_index words 0) source.Words ∷ said.Answers (word_of_line line 1) (slice_index words 1) source.Words
+    ∷ said.Answers (word_of_line line 2) (slice_index words 2) source.Words ∷ said.Answers (word_of_line line 3) (slice_index words 3) source.Words ∷ []
+
+-- a line is loaded into an empty cache
+abbrev pub line_loaded : ℕ → LineAt → Scene → Scene
+line_loaded me line s = record {
+  memory = s.memory;
+  lines = filled [] line (line_in s.memory line);
+  out = s.out;
+  said = s.said ++ say_got me line (line_in s.memory line);
+}
+
+-- a get of a line: behind a flush its cached lines are dropped, and the line is loaded
+abbrev pub line_got : ℕ → LineAt → Scene → Scene
+line_got me line s = line_loaded me line (flushed me s)
+
+-- CL1INVMB: all cached lines are dropped
+abbrev pub invalidated : Scene → Scene
+invalidated s = record s { lines = [] }
+
+-- what is printed of the cached lines, and of the buffer
+abbrev pub say_lines : ℕ → List Entry → List Said
+say_lines me [] = said.CachesNothing me ∷ []
+say_lines me (e ∷ es) = map (λ (x : Entry). said.Caches me x.line x.words) (e ∷ es)
+
+abbrev pub say_buffer : ℕ → Option Out → List Said
+say_buffer me None = said.BuffersNothing me ∷ []
+say_buffer me (Some o) = said.Buffers me o.line o.words o.mask ∷ []
+
+-- a print of what the core holds
+abbrev pub printed : ℕ → Scene → Scene
+printed me s = record s { said = s.said ++ say_lines me s.lines ++ say_buffer me s.out }

@@ -1,0 +1,129 @@
+-- The lines that a lab prints (this project's profile). Accesses to shared words have the form of a trace.
+use Rattle.std.specs.Prelude.{ℕ, ◌-◌, Bool, true, false, not, if◌then◌else◌, List, [], ◌∷◌, codes, decimal, slice_index, slice_index_or}
+use Rattle.std.specs.Int.{w64, to_be_bytes}
+use Rattle.rcce_io.specs.Digits.{hex_text}
+use Rattle.rcce_io.specs.Sending.{joined}
+use Rattle.scc_base.specs.Places.{LineAt, WordAt, line_of_word, word_of_line}
+use Rattle.lab_plain.specs.declared.parts.Part.{Part}
+use Rattle.lab_plain.specs.declared.parts.Part.TheVariants as part
+use Rattle.lab_plain.specs.declared.said.Said.{Said}
+use Rattle.lab_plain.specs.declared.said.Said.TheVariants as said
+use Rattle.lab_plain.specs.declared.said.Source.{Source}
+use Rattle.lab_plain.specs.declared.said.Source.TheVariants as source
+use Rattle.lab_plain.specs.declared.said.Stopped.{Stopped}
+use Rattle.lab_plain.specs.declared.said.Stopped.TheVariants as stopped
+
+-- a value of 64 bits: its 16 hex digits
+abbrev pub value_text : ℕ → List ℕ
+value_text value = hex_text (to_be_bytes w64 value)
+
+-- a line as a lab names it: its core, and its number among the heap lines, of which line 225 is the first
+abbrev pub line_name : LineAt → List ℕ
+line_name line = joined (decimal line.core ∷ codes ":" ∷ decimal (line.line - 225) ∷ [])
+
+-- a word of a held line: its value, and `-` where it was not written
+abbrev pub word_text : ℕ → Bool → List ℕ
+word_text value written = if written then value_text value else codes "-"
+
+-- the text of a part of a line
+abbrev pub part_text : Part → List ℕ
+part_text (part.Text text) = text.now
+part_text (part.Bytes bytes) = bytes.now
+part_text (part.Number number) = decimal number
+part_text (part.Value value) = value_text value
+part_text (part.Word value written) = word_text value written
+part_text (part.Line line) = line_name line
+
+-- the line of a load or a store of a word
+abbrev pub access_text : ℕ → List ℕ → WordAt → ℕ → List ℕ
+access_text core access at value =
+    joined (decimal core ∷ access ∷ decimal at.core ∷ codes "." ∷ decimal at.line ∷ codes "." ∷ decimal at.word ∷ codes " " ∷ value_text value ∷ codes " # heap\n" ∷ [])
+
+-- the line of the access to one word of a line, where it is made
+abbrev pub word_access_text : ℕ → List ℕ → LineAt → List ℕ → List Bool → ℕ → List ℕ
+word_access_text core access line words mask word =
+    if slice_index_or mask word false then access_text core access (word_of_line line word) (slice_index words word) else []
+
+-- all words of a line
+abbrev pub all_words : List Bool
+all_words = true ∷ true ∷ true ∷ true ∷ []
+
+-- the lines of the loads of a line, word 0 first
+abbrev pub loads_text : ℕ → LineAt → List ℕ → List ℕ
+loads_text core line words =
+    joined (word_access_text core (codes " load ") line words all_words 0 ∷ word_access_text core (codes " load ") line words all_words 1
+    ∷ word_access_text core (codes " load ") line words all_words 2 ∷ word_access_text core (codes " load ") line words all_words 3 ∷ [])
+
+-- the lines of the stores of a line, word 3 first, of the words that were written
+abbrev pub stores_text : ℕ → LineAt → List ℕ → List Bool → List ℕ
+stores_text core line words mask =
+    joined (word_access_text core (codes " store ") line words mask 3 ∷ word_access_text core (codes " store ") line words mask 2
+    ∷ word_access_text core (codes " store ") line words mask 1 ∷ word_access_text core (codes " store ") line words mask 0 ∷ [])
+
+-- what a take answers
+abbrev pub take_name : Bool → List ℕ
+take_name took = if took then codes "took" else codes "taken"
+
+-- the line of a take, with 1 where it took the register, and the line of what it answers
+abbrev pub takes_text : ℕ → ℕ → Bool → List ℕ
+takes_text core register took =
+    joined (decimal core ∷ codes " take " ∷ decimal register ∷ codes ".register " ∷ value_text (if took then 1 else 0) ∷ codes " # register\nanswer " ∷ take_name took ∷ codes "\n" ∷ [])
+
+-- the line of a free
+abbrev pub frees_text : ℕ → ℕ → List ℕ
+frees_text core register = joined (decimal core ∷ codes " free " ∷ decimal register ∷ codes ".register " ∷ value_text 0 ∷ codes " # register\n" ∷ [])
+
+-- the line of what a core holds
+abbrev pub held_text : ℕ → List ℕ → LineAt → List ℕ → List Bool → List ℕ
+held_text core holds line words mask =
+    joined (codes "core " ∷ decimal core ∷ holds ∷ line_name line ∷ codes " " ∷ word_text (slice_index words 0) (slice_index_or mask 0 false)
+    ∷ codes " " ∷ word_text (slice_index words 1) (slice_index_or mask 1 false) ∷ codes " " ∷ word_text (slice_index words 2) (slice_index_or mask 2 false)
+    ∷ codes " " ∷ word_text (slice_index words 3) (slice_index_or mask 3 false) ∷ codes "\n" ∷ [])
+
+-- the line of a core that holds nothing
+abbrev pub nothing_text : ℕ → List ℕ → List ℕ
+nothing_text core holds = joined (codes "core " ∷ decimal core ∷ holds ∷ codes "nothing\n" ∷ [])
+
+-- where an answer came from
+abbrev pub source_name : Source → List ℕ
+source_name source.BufferLine = codes "buffer line"
+source_name source.Cache = codes "cache"
+source_name source.Words = codes "words"
+
+-- the line of an answer
+abbrev pub answer_text : WordAt → ℕ → Source → List ℕ
+answer_text at value from =
+    joined (codes "answer " ∷ line_name (line_of_word at) ∷ codes "." ∷ decimal at.word ∷ codes " " ∷ value_text value ∷ codes " from " ∷ source_name from ∷ codes "\n" ∷ [])
+
+-- what is printed
+abbrev pub said_text : Said → List ℕ
+said_text (said.Begins line text) = joined (codes "line " ∷ decimal line ∷ codes ": " ∷ text ∷ codes "\n" ∷ [])
+said_text (said.Loads core line words) = loads_text core line words
+said_text (said.Stores core line words mask) = stores_text core line words mask
+said_text (said.Answers at value from) = answer_text at value from
+said_text (said.Evicted line) = joined (codes "evicted " ∷ line_name line ∷ codes "\n" ∷ [])
+said_text (said.Takes core register took) = takes_text core register took
+said_text (said.Frees core register) = frees_text core register
+said_text (said.Caches core line words) = held_text core (codes " caches ") line words all_words
+said_text (said.CachesNothing core) = nothing_text core (codes " caches ")
+said_text (said.Buffers core line words mask) = held_text core (codes " buffers ") line words mask
+said_text (said.BuffersNothing core) = nothing_text core (codes " buffers ")
+
+-- the line of a register's stop
+abbrev pub register_stop_text : ℕ → ℕ → List ℕ → ℕ → List ℕ
+register_stop_text line core holds register =
+    joined (codes "line " ∷ decimal line ∷ codes ": core " ∷ decimal core ∷ holds ∷ decimal register ∷ codes "\n" ∷ [])
+
+-- the line of another value than was expected
+abbrev pub value_stop_text : ℕ → WordAt → ℕ → ℕ → List ℕ
+value_stop_text line at came expected =
+    joined (codes "line " ∷ decimal line ∷ codes ": " ∷ line_name (line_of_word at) ∷ codes "." ∷ decimal at.word ∷ codes " is " ∷ value_text came
+    ∷ codes ", expected " ∷ value_text expected ∷ codes "\n" ∷ [])
+
+-- why a lab stopped
+abbrev pub stopped_text : Stopped → List ℕ
+stopped_text (stopped.Value line at came expected) = value_stop_text line at came expected
+stopped_text (stopped.Take line took) =
+    joined (codes "line " ∷ decimal line ∷ codes ": answer " ∷ take_name took ∷ codes ", expected " ∷ take_name (not took) ∷ codes "\n" ∷ [])
+stopped_text (stopped.Holds line core register) = register_stop_text line core (codes " holds register ") register
+stopped_text (stopped.HoldsNot line core register) = register_stop_text line core (codes " does not hold register ") register

@@ -1,0 +1,9 @@
+//! What labs mean, and the lines that they print.
+#![tactic(auto)]
+
+pub mod examples;
+mod lines;
+mod parts;
+mod said;
+
+pub use said::{Said, Source, Stopped};

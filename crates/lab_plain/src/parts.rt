@@ -1,0 +1,51 @@
+//! The parts of the lines.
+
+use outcomes::Piece;
+use rcce_io::{Sink, TextSource, WriteFault, write_all, write_hex, write_texts};
+use scc_base::Line;
+
+/// A part of a line. No memory is taken for its text.
+#[derive(Clone, Copy)]
+pub(crate) enum Part<'a> {
+    Text(&'a str),
+    /// Bytes of the lab's file.
+    Bytes(&'a [u8]),
+    /// A number in decimal digits.
+    Number(u32),
+    /// A value of 64 bits in 16 hex digits.
+    Value(u64),
+    /// Such a value, or `-` for a word that was not written.
+    Word { value: u64, written: bool },
+    /// A line, as a lab names it.
+    Line(Line),
+}
+
+impl TextSource for Part<'_> {
+    ghost use Rattle.lab_plain.specs.Texts.{part_text};
+
+    ghost text = { part_text };
+
+    fn write_to<S: Sink>(&self, sink: &mut S) -> Result<(), WriteFault> {
+        match self {
+            Part::Text(text) => write_all(sink, text.as_bytes()),
+            Part::Bytes(bytes) => write_all(sink, bytes),
+            Part::Number(number) => Piece::Number(*number).write_to(sink),
+            Part::Value(value) => write_hex(sink, &value.to_be_bytes()),
+            Part::Word { value, written } => {
+                if *written {
+                    write_hex(sink, &value.to_be_bytes())
+                } else {
+                    write_all(sink, b"-")
+                }
+            }
+            Part::Line(line) => write_texts(
+                sink,
+                &[
+                    Piece::Number(line.core().number() as u32),
+                    Piece::Text(":"),
+                    Piece::Number(line.line().saturating_sub(225) as u32),
+                ],
+            ),
+        }
+    }
+}
