@@ -40,6 +40,7 @@ _rcce() {
     rccecheck:) options='-nue' ;;
     rccemesh:) options='-nue -at' ;;
     rcceaudit:) options='-log -nue' ;;
+    rccelab:) options= ;;
     rccecoll:)
       [ "$COMP_CWORD" -ne 2 ] || _rcce_words 'gather scatter allgather alltoall' "$word"
       return
@@ -65,4 +66,4 @@ _rcce() {
   esac
 }
 
-complete -F _rcce rcce rccerun rccecheck rccemesh rcceaudit rccecoll
+complete -F _rcce rcce rccerun rccecheck rccemesh rcceaudit rccecoll rccelab

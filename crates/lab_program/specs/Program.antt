@@ -1,0 +1,56 @@
+-- What `rccelab` does on its words (this project's profile).
+use Rattle.std.specs.Prelude.{ℕ, if◌then◌else◌, List, [], ◌∷◌, codes, map, Option, Some, None, is_none, Result, Ok, Err}
+use Rattle.rcce_io.specs.Sending.{joined}
+use Rattle.outcomes.specs.Numbers.{is_option}
+use Rattle.outcomes.specs.Outcomes.{Ran}
+use Rattle.outcomes.specs.Plans.{Plan, Program}
+use Rattle.outcomes.specs.Plans.Plan.{Runs, Refuses, Reads}
+use Rattle.rcce_words.specs.ScriptWords.{plan_of}
+use Rattle.lab_reader.specs.declared.faults.LabFault.{LabFault}
+use Rattle.lab_reader.specs.declared.steps.Step.{Step}
+use Rattle.lab_reader.specs.Faults.{kind_name}
+use Rattle.lab_reader.specs.Reading.{lab_of, most_lab_bytes}
+use Rattle.lab_plain.specs.declared.said.Said.{Said}
+use Rattle.lab_plain.specs.declared.said.Stopped.{Stopped}
+use Rattle.lab_plain.specs.Meaning.{lab_done}
+use Rattle.lab_plain.specs.Texts.{said_text, stopped_text}
+use Rattle.lab_program.specs.declared.report.Lab.{Lab}
+
+-- the line of a stop, if there was one
+abbrev pub stop_text : Option Stopped → List ℕ
+stop_text None = []
+stop_text (Some stopped) = stopped_text stopped
+
+-- whether a lab was done to its end, and what it printed
+abbrev pub ran_of : List Said → Option Stopped → Ran
+ran_of said stopped = record { finished = is_none stopped; out = joined (map said_text said); err = stop_text stopped }
+
+-- what a run came to
+abbrev pub lab_ran : Lab → Ran
+lab_ran lab = ran_of lab.run.said.items lab.run.stopped
+
+-- what the steps of a lab come to: their plain meaning
+abbrev pub steps_ran : List Step → Ran
+steps_ran steps = ran_of (lab_done steps).stand.said (lab_done steps).stop
+
+-- the steps of a lab are done, and the first fault of its text refuses its file
+abbrev pub steps_plan : List ℕ → Result (List Step) LabFault → Plan
+steps_plan file (Ok steps) = Runs (steps_ran steps)
+steps_plan file (Err fault) = Refuses file fault.line (kind_name fault.kind)
+
+-- the bytes of a lab's file
+abbrev pub bytes_plan : List ℕ → List ℕ → Plan
+bytes_plan file bytes = steps_plan file (lab_of bytes)
+
+-- the lab's file has at most 1 MiB
+abbrev pub file_plan : List ℕ → Plan
+file_plan file = Reads file most_lab_bytes (bytes_plan file)
+
+-- the words are one file's name
+abbrev pub file_named : List (List ℕ) → Option (List ℕ)
+file_named (file ∷ []) = if is_option file then None else Some file
+file_named _ = None
+
+-- the program, by its name and what it does on its words: `LAB`, and no others
+abbrev pub rccelab : Program
+rccelab = record { name = codes "rccelab"; plan = λ words. plan_of file_plan (file_named words) }

@@ -1,0 +1,90 @@
+//! The top call.
+
+ghost use Rattle.std.specs.Prelude.{◌≡◌, codes, map, string_bytes};
+ghost use Rattle.std.specs.Option.{option_copied};
+ghost use Rattle.rcce_io.specs.Files.{FilesView};
+ghost use Rattle.outcomes.specs.Coming.{Comes, IsMeant};
+ghost use Rattle.outcomes.specs.Complaints.{outcome_of};
+ghost use Rattle.outcomes.specs.Delivery.{sinks};
+ghost use Rattle.outcomes.specs.Promises.{Promises};
+ghost use Rattle.rcce_words.specs.ScriptWords.{plan_of};
+ghost use Rattle.lab_program.specs.Program.{bytes_plan, file_named, file_plan, lab_ran, rccelab};
+
+use crate::report::Lab;
+use lab_reader::{LabStop, MOST_LAB_BYTES, read_lab};
+use lab_run::run_lab;
+use outcomes::{Complaint, Status, deliver, is_option, read_file};
+use rcce_io::{Files, Sink};
+use std::alloc::Global;
+
+/// Does the steps of a lab in the order of its file, and prints what they come to. The words are those after the program's
+/// name: `LAB`.
+///
+/// The checks go in this order, and the first that refuses counts: the words, the reading of the file, its grammar. Memory is
+/// taken by the reading, the grammar and the steps, before anything is printed. A sink that fails is not written to again, nor
+/// is the other one.
+pub fn rccelab<F: Files, O: Sink, E: Sink>(
+    alloc: Global,
+    words: &[String],
+    files: &mut F,
+    out: &mut O,
+    err: &mut E,
+) -> Status
+    // What is printed and the status are those of the plain meaning of the lab. What is promised has a name for each fact, among
+    // them `output`, the output theorem.
+    ensures promises { Promises rccelab (map string_bytes words.now) (F.seen files.old) (F.seen files.new)
+        (sinks (O.seen out.old) (E.seen err.old)) (sinks (O.seen out.new) (E.seen err.new)) result }
+{
+    let ending = run_words(alloc, words, files);
+    deliver("rccelab", &ending, out, err)
+}
+
+/// The file that the words name, if they are one word that is no option.
+fn file_named(words: &[String]) -> Option<&str>
+    ensures { option_copied result ≡ file_named (map string_bytes words.now) }
+{
+    match words {
+        [file] if !is_option(file.as_str()) => Some(file.as_str()),
+        _ => None,
+    }
+}
+
+fn run_words<'a, F: Files>(
+    alloc: Global,
+    words: &'a [String],
+    files: &mut F,
+) -> Result<Lab, Complaint<'a>>
+    ensures { IsMeant (codes "rccelab") (plan_of file_plan (file_named (map string_bytes words.now)))
+        (F.seen files.old) (F.seen files.new) (outcome_of (codes "rccelab") lab_ran result) }
+{
+    match file_named(words) {
+        Some(file) => run_file(alloc, files, file),
+        None => Err(Complaint::words("words refused")),
+    }
+}
+
+fn run_file<'a, F: Files>(alloc: Global, files: &mut F, file: &'a str) -> Result<Lab, Complaint<'a>>
+    ensures { Comes (codes "rccelab") (file_plan file.now) (F.seen files.old) (F.seen files.new) (outcome_of (codes "rccelab") lab_ran result) }
+{
+    match read_file(alloc, files, file, MOST_LAB_BYTES) {
+        Ok(bytes) => run_bytes(alloc, file, bytes.as_slice()),
+        Err(complaint) => Err(complaint),
+    }
+}
+
+fn run_bytes<'a>(alloc: Global, file: &'a str, bytes: &[u8]) -> Result<Lab, Complaint<'a>>
+    ensures { (files : FilesView) → Comes (codes "rccelab") (bytes_plan file.now bytes.now) files files (outcome_of (codes "rccelab") lab_ran result) }
+{
+    match read_lab(alloc, bytes) {
+        Ok(steps) => match run_lab(alloc, steps.as_slice()) {
+            Ok(run) => Ok(Lab { run }),
+            Err(_) => Err(Complaint::Memory),
+        },
+        Err(LabStop::Fault(fault)) => Err(Complaint::Refused {
+            file,
+            line: fault.line,
+            kind: fault.kind.name(),
+        }),
+        Err(LabStop::Memory) => Err(Complaint::Memory),
+    }
+}

@@ -1,0 +1,42 @@
+-- A bench at which nothing was done yet.
+use Rattle.std.proofs.Common.{◌≡◌, ℕ, ◌<◌, List, [], ◌∷◌, length, map, replicate, slice_index_or, Option, None, Some, is_some, refl, sym, ◌∙◌, ap, subst, arith}
+use Rattle.std.proofs.lemmas.List.{get_or-replicate, length-replicate}
+use Rattle.scc_base.specs.Setups.{SetupView}
+use Rattle.scc_proto.specs.Stages.{Record, blank}
+use Rattle.scc_proto.specs.Words.{Memory, zeros}
+use Rattle.scc_proto.proofs.PortLaws.{record_of-nil}
+use Rattle.put_get.specs.Cores.{Private}
+use Rattle.put_get.specs.HeapStores.{AwaitsHeap}
+use Rattle.lab_chip.specs.Chips.{ChipView, new_chip}
+use Rattle.lab_plain.specs.Meaning as meaning
+use Rattle.lab_plain.specs.Meaning.{Stand, core_at, holder_of, holds_nothing, is_holder, start}
+use Rattle.lab_run.specs.Turns.{IsLabSetup, memory_in}
+use Rattle.lab_run.specs.Stands.{IsBench, held_word, holds_of, stand_of}
+
+memory_new : (s : SetupView) → memory_in (new_chip s 0) ≡ zeros
+unfolding memory_in
+memory_new s = refl
+
+new_stands : (s : SetupView) → IsLabSetup s → IsBench (new_chip s 0) (replicate 48 holds_nothing) (replicate 48 None)
+new_stands s lab = record {
+  setup = lab;
+  ranks = length-replicate 48 holds_nothing;
+  places = length-replicate 48 None;
+  idle = λ r below. ap (λ (x : Record). x.stage) (record_of-nil s r);
+  awaits = λ r below. subst (λ (h : meaning.Holds). AwaitsHeap s h.out) (sym (get_or-replicate 48 r holds_nothing holds_nothing below)) tt;
+  held = λ r k low below. ap (λ (x : Record). is_some (x.held k)) (record_of-nil s r) ∙ sym (ap (is_holder r) (get_or-replicate 48 k None None below));
+  registers = λ k below. ap (λ (m : Memory). m.register k) (memory_new s) ∙ sym (ap held_word (get_or-replicate 48 k None None below));
+}
+
+pub new_bench : (s : SetupView) (chip : ChipView) (cores : List Private) (holders : List (Option ℕ)) → IsLabSetup s → chip ≡ new_chip s 0 → map holds_of cores ≡ replicate 48 holds_nothing
+    → holders ≡ replicate 48 None → IsBench chip (map holds_of cores) holders
+new_bench s chip cores holders lab is nothing none =
+    subst (λ (c : ChipView). IsBench c (map holds_of cores) holders) (sym is)
+    (subst (λ (l : List meaning.Holds). IsBench (new_chip s 0) l holders) (sym nothing)
+    (subst (λ (h : List (Option ℕ)). IsBench (new_chip s 0) (replicate 48 holds_nothing) h) (sym none) (new_stands s lab)))
+
+pub new_stand : (s : SetupView) (chip : ChipView) (cores : List Private) (holders : List (Option ℕ)) → chip ≡ new_chip s 0 → map holds_of cores ≡ replicate 48 holds_nothing
+    → holders ≡ replicate 48 None → stand_of chip cores holders [] ≡ start
+unfolding start
+new_stand s chip cores holders is nothing none =
+    λ i. record { memory = (ap memory_in is ∙ memory_new s) i; cores = nothing i; holders = none i; said = [] }

@@ -1,0 +1,95 @@
+-- Scenes of a core at work, one after the other.
+use Rattle.std.proofs.Common.{◌≡◌, ℕ, ◌<◌, ◌≤◌, List, [], ◌∷◌, ◌++◌, Option, None, Some, Result, Ok, Err, refl, sym, ◌∙◌, ap, subst, arith}
+use Rattle.std.specs.Prelude.{OnOk}
+use Rattle.scc_base.specs.Places.{LineAt, WordAt, line_of_word}
+use Rattle.scc_base.specs.Setups.{SetupView}
+use Rattle.scc_proto.specs.Stages.{Idle, Record}
+use Rattle.scc_proto.specs.Ports.{record_in}
+use Rattle.put_get.specs.Cores.{Private}
+use Rattle.put_get.specs.HeapStores.{IsHeapLine, AwaitsHeap}
+use Rattle.lab_chip.specs.Chips.{ChipView, sight_of}
+use Rattle.lab_reader.specs.Places.{IsInHeap}
+use Rattle.lab_plain.specs.declared.said.Said.{Said}
+use Rattle.lab_plain.specs.Scenes.{Scene}
+use Rattle.lab_run.specs.Turns.{IsKept, IsLabSetup, IsReady, Turned, memory_in, scene_of}
+
+pub kept_none : (chip : ChipView) → IsKept chip chip
+kept_none chip = record { turn = refl; stage = refl; held = refl; registers = refl }
+
+pub kept_both : (a b c : ChipView) → IsKept a b → IsKept b c → IsKept a c
+kept_both a b c first second = record {
+  turn = second.turn ∙ (λ i. record (first.turn i) { own = c.own });
+  stage = second.stage ∙ first.stage;
+  held = second.held ∙ first.held;
+  registers = second.registers ∙ first.registers;
+}
+
+pub rank_kept : (a b : ChipView) → IsKept a b → b.rank ≡ a.rank
+rank_kept a b kept = ap (λ (c : ChipView). c.rank) kept.turn
+
+pub setup_kept : (a b : ChipView) → IsKept a b → b.setup ≡ a.setup
+setup_kept a b kept = ap (λ (c : ChipView). c.setup) kept.turn
+
+-- a core is ready after heap accesses, where its buffer holds a heap line or none
+pub ready_after : (c d : Private) (s t : ChipView) → IsReady c s → IsKept s t → AwaitsHeap s.setup d.out → IsReady d t
+ready_after c d s t ready kept awaits = record {
+  setup = subst (λ (x : SetupView). IsLabSetup x) (sym (setup_kept s t kept)) ready.setup;
+  below = subst (λ (r : ℕ). r < 48) (sym (rank_kept s t kept)) ready.below;
+  idle = kept.stage ∙ ready.idle;
+  awaits = subst (λ (x : SetupView). AwaitsHeap x d.out) (sym (setup_kept s t kept)) awaits;
+}
+
+-- a line of the heap, as a lab names it, is one at the core of a rank
+pub in_heap : (s : SetupView) (line : LineAt) → IsLabSetup s → IsInHeap line → IsHeapLine s line
+in_heap s line lab heap = record {
+  owner = line.core;
+  below = omega (arith, lab.ranks, heap.core_below);
+  core = sym (lab.hosts line.core heap.core_below);
+  heap = heap.heap;
+}
+
+-- one thing after another
+pub turned_then : (f : Scene → Scene) (g : ℕ → Scene → Scene) (c d e : Private) (s m t : ChipView) (said told end : List Said)
+    → Turned f c s said d m told → Turned (g m.rank) d m told e t end → Turned (λ x. g s.rank (f x)) c s said e t end
+turned_then f g c d e s m t said told end first second = record {
+  scene = second.scene ∙ (λ i. g (rank_kept s m first.kept i) (first.scene i));
+  ready = second.ready;
+  kept = kept_both s m t first.kept second.kept;
+}
+
+-- more was printed, and nothing else was done
+pub turned_said : (f : Scene → Scene) (c d : Private) (s t : ChipView) (said told more : List Said) (end : List Said) → Turned f c s said d t told → end ≡ told ++ more
+    → Turned (λ x. record (f x) { said = (f x).said ++ more }) c s said d t end
+turned_said f c d s t said told more end turned is = record {
+  scene = (λ i. record (scene_of d t told) { said = is i }) ∙ (λ i. record (turned.scene i) { said = (turned.scene i).said ++ more });
+  ready = turned.ready;
+  kept = turned.kept;
+}
+
+-- four things, one after the other
+pub turned_four : (f g h k : ℕ → Scene → Scene) (c0 c1 c2 c3 c4 : Private) (s0 s1 s2 s3 s4 : ChipView) (t0 t1 t2 t3 t4 : List Said)
+    → Turned (f s0.rank) c0 s0 t0 c1 s1 t1 → Turned (g s1.rank) c1 s1 t1 c2 s2 t2 → Turned (h s2.rank) c2 s2 t2 c3 s3 t3 → Turned (k s3.rank) c3 s3 t3 c4 s4 t4
+    → Turned (λ x. k s0.rank (h s0.rank (g s0.rank (f s0.rank x)))) c0 s0 t0 c4 s4 t4
+turned_four f g h k c0 c1 c2 c3 c4 s0 s1 s2 s3 s4 t0 t1 t2 t3 t4 one two three four =
+    turned_then (λ x. h s0.rank (g s0.rank (f s0.rank x))) k c0 c3 c4 s0 s3 s4 t0 t3 t4
+    (turned_then (λ x. g s0.rank (f s0.rank x)) h c0 c2 c3 s0 s2 s3 t0 t2 t3
+    (turned_then (f s0.rank) g c0 c1 c2 s0 s1 s2 t0 t1 t2 one two) three) four
+
+pub on_ok : {A E P Q : Type 0} (r : Result A E) → (P → Q) → OnOk r P → OnOk r Q
+on_ok (Ok x) then p = then p
+on_ok (Err e) then p = tt
+
+-- a thing done at an equal place
+pub turned_at : (f : WordAt → Scene → Scene) (p q : WordAt) (c d : Private) (s t : ChipView) (said told : List Said) → p ≡ q → Turned (f p) c s said d t told → Turned (f q) c s said d t told
+turned_at f p q c d s t said told same turned = subst (λ (x : WordAt). Turned (f x) c s said d t told) same turned
+
+-- two and three things, one after the other
+pub turned_two : (f g : ℕ → Scene → Scene) (c0 c1 c2 : Private) (s0 s1 s2 : ChipView) (t0 t1 t2 : List Said)
+    → Turned (f s0.rank) c0 s0 t0 c1 s1 t1 → Turned (g s1.rank) c1 s1 t1 c2 s2 t2 → Turned (λ x. g s0.rank (f s0.rank x)) c0 s0 t0 c2 s2 t2
+turned_two f g c0 c1 c2 s0 s1 s2 t0 t1 t2 one two = turned_then (f s0.rank) g c0 c1 c2 s0 s1 s2 t0 t1 t2 one two
+
+pub turned_three : (f g h : ℕ → Scene → Scene) (c0 c1 c2 c3 : Private) (s0 s1 s2 s3 : ChipView) (t0 t1 t2 t3 : List Said)
+    → Turned (f s0.rank) c0 s0 t0 c1 s1 t1 → Turned (g s1.rank) c1 s1 t1 c2 s2 t2 → Turned (h s2.rank) c2 s2 t2 c3 s3 t3
+    → Turned (λ x. h s0.rank (g s0.rank (f s0.rank x))) c0 s0 t0 c3 s3 t3
+turned_three f g h c0 c1 c2 c3 s0 s1 s2 s3 t0 t1 t2 t3 one two three =
+    turned_then (λ x. g s0.rank (f s0.rank x)) h c0 c2 c3 s0 s2 s3 t0 t2 t3 (turned_two f g c0 c1 c2 s0 s1 s2 t0 t1 t2 one two) three

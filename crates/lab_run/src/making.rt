@@ -1,0 +1,81 @@
+//! The steps that the cores of a lab make.
+
+ghost use Rattle.std.specs.Prelude.{◌≡◌, ◌<◌, IfOk};
+ghost use Rattle.lab_plain.specs.Meaning.{core_done, step_done};
+ghost use Rattle.lab_run.specs.Benches.{HasMade, IsNew, Stands, bench_stand};
+ghost use Rattle.lab_run.specs.Stands.{AreNew};
+
+use crate::acting::act;
+use crate::bench::Bench;
+use crate::evictor::Named;
+use crate::setup::lab_setup;
+use lab_chip::LabChip;
+use lab_plain::{Said, Stopped};
+use lab_reader::{Action, Step};
+use put_get::Core;
+use scc_base::{CoreId, Rank};
+use script_reader::Bytes;
+use std::alloc::{AllocError, Global};
+
+/// Cores that hold nothing.
+fn new_cores(alloc: Global) -> Result<Vec<Core<Named>>, AllocError>
+    ensures { IfOk result (λ cores. AreNew cores.items) }
+{
+    let mut cores = Vec::new(alloc);
+    for _core in 0..48u8 {
+        cores.push(Core::new(Named::new(None)))?;
+    }
+    Ok(cores)
+}
+
+impl Bench {
+    /// Nothing was done yet.
+    pub(crate) fn new(alloc: Global) -> Result<Bench, AllocError>
+        ensures { IfOk result IsNew }
+    {
+        let chip = LabChip::new(alloc, lab_setup(), Rank::of(0))?;
+        let cores = new_cores(alloc)?;
+        Ok(Bench {
+            chip,
+            cores,
+            holders: [None; 48],
+            said: Vec::new(alloc),
+        })
+    }
+
+    /// Makes a step. Why the lab stops at it, if it does.
+    pub(crate) fn make(&mut self, alloc: Global, step: &Step) -> Result<Option<Stopped>, AllocError>
+        requires stands { Stands self.old }
+        ensures { IfOk result (λ stopped. HasMade (step_done step.now (bench_stand self.old)) stopped self.new) }
+    {
+        let text = Bytes::from_slice(alloc, step.text.as_slice())?;
+        self.said.push(Said::Begins {
+            line: step.line,
+            text,
+        })?;
+        self.chip.turn_to(Rank::of(step.core.number()));
+        match &step.action {
+            Action::Take { register, expect } => {
+                self.take(step.line, step.core, *register, *expect)
+            }
+            Action::Free { register } => self.free(step.line, step.core, *register),
+            action => self.act(step.line, step.core, action),
+        }
+    }
+
+    /// The core that has its turn acts. (Registers are read by `take` and `free`.)
+    fn act(
+        &mut self,
+        line: u32,
+        own: CoreId,
+        action: &Action,
+    ) -> Result<Option<Stopped>, AllocError>
+        requires stands { Stands self.old }
+        requires turn { self.old.chip.rank ≡ own }
+        requires below { own < 48 }
+        ensures { IfOk result (λ stopped. HasMade (core_done line own action.now (bench_stand self.old)) stopped self.new) }
+    {
+        let core = &mut self.cores[own.number() as usize];
+        act(core, &mut self.chip, &mut self.said, line, action)
+    }
+}

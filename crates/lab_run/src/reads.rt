@@ -1,0 +1,213 @@
+//! Reads of a core.
+
+ghost use Rattle.std.specs.Prelude.{◌≡◌, ◌==◌, ◌++◌, if◌then◌else◌, drop, ℕ, List, OnOk, IfOk, Some, None, length, slice_index};
+ghost use Rattle.std.specs.Option.{unwrap_or};
+ghost use Rattle.scc_base.specs.Places.{line_of_word};
+ghost use Rattle.line_cache.specs.Lines.{IsPlaceOf, filled, held};
+ghost use Rattle.lab_plain.specs.Scenes.{answer, buffered, line_answer, line_in, line_read, say_left, word_fetched, word_loaded, word_read};
+ghost use Rattle.lab_run.specs.Evicting.{IsPlaceIn};
+ghost use Rattle.lab_run.specs.Loads.{LoadsLine};
+ghost use Rattle.lab_run.specs.Turns.{IsReady, Turned, memory_in, scene_of};
+
+use crate::evictor::Named;
+use crate::moves::{answer, own};
+use lab_chip::LabChip;
+use lab_plain::{Said, Source};
+use lab_reader::{HeapLine, HeapWord};
+use line_cache::Entry;
+use put_get::Core;
+use scc_base::Line;
+use std::alloc::AllocError;
+
+/// The words of a line that was loaded, and whether the line left that an evictor was to name.
+#[derive(Clone, Copy)]
+pub(crate) struct Loaded {
+    pub(crate) words: [u64; 4],
+    pub(crate) left: bool,
+}
+
+/// How many lines a cache holds at most.
+const MOST_LINES: usize = 512;
+
+/// The word that waits in the write-combining buffer, if it was written there.
+fn buffered_word(core: &Core<Named>, at: HeapWord) -> Option<u64>
+    ensures { result ≡ buffered core.now.out at }
+{
+    match core.buffered() {
+        Some(out) => {
+            let word = at.number() as usize;
+            if out.line.is(at.line().line()) && out.mask[word] {
+                Some(out.words[word])
+            } else {
+                None
+            }
+        }
+        None => None,
+    }
+}
+
+/// The place of a line among cached lines.
+fn place_of(entries: &[Entry], line: Line) -> Option<usize>
+    ensures { IsPlaceOf entries.now line result }
+{
+    for at in (0..entries.len()).rev() {
+        if entries[at].line.is(line) {
+            return Some(at);
+        }
+    }
+    None
+}
+
+/// The cached lines that stay where another one is brought in: in a full cache all but the first.
+fn front_of(entries: &[Entry]) -> &[Entry]
+    ensures { result.now ≡ (if length entries.now == 512 then drop 1 entries.now else entries.now) }
+{
+    if entries.len() == MOST_LINES {
+        &entries[1..]
+    } else {
+        entries
+    }
+}
+
+/// The place that a line has once another one was brought in.
+fn place_after(entries: &[Entry], new: Line, line: Line) -> Option<usize>
+    ensures { (words : List ℕ) → IsPlaceOf (filled entries.now new words) line result }
+{
+    let front = front_of(entries);
+    if line.is(new) {
+        Some(front.len())
+    } else {
+        place_of(front, line)
+    }
+}
+
+/// The place at which the line stands that an evictor names, once this one was brought in.
+fn leaving(core: &Core<Named>, new: Line, evict: &Option<HeapLine>) -> Option<usize>
+    ensures { (words : List ℕ) → IsPlaceIn evict.now (filled core.now.lines new words) result }
+{
+    match evict {
+        Some(evict) => place_after(core.lines(), new, evict.line()),
+        None => None,
+    }
+}
+
+/// The words of a line that is not cached, from the shared words. The line that is named leaves, if it is cached then.
+pub(crate) fn load_line(
+    core: &mut Core<Named>,
+    chip: &mut LabChip,
+    at: HeapLine,
+    evict: &Option<HeapLine>,
+) -> Loaded
+    requires ready { IsReady core.old chip.old }
+    requires new { held core.old.lines at ≡ None }
+    ensures loads { LoadsLine evict.now core.old chip.old at result core.new chip.new }
+{
+    let _lines = core.lines();
+    let leaves = leaving(core, at.line(), evict);
+    let _ = core.evict_by(Named::new(leaves));
+    let words = core.fetch(chip, at.line());
+    chip.tells();
+    Loaded {
+        words,
+        left: leaves.is_some(),
+    }
+}
+
+/// Says that the line that was named left the cache, if it did.
+fn say_evicted(said: &mut Vec<Said>, evict: &Option<HeapLine>, left: bool) -> Result<(), AllocError>
+    ensures { OnOk result (said.new.items ≡ said.old.items ++ say_left evict.now left) }
+{
+    if let Some(evict) = evict {
+        if left {
+            said.push(Said::Evicted(evict.line()))?;
+        }
+    }
+    Ok(())
+}
+
+/// Reads a word whose line is not cached.
+fn load_word(
+    core: &mut Core<Named>,
+    chip: &mut LabChip,
+    said: &mut Vec<Said>,
+    at: HeapWord,
+    evict: &Option<HeapLine>,
+) -> Result<u64, AllocError>
+    requires ready { IsReady core.old chip.old }
+    requires new { held core.old.lines (line_of_word at) ≡ None }
+    ensures turned { OnOk result (Turned (word_loaded chip.old.rank at evict.now) core.old chip.old said.old.items core.new chip.new said.new.items) }
+    ensures answers { IfOk result (λ v. v ≡ slice_index (line_in (memory_in chip.old) (line_of_word at)) at.word) }
+{
+    let Loaded { words, left } = load_line(core, chip, at.line(), evict);
+    let value = words[at.number() as usize];
+    said.push(Said::Loads {
+        core: own(chip),
+        line: at.line().line(),
+        words,
+    })?;
+    answer(said, at, value, Source::Words)?;
+    say_evicted(said, evict, left)?;
+    Ok(value)
+}
+
+/// Reads a word that does not wait in the buffer.
+fn fetch_word(
+    core: &mut Core<Named>,
+    chip: &mut LabChip,
+    said: &mut Vec<Said>,
+    at: HeapWord,
+    evict: &Option<HeapLine>,
+) -> Result<u64, AllocError>
+    requires ready { IsReady core.old chip.old }
+    ensures turned { OnOk result (Turned (λ s. word_fetched chip.old.rank at evict.now s (held s.lines (line_of_word at))) core.old chip.old said.old.items core.new chip.new said.new.items) }
+    ensures answers { IfOk result (λ v. v ≡ slice_index (unwrap_or (held core.old.lines (line_of_word at)) (line_in (memory_in chip.old) (line_of_word at))) at.word) }
+{
+    let line = at.line().line();
+    if place_of(core.lines(), line).is_none() {
+        return load_word(core, chip, said, at, evict);
+    }
+    let words = core.fetch(chip, line);
+    let value = words[at.number() as usize];
+    answer(said, at, value, Source::Cache)?;
+    Ok(value)
+}
+
+/// Reads a word.
+pub(crate) fn read_word(
+    core: &mut Core<Named>,
+    chip: &mut LabChip,
+    said: &mut Vec<Said>,
+    at: HeapWord,
+    evict: &Option<HeapLine>,
+) -> Result<u64, AllocError>
+    requires ready { IsReady core.old chip.old }
+    ensures turned { OnOk result (Turned (word_read chip.old.rank at evict.now) core.old chip.old said.old.items core.new chip.new said.new.items) }
+    ensures answers { IfOk result (λ v. v ≡ answer at (scene_of core.old chip.old said.old.items)) }
+{
+    match buffered_word(core, at) {
+        Some(value) => {
+            answer(said, at, value, Source::BufferLine)?;
+            Ok(value)
+        }
+        None => fetch_word(core, chip, said, at, evict),
+    }
+}
+
+/// Reads the four words of a line, one after the other.
+pub(crate) fn read_line(
+    core: &mut Core<Named>,
+    chip: &mut LabChip,
+    said: &mut Vec<Said>,
+    at: HeapLine,
+    evict: &Option<HeapLine>,
+) -> Result<[u64; 4], AllocError>
+    requires ready { IsReady core.old chip.old }
+    ensures turned { OnOk result (Turned (line_read chip.old.rank at evict.now) core.old chip.old said.old.items core.new chip.new said.new.items) }
+    ensures answers { IfOk result (λ words. words ≡ line_answer chip.old.rank at evict.now (scene_of core.old chip.old said.old.items)) }
+{
+    let first = read_word(core, chip, said, at.word(0), evict)?;
+    let second = read_word(core, chip, said, at.word(1), evict)?;
+    let third = read_word(core, chip, said, at.word(2), evict)?;
+    let fourth = read_word(core, chip, said, at.word(3), evict)?;
+    Ok([first, second, third, fourth])
+}
