@@ -15,7 +15,8 @@ from rcce_lib.progress import Progress
 from rcce_lib.programs import Programs, version
 from rcce_lib.stops import OWN_FAILURE, Stop
 from rcce_lib.words import Parser
-from trace_lib import viewers
+from trace_lib import pages, viewers
+from trace_lib.labs import Lab
 from trace_lib.texts import read_trace
 
 ENDS = """FILE - is standard input. A fault is told as FILE:LINE: KIND: what is wanted. Status: 0 all is well; 2 the file is refused, or
@@ -26,6 +27,13 @@ ui.perfetto.dev open: a track a rank, a span a call from its first event to its 
 in the spans of a trace its events. The time is a count, one microsecond each, and no measured time: in a trace the number of the event,
 in a log the turn in which a call can be made. That a log is legal, rcceaudit tells; a trace is not judged, and what no record permits
 belongs to no call."""
+
+PAGE = """Writes a page that plays a trace (docs/TRACE.md), or what rccelab prints of a lab (docs/LAB.md), step by step: the words of the buffers
+in use, what each core holds, the mesh, and a lane a rank with an arrow for each message. The page is one file and needs no network, and
+goes by keys, by its slider or by its buttons; behind its name #last or a number names the step at which it opens. A trace tells the
+shared words alone; of a lab old copies and words that wait in a write-combining buffer are marked."""
+TRACE_PAGE = "A trace of accesses to shared words, an event a step."
+LAB_PAGE = "A lab of raw accesses, a line a step."
 
 
 def trace(argv: list[str]) -> int:
@@ -44,6 +52,18 @@ def _viewer_text(words: argparse.Namespace, given: Given, programs: Programs) ->
     if said := verdict_of(programs, given.path):
         raise Stop(f"{given.name}: not legal: ue {said[0]} call {said[1]} (rcce audit tells why)", 3)
     return viewers.text_of(given.name, viewers.LOG_TIME, viewers.of_log(given.name, read_log(given.data.decode("ascii"))))
+
+
+def page(argv: list[str]) -> int:
+    """The command page."""
+    return _command(_parser("page", PAGE, "the trace, or the output of a lab").parse_args(argv), _page_text)
+
+
+def _page_text(words: argparse.Namespace, given: Given, programs: Programs) -> Iterator[str]:
+    """The text of a page."""
+    if given.data.startswith(b"line "):
+        return pages.page_of(given.name, LAB_PAGE, pages.of_lab(Lab(given.name, given.data)))
+    return pages.page_of(given.name, TRACE_PAGE, pages.of_trace(read_trace(given.name, given.data)))
 
 
 def _parser(name: str, about: str, what: str) -> Parser:

@@ -46,7 +46,7 @@ def of_trace(trace: Trace, with_events: bool) -> Iterator[Object]:
         for number, event in enumerate(trace.events):
             args: Object = {"line": event.at, "place": event.place, "value": f"{event.value:016x}"}
             yield _span(f"{event.access} {event.role}", "event", event.rank, number, number + 1, args)
-    for number, (start, end) in enumerate(_chunks(calls)):
+    for number, (start, end) in enumerate(chunks_of(calls)):
         yield from _flow(number, start, end)
 
 
@@ -56,7 +56,7 @@ def _call_args(trace: Trace, span: Span, number: int) -> Object:
     return {**lines, "bytes": span.data.hex() or "-"} if span.head else lines
 
 
-def _chunks(calls: list[list[Span]]) -> Iterator[tuple[tuple[int, int], tuple[int, int]]]:
+def chunks_of(calls: list[list[Span]]) -> Iterator[tuple[tuple[int, int], tuple[int, int]]]:
     """Each chunk that was taken: the sender and the event that raised its flag, the receiver and the event that lowered it."""
     raised: dict[tuple[int, int], list[int]] = defaultdict(list)
     lowered: dict[tuple[int, int], list[int]] = defaultdict(list)

@@ -1,0 +1,115 @@
+"""Checks the command page: a page stands alone, and in a browser, where the machine has one, it goes by keys and shows the last state."""
+from __future__ import annotations
+
+import base64
+import pathlib
+import re
+import struct
+import subprocess
+import tempfile
+from typing import Any
+
+from tests.browser import Browser, find_browser
+from tests.labs import LABS, last_state
+from tests.model import trace_of
+from trace_lib.pages import MOST_STEPS
+from trace_lib.texts import read_trace
+from trace_lib.words import BITS, WORDS, Setup
+
+# what the cells of a table of words say, by the name of the row
+TABLES = """(() => Object.fromEntries([...document.querySelectorAll('#words tbody tr')].map(row =>
+  [row.querySelector('th').textContent, [...row.querySelectorAll('td.value')].map(cell => cell.textContent)])))()"""
+HELD = """(() => [...document.querySelectorAll('#cores table')].flatMap(table => [...table.querySelectorAll('tr')].map(row =>
+  [table.caption.textContent, ...[...row.children].map(cell => cell.textContent)].join(' '))))()"""
+
+
+def inputs() -> dict[str, str]:
+    """Traces by the model, and what labs print."""
+    hello = [[("send", 1, "plain", 0, 4, "01020304"), ("bar", 0)], [("recv", 0, "plain", 0, 4, "01020304"), ("bar", 0)]]
+    traces = {f"hello.{layout}.trace": trace_of(Setup(2, layout, [0, 47]), hello, 1) for layout in (WORDS, BITS)}
+    return {**traces, **LABS}
+
+
+def check_pages(called: Any, write: bool) -> tuple[int, list[str]]:
+    """Each input: its page stands alone; in a browser its last state is that of the input."""
+    wrong: list[str] = []
+    path = find_browser()
+    if not path:
+        print("tools: there is no Chromium here, and no page was opened")
+    with tempfile.TemporaryDirectory() as folder:
+        for name, text in inputs().items():
+            pathlib.Path(folder, name).write_text(text, encoding="ascii")
+            ran: subprocess.CompletedProcess[bytes] = called(["page", name, "-o", f"{name}.html"], folder)
+            faults = [f"status {ran.returncode}: {ran.stderr!r:.300}"] if ran.returncode else _alone(pathlib.Path(folder, f"{name}.html").read_text("utf-8"))
+            wrong += [f"page {name}: {it}" for it in faults]
+        wrong += _too_long(called, folder)
+        if path and not wrong:
+            with Browser(path) as browser:
+                for name, text in inputs().items():
+                    wrong += [f"page {name}: {it}" for it in _played(browser, f"file://{folder}/{name}.html", name, text)]
+    return len(inputs()) * (2 if path else 1) + 1, wrong
+
+
+def _too_long(called: Any, folder: str) -> list[str]:
+    """A trace of one event more than a page shows is refused in one line."""
+    text = "rcce trace 1 nue 1 layout words hosts 0\n" + f"0 load 0.225.0 {0:016x}\n" * (MOST_STEPS + 1)
+    pathlib.Path(folder, "long.trace").write_text(text, encoding="ascii")
+    ran = called(["page", "long.trace"], folder)
+    told = b"long.trace:1: TooLong: at most 20,000 steps, and here are 20,001\n"
+    return [] if (ran.returncode, ran.stdout, ran.stderr) == (2, b"", told) else [f"a long trace: {ran.returncode} {ran.stderr!r:.300}"]
+
+
+def _alone(text: str) -> list[str]:
+    """What of a page would reach for something else."""
+    page = re.sub(r'(?s)<script type="application/json" id="data">.*?</script>', "", text)
+    reaching = re.findall(r"https?:|\bsrc=|<link|@import|url\((?!#)|\bfetch\b|XMLHttpRequest|\bimport\b", page)
+    return [f"it reaches for {it}" for it in reaching]
+
+
+def _played(browser: Browser, url: str, name: str, text: str) -> list[str]:
+    """What is wrong with a page that is played: from its first step by keys to its last and back."""
+    browser.open("about:blank")
+    browser.open(url)
+    count = int(browser.run("data.steps.length"))
+    wrong = [] if browser.run("now") == 0 else ["it does not open at its first step"]
+    for key, step in (("ArrowRight", 1), ("ArrowRight", 2), ("ArrowLeft", 1), ("End", count), ("ArrowRight", count), ("Home", 0), ("End", count)):
+        browser.press(key)
+        if browser.run("now") != step or browser.run("Number(find('slider').value)") != step:
+            wrong.append(f"{key} does not lead to step {step}")
+    says = str(browser.run("find('says').textContent"))
+    wrong += [] if says.startswith(f"Step {count} of {count}: ") else [f"the last step says {says!r:.200}"]
+    marked = browser.run("document.querySelector('#script [aria-current=step]').textContent")
+    wrong += [] if str(marked).split()[0] == str(browser.run("data.script[count - 1][0]")) else [f"the line that is marked is {marked}"]
+    return wrong + _state_faults(browser, name, text) + _reader_faults(browser, says)
+
+
+def _state_faults(browser: Browser, name: str, text: str) -> list[str]:
+    """Where the last state of the document is not that of the input."""
+    words, held = last_state(text) if name.endswith(".out") else _words_of(text)
+    made = dict(browser.run(TABLES))
+    wrong = [f"line {line} shows {made.get(line)}, not {values}" for line, values in words.items() if made.get(line) != values]
+    shown = list(browser.run(HELD))
+    return wrong + ([] if shown == held else [f"the cores hold {shown}, not {held}"])
+
+
+def _words_of(text: str) -> tuple[dict[str, list[str]], list[str]]:
+    """The words that stand in the lines of a trace behind its last event, and what its cores hold, which a trace does not tell."""
+    words: dict[str, list[str]] = {}
+    for event in read_trace("", text.encode()).events:
+        if event.line >= 0:
+            line = words.setdefault(f"{event.core}.{event.line}", ["0"] * 4)
+            line[event.word] = f"{event.value:x}"
+    return words, []
+
+
+def _reader_faults(browser: Browser, says: str) -> list[str]:
+    """What a screen reader would miss: the slider with the step in words, the regions by name, the tables by caption; and the picture."""
+    nodes = browser.ask("Accessibility.getFullAXTree")["nodes"]
+    told = [(it.get("role", {}).get("value"), it.get("name", {}).get("value", "")) for it in nodes if not it.get("ignored")]
+    wanted = [("slider", "step"), ("button", "Forward"), ("button", "Back"), ("region", "What the cores hold"), ("region", "The words of the buffers in use"),
+              ("heading", "The lines"), ("heading", "The lanes"), ("heading", "The mesh")]
+    wrong = [f"a screen reader finds no {role} {name}" for role, name in wanted if (role, name) not in told]
+    wrong += [] if browser.run("find('slider').getAttribute('aria-valuetext')") == says else ["the slider does not say the step"]
+    shot = browser.ask("Page.captureScreenshot", format="png")["data"]
+    width, height = struct.unpack(">II", base64.b64decode(shot[:64])[16:24])
+    return wrong + ([] if width > 1000 and height > 500 else [f"a screenshot of {width} by {height}"])
