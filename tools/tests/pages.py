@@ -2,6 +2,8 @@
 from __future__ import annotations
 
 import base64
+import glob
+import os
 import pathlib
 import re
 import struct
@@ -12,10 +14,12 @@ from typing import Any
 from tests.browser import Browser, find_browser
 from tests.labs import LABS, last_state
 from tests.model import trace_of
-from trace_lib.pages import MOST_STEPS
+from trace_lib.labs import Lab
+from trace_lib.pages import MOST_STEPS, of_lab
 from trace_lib.texts import read_trace
 from trace_lib.words import BITS, WORDS, Setup
 
+TOP = os.path.dirname(os.path.dirname(os.path.dirname(os.path.realpath(__file__))))
 # what the cells of a table of words say, by the name of the row
 TABLES = """(() => Object.fromEntries([...document.querySelectorAll('#words tbody tr')].map(row =>
   [row.querySelector('th').textContent, [...row.querySelectorAll('td.value')].map(cell => cell.textContent)])))()"""
@@ -43,11 +47,29 @@ def check_pages(called: Any, write: bool) -> tuple[int, list[str]]:
             faults = [f"status {ran.returncode}: {ran.stderr!r:.300}"] if ran.returncode else _alone(pathlib.Path(folder, f"{name}.html").read_text("utf-8"))
             wrong += [f"page {name}: {it}" for it in faults]
         wrong += _too_long(called, folder)
+        wrong += [f"page {path}: {it}" for path in lab_outputs() for it in _replayed(path)]
         if path and not wrong:
             with Browser(path) as browser:
                 for name, text in inputs().items():
                     wrong += [f"page {name}: {it}" for it in _played(browser, f"file://{folder}/{name}.html", name, text)]
-    return len(inputs()) * (2 if path else 1) + 1, wrong
+    return len(inputs()) * (2 if path else 1) + 1 + len(lab_outputs()), wrong
+
+
+def lab_outputs() -> list[str]:
+    """The stored outputs of the labs of lessons/."""
+    return sorted(glob.glob(f"{TOP}/lessons/**/*.lab.out", recursive=True))
+
+
+def _replayed(path: str) -> list[str]:
+    """Where the words of the last step of a lab are not those that its output tells."""
+    text = pathlib.Path(path).read_text(encoding="ascii")
+    shown: dict[str, list[str]] = {}
+    for step in of_lab(Lab(path, text.encode()))["steps"]:
+        for place, value in step["words"]:
+            line, _, word = place.rpartition(".")
+            shown.setdefault(line, ["0"] * 4)[int(word)] = value
+    words, _ = last_state(text)
+    return [] if shown == words else [f"its words are {shown}, not {words}"]
 
 
 def _too_long(called: Any, folder: str) -> list[str]:
