@@ -98,6 +98,14 @@ def _played(browser: Browser, url: str, name: str, text: str) -> list[str]:
         browser.press(key)
         if browser.run("now") != step or browser.run("Number(find('slider').value)") != step:
             wrong.append(f"{key} does not lead to step {step}")
+    # with the slider in hand its keys do the same, and no step twice
+    browser.run("find('slider').focus()")
+    for key, step in (("ArrowLeft", count - 1), ("Home", 0), ("ArrowRight", 1), ("End", count)):
+        browser.press(key)
+        wrong += [] if browser.run("now") == step else [f"{key} at the slider does not lead to step {step}"]
+    for button, step in (("back", count - 1), ("first", 0), ("forward", 1), ("last", count)):
+        browser.run(f"find('{button}').click()")
+        wrong += [] if browser.run("now") == step else [f"the button {button} does not lead to step {step}"]
     says = str(browser.run("find('says').textContent"))
     wrong += [] if says.startswith(f"Step {count} of {count}: ") else [f"the last step says {says!r:.200}"]
     marked = browser.run("document.querySelector('#script [aria-current=step]').textContent")

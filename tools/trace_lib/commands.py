@@ -83,7 +83,8 @@ def _command(words: argparse.Namespace, text_of: Callable[[argparse.Namespace, G
         _write(words.o, text)
         return 0
     except Stop as stop:
-        print(stop.line, file=sys.stderr)
+        if stop.line:
+            print(stop.line, file=sys.stderr)
         return stop.status
     except KeyboardInterrupt:
         return 130
@@ -106,4 +107,5 @@ def _write(name: str | None, text: Iterator[str]) -> None:
     except OSError as error:
         # what is still held back would fail again when the interpreter ends
         os.dup2(os.open(os.devnull, os.O_WRONLY), 1)
-        raise Stop(f"{name or 'standard output'}: {error.strerror}", 6) from error
+        told = "" if isinstance(error, BrokenPipeError) else f"{name or 'standard output'}: {error.strerror}"
+        raise Stop(told, 6) from error
