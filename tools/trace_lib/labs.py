@@ -16,6 +16,8 @@ REGISTER = re.compile(r"(\d+) (take|free) (\d+)\.register (?:0{15})?([01]) # reg
 ANSWER = re.compile(r"answer (?:(took|taken)|(\d+):(\d+)\.([0-3]) ([0-9a-f]{16}) from (cache|buffer line|words))")
 EVICTED = re.compile(r"evicted (\d+):(\d+)")
 HOLDS = re.compile(r"core (\d+) (caches|buffers) (?:(nothing)|(\d+):(\d+)((?: (?:[0-9a-f]{16}|-)){4}))")
+STOP = re.compile(r"line (\d+): (?:\d+:\d+\.[0-3] is [0-9a-f]{16}, expected [0-9a-f]{16}|answer (?:took|taken), expected (?:took|taken)"
+                  r"|core \d+ (?:holds|does not hold) register \d+)")
 VERBS = ("write", "read", "flush", "invalidate", "put", "get", "take", "free", "print")
 # a line of a buffer, by its core and its number on the heap
 Line = tuple[int, int]
@@ -70,7 +72,9 @@ class Lab:
         if lines.pop():
             self.at = len(lines) + 1
             raise self.refuse()
-        for self.at, line in enumerate(lines, 1):
+        # where a lab stops, the line that says so stands behind its output, if both streams went to one file
+        stop = STOP.fullmatch(lines[-1]) if lines else None
+        for self.at, line in enumerate(lines[:-1] if stop else lines, 1):
             if (found := STEP.fullmatch(line)) is not None:
                 self._close()
                 self._begin(int(found[1]), found[2])
@@ -79,9 +83,11 @@ class Lab:
             else:
                 raise self.refuse()
         self._close()
-        if not self.steps:
-            self.at = 1
+        if not self.steps or (stop and int(stop[1]) != self.steps[-1].line):
+            self.at = max(1, len(lines))
             raise self.refuse()
+        if stop:
+            self.steps[-1].said.append(f"stopped: {stop[0]}")
 
     def refuse(self) -> Refused:
         """The refusal of the line at which the reader stands."""
