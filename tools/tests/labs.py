@@ -29,10 +29,10 @@ line 9: core 0 flush
 0 store 0.228.3 000000000000002b # heap
 0 store 0.228.0 000000000000002a # heap
 line 10: core 2 take 2 expect took
-2 take 2.register 1 # register
+2 take 2.register 0000000000000001 # register
 answer took
 line 11: core 1 take 2 expect taken
-1 take 2.register 0 # register
+1 take 2.register 0000000000000000 # register
 answer taken
 line 12: core 2 put 0 1 2 3 4
 2 store 2.225.3 0000000000000004 # heap
@@ -40,7 +40,7 @@ line 12: core 2 put 0 1 2 3 4
 2 store 2.225.1 0000000000000002 # heap
 2 store 2.225.0 0000000000000001 # heap
 line 13: core 2 free 2
-2 free 2.register 0 # register
+2 free 2.register 0000000000000000 # register
 line 14: core 1 read 5:30.1 evict 2:0
 1 load 5.255.0 0000000000000000 # heap
 1 load 5.255.1 0000000000000000 # heap

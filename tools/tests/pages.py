@@ -70,7 +70,11 @@ def _replayed(path: str) -> list[str]:
             line, _, word = place.rpartition(".")
             shown.setdefault(line, ["0"] * 4)[int(word)] = value
     words, _ = last_state(text)
-    return [] if shown == words else [f"its words are {shown}, not {words}"]
+    # its accesses are a trace
+    accesses = "".join(f"{line}\n" for line in text.split("\n") if re.match(r"\d+ (load|store|take|free) ", line))
+    trace = read_trace(path, f"rcce trace 1 nue 48 layout words hosts {','.join(map(str, range(48)))}\n{accesses}".encode())
+    told = {str(event.role) for event in trace.events} - {"heap", "register"}
+    return [] if shown == words and not told else [f"its words are {shown}, not {words}; {told}"]
 
 
 def _too_long(called: Any, folder: str) -> list[str]:
