@@ -3,6 +3,7 @@ from __future__ import annotations
 
 import json
 import os
+import select
 import shutil
 import signal
 import subprocess
@@ -13,6 +14,8 @@ from typing import Any
 NAMES = ("chromium", "chromium-browser", "google-chrome", "chrome")
 OPTIONS = ["--headless", "--no-sandbox", "--disable-gpu", "--no-first-run", "--disable-extensions", "--host-resolver-rules=MAP * ~NOTFOUND",
            "--window-size=1280,900", "--force-color-profile=srgb", "--remote-debugging-pipe", "about:blank"]
+# after so many seconds without a word the browser is given up
+SECONDS = 120
 
 
 def find_browser() -> str | None:
@@ -48,6 +51,8 @@ class Browser:
     def _receive(self) -> dict[str, Any]:
         """The next message of the browser."""
         while b"\0" not in self.left:
+            if not select.select([self.reading], [], [], SECONDS)[0]:
+                raise TimeoutError(f"the browser says nothing for {SECONDS} seconds")
             more = os.read(self.reading, 1 << 16)
             if not more:
                 raise EOFError("the browser has ended")
