@@ -50,9 +50,12 @@ def check_pages(called: Any, write: bool) -> tuple[int, list[str]]:
         wrong += _too_long(called, folder)
         wrong += [f"page {path}: {it}" for path in lab_outputs() for it in _replayed(path)]
         if path and not wrong:
-            with Browser(path) as browser:
-                for name, text in inputs().items():
-                    wrong += [f"page {name}: {it}" for it in _played(browser, f"file://{folder}/{name}.html", name, text)]
+            try:
+                with Browser(path) as browser:
+                    for name, text in inputs().items():
+                        wrong += [f"page {name}: {it}" for it in _played(browser, f"file://{folder}/{name}.html", name, text)]
+            except (OSError, EOFError, RuntimeError) as error:
+                wrong.append(f"{path} does not play the pages: {error}")
     return len(inputs()) * (2 if path else 1) + 1 + len(lab_outputs()), wrong
 
 
