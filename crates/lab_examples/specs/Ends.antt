@@ -1,0 +1,25 @@
+-- Whole labs with what they come to.
+use Rattle.std.specs.Prelude.{ℕ, List, Option, None, Some, Result, Ok}
+use Rattle.scc_base.specs.Places.{WordAt, word_of_line}
+use Rattle.lab_reader.specs.declared.faults.LabFault.{LabFault}
+use Rattle.lab_reader.specs.Places.{heap_line}
+use Rattle.lab_reader.specs.Reading.{◌>=>◌, lab_of}
+use Rattle.lab_plain.specs.declared.said.Stopped.{Stopped}
+use Rattle.lab_plain.specs.declared.said.Stopped.TheVariants as stopped
+use Rattle.lab_plain.specs.Meaning.{lab_done}
+
+-- why a lab stops, if it does, or the first fault of its text
+abbrev pub end_of_text : List ℕ → Result (Option Stopped) LabFault
+end_of_text text = lab_of text >=> λ steps. Ok (lab_done steps).stop
+
+-- a word of a heap line, which a lab names `K:L.W`
+abbrev pub heap_word : ℕ → ℕ → ℕ → WordAt
+heap_word core number word = word_of_line (heap_line core number) word
+
+-- in this line of the file a word has another value than is expected
+abbrev pub lost : ℕ → WordAt → ℕ → ℕ → Result (Option Stopped) LabFault
+lost line at came expected = Ok (Some (stopped.Value line at came expected))
+
+-- each value came that is expected
+abbrev pub all_came : Result (Option Stopped) LabFault
+all_came = Ok None
