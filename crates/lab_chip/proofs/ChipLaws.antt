@@ -23,7 +23,7 @@ use Rattle.scc_proto.proofs.SoundLaw.{sound_law}
 use Rattle.scc_proto.proofs.HonestLaw.{told_law}
 use Rattle.scc_proto.proofs.MemoryLemmas.{words_at_start, word_is, register_is, same_words, word_stored, register_freed, register_taken}
 use Rattle.lab_chip.specs.declared.chip.Made.{Made}
-use Rattle.lab_chip.specs.Chips.{ChipView, of_rank, of_rank_all, all_of, new_chip, with_turn, run_of, before_of, chip_view, IsChip, run_coded, sight_of, WasStepHere}
+use Rattle.lab_chip.specs.Chips.{LabChipView, of_rank, of_rank_all, all_events, new_chip, with_turn, run_of, before_of, chip_view, IsChip, run_coded, lab_sight, WasStepHere}
 
 -- ---- lists of events of all ranks
 
@@ -111,13 +111,13 @@ view_turned s r k words all own chip = λ i. record { setup = s; rank = k; befor
 -- ---- what is known before an event
 
 module _ (s : SetupView) (r : ℕ) (words : List ℕ) (all : List RankEvent) (own : List Event) (chip : IsChip s r words all own) where
-  pub all_is : all_of (chip_view s r all own) ≡ all
+  pub all_is : all_events (chip_view s r all own) ≡ all
   all_is = sym chip.ends
 
-  pub list_is : events_of r all ≡ (sight_of (chip_view s r all own)).events
+  pub list_is : events_of r all ≡ (lab_sight (chip_view s r all own)).events
   list_is = ap (events_of r) chip.ends ∙ events_of-append r (before_of all own) (of_rank_all r own) ∙ ap (λ (l : List Event). events_of r (before_of all own) ++ l) (own_events r own)
 
-  pub chip_is_sound : IsSoundPort (sight_of (chip_view s r all own))
+  pub chip_is_sound : IsSoundPort (lab_sight (chip_view s r all own))
   unfolding record_in
   chip_is_sound = subst (λ (l : List Event). IsSound s r (record_of s r l)) list_is (sound_law s (memory_from zeros all) (records_of s all) chip.agree r chip.below)
 
@@ -126,12 +126,12 @@ module _ (s : SetupView) (r : ℕ) (words : List ℕ) (all : List RankEvent) (ow
 -- an event was made: the words now are as it leaves them
 pub record WentOn (s : SetupView) (r : ℕ) (all : List RankEvent) (own : List Event) (e : Event) (now : List ℕ) (late : List RankEvent) (later : List Event) : Type 0 where
   pub chip : IsChip s r now late later
-  pub did : Did (sight_of (chip_view s r all own)) (e ∷ []) (sight_of (chip_view s r late later))
-  pub step : WasStepHere (sight_of (chip_view s r all own)).seat (sight_of (chip_view s r all own)).events e
-  pub sound : IsSoundPort (sight_of (chip_view s r late later))
+  pub did : Did (lab_sight (chip_view s r all own)) (e ∷ []) (lab_sight (chip_view s r late later))
+  pub step : WasStepHere (lab_sight (chip_view s r all own)).seat (lab_sight (chip_view s r all own)).events e
+  pub sound : IsSoundPort (lab_sight (chip_view s r late later))
 
 module _ (s : SetupView) (r : ℕ) (words : List ℕ) (all : List RankEvent) (own : List Event) (chip : IsChip s r words all own) (e : Event) (now : List ℕ) (long : length now ≡ 49200)
-    (event : IsEvent e) (step : IsStep (memory_of words) e) (may : MayMake (sight_of (chip_view s r all own)).seat (record_in (sight_of (chip_view s r all own))) e)
+    (event : IsEvent e) (step : IsStep (memory_of words) e) (may : MayMake (lab_sight (chip_view s r all own)).seat (record_in (lab_sight (chip_view s r all own))) e)
     (same : SameWords (memory_after (memory_of words) e) (memory_of now)) where
   same_now : memory_from zeros all ≡ memory_of words
   same_now = one_memory (memory_from zeros all) (memory_of words) chip.holds
@@ -175,17 +175,17 @@ module _ (s : SetupView) (r : ℕ) (words : List ℕ) (all : List RankEvent) (ow
     ends = ends_after;
   }
 
-  honest : IsHonest s r (record_in (sight_of (chip_view s r all own))) e
+  honest : IsHonest s r (record_in (lab_sight (chip_view s r all own))) e
   unfolding record_in
   honest = subst (λ (l : List Event). IsHonest s r (record_of s r l) e) (list_is s r words all own chip)
       (told_law s (memory_from zeros all) (records_of s all) chip.agree r chip.below e event step_here)
 
-  continues : sight_of (chip_view s r late (own ++ e ∷ [])) ≡ record (sight_of (chip_view s r all own)) { events = (sight_of (chip_view s r all own)).events ++ e ∷ [] }
+  continues : lab_sight (chip_view s r late (own ++ e ∷ [])) ≡ record (lab_sight (chip_view s r all own)) { events = (lab_sight (chip_view s r all own)).events ++ e ∷ [] }
   continues =
-      (λ i. sight_of (record { setup = s; rank = r; before = before_kept all own (of_rank r e) e i; own = own ++ e ∷ [] }))
-      ∙ (λ i. record (sight_of (record { setup = s; rank = r; before = before_of all own; own = own })) { events = sym (append_assoc (events_of r (before_of all own)) own (e ∷ [])) i })
+      (λ i. lab_sight (record { setup = s; rank = r; before = before_kept all own (of_rank r e) e i; own = own ++ e ∷ [] }))
+      ∙ (λ i. record (lab_sight (record { setup = s; rank = r; before = before_of all own; own = own })) { events = sym (append_assoc (events_of r (before_of all own)) own (e ∷ [])) i })
 
-  stepped : WasStepHere (sight_of (chip_view s r all own)).seat (sight_of (chip_view s r all own)).events e
+  stepped : WasStepHere (lab_sight (chip_view s r all own)).seat (lab_sight (chip_view s r all own)).events e
   stepped = record {
     before = before_of all own;
     own = own;
@@ -231,7 +231,7 @@ module _ (s : SetupView) (r : ℕ) (words : List ℕ) (held : List Made) (own : 
       within = omega (arith, chip.count, number, is.core_below, is.line_below, is.word_below)
 
   pub went_store : (place : WordAt) → IsPlace place → n ≡ word_number place.core place.line place.word → (value : ℕ) → value < 2 ^ 64
-      → MayMake (sight_of (chip_view s r (run_of held) own)).seat (record_in (sight_of (chip_view s r (run_of held) own))) (store_of place value) → x ≡ store_of place value
+      → MayMake (lab_sight (chip_view s r (run_of held) own)).seat (record_in (lab_sight (chip_view s r (run_of held) own))) (store_of place value) → x ≡ store_of place value
       → WentOn s r (run_of held) own (store_of place value) (slice_set words n value) (run_of made) later
   went_store place is number value fits may stored =
       went_on s r words (run_of held) own chip (store_of place value) (slice_set words n value) (length-set words n value ∙ chip.count) (is, fits) tt may
@@ -251,7 +251,7 @@ module _ (s : SetupView) (r : ℕ) (words : List ℕ) (held : List Made) (own : 
     bit false = inl refl
 
     pub went_take : (value : ℕ) → value ≡ get_or words n value → (taken : Bool) → taken ≡ (value == 0)
-        → MayMake (sight_of (chip_view s r (run_of held) own)).seat (record_in (sight_of (chip_view s r (run_of held) own))) (take_of core false) → x ≡ take_of core taken
+        → MayMake (lab_sight (chip_view s r (run_of held) own)).seat (record_in (lab_sight (chip_view s r (run_of held) own))) (take_of core false) → x ≡ take_of core taken
         → WentOn s r (run_of held) own (take_of core taken) (slice_set words n 1) (run_of made) later
     went_take value read taken tells may is_made =
         let is : taken ≡ (slice_index words n == 0) = tells ∙ ap (λ k. k == 0) (read_at value read (omega (arith, chip.count, number, below))) in
@@ -262,7 +262,7 @@ module _ (s : SetupView) (r : ℕ) (words : List ℕ) (held : List Made) (own : 
         (subst (λ b. SameWords (memory_after (memory_of words) (take_of core b)) (memory_of (slice_set words (register_number core) 1))) (sym is) t.same))
         (run_of made) x later is_made (run_pushed held r x made all_push) push
 
-    pub went_free : MayMake (sight_of (chip_view s r (run_of held) own)).seat (record_in (sight_of (chip_view s r (run_of held) own))) (free_of core) → x ≡ free_of core
+    pub went_free : MayMake (lab_sight (chip_view s r (run_of held) own)).seat (record_in (lab_sight (chip_view s r (run_of held) own))) (free_of core) → x ≡ free_of core
         → WentOn s r (run_of held) own (free_of core) (slice_set words n 0) (run_of made) later
     went_free may is_made =
         went_on s r words (run_of held) own chip (free_of core) (slice_set words n 0) (length-set words n 0 ∙ chip.count) (below, refl, refl) tt may
@@ -272,7 +272,7 @@ module _ (s : SetupView) (r : ℕ) (words : List ℕ) (held : List Made) (own : 
 -- ---- a port that has made its events
 
 -- the chip is the one before with these events more of the same turn
-pub chip_did : (old new : ChipView) (events : List Event) → Did (sight_of old) events (sight_of new) → new ≡ record old { own = old.own ++ events }
+pub chip_did : (old new : LabChipView) (events : List Event) → Did (lab_sight old) events (lab_sight new) → new ≡ record old { own = old.own ++ events }
 chip_did old new events did =
     let setup = ap (λ (x : Sight). x.seat.setup) did.continues in
     let rank = ap (λ (x : Sight). x.seat.rank) did.continues in

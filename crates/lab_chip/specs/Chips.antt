@@ -14,7 +14,7 @@ use Rattle.scc_proto.specs.Agreement.{Agrees}
 use Rattle.lab_chip.specs.declared.chip.Made.{Made}
 
 -- a chip: its setup, the rank whose turn it is, the events of all ranks before this turn, and those of the rank since
-pub record ChipView : Type 0 where
+pub record LabChipView : Type 0 where
   pub setup : SetupView
   pub rank : ℕ
   pub before : List RankEvent
@@ -29,16 +29,16 @@ abbrev pub of_rank_all : ℕ → List Event → List RankEvent
 of_rank_all r events = map (of_rank r) events
 
 -- the events of all ranks, in the order in which they were made
-abbrev pub all_of : ChipView → List RankEvent
-all_of chip = chip.before ++ of_rank_all chip.rank chip.own
+abbrev pub all_events : LabChipView → List RankEvent
+all_events chip = chip.before ++ of_rank_all chip.rank chip.own
 
 -- a chip on which no event was made
-abbrev pub new_chip : SetupView → ℕ → ChipView
+abbrev pub new_chip : SetupView → ℕ → LabChipView
 new_chip s r = record { setup = s; rank = r; before = []; own = [] }
 
 -- the chip once it is the turn of a rank
-abbrev pub with_turn : ChipView → ℕ → ChipView
-with_turn chip r = record { setup = chip.setup; rank = r; before = all_of chip; own = [] }
+abbrev pub with_turn : LabChipView → ℕ → LabChipView
+with_turn chip r = record { setup = chip.setup; rank = r; before = all_events chip; own = [] }
 
 -- events as they are held
 abbrev pub run_of : List Made → List RankEvent
@@ -49,7 +49,7 @@ abbrev pub before_of : List RankEvent → List Event → List RankEvent
 before_of all own = take (length all - length own) all
 
 -- the chip of which all events, and those of the present turn, are held
-abbrev pub chip_view : SetupView → ℕ → List RankEvent → List Event → ChipView
+abbrev pub chip_view : SetupView → ℕ → List RankEvent → List Event → LabChipView
 chip_view s r all own = record { setup = s; rank = r; before = before_of all own; own = own }
 
 -- The words stand as the events have left them; each event was a step of the words before it; and the events of all ranks agree
@@ -71,8 +71,8 @@ abbrev pub run_coded : Coded (List RankEvent)
 run_coded = coded_list event_coded
 
 -- the port of the rank whose turn it is
-abbrev pub sight_of : ChipView → Sight
-sight_of chip = record {
+abbrev pub lab_sight : LabChipView → Sight
+lab_sight chip = record {
   seat = record { setup = chip.setup; rank = chip.rank; mark = gnil; rest = run_coded.code chip.before; hold = 0 };
   events = events_of chip.rank chip.before ++ chip.own;
 }

@@ -2,7 +2,7 @@
 
 ghost use Rattle.std.specs.Prelude.{◌≡◌, ◌<◌, ℕ, [], IfOk, length, slice_index};
 ghost use Rattle.scc_proto.specs.Words.{IsRun, zeros};
-ghost use Rattle.lab_chip.specs.Chips.{all_of, new_chip, with_turn};
+ghost use Rattle.lab_chip.specs.Chips.{all_events, new_chip, with_turn};
 
 use crate::history::History;
 use scc_base::{CoreId, Event, Place, Rank, Setup};
@@ -38,9 +38,9 @@ pub struct LabChip {
 }
 
 impl Model for LabChip {
-    ghost use Rattle.lab_chip.specs.Chips.{ChipView, IsChip, chip_view, run_of};
+    ghost use Rattle.lab_chip.specs.Chips.{LabChipView, IsChip, chip_view, run_of};
 
-    ghost Value = { ChipView };
+    ghost Value = { LabChipView };
 
     ghost view = { λ c. chip_view c.setup c.rank (run_of c.all.items) c.own.items };
 
@@ -51,7 +51,7 @@ impl LabChip {
     ghost use Rattle.std.specs.Prelude.{◌≡◌, ◌<◌, IfOk};
     ghost use Rattle.scc_base.specs.Setups.{IsSetup};
     ghost use Rattle.scc_proto.specs.Words.{IsRun, zeros};
-    ghost use Rattle.lab_chip.specs.Chips.{all_of, new_chip, with_turn};
+    ghost use Rattle.lab_chip.specs.Chips.{all_events, new_chip, with_turn};
 
     /// A chip whose words are all 0. It is the turn of a rank.
     pub fn new(alloc: Global, setup: Setup, rank: Rank) -> Result<LabChip, AllocError>
@@ -81,7 +81,7 @@ impl LabChip {
     /// What holds of the events so far. It does nothing: a caller cites its clauses.
     pub fn tells(&self)
         // Each event was a step of the words as the events before it left them: a load answered what was stored last.
-        ensures run { IsRun zeros (all_of self.now) }
+        ensures run { IsRun zeros (all_events self.now) }
         ensures valid { IsSetup self.now.setup }
         ensures below { self.now.rank < self.now.setup.nue }
     {
@@ -90,9 +90,9 @@ impl LabChip {
 }
 
 impl Port for LabChip {
-    ghost use Rattle.lab_chip.specs.Chips.{WasStepHere, sight_of};
+    ghost use Rattle.lab_chip.specs.Chips.{WasStepHere, lab_sight};
 
-    ghost sight = { sight_of };
+    ghost sight = { lab_sight };
 
     ghost stepped = { WasStepHere };
 

@@ -17,8 +17,8 @@ abbrev pub heap_word : ℕ → ℕ → ℕ → WordAt
 heap_word core number word = word_of_line (heap_line core number) word
 
 -- in this line of the file a word has another value than is expected
-abbrev pub lost : ℕ → WordAt → ℕ → ℕ → Result (Option Stopped) LabFault
-lost line at came expected = Ok (Some (stopped.Value line at came expected))
+abbrev pub loses_at : ℕ → WordAt → ℕ → ℕ → Result (Option Stopped) LabFault
+loses_at line at came expected = Ok (Some (stopped.Value line at came expected))
 
 -- each value came that is expected
 abbrev pub all_came : Result (Option Stopped) LabFault

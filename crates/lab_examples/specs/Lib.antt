@@ -1,3 +1,4 @@
 pub mod Ends
 pub mod Lessons
 pub mod Mended
+pub mod Shapes

@@ -2,8 +2,8 @@
 use Rattle.std.specs.Prelude.{ℕ, List, ◌++◌, codes}
 
 -- an old copy is read: mended
-abbrev pub old_copy : List ℕ
-old_copy =
+abbrev pub old_copy_mended : List ℕ
+old_copy_mended =
     codes "\n\ncore 1 invalidate\n"
     ++ codes "core 1 read 0:0.0 expect 0\n"
     ++ codes "core 0 write 0.0 2a\n"
@@ -12,15 +12,15 @@ old_copy =
     ++ codes "core 1 read 0:0.0 expect 2a\n"
 
 -- a written word waits: mended
-abbrev pub write_waits : List ℕ
-write_waits =
+abbrev pub write_waits_mended : List ℕ
+write_waits_mended =
     codes "\n\ncore 0 write 0.0 2a\n"
     ++ codes "core 0 flush\n"
     ++ codes "core 1 read 0:0.0 expect 2a\n"
 
 -- a flag overtakes its data: mended
-abbrev pub flag_overtakes : List ℕ
-flag_overtakes =
+abbrev pub flag_overtakes_mended : List ℕ
+flag_overtakes_mended =
     codes "\n\ncore 0 write 0.0 2a\n"
     ++ codes "core 0 write 0.1 2b\n"
     ++ codes "core 0 write 1:1.0 1\n"
@@ -31,8 +31,8 @@ flag_overtakes =
     ++ codes "core 1 read 0:0.1 expect 2b\n"
 
 -- two bits of one word are changed at once: mended
-abbrev pub two_bits : List ℕ
-two_bits =
+abbrev pub two_bits_mended : List ℕ
+two_bits_mended =
     codes "\n\ncore 1 take 0 expect took\n"
     ++ codes "core 1 invalidate\n"
     ++ codes "core 1 read 0:0.0 expect 0\n"
@@ -50,8 +50,8 @@ two_bits =
     ++ codes "core 0 read 0.0 expect 6\n"
 
 -- a chunk is overwritten before it is taken: mended
-abbrev pub overwritten : List ℕ
-overwritten =
+abbrev pub overwritten_mended : List ℕ
+overwritten_mended =
     codes "\n\ncore 0 put 0 2a 0 0 0\n"
     ++ codes "core 0 put 1:1 1 0 0 0\n"
     ++ codes "core 0 get 2 expect 0 0 0 0\n"
@@ -69,8 +69,8 @@ overwritten =
     ++ codes "core 1 put 0:2 1 0 0 0\n"
 
 -- an evicted line heals a bug by luck: mended
-abbrev pub lucky_eviction : List ℕ
-lucky_eviction =
+abbrev pub lucky_eviction_mended : List ℕ
+lucky_eviction_mended =
     codes "\n\ncore 1 read 0:0.0 expect 0\n"
     ++ codes "core 2 read 0:0.0 expect 0\n"
     ++ codes "core 0 write 0.0 2a\n"
@@ -83,8 +83,8 @@ lucky_eviction =
     ++ codes "core 1 read 0:0.0 expect 2a\n"
 
 -- a lock is freed before the flush: mended
-abbrev pub lock_freed_early : List ℕ
-lock_freed_early =
+abbrev pub lock_freed_early_mended : List ℕ
+lock_freed_early_mended =
     codes "\n\ncore 1 take 0 expect took\n"
     ++ codes "core 1 invalidate\n"
     ++ codes "core 1 read 0:0.0 expect 0\n"
@@ -101,8 +101,8 @@ lock_freed_early =
     ++ codes "core 0 read 0.0 expect 2\n"
 
 -- a barrier is passed by an old flag: mended
-abbrev pub old_barrier : List ℕ
-old_barrier =
+abbrev pub old_barrier_mended : List ℕ
+old_barrier_mended =
     codes "\n\ncore 1 put 0 1 0 0 0\n"
     ++ codes "core 0 get 1:0 expect 1 0 0 0\n"
     ++ codes "core 0 put 1:1 1 0 0 0\n"
@@ -114,8 +114,8 @@ old_barrier =
     ++ codes "core 1 get 1 expect 0 0 0 0\n"
 
 -- a message is taken twice: mended
-abbrev pub taken_twice : List ℕ
-taken_twice =
+abbrev pub taken_twice_mended : List ℕ
+taken_twice_mended =
     codes "\n\ncore 0 put 0 2a 0 0 0\n"
     ++ codes "core 0 put 1:1 1 0 0 0\n"
     ++ codes "core 1 get 1 expect 1 0 0 0\n"
@@ -129,8 +129,8 @@ taken_twice =
     ++ codes "core 1 get 0:0 expect 2b 0 0 0\n"
 
 -- one word is locked by two registers: mended
-abbrev pub two_registers : List ℕ
-two_registers =
+abbrev pub two_registers_mended : List ℕ
+two_registers_mended =
     codes "\n\ncore 1 take 0 expect took\n"
     ++ codes "core 2 take 0 expect taken\n"
     ++ codes "core 1 invalidate\n"

@@ -2,4 +2,3 @@ pub mod Texts
 pub mod Scenes
 pub mod Meaning
 pub mod Accesses
-pub mod Examples

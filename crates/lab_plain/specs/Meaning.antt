@@ -12,7 +12,7 @@ use Rattle.lab_plain.specs.declared.said.Said.{Said}
 use Rattle.lab_plain.specs.declared.said.Said.TheVariants as said
 use Rattle.lab_plain.specs.declared.said.Stopped.{Stopped}
 use Rattle.lab_plain.specs.declared.said.Stopped.TheVariants as stopped
-use Rattle.lab_plain.specs.Scenes.{Scene, flushed, word_written, line_written, line_put, word_read, line_read, line_got, invalidated, printed, answer, line_answer, line_in}
+use Rattle.lab_plain.specs.Scenes.{CoreScene, after_flushing, word_written, line_written, line_put, word_read, line_read, line_got, after_invalidate, after_print, answer, line_answer, line_in}
 
 -- what a core holds: its cached lines, and the line in its write-combining buffer
 pub record Holds : Type 0 where
@@ -40,25 +40,25 @@ abbrev pub core_at : List Holds → ℕ → Holds
 core_at cores me = slice_index_or cores me holds_nothing
 
 -- a core at work, and the stand that it leaves
-abbrev pub scene_at : ℕ → Stand → Scene
+abbrev pub scene_at : ℕ → Stand → CoreScene
 scene_at me t = record { memory = t.memory; lines = (core_at t.cores me).lines; out = (core_at t.cores me).out; said = t.said }
 
-abbrev pub with_scene : ℕ → Stand → Scene → Stand
+abbrev pub with_scene : ℕ → Stand → CoreScene → Stand
 with_scene me t s = record { memory = s.memory; cores = slice_set t.cores me (record { lines = s.lines; out = s.out }); holders = t.holders; said = s.said }
 
 -- what a core's action leaves, but for those on registers
-abbrev pub acted : ℕ → Action → Scene → Scene
-acted me (action.WriteWord at value) s = word_written me at value s
-acted me (action.WriteLine at words) s = line_written me at words s
-acted me (action.ReadWord at evict expect) s = word_read me at evict s
-acted me (action.ReadLine at evict expect) s = line_read me at evict s
-acted me action.Flush s = flushed me s
-acted me action.Invalidate s = invalidated s
-acted me (action.Put at words) s = line_put me at words s
-acted me (action.Get at expect) s = line_got me at s
-acted me (action.Take register expect) s = s
-acted me (action.Free register) s = s
-acted me action.Print s = printed me s
+abbrev pub after_action : ℕ → Action → CoreScene → CoreScene
+after_action me (action.WriteWord at value) s = word_written me at value s
+after_action me (action.WriteLine at words) s = line_written me at words s
+after_action me (action.ReadWord at evict expect) s = word_read me at evict s
+after_action me (action.ReadLine at evict expect) s = line_read me at evict s
+after_action me action.Flush s = after_flushing me s
+after_action me action.Invalidate s = after_invalidate s
+after_action me (action.Put at words) s = line_put me at words s
+after_action me (action.Get at expect) s = line_got me at s
+after_action me (action.Take register expect) s = s
+after_action me (action.Free register) s = s
+after_action me action.Print s = after_print me s
 
 -- another value came than was expected
 abbrev pub unmet_word : ℕ → WordAt → ℕ → Option ℕ → Option Stopped
@@ -80,7 +80,7 @@ unmet_line line at came (Some expected) =
     (unmet_word line (word_of_line at 3) (slice_index came 3) (Some (slice_index expected 3)))))
 
 -- why a lab stops at a core's action, but for those on registers
-abbrev pub act_stop : ℕ → ℕ → Action → Scene → Option Stopped
+abbrev pub act_stop : ℕ → ℕ → Action → CoreScene → Option Stopped
 act_stop line me (action.WriteWord at value) s = None
 act_stop line me (action.WriteLine at words) s = None
 act_stop line me (action.ReadWord at evict expect) s = unmet_word line at (answer at s) expect
@@ -88,7 +88,7 @@ act_stop line me (action.ReadLine at evict expect) s = unmet_line line at (line_
 act_stop line me action.Flush s = None
 act_stop line me action.Invalidate s = None
 act_stop line me (action.Put at words) s = None
-act_stop line me (action.Get at expect) s = unmet_line line at (line_in (flushed me s).memory at) expect
+act_stop line me (action.Get at expect) s = unmet_line line at (line_in (after_flushing me s).memory at) expect
 act_stop line me (action.Take register expect) s = None
 act_stop line me (action.Free register) s = None
 act_stop line me action.Print s = None
@@ -122,8 +122,8 @@ register_read me register took t = record {
 }
 
 -- a take: a register that nobody has is taken, one that another core has is found taken, and a core does not take its own again
-abbrev pub taken : ℕ → ℕ → ℕ → Option Bool → Stand → Option ℕ → Done
-taken line me register expect t holder =
+abbrev pub take_made : ℕ → ℕ → ℕ → Option Bool → Stand → Option ℕ → Done
+take_made line me register expect t holder =
     if is_holder me holder then (record { stand = t; stop = Some (stopped.Holds line me register) })
     else (record { stand = register_read me register (is_none holder) t; stop = unmet_take line (is_none holder) expect })
 
@@ -137,18 +137,18 @@ register_freed me register t = record {
 }
 
 -- a free, which the core may make that has the register
-abbrev pub freed : ℕ → ℕ → ℕ → Stand → Option ℕ → Done
-freed line me register t holder =
+abbrev pub free_made : ℕ → ℕ → ℕ → Stand → Option ℕ → Done
+free_made line me register t holder =
     if is_holder me holder then (record { stand = register_freed me register t; stop = None })
     else (record { stand = t; stop = Some (stopped.HoldsNot line me register) })
 
 -- a core's action, by what it is
 abbrev pub core_done : ℕ → ℕ → Action → Stand → Done
-core_done line me act t = record { stand = with_scene me t (acted me act (scene_at me t)); stop = act_stop line me act (scene_at me t) }
+core_done line me act t = record { stand = with_scene me t (after_action me act (scene_at me t)); stop = act_stop line me act (scene_at me t) }
 
 abbrev pub action_done : ℕ → ℕ → Action → Stand → Done
-action_done line me (action.Take register expect) t = taken line me register expect t (holder_of t.holders register)
-action_done line me (action.Free register) t = freed line me register t (holder_of t.holders register)
+action_done line me (action.Take register expect) t = take_made line me register expect t (holder_of t.holders register)
+action_done line me (action.Free register) t = free_made line me register t (holder_of t.holders register)
 action_done line me (action.WriteWord at value) t = core_done line me (action.WriteWord at value) t
 action_done line me (action.WriteLine at words) t = core_done line me (action.WriteLine at words) t
 action_done line me (action.ReadWord at evict expect) t = core_done line me (action.ReadWord at evict expect) t
@@ -178,9 +178,9 @@ steps_done [] t = record { stand = t; stop = None }
 steps_done (step ∷ steps) t = unless_stopped (step_done step t).stand (step_done step t).stop (steps_done steps)
 
 -- all words are 0, all registers are free, and no core holds anything
-unfoldable pub start : Stand
-start = record { memory = zeros; cores = replicate 48 holds_nothing; holders = replicate 48 None; said = [] }
+unfoldable pub lab_start : Stand
+lab_start = record { memory = zeros; cores = replicate 48 holds_nothing; holders = replicate 48 None; said = [] }
 
 -- what a lab comes to
 abbrev pub lab_done : List Step → Done
-lab_done steps = steps_done steps start
+lab_done steps = steps_done steps lab_start

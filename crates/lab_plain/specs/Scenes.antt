@@ -16,7 +16,7 @@ use Rattle.lab_plain.specs.declared.said.Source.{Source}
 use Rattle.lab_plain.specs.declared.said.Source.TheVariants as source
 
 -- a core at work: the shared words, its cached lines, the line in its write-combining buffer, and what was printed
-pub record Scene : Type 0 where
+pub record CoreScene : Type 0 where
   pub memory : Memory
   pub lines : List Entry
   pub out : Option Out
@@ -39,8 +39,8 @@ say_stores me None = []
 say_stores me (Some o) = said.Stores me o.line o.words o.mask ∷ []
 
 -- a flush: what the buffer holds is stored
-abbrev pub flushed : ℕ → Scene → Scene
-flushed me s = record {
+abbrev pub after_flushing : ℕ → CoreScene → CoreScene
+after_flushing me s = record {
   memory = after_all s.memory (stores_of s.out);
   lines = s.lines;
   out = None;
@@ -49,7 +49,7 @@ flushed me s = record {
 
 -- a write of a word: another line in the buffer is stored first; the word goes into the cache, where its line is held, and into the
 -- buffer
-abbrev pub word_written : ℕ → WordAt → ℕ → Scene → Scene
+abbrev pub word_written : ℕ → WordAt → ℕ → CoreScene → CoreScene
 word_written me p v s = record {
   memory = after_all s.memory (stores_of (handed_out s.out (line_of_word p)));
   lines = noted s.lines p v;
@@ -58,7 +58,7 @@ word_written me p v s = record {
 }
 
 -- a write of a line: of its words, one after the other
-abbrev pub line_written : ℕ → LineAt → List ℕ → Scene → Scene
+abbrev pub line_written : ℕ → LineAt → List ℕ → CoreScene → CoreScene
 line_written me line words s =
     word_written me (word_of_line line 3) (slice_index words 3)
     (word_written me (word_of_line line 2) (slice_index words 2)
@@ -66,7 +66,7 @@ line_written me line words s =
     (word_written me (word_of_line line 0) (slice_index words 0) s)))
 
 -- a whole line is stored at once, behind a flush
-abbrev pub line_stored : ℕ → LineAt → List ℕ → Scene → Scene
+abbrev pub line_stored : ℕ → LineAt → List ℕ → CoreScene → CoreScene
 line_stored me line words s = record {
   memory = after_all s.memory (stores_of_line (whole_line line words));
   lines = line_noted s.lines line words;
@@ -75,26 +75,26 @@ line_stored me line words s = record {
 }
 
 -- a put of a line
-abbrev pub line_put : ℕ → LineAt → List ℕ → Scene → Scene
-line_put me line words s = line_stored me line words (flushed me s)
+abbrev pub line_put : ℕ → LineAt → List ℕ → CoreScene → CoreScene
+line_put me line words s = line_stored me line words (after_flushing me s)
 
 -- the word that waits in the write-combining buffer, if it was written there
-abbrev pub buffered : Option Out → WordAt → Option ℕ
-buffered None p = None
-buffered (Some o) p = if same_line o.line (line_of_word p) && slice_index_or o.mask p.word false then Some (slice_index o.words p.word) else None
+abbrev pub waiting_word : Option Out → WordAt → Option ℕ
+waiting_word None p = None
+waiting_word (Some o) p = if same_line o.line (line_of_word p) && slice_index_or o.mask p.word false then Some (slice_index o.words p.word) else None
 
 -- a read was answered
-abbrev pub answered : WordAt → ℕ → Source → Scene → Scene
-answered p v from s = record s { said = s.said ++ said.Answers p v from ∷ [] }
+abbrev pub after_answer : WordAt → ℕ → Source → CoreScene → CoreScene
+after_answer p v from s = record s { said = s.said ++ said.Answers p v from ∷ [] }
 
 -- the cached lines without one
-abbrev pub without : LineAt → List Entry → List Entry
-without line es = filter (λ (e : Entry). not (same_line e.line line)) es
+abbrev pub without_line : LineAt → List Entry → List Entry
+without_line line es = filter (λ (e : Entry). not (same_line e.line line)) es
 
 -- the cached lines without the one that an evictor names, if it names one
 abbrev pub left_by : Option LineAt → List Entry → List Entry
 left_by None es = es
-left_by (Some line) es = without line es
+left_by (Some line) es = without_line line es
 
 -- whether it is cached, so that it leaves
 abbrev pub is_evicted : Option LineAt → List Entry → Bool
@@ -110,7 +110,7 @@ abbrev pub say_evicted : Option LineAt → List Entry → List Said
 say_evicted evict es = say_left evict (is_evicted evict es)
 
 -- a read of a word whose line is not cached: its four words are loaded, the line comes in, and the line that the evictor names leaves
-abbrev pub word_loaded : ℕ → WordAt → Option LineAt → Scene → Scene
+abbrev pub word_loaded : ℕ → WordAt → Option LineAt → CoreScene → CoreScene
 word_loaded me p evict s =
     let line = line_of_word p in
     let words = line_in s.memory line in
@@ -123,32 +123,32 @@ word_loaded me p evict s =
     }
 
 -- a read of a word that does not wait in the buffer, by what is cached of its line
-abbrev pub word_fetched : ℕ → WordAt → Option LineAt → Scene → Option (List ℕ) → Scene
-word_fetched me p evict s (Some words) = answered p (slice_index words p.word) source.Cache s
+abbrev pub word_fetched : ℕ → WordAt → Option LineAt → CoreScene → Option (List ℕ) → CoreScene
+word_fetched me p evict s (Some words) = after_answer p (slice_index words p.word) source.Cache s
 word_fetched me p evict s None = word_loaded me p evict s
 
 -- a read of a word, by what waits of it in the buffer
-abbrev pub word_read_by : ℕ → WordAt → Option LineAt → Scene → Option ℕ → Scene
-word_read_by me p evict s (Some v) = answered p v source.BufferLine s
+abbrev pub word_read_by : ℕ → WordAt → Option LineAt → CoreScene → Option ℕ → CoreScene
+word_read_by me p evict s (Some v) = after_answer p v source.BufferLine s
 word_read_by me p evict s None = word_fetched me p evict s (held s.lines (line_of_word p))
 
 -- a read of a word
-abbrev pub word_read : ℕ → WordAt → Option LineAt → Scene → Scene
-word_read me p evict s = word_read_by me p evict s (buffered s.out p)
+abbrev pub word_read : ℕ → WordAt → Option LineAt → CoreScene → CoreScene
+word_read me p evict s = word_read_by me p evict s (waiting_word s.out p)
 
 -- what it answers: the word in the buffer, or else in the cache, or else the shared word
-abbrev pub answer : WordAt → Scene → ℕ
-answer p s = unwrap_or (buffered s.out p) (slice_index (unwrap_or (held s.lines (line_of_word p)) (line_in s.memory (line_of_word p))) p.word)
+abbrev pub answer : WordAt → CoreScene → ℕ
+answer p s = unwrap_or (waiting_word s.out p) (slice_index (unwrap_or (held s.lines (line_of_word p)) (line_in s.memory (line_of_word p))) p.word)
 
 -- a read of a line: of its words, one after the other. The scene before the read of a word, and what they answer
-abbrev pub before_word : ℕ → LineAt → Option LineAt → Scene → ℕ → Scene
+abbrev pub before_word : ℕ → LineAt → Option LineAt → CoreScene → ℕ → CoreScene
 before_word me line evict s zero = s
 before_word me line evict s (suc n) = word_read me (word_of_line line n) evict (before_word me line evict s n)
 
-abbrev pub line_read : ℕ → LineAt → Option LineAt → Scene → Scene
+abbrev pub line_read : ℕ → LineAt → Option LineAt → CoreScene → CoreScene
 line_read me line evict s = before_word me line evict s 4
 
-abbrev pub line_answer : ℕ → LineAt → Option LineAt → Scene → List ℕ
+abbrev pub line_answer : ℕ → LineAt → Option LineAt → CoreScene → List ℕ
 line_answer me line evict s =
     answer (word_of_line line 0) (before_word me line evict s 0) ∷ answer (word_of_line line 1) (before_word me line evict s 1)
     ∷ answer (word_of_line line 2) (before_word me line evict s 2) ∷ answer (word_of_line line 3) (before_word me line evict s 3) ∷ []
@@ -160,7 +160,7 @@ say_got me line words =
     ∷ said.Answers (word_of_line line 2) (slice_index words 2) source.Words ∷ said.Answers (word_of_line line 3) (slice_index words 3) source.Words ∷ []
 
 -- a line is loaded into an empty cache
-abbrev pub line_loaded : ℕ → LineAt → Scene → Scene
+abbrev pub line_loaded : ℕ → LineAt → CoreScene → CoreScene
 line_loaded me line s = record {
   memory = s.memory;
   lines = filled [] line (line_in s.memory line);
@@ -169,12 +169,12 @@ line_loaded me line s = record {
 }
 
 -- a get of a line: behind a flush its cached lines are dropped, and the line is loaded
-abbrev pub line_got : ℕ → LineAt → Scene → Scene
-line_got me line s = line_loaded me line (flushed me s)
+abbrev pub line_got : ℕ → LineAt → CoreScene → CoreScene
+line_got me line s = line_loaded me line (after_flushing me s)
 
 -- CL1INVMB: all cached lines are dropped
-abbrev pub invalidated : Scene → Scene
-invalidated s = record s { lines = [] }
+abbrev pub after_invalidate : CoreScene → CoreScene
+after_invalidate s = record s { lines = [] }
 
 -- what is printed of the cached lines, and of the buffer
 abbrev pub say_lines : ℕ → List Entry → List Said
@@ -186,5 +186,5 @@ say_buffer me None = said.BuffersNothing me ∷ []
 say_buffer me (Some o) = said.Buffers me o.line o.words o.mask ∷ []
 
 -- a print of what the core holds
-abbrev pub printed : ℕ → Scene → Scene
-printed me s = record s { said = s.said ++ say_lines me s.lines ++ say_buffer me s.out }
+abbrev pub after_print : ℕ → CoreScene → CoreScene
+after_print me s = record s { said = s.said ++ say_lines me s.lines ++ say_buffer me s.out }

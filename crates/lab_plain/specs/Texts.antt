@@ -14,30 +14,30 @@ use Rattle.lab_plain.specs.declared.said.Stopped.{Stopped}
 use Rattle.lab_plain.specs.declared.said.Stopped.TheVariants as stopped
 
 -- a value of 64 bits: its 16 hex digits
-abbrev pub value_text : ℕ → List ℕ
-value_text value = hex_text (to_be_bytes w64 value)
+abbrev pub hex_value_text : ℕ → List ℕ
+hex_value_text value = hex_text (to_be_bytes w64 value)
 
 -- a line as a lab names it: its core, and its number among the heap lines, of which line 225 is the first
 abbrev pub line_name : LineAt → List ℕ
 line_name line = joined (decimal line.core ∷ codes ":" ∷ decimal (line.line - 225) ∷ [])
 
 -- a word of a held line: its value, and `-` where it was not written
-abbrev pub word_text : ℕ → Bool → List ℕ
-word_text value written = if written then value_text value else codes "-"
+abbrev pub held_word_text : ℕ → Bool → List ℕ
+held_word_text value written = if written then hex_value_text value else codes "-"
 
 -- the text of a part of a line
 abbrev pub part_text : Part → List ℕ
 part_text (part.Text text) = text.now
 part_text (part.Bytes bytes) = bytes.now
 part_text (part.Number number) = decimal number
-part_text (part.Value value) = value_text value
-part_text (part.Word value written) = word_text value written
+part_text (part.Value value) = hex_value_text value
+part_text (part.Word value written) = held_word_text value written
 part_text (part.Line line) = line_name line
 
 -- the line of a load or a store of a word
 abbrev pub access_text : ℕ → List ℕ → WordAt → ℕ → List ℕ
 access_text core access at value =
-    joined (decimal core ∷ access ∷ decimal at.core ∷ codes "." ∷ decimal at.line ∷ codes "." ∷ decimal at.word ∷ codes " " ∷ value_text value ∷ codes " # heap\n" ∷ [])
+    joined (decimal core ∷ access ∷ decimal at.core ∷ codes "." ∷ decimal at.line ∷ codes "." ∷ decimal at.word ∷ codes " " ∷ hex_value_text value ∷ codes " # heap\n" ∷ [])
 
 -- the line of the access to one word of a line, where it is made
 abbrev pub word_access_text : ℕ → List ℕ → LineAt → List ℕ → List Bool → ℕ → List ℕ
@@ -61,24 +61,24 @@ stores_text core line words mask =
     ∷ word_access_text core (codes " store ") line words mask 1 ∷ word_access_text core (codes " store ") line words mask 0 ∷ [])
 
 -- what a take answers
-abbrev pub take_name : Bool → List ℕ
-take_name took = if took then codes "took" else codes "taken"
+abbrev pub take_answer_name : Bool → List ℕ
+take_answer_name took = if took then codes "took" else codes "taken"
 
 -- the line of a take, with 1 where it took the register, and the line of what it answers
 abbrev pub takes_text : ℕ → ℕ → Bool → List ℕ
 takes_text core register took =
-    joined (decimal core ∷ codes " take " ∷ decimal register ∷ codes ".register " ∷ value_text (if took then 1 else 0) ∷ codes " # register\nanswer " ∷ take_name took ∷ codes "\n" ∷ [])
+    joined (decimal core ∷ codes " take " ∷ decimal register ∷ codes ".register " ∷ hex_value_text (if took then 1 else 0) ∷ codes " # register\nanswer " ∷ take_answer_name took ∷ codes "\n" ∷ [])
 
 -- the line of a free
 abbrev pub frees_text : ℕ → ℕ → List ℕ
-frees_text core register = joined (decimal core ∷ codes " free " ∷ decimal register ∷ codes ".register " ∷ value_text 0 ∷ codes " # register\n" ∷ [])
+frees_text core register = joined (decimal core ∷ codes " free " ∷ decimal register ∷ codes ".register " ∷ hex_value_text 0 ∷ codes " # register\n" ∷ [])
 
 -- the line of what a core holds
-abbrev pub held_text : ℕ → List ℕ → LineAt → List ℕ → List Bool → List ℕ
-held_text core holds line words mask =
-    joined (codes "core " ∷ decimal core ∷ holds ∷ line_name line ∷ codes " " ∷ word_text (slice_index words 0) (slice_index_or mask 0 false)
-    ∷ codes " " ∷ word_text (slice_index words 1) (slice_index_or mask 1 false) ∷ codes " " ∷ word_text (slice_index words 2) (slice_index_or mask 2 false)
-    ∷ codes " " ∷ word_text (slice_index words 3) (slice_index_or mask 3 false) ∷ codes "\n" ∷ [])
+abbrev pub core_holds_text : ℕ → List ℕ → LineAt → List ℕ → List Bool → List ℕ
+core_holds_text core holds line words mask =
+    joined (codes "core " ∷ decimal core ∷ holds ∷ line_name line ∷ codes " " ∷ held_word_text (slice_index words 0) (slice_index_or mask 0 false)
+    ∷ codes " " ∷ held_word_text (slice_index words 1) (slice_index_or mask 1 false) ∷ codes " " ∷ held_word_text (slice_index words 2) (slice_index_or mask 2 false)
+    ∷ codes " " ∷ held_word_text (slice_index words 3) (slice_index_or mask 3 false) ∷ codes "\n" ∷ [])
 
 -- the line of a core that holds nothing
 abbrev pub nothing_text : ℕ → List ℕ → List ℕ
@@ -93,7 +93,7 @@ source_name source.Words = codes "words"
 -- the line of an answer
 abbrev pub answer_text : WordAt → ℕ → Source → List ℕ
 answer_text at value from =
-    joined (codes "answer " ∷ line_name (line_of_word at) ∷ codes "." ∷ decimal at.word ∷ codes " " ∷ value_text value ∷ codes " from " ∷ source_name from ∷ codes "\n" ∷ [])
+    joined (codes "answer " ∷ line_name (line_of_word at) ∷ codes "." ∷ decimal at.word ∷ codes " " ∷ hex_value_text value ∷ codes " from " ∷ source_name from ∷ codes "\n" ∷ [])
 
 -- what is printed
 abbrev pub said_text : Said → List ℕ
@@ -104,9 +104,9 @@ said_text (said.Answers at value from) = answer_text at value from
 said_text (said.Evicted line) = joined (codes "evicted " ∷ line_name line ∷ codes "\n" ∷ [])
 said_text (said.Takes core register took) = takes_text core register took
 said_text (said.Frees core register) = frees_text core register
-said_text (said.Caches core line words) = held_text core (codes " caches ") line words all_words
+said_text (said.Caches core line words) = core_holds_text core (codes " caches ") line words all_words
 said_text (said.CachesNothing core) = nothing_text core (codes " caches ")
-said_text (said.Buffers core line words mask) = held_text core (codes " buffers ") line words mask
+said_text (said.Buffers core line words mask) = core_holds_text core (codes " buffers ") line words mask
 said_text (said.BuffersNothing core) = nothing_text core (codes " buffers ")
 
 -- the line of a register's stop
@@ -117,13 +117,13 @@ register_stop_text line core holds register =
 -- the line of another value than was expected
 abbrev pub value_stop_text : ℕ → WordAt → ℕ → ℕ → List ℕ
 value_stop_text line at came expected =
-    joined (codes "line " ∷ decimal line ∷ codes ": " ∷ line_name (line_of_word at) ∷ codes "." ∷ decimal at.word ∷ codes " is " ∷ value_text came
-    ∷ codes ", expected " ∷ value_text expected ∷ codes "\n" ∷ [])
+    joined (codes "line " ∷ decimal line ∷ codes ": " ∷ line_name (line_of_word at) ∷ codes "." ∷ decimal at.word ∷ codes " is " ∷ hex_value_text came
+    ∷ codes ", expected " ∷ hex_value_text expected ∷ codes "\n" ∷ [])
 
 -- why a lab stopped
 abbrev pub stopped_text : Stopped → List ℕ
 stopped_text (stopped.Value line at came expected) = value_stop_text line at came expected
 stopped_text (stopped.Take line took) =
-    joined (codes "line " ∷ decimal line ∷ codes ": answer " ∷ take_name took ∷ codes ", expected " ∷ take_name (not took) ∷ codes "\n" ∷ [])
+    joined (codes "line " ∷ decimal line ∷ codes ": answer " ∷ take_answer_name took ∷ codes ", expected " ∷ take_answer_name (not took) ∷ codes "\n" ∷ [])
 stopped_text (stopped.Holds line core register) = register_stop_text line core (codes " holds register ") register
 stopped_text (stopped.HoldsNot line core register) = register_stop_text line core (codes " does not hold register ") register

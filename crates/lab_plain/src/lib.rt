@@ -1,7 +1,6 @@
 //! What labs mean, and the lines that they print.
 #![tactic(auto)]
 
-pub mod examples;
 mod lines;
 mod parts;
 mod said;

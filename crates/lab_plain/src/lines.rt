@@ -3,7 +3,7 @@
 ghost use Rattle.std.specs.Prelude.{◌≡◌, ◌<◌};
 ghost use Rattle.rcce_io.specs.Sending.{Sends};
 ghost use Rattle.lab_plain.specs.Accesses.{access_line};
-ghost use Rattle.lab_plain.specs.Texts.{answer_text, frees_text, held_text, loads_text, nothing_text, register_stop_text, source_name, stores_text, take_name, takes_text, value_stop_text, word_access_text};
+ghost use Rattle.lab_plain.specs.Texts.{answer_text, frees_text, core_holds_text, loads_text, nothing_text, register_stop_text, source_name, stores_text, take_answer_name, takes_text, value_stop_text, word_access_text};
 
 use crate::parts::Part::{Bytes, Line as At, Number, Text, Value, Word};
 use crate::said::{Said, Source, Stopped};
@@ -122,7 +122,7 @@ fn write_stores<S: Sink>(
 
 /// What a take answers.
 fn take_name(took: bool) -> &'static str
-    ensures { result.now ≡ take_name took }
+    ensures { result.now ≡ take_answer_name took }
 {
     if took { "took" } else { "taken" }
 }
@@ -175,7 +175,7 @@ fn write_held<S: Sink>(
     words: &[u64; 4],
     mask: &[bool; 4],
 ) -> Result<(), WriteFault>
-    ensures { Sends (held_text core holds.now line words.now mask.now) (S.seen sink.old) (S.seen sink.new) result }
+    ensures { Sends (core_holds_text core holds.now line words.now mask.now) (S.seen sink.old) (S.seen sink.new) result }
 {
     write_texts(
         sink,

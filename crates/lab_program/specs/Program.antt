@@ -8,7 +8,7 @@ use Rattle.outcomes.specs.Plans.Plan.{Runs, Refuses, Reads}
 use Rattle.rcce_words.specs.ScriptWords.{plan_of}
 use Rattle.lab_reader.specs.declared.faults.LabFault.{LabFault}
 use Rattle.lab_reader.specs.declared.steps.Step.{Step}
-use Rattle.lab_reader.specs.Faults.{kind_name}
+use Rattle.lab_reader.specs.Faults.{lab_kind_name}
 use Rattle.lab_reader.specs.Reading.{lab_of, most_lab_bytes}
 use Rattle.lab_plain.specs.declared.said.Said.{Said}
 use Rattle.lab_plain.specs.declared.said.Stopped.{Stopped}
@@ -36,7 +36,7 @@ steps_ran steps = ran_of (lab_done steps).stand.said (lab_done steps).stop
 -- the steps of a lab are done, and the first fault of its text refuses its file
 abbrev pub steps_plan : List ℕ → Result (List Step) LabFault → Plan
 steps_plan file (Ok steps) = Runs (steps_ran steps)
-steps_plan file (Err fault) = Refuses file fault.line (kind_name fault.kind)
+steps_plan file (Err fault) = Refuses file fault.line (lab_kind_name fault.kind)
 
 -- the bytes of a lab's file
 abbrev pub bytes_plan : List ℕ → List ℕ → Plan
@@ -47,10 +47,10 @@ abbrev pub file_plan : List ℕ → Plan
 file_plan file = Reads file most_lab_bytes (bytes_plan file)
 
 -- the words are one file's name
-abbrev pub file_named : List (List ℕ) → Option (List ℕ)
-file_named (file ∷ []) = if is_option file then None else Some file
-file_named _ = None
+abbrev pub lab_file_named : List (List ℕ) → Option (List ℕ)
+lab_file_named (file ∷ []) = if is_option file then None else Some file
+lab_file_named _ = None
 
 -- the program, by its name and what it does on its words: `LAB`, and no others
 abbrev pub rccelab : Program
-rccelab = record { name = codes "rccelab"; plan = λ words. plan_of file_plan (file_named words) }
+rccelab = record { name = codes "rccelab"; plan = λ words. plan_of file_plan (lab_file_named words) }

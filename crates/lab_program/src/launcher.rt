@@ -8,7 +8,7 @@ ghost use Rattle.outcomes.specs.Complaints.{outcome_of};
 ghost use Rattle.outcomes.specs.Delivery.{sinks};
 ghost use Rattle.outcomes.specs.Promises.{Promises};
 ghost use Rattle.rcce_words.specs.ScriptWords.{plan_of};
-ghost use Rattle.lab_program.specs.Program.{bytes_plan, file_named, file_plan, lab_ran, rccelab};
+ghost use Rattle.lab_program.specs.Program.{bytes_plan, lab_file_named, file_plan, lab_ran, rccelab};
 
 use crate::report::Lab;
 use lab_reader::{LabStop, MOST_LAB_BYTES, read_lab};
@@ -41,7 +41,7 @@ pub fn rccelab<F: Files, O: Sink, E: Sink>(
 
 /// The file that the words name, if they are one word that is no option.
 fn file_named(words: &[String]) -> Option<&str>
-    ensures { option_copied result ≡ file_named (map string_bytes words.now) }
+    ensures { option_copied result ≡ lab_file_named (map string_bytes words.now) }
 {
     match words {
         [file] if !is_option(file.as_str()) => Some(file.as_str()),
@@ -54,7 +54,7 @@ fn run_words<'a, F: Files>(
     words: &'a [String],
     files: &mut F,
 ) -> Result<Lab, Complaint<'a>>
-    ensures { IsMeant (codes "rccelab") (plan_of file_plan (file_named (map string_bytes words.now)))
+    ensures { IsMeant (codes "rccelab") (plan_of file_plan (lab_file_named (map string_bytes words.now)))
         (F.seen files.old) (F.seen files.new) (outcome_of (codes "rccelab") lab_ran result) }
 {
     match file_named(words) {

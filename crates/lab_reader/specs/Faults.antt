@@ -7,11 +7,11 @@ use Rattle.lab_reader.specs.declared.faults.LabStop.{LabStop}
 use Rattle.lab_reader.specs.declared.faults.LabStop.TheVariants as stop
 
 -- the name of a kind of fault
-abbrev pub kind_name : LabKind → List ℕ
-kind_name kind.TooLong = codes "TooLong"
-kind_name kind.NotText = codes "NotText"
-kind_name kind.BadCore = codes "BadCore"
-kind_name kind.BadStep = codes "BadStep"
+abbrev pub lab_kind_name : LabKind → List ℕ
+lab_kind_name kind.TooLong = codes "TooLong"
+lab_kind_name kind.NotText = codes "NotText"
+lab_kind_name kind.BadCore = codes "BadCore"
+lab_kind_name kind.BadStep = codes "BadStep"
 
 -- a reading gives what the grammar says, seen through a view: its value or its fault. It may end for want of memory
 abbrev pub Gives : {A X : Type 0} → (X → A) → Result X LabStop → Result A LabFault → Type 0

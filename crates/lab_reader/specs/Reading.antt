@@ -15,7 +15,7 @@ abbrev pub most_lab_bytes : ℕ
 most_lab_bytes = 1048576
 
 -- how far a lab is read: whether no line had words yet, and its steps so far
-pub record Reading : Type 0 where
+pub record LabReading : Type 0 where
   pub opening : Bool
   pub steps : List Step
 
@@ -31,48 +31,48 @@ says_version (first ∷ second ∷ version ∷ []) = bytes_eq first (codes "rcce
 says_version words = false
 
 -- the reading with one step more
-abbrev pub with_step : Reading → Step → Reading
+abbrev pub with_step : LabReading → Step → LabReading
 with_step reading step = record { opening = false; steps = reading.steps ++ step ∷ [] }
 
 -- a step of a core, by what it does, if that was said
-abbrev pub step_by : ℕ → List ℕ → Reading → ℕ → Option Action → Result Reading LabFault
-step_by number line reading core None = Err (record { line = number; kind = kind.BadStep })
-step_by number line reading core (Some act) = Ok (with_step reading (record { line = number; text = line; core = core; action = act }))
+abbrev pub lab_step_by : ℕ → List ℕ → LabReading → ℕ → Option Action → Result LabReading LabFault
+lab_step_by number line reading core None = Err (record { line = number; kind = kind.BadStep })
+lab_step_by number line reading core (Some act) = Ok (with_step reading (record { line = number; text = line; core = core; action = act }))
 
 -- a step, by its core, if that was said, and the words behind it
-abbrev pub core_by : ℕ → List ℕ → Reading → List (List ℕ) → Option ℕ → Result Reading LabFault
+abbrev pub core_by : ℕ → List ℕ → LabReading → List (List ℕ) → Option ℕ → Result LabReading LabFault
 core_by number line reading words None = Err (record { line = number; kind = kind.BadCore })
-core_by number line reading words (Some core) = step_by number line reading core (action_said core words)
+core_by number line reading words (Some core) = lab_step_by number line reading core (action_said core words)
 
 -- the words `core C`, and what stands behind them
-abbrev pub step_said : ℕ → List ℕ → Reading → List (List ℕ) → Result Reading LabFault
+abbrev pub step_said : ℕ → List ℕ → LabReading → List (List ℕ) → Result LabReading LabFault
 step_said number line reading (word ∷ core ∷ words) =
     if bytes_eq word (codes "core") then core_by number line reading words (core_said core) else Err (record { line = number; kind = kind.BadCore })
 step_said number line reading words = Err (record { line = number; kind = kind.BadCore })
 
 -- the reading after a line with these words: the first line that has words may say the version
-abbrev pub words_said : ℕ → List ℕ → Reading → List (List ℕ) → Result Reading LabFault
+abbrev pub words_said : ℕ → List ℕ → LabReading → List (List ℕ) → Result LabReading LabFault
 words_said number line reading [] = Ok reading
 words_said number line reading (word ∷ words) =
     if reading.opening && says_version (word ∷ words) then Ok (record { opening = false; steps = reading.steps })
     else step_said number line reading (word ∷ words)
 
 -- the reading after a line
-abbrev pub line_said : ℕ → Reading → List ℕ → Result Reading LabFault
-line_said number reading line =
+abbrev pub lab_line_said : ℕ → LabReading → List ℕ → Result LabReading LabFault
+lab_line_said number reading line =
     if is_text line then words_said number line reading (words_of line) else Err (record { line = number; kind = kind.NotText })
 
 -- the reading after lines, of which the first has the number behind `before`
-abbrev pub lines_said : ℕ → Reading → List (List ℕ) → Result Reading LabFault
-lines_said before reading [] = Ok reading
-lines_said before reading (line ∷ lines) = line_said (before + 1) reading line >=> λ next. lines_said (before + 1) next lines
+abbrev pub lab_lines_said : ℕ → LabReading → List (List ℕ) → Result LabReading LabFault
+lab_lines_said before reading [] = Ok reading
+lab_lines_said before reading (line ∷ lines) = lab_line_said (before + 1) reading line >=> λ next. lab_lines_said (before + 1) next lines
 
 -- nothing is read
-abbrev pub start : Reading
-start = record { opening = true; steps = [] }
+abbrev pub nothing_read : LabReading
+nothing_read = record { opening = true; steps = [] }
 
 -- the steps that a file says, or its first fault
 abbrev pub lab_of : List ℕ → Result (List Step) LabFault
 lab_of bytes =
     if nat_lt most_lab_bytes (length bytes) then Err (record { line = 0; kind = kind.TooLong })
-    else lines_said 0 start (lines_of bytes) >=> λ reading. Ok reading.steps
+    else lab_lines_said 0 nothing_read (lines_of bytes) >=> λ reading. Ok reading.steps

@@ -5,7 +5,7 @@ use Rattle.scc_base.specs.Places.{LineAt, WordAt, word_of_line}
 use Rattle.lab_reader.specs.declared.steps.Action.{Action}
 use Rattle.lab_reader.specs.declared.steps.Action.TheVariants as action
 use Rattle.lab_reader.specs.Places.{heap_line}
-use Rattle.lab_reader.specs.Words.{◌>>=◌, only_if, Cut, range_said, cut_at, value_said}
+use Rattle.lab_reader.specs.Words.{◌>>=◌, some_if, Cut, range_said, cut_at, value_said}
 
 -- a core
 abbrev pub core_said : List ℕ → Option ℕ
@@ -21,13 +21,13 @@ line_cut own word None = line_at_said own word
 line_cut own word (Some cut) = core_said cut.front >>= λ core. line_at_said core cut.back
 
 -- a heap line: `L` at the own core, or `K:L`
-abbrev pub line_said : ℕ → List ℕ → Option LineAt
-line_said own word = line_cut own word (cut_at 58 word)
+abbrev pub heap_line_said : ℕ → List ℕ → Option LineAt
+heap_line_said own word = line_cut own word (cut_at 58 word)
 
 -- a word of a heap line: `L.W` at the own core, or `K:L.W`
 abbrev pub word_said : ℕ → List ℕ → Option WordAt
 word_said own word =
-    cut_at 46 word >>= λ cut. line_said own cut.front >>= λ line. range_said 3 cut.back >>= λ w. Some (word_of_line line w)
+    cut_at 46 word >>= λ cut. heap_line_said own cut.front >>= λ line. range_said 3 cut.back >>= λ w. Some (word_of_line line w)
 
 -- the four words of a line
 abbrev pub four_said : (first second third fourth : List ℕ) → Option (List ℕ)
@@ -42,7 +42,7 @@ write_word_said own words = None
 -- or a line and its four words
 abbrev pub write_line_said : ℕ → List (List ℕ) → Option Action
 write_line_said own (at ∷ first ∷ second ∷ third ∷ fourth ∷ []) =
-    line_said own at >>= λ line. four_said first second third fourth >>= λ words. Some (action.WriteLine line words)
+    heap_line_said own at >>= λ line. four_said first second third fourth >>= λ words. Some (action.WriteLine line words)
 write_line_said own words = None
 
 -- behind `write`
@@ -52,7 +52,7 @@ write_said own words = if length words == 2 then write_word_said own words else 
 -- behind `put`: a line and its four words
 abbrev pub put_said : ℕ → List (List ℕ) → Option Action
 put_said own (at ∷ first ∷ second ∷ third ∷ fourth ∷ []) =
-    line_said own at >>= λ line. four_said first second third fourth >>= λ words. Some (action.Put line words)
+    heap_line_said own at >>= λ line. four_said first second third fourth >>= λ words. Some (action.Put line words)
 put_said own words = None
 
 -- behind a read of a word: nothing, or `expect HEX`
@@ -81,7 +81,7 @@ expected_take words = None
 -- the read of a word, or else of a line, by what stands behind
 abbrev pub read_by : ℕ → List ℕ → Option LineAt → List (List ℕ) → Option WordAt → Option Action
 read_by own at evict words (Some p) = expected_word words >>= λ expect. Some (action.ReadWord p evict expect)
-read_by own at evict words None = line_said own at >>= λ line. expected_line words >>= λ expect. Some (action.ReadLine line evict expect)
+read_by own at evict words None = heap_line_said own at >>= λ line. expected_line words >>= λ expect. Some (action.ReadLine line evict expect)
 
 -- a read with this eviction, or with none
 abbrev pub read_behind : ℕ → List ℕ → Option LineAt → List (List ℕ) → Option Action
@@ -90,7 +90,7 @@ read_behind own at evict words = read_by own at evict words (word_said own at)
 -- behind `read` and the word or line: what follows, or `evict LINE` and what follows
 abbrev pub read_after : ℕ → List ℕ → List (List ℕ) → Option Action
 read_after own at (word ∷ line ∷ rest) =
-    if bytes_eq word (codes "evict") then (line_said own line >>= λ evict. read_behind own at (Some evict) rest)
+    if bytes_eq word (codes "evict") then (heap_line_said own line >>= λ evict. read_behind own at (Some evict) rest)
     else read_behind own at None (word ∷ line ∷ rest)
 read_after own at words = read_behind own at None words
 
@@ -102,7 +102,7 @@ read_said own (at ∷ words) = read_after own at words
 -- behind `get`
 abbrev pub get_said : ℕ → List (List ℕ) → Option Action
 get_said own [] = None
-get_said own (at ∷ words) = line_said own at >>= λ line. expected_line words >>= λ expect. Some (action.Get line expect)
+get_said own (at ∷ words) = heap_line_said own at >>= λ line. expected_line words >>= λ expect. Some (action.Get line expect)
 
 -- behind `take`
 abbrev pub take_said : List (List ℕ) → Option Action

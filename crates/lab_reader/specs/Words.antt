@@ -9,12 +9,12 @@ abbrev pub ◌>>=◌ : {A B : Type 0} → Option A → (A → Option B) → Opti
 o >>= next = option_and_then next o
 
 -- a value, if a test holds
-abbrev pub only_if : {A : Type 0} → Bool → A → Option A
-only_if test value = if test then Some value else None
+abbrev pub some_if : {A : Type 0} → Bool → A → Option A
+some_if test value = if test then Some value else None
 
 -- a number from 0 to a limit
 abbrev pub range_said : ℕ → List ℕ → Option ℕ
-range_said most word = number_of word >>= λ n. only_if (nat_le n most) n
+range_said most word = number_of word >>= λ n. some_if (nat_le n most) n
 
 -- a word that was cut: what stands before the mark, and behind it
 pub record Cut : Type 0 where

@@ -1,7 +1,7 @@
 //! The faults of a lab, and why a reading stops.
 
 ghost use Rattle.std.specs.Prelude.{◌≡◌, codes};
-ghost use Rattle.lab_reader.specs.Faults.{kind_name};
+ghost use Rattle.lab_reader.specs.Faults.{lab_kind_name};
 
 use std::alloc::{AllocError, AllocFailed};
 
@@ -21,7 +21,7 @@ pub enum LabKind {
 impl LabKind {
     /// The name of the kind, as a program prints it.
     pub fn name(self) -> &'static str
-        ensures { result.now ≡ kind_name self }
+        ensures { result.now ≡ lab_kind_name self }
     {
         match self {
             LabKind::TooLong => "TooLong",

@@ -2,7 +2,7 @@
 
 ghost use Rattle.std.specs.Prelude.{◌≡◌, ◌<◌, ◌^◌, length, map};
 ghost use Rattle.lab_reader.specs.Faults.{Gives};
-ghost use Rattle.lab_reader.specs.Reading.{lab_of, lines_said, says_version};
+ghost use Rattle.lab_reader.specs.Reading.{lab_of, lab_lines_said, says_version};
 ghost use Rattle.script_reader.specs.Reading.{is_number};
 ghost use Rattle.lab_reader.specs.declared.faults.LabStop.TheVariants.{Fault};
 
@@ -53,9 +53,9 @@ struct Reader {
 }
 
 impl Model for Reader {
-    ghost use Rattle.lab_reader.specs.Reading.{Reading};
+    ghost use Rattle.lab_reader.specs.Reading.{LabReading};
 
-    ghost Value = { Reading };
+    ghost Value = { LabReading };
 
     ghost view = { λ r. record { opening = r.opening; steps = r.steps.items } };
 }
@@ -63,10 +63,10 @@ impl Model for Reader {
 impl Reader {
     ghost use Rattle.std.specs.Prelude.{◌≡◌, map};
     ghost use Rattle.lab_reader.specs.Faults.{Gives};
-    ghost use Rattle.lab_reader.specs.Reading.{core_by, line_said, start, step_said, words_said};
+    ghost use Rattle.lab_reader.specs.Reading.{core_by, lab_line_said, nothing_read, step_said, words_said};
 
     fn new(alloc: Global) -> Reader
-        ensures { result ≡ start }
+        ensures { result ≡ nothing_read }
     {
         Reader {
             opening: true,
@@ -138,7 +138,7 @@ impl Reader {
     }
 
     fn read_line(&mut self, alloc: Global, number: u32, line: &[u8]) -> Result<(), LabStop>
-        ensures { Gives (λ _. self.new) result (line_said number self.old line.now) }
+        ensures { Gives (λ _. self.new) result (lab_line_said number self.old line.now) }
     {
         if !is_text(line) {
             return Err(fault(number, LabKind::NotText));
@@ -150,7 +150,7 @@ impl Reader {
 
 fn read_lines(alloc: Global, reader: &mut Reader, lines: &[&[u8]]) -> Result<(), LabStop>
     requires few { length lines.now < 2 ^ 32 }
-    ensures { Gives (λ _. reader.new) result (lines_said 0 reader.old (map (λ line. line.now) lines.now)) }
+    ensures { Gives (λ _. reader.new) result (lab_lines_said 0 reader.old (map (λ line. line.now) lines.now)) }
 {
     let mut number: u32 = 0;
     for line in lines {

@@ -1,7 +1,7 @@
 //! What the words of a line say.
 
 ghost use Rattle.std.specs.Prelude.{◌≡◌, ◌≤◌, IfSome, map};
-ghost use Rattle.lab_reader.specs.Said.{action_said, bare_said, core_said, expected_line, expected_take, expected_word, four_said, free_said, get_said, line_at_said, line_said, put_said, read_after, read_behind, read_said, take_named, take_said, verb_said, word_said, write_line_said, write_said, write_word_said};
+ghost use Rattle.lab_reader.specs.Said.{action_said, bare_said, core_said, expected_line, expected_take, expected_word, four_said, free_said, get_said, line_at_said, heap_line_said, put_said, read_after, read_behind, read_said, take_named, take_said, verb_said, word_said, write_line_said, write_said, write_word_said};
 
 use crate::places::{HeapLine, HeapWord};
 use crate::steps::Action;
@@ -25,7 +25,7 @@ fn line_at_said(core: CoreId, word: &[u8]) -> Option<HeapLine>
 
 /// A heap line: `L` at the own core, or `K:L`.
 fn line_said(own: CoreId, word: &[u8]) -> Option<HeapLine>
-    ensures { result ≡ line_said own word.now }
+    ensures { result ≡ heap_line_said own word.now }
 {
     match cut_at(word, b':') {
         Some(cut) => line_at_said(core_said(cut.front)?, cut.back),

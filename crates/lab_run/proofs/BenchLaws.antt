@@ -12,45 +12,45 @@ use Rattle.scc_proto.specs.Ports.{record_in}
 use Rattle.scc_proto.proofs.Tests.{same_or_other}
 use Rattle.put_get.specs.Cores.{Private}
 use Rattle.put_get.specs.HeapStores.{AwaitsHeap}
-use Rattle.lab_chip.specs.Chips.{ChipView, all_of, of_rank_all, sight_of, with_turn}
+use Rattle.lab_chip.specs.Chips.{LabChipView, all_events, of_rank_all, lab_sight, with_turn}
 use Rattle.lab_chip.proofs.ChipLaws.{events_of-append, own_events, other_events}
 use Rattle.lab_plain.specs.declared.said.Said.{Said}
-use Rattle.lab_plain.specs.Scenes.{Scene}
+use Rattle.lab_plain.specs.Scenes.{CoreScene}
 use Rattle.lab_plain.specs.Meaning.{Holds, Stand, core_at, holder_of, holds_nothing, is_holder, scene_at, with_scene}
-use Rattle.lab_run.specs.Turns.{IsKept, IsLabSetup, IsReady, Turned, memory_in, scene_of}
+use Rattle.lab_run.specs.Turns.{IsKept, IsLabSetup, IsReady, CoreTurned, memory_in, scene_of}
 use Rattle.lab_run.specs.Stands.{IsBench, held_word, holds_of, record_at, stand_of}
 use Rattle.lab_run.proofs.TurnLaws.{rank_kept, setup_kept}
 
 -- ---- records of a chip
 
-pub record_own : (chip : ChipView) → record_at chip chip.rank ≡ record_in (sight_of chip)
+pub record_own : (chip : LabChipView) → record_at chip chip.rank ≡ record_in (lab_sight chip)
 unfolding record_in
 record_own chip = ap (record_of chip.setup chip.rank) (events_of-append chip.rank chip.before (of_rank_all chip.rank chip.own) ∙ ap (λ (l : List Event). events_of chip.rank chip.before ++ l) (own_events chip.rank chip.own))
 
-record_before : (chip : ChipView) (k : ℕ) → k ≢ chip.rank → record_at chip k ≡ record_of chip.setup k (events_of k chip.before)
+record_before : (chip : LabChipView) (k : ℕ) → k ≢ chip.rank → record_at chip k ≡ record_of chip.setup k (events_of k chip.before)
 record_before chip k other = ap (record_of chip.setup k)
     (events_of-append k chip.before (of_rank_all chip.rank chip.own) ∙ ap (λ (l : List Event). events_of k chip.before ++ l) (other_events chip.rank k chip.own other) ∙ append-nil (events_of k chip.before))
 
 -- the records of the others stay
-pub record_other : (old new : ChipView) (k : ℕ) → new ≡ record old { own = new.own } → k ≢ old.rank → record_at new k ≡ record_at old k
+pub record_other : (old new : LabChipView) (k : ℕ) → new ≡ record old { own = new.own } → k ≢ old.rank → record_at new k ≡ record_at old k
 record_other old new k turn other =
-    record_before new k (λ same. other (same ∙ ap (λ (c : ChipView). c.rank) turn))
+    record_before new k (λ same. other (same ∙ ap (λ (c : LabChipView). c.rank) turn))
     ∙ (λ i. record_of (turn i).setup k (events_of k (turn i).before))
     ∙ sym (record_before old k other)
 
-all_turned : (chip : ChipView) (k : ℕ) → all_of (with_turn chip k) ≡ all_of chip
-all_turned chip k = append-nil (all_of chip)
+all_turned : (chip : LabChipView) (k : ℕ) → all_events (with_turn chip k) ≡ all_events chip
+all_turned chip k = append-nil (all_events chip)
 
-pub memory_turned : (chip : ChipView) (k : ℕ) → memory_in (with_turn chip k) ≡ memory_in chip
+pub memory_turned : (chip : LabChipView) (k : ℕ) → memory_in (with_turn chip k) ≡ memory_in chip
 unfolding memory_in
 memory_turned chip k = ap (memory_from zeros) (all_turned chip k)
 
-record_turned : (chip : ChipView) (k r : ℕ) → record_at (with_turn chip k) r ≡ record_at chip r
+record_turned : (chip : LabChipView) (k r : ℕ) → record_at (with_turn chip k) r ≡ record_at chip r
 record_turned chip k r = ap (λ (l : List RankEvent). records_of chip.setup l r) (all_turned chip k)
 
 -- ---- another turn
 
-pub bench_turned : (chip : ChipView) (k : ℕ) (cores : List Holds) (holders : List (Option ℕ)) → IsBench chip cores holders → IsBench (with_turn chip k) cores holders
+pub bench_turned : (chip : LabChipView) (k : ℕ) (cores : List Holds) (holders : List (Option ℕ)) → IsBench chip cores holders → IsBench (with_turn chip k) cores holders
 bench_turned chip k cores holders bench = record {
   setup = bench.setup;
   ranks = bench.ranks;
@@ -66,7 +66,7 @@ bench_turned chip k cores holders bench = record {
 pub core_there : (cores : List Private) (me : ℕ) (d : Private) → me < length cores → core_at (map holds_of cores) me ≡ holds_of (slice_index_or cores me d)
 core_there cores me d below = get_or-map holds_of cores me d holds_nothing below
 
-pub ready_there : (chip : ChipView) (cores : List Holds) (holders : List (Option ℕ)) (core : Private) → IsBench chip cores holders → chip.rank < 48 → core_at cores chip.rank ≡ holds_of core
+pub ready_there : (chip : LabChipView) (cores : List Holds) (holders : List (Option ℕ)) (core : Private) → IsBench chip cores holders → chip.rank < 48 → core_at cores chip.rank ≡ holds_of core
     → IsReady core chip
 ready_there chip cores holders core bench below is = record {
   setup = bench.setup;
@@ -81,12 +81,12 @@ core_here cores me h below = get_or-set_same cores me h holds_nothing below
 core_elsewhere : (cores : List Holds) (me k : ℕ) (h : Holds) → k ≢ me → core_at (slice_set cores me h) k ≡ core_at cores k
 core_elsewhere cores me k h other = get_or-set_other cores me k h holds_nothing other
 
-pub bench_kept : (old new : ChipView) (cores : List Holds) (holders : List (Option ℕ)) (d : Private) → IsBench old cores holders → old.rank < 48 → IsKept old new → IsReady d new
+pub bench_kept : (old new : LabChipView) (cores : List Holds) (holders : List (Option ℕ)) (d : Private) → IsBench old cores holders → old.rank < 48 → IsKept old new → IsReady d new
     → IsBench new (slice_set cores old.rank (holds_of d)) holders
 bench_kept old new cores holders d bench below kept ready =
     let setup = setup_kept old new kept in
     let rank = rank_kept old new kept in
-    let here : record_at new old.rank ≡ record_in (sight_of new) = ap (λ (r : ℕ). record_at new r) (sym rank) ∙ record_own new in
+    let here : record_at new old.rank ≡ record_in (lab_sight new) = ap (λ (r : ℕ). record_at new r) (sym rank) ∙ record_own new in
     record {
       setup = subst (λ (x : SetupView). IsLabSetup x) (sym setup) bench.setup;
       ranks = length-set cores old.rank (holds_of d) ∙ bench.ranks;
@@ -106,8 +106,8 @@ bench_kept old new cores holders d bench below kept ready =
     }
 
 -- the stand after a core at work
-pub stand_after : (op : Scene → Scene) (old new : ChipView) (cores : List Private) (c d : Private) (holders : List (Option ℕ)) (said told : List Said) (me : ℕ) → core_at (map holds_of cores) me ≡ holds_of c
-    → Turned op c old said d new told
+pub stand_after : (op : CoreScene → CoreScene) (old new : LabChipView) (cores : List Private) (c d : Private) (holders : List (Option ℕ)) (said told : List Said) (me : ℕ) → core_at (map holds_of cores) me ≡ holds_of c
+    → CoreTurned op c old said d new told
     → stand_of new (slice_set cores me d) holders told ≡ with_scene me (stand_of old cores holders said) (op (scene_at me (stand_of old cores holders said)))
 stand_after op old new cores c d holders said told me is turned =
     let before : scene_at me (stand_of old cores holders said) ≡ scene_of c old said = λ i. record { memory = memory_in old; lines = (is i).lines; out = (is i).out; said = said } in

@@ -10,7 +10,7 @@ use Rattle.line_cache.specs.Lines.{AreDistinct, IsCache, IsPlaceOf, filled, held
 use Rattle.line_cache.specs.Eviction.{MayAnswer, answers_of}
 use Rattle.line_cache.proofs.LineLemmas.{cache-push, cache-remove, held-push, held-remove, not_held, same_line-is}
 use Rattle.put_get.specs.Cores.{Private, Fills, Kept, Dropped}
-use Rattle.lab_plain.specs.Scenes.{is_evicted, left_by, without}
+use Rattle.lab_plain.specs.Scenes.{is_evicted, left_by, without_line}
 use Rattle.lab_run.specs.Evicting.{IsPlaceIn, named_answer}
 
 at_place : (answer : ℕ → Option ℕ) (from n k : ℕ) → k < n → slice_get (map answer (range_with_len from n)) k ≡ Some (answer (from + k))
@@ -62,13 +62,13 @@ cache_filled es line words cache new =
     let front = cache_front es line (length es == most_lines) refl cache new in
     cache-push (if length es == most_lines then drop 1 es else es) (record { line = line; words = words }) front.0 front.1 front.2
 
-kept_first : (line : LineAt) (e : Entry) (es : List Entry) → same_line e.line line ≡ false → without line (e ∷ es) ≡ e ∷ without line es
-kept_first line e es other = ap (λ (b : Bool). if not b then e ∷ without line es else without line es) other
+kept_first : (line : LineAt) (e : Entry) (es : List Entry) → same_line e.line line ≡ false → without_line line (e ∷ es) ≡ e ∷ without_line line es
+kept_first line e es other = ap (λ (b : Bool). if not b then e ∷ without_line line es else without_line line es) other
 
-left_first : (line : LineAt) (e : Entry) (es : List Entry) → same_line e.line line ≡ true → without line (e ∷ es) ≡ without line es
-left_first line e es same = ap (λ (b : Bool). if not b then e ∷ without line es else without line es) same
+left_first : (line : LineAt) (e : Entry) (es : List Entry) → same_line e.line line ≡ true → without_line line (e ∷ es) ≡ without_line line es
+left_first line e es same = ap (λ (b : Bool). if not b then e ∷ without_line line es else without_line line es) same
 
-without_none : (line : LineAt) (es : List Entry) → held es line ≡ None → without line es ≡ es
+without_none : (line : LineAt) (es : List Entry) → held es line ≡ None → without_line line es ≡ es
 without_none line [] none = refl
 without_none line (e ∷ es) none = let n = not_held e es line none in kept_first line e es n.0 ∙ ap (λ (l : List Entry). e ∷ l) (without_none line es n.1)
 
@@ -96,14 +96,14 @@ words_held es line (Some at) some place = by (held es line) refl (some_held es l
 none_some : (o : Option (List ℕ)) → o ≡ None → is_some o ≡ true → ⊥
 none_some o none some = true_not_false (sym some ∙ ap (λ (x : Option (List ℕ)). is_some x) none)
 
-removed_is : (es : List Entry) (line : LineAt) (at : ℕ) → AreDistinct es → IsPlaceOf es line (Some at) → remove es at ≡ without line es
+removed_is : (es : List Entry) (line : LineAt) (at : ℕ) → AreDistinct es → IsPlaceOf es line (Some at) → remove es at ≡ without_line line es
 removed_is [] line at distinct place = absurd (omega (arith, place.1))
 removed_is (e ∷ es) line zero distinct place =
     sym (left_first line e es (ap (λ (l : LineAt). same_line l line) place.0 ∙ line_self line) ∙ without_none line es (subst (λ (l : LineAt). held es l ≡ None) place.0 distinct.0))
 removed_is (e ∷ es) line (suc at) distinct place = by (same_line e.line line) refl
     (removed_is es line at distinct.1 (place.0, omega (arith, place.1))) (some_held es line at (place.0, omega (arith, place.1)))
   where
-    by : (b : Bool) → same_line e.line line ≡ b → remove es at ≡ without line es → is_some (held es line) ≡ true → e ∷ remove es at ≡ without line (e ∷ es)
+    by : (b : Bool) → same_line e.line line ≡ b → remove es at ≡ without_line line es → is_some (held es line) ≡ true → e ∷ remove es at ≡ without_line line (e ∷ es)
     by true same rest some = absurd (none_some (held es line) (subst (λ (l : LineAt). held es l ≡ None) (same_line-is e.line line same) distinct.0) some)
     by false other rest some = ap (λ (l : List Entry). e ∷ l) rest ∙ sym (kept_first line e es other)
 

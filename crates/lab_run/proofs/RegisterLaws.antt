@@ -15,13 +15,13 @@ use Rattle.tas_lock.specs.Holds.{IsHolding, IsNotHolding, after_try, after_relea
 use Rattle.tas_lock.proofs.HoldLemmas.{freed as was_freed, tried}
 use Rattle.put_get.specs.Cores.{Private}
 use Rattle.put_get.specs.HeapStores.{AwaitsHeap}
-use Rattle.lab_chip.specs.Chips.{ChipView, all_of, of_rank_all, sight_of}
+use Rattle.lab_chip.specs.Chips.{LabChipView, all_events, of_rank_all, lab_sight}
 use Rattle.lab_chip.proofs.ChipLaws.{chip_did, run_left}
 use Rattle.lab_plain.specs.declared.said.Said.{Said}
 use Rattle.lab_plain.specs.declared.said.Said.TheVariants.{Frees, Takes}
 use Rattle.lab_plain.specs.declared.said.Stopped.TheVariants.{Holds, HoldsNot}
 use Rattle.lab_plain.specs.Meaning as meaning
-use Rattle.lab_plain.specs.Meaning.{Done, Stand, core_at, freed, holder_of, is_holder, register_freed, register_read, taken, unmet_take}
+use Rattle.lab_plain.specs.Meaning.{Done, Stand, core_at, free_made, holder_of, is_holder, register_freed, register_read, take_made, unmet_take}
 use Rattle.lab_run.specs.Turns.{IsLabSetup, memory_in}
 use Rattle.lab_run.specs.Stands.{IsBench, held_word, holds_of, record_at, stand_of}
 use Rattle.lab_run.proofs.HeapEvents.{all_did, memory_did}
@@ -32,13 +32,13 @@ none_of None none = refl
 none_of (Some x) some = sym some
 
 -- a register that its core does not have may be read, and one that it has may be freed
-pub may_take : (chip : ChipView) (cores : List meaning.Holds) (holders : List (Option ℕ)) (k : ℕ) → IsBench chip cores holders → chip.rank < 48 → k < 48 → is_holder chip.rank (holder_of holders k) ≡ false
-    → IsNotHolding (record_in (sight_of chip)) k
+pub may_take : (chip : LabChipView) (cores : List meaning.Holds) (holders : List (Option ℕ)) (k : ℕ) → IsBench chip cores holders → chip.rank < 48 → k < 48 → is_holder chip.rank (holder_of holders k) ≡ false
+    → IsNotHolding (record_in (lab_sight chip)) k
 may_take chip cores holders k bench low below not_own =
-    none_of ((record_in (sight_of chip)).held k) (sym (ap (λ (x : Record). is_some (x.held k)) (record_own chip)) ∙ bench.held chip.rank k low below ∙ not_own)
+    none_of ((record_in (lab_sight chip)).held k) (sym (ap (λ (x : Record). is_some (x.held k)) (record_own chip)) ∙ bench.held chip.rank k low below ∙ not_own)
 
-pub may_free : (chip : ChipView) (cores : List meaning.Holds) (holders : List (Option ℕ)) (k : ℕ) → IsBench chip cores holders → chip.rank < 48 → k < 48 → is_holder chip.rank (holder_of holders k) ≡ true
-    → IsHolding (record_in (sight_of chip)) k
+pub may_free : (chip : LabChipView) (cores : List meaning.Holds) (holders : List (Option ℕ)) (k : ℕ) → IsBench chip cores holders → chip.rank < 48 → k < 48 → is_holder chip.rank (holder_of holders k) ≡ true
+    → IsHolding (record_in (lab_sight chip)) k
 may_free chip cores holders k bench low below own =
     sym (ap (λ (x : Record). is_some (x.held k)) (record_own chip)) ∙ bench.held chip.rank k low below ∙ own
 
@@ -52,20 +52,20 @@ holder_there holders k j h other = get_or-set_other holders k j h None other
 
 -- A bench after one access to a register by the rank that has its turn: what the rank holds, the word and the holder of this register
 -- changed, and nothing else.
-pub record Changed (old new : ChipView) (k : ℕ) (held : Option FlagWords) (holder : Option ℕ) : Type 0 where
+pub record Changed (old new : LabChipView) (k : ℕ) (held : Option FlagWords) (holder : Option ℕ) : Type 0 where
   pub turn : new ≡ record old { own = new.own }
-  pub record_is : record_in (sight_of new) ≡ record (record_in (sight_of old)) { held = put (record_in (sight_of old)).held k held }
+  pub record_is : record_in (lab_sight new) ≡ record (record_in (lab_sight old)) { held = put (record_in (lab_sight old)).held k held }
   pub registers : (memory_in new).register ≡ put (memory_in old).register k (held_word holder)
   pub own : is_some held ≡ is_holder old.rank holder
   pub others : (r : ℕ) → r ≢ old.rank → is_holder r holder ≡ false
 
 -- before it, no other rank has the register
-pub bench_changed : (old new : ChipView) (cores : List meaning.Holds) (holders : List (Option ℕ)) (k : ℕ) (held : Option FlagWords) (holder : Option ℕ) → IsBench old cores holders → old.rank < 48 → k < 48
+pub bench_changed : (old new : LabChipView) (cores : List meaning.Holds) (holders : List (Option ℕ)) (k : ℕ) (held : Option FlagWords) (holder : Option ℕ) → IsBench old cores holders → old.rank < 48 → k < 48
     → ((r : ℕ) → r ≢ old.rank → is_holder r (holder_of holders k) ≡ false) → Changed old new k held holder → IsBench new cores (slice_set holders k holder)
 bench_changed old new cores holders k held holder bench low below alone changed =
-    let setup = ap (λ (c : ChipView). c.setup) changed.turn in
-    let rank = ap (λ (c : ChipView). c.rank) changed.turn in
-    let here : record_at new old.rank ≡ record_in (sight_of new) = ap (λ (r : ℕ). record_at new r) (sym rank) ∙ record_own new in
+    let setup = ap (λ (c : LabChipView). c.setup) changed.turn in
+    let rank = ap (λ (c : LabChipView). c.rank) changed.turn in
+    let here : record_at new old.rank ≡ record_in (lab_sight new) = ap (λ (r : ℕ). record_at new r) (sym rank) ∙ record_own new in
     let place : k < length holders = omega (arith, bench.places, below) in
     record {
       setup = subst (λ (x : SetupView). IsLabSetup x) (sym setup) bench.setup;
@@ -78,10 +78,10 @@ bench_changed old new cores holders k held holder bench low below alone changed 
       held = λ r j within there. same_or_other (is_some ((record_at new r).held j) ≡ is_holder r (holder_of (slice_set holders k holder) j)) r old.rank
           (λ t is. subst (λ (q : ℕ). is_some ((record_at new q).held j) ≡ is_holder q (holder_of (slice_set holders k holder) j)) (sym is)
           (ap (λ (x : Record). is_some (x.held j)) (here ∙ changed.record_is)
-          ∙ same_or_other (is_some (put (record_in (sight_of old)).held k held j) ≡ is_holder old.rank (holder_of (slice_set holders k holder) j)) j k
-          (λ u same. ap (λ (q : ℕ). is_some (put (record_in (sight_of old)).held k held q)) same ∙ ap (λ (o : Option FlagWords). is_some o) (put_here (record_in (sight_of old)).held k held)
+          ∙ same_or_other (is_some (put (record_in (lab_sight old)).held k held j) ≡ is_holder old.rank (holder_of (slice_set holders k holder) j)) j k
+          (λ u same. ap (λ (q : ℕ). is_some (put (record_in (lab_sight old)).held k held q)) same ∙ ap (λ (o : Option FlagWords). is_some o) (put_here (record_in (lab_sight old)).held k held)
           ∙ changed.own ∙ sym (ap (λ (o : Option ℕ). is_holder old.rank o) (ap (holder_of (slice_set holders k holder)) same ∙ holder_here holders k holder place)))
-          (λ u other. ap (λ (o : Option FlagWords). is_some o) (put_there (record_in (sight_of old)).held k held j other)
+          (λ u other. ap (λ (o : Option FlagWords). is_some o) (put_there (record_in (lab_sight old)).held k held j other)
           ∙ sym (ap (λ (x : Record). is_some (x.held j)) (record_own old)) ∙ bench.held old.rank j low there ∙ sym (ap (λ (o : Option ℕ). is_holder old.rank o) (holder_there holders k j holder other)))))
           (λ t ne. ap (λ (x : Record). is_some (x.held j)) (record_other old new r changed.turn ne)
           ∙ bench.held r j within there
@@ -110,35 +110,35 @@ took_is None false word is (inr step) = absurd (omega (arith, step.1, is))
 took_is (Some core) true word is (inl step) = absurd (omega (arith, step.1, is))
 took_is (Some core) true word is (inr step) = absurd (omega (arith, step.0))
 
-pub was_free : (old new : ChipView) (holder : Option ℕ) (k : ℕ) (took : Bool) → (memory_in old).register k ≡ held_word holder → Did (sight_of old) (take_of k took ∷ []) (sight_of new) → IsRun zeros (all_of new)
+pub was_free : (old new : LabChipView) (holder : Option ℕ) (k : ℕ) (took : Bool) → (memory_in old).register k ≡ held_word holder → Did (lab_sight old) (take_of k took ∷ []) (lab_sight new) → IsRun zeros (all_events new)
     → took ≡ is_none holder
 unfolding memory_in
 was_free old new holder k took is did run =
     took_is holder took ((memory_in old).register k) is
-    (run_left zeros (all_of old) (of_rank_all old.rank (take_of k took ∷ [])) (subst (λ (l : List RankEvent). IsRun zeros l) (all_did old new (take_of k took ∷ []) did) run)).0
+    (run_left zeros (all_events old) (of_rank_all old.rank (take_of k took ∷ [])) (subst (λ (l : List RankEvent). IsRun zeros l) (all_did old new (take_of k took ∷ []) did) run)).0
 
-turn_did : (old new : ChipView) (events : List _) → Did (sight_of old) events (sight_of new) → new ≡ record old { own = new.own }
-turn_did old new events did = let is = chip_did old new events did in is ∙ (λ i. record old { own = sym (ap (λ (c : ChipView). c.own) is) i })
+turn_did : (old new : LabChipView) (events : List _) → Did (lab_sight old) events (lab_sight new) → new ≡ record old { own = new.own }
+turn_did old new events did = let is = chip_did old new events did in is ∙ (λ i. record old { own = sym (ap (λ (c : LabChipView). c.own) is) i })
 
 -- a register that nobody had is the core's
-pub taken_here : (old new : ChipView) (k : ℕ) → IsNotHolding (record_in (sight_of old)) k → Did (sight_of old) (take_of k true ∷ []) (sight_of new)
+pub taken_here : (old new : LabChipView) (k : ℕ) → IsNotHolding (record_in (lab_sight old)) k → Did (lab_sight old) (take_of k true ∷ []) (lab_sight new)
     → Changed old new k (Some (record { sent = None; ready = None })) (Some old.rank)
 taken_here old new k free did = record {
   turn = turn_did old new (take_of k true ∷ []) did;
-  record_is = tried (sight_of old) (sight_of new) k true free did;
+  record_is = tried (lab_sight old) (lab_sight new) k true free did;
   registers = ap (λ (m : Memory). m.register) (memory_did old new (take_of k true ∷ []) did);
   own = sym (eqb_same old.rank);
   others = λ r ne. eqb_other old.rank r (λ same. ne (sym same));
 }
 
 -- a register that another core has stays as it is
-pub found_taken : (old new : ChipView) (cores : List meaning.Holds) (holders : List (Option ℕ)) (k : ℕ) → IsBench old cores holders → old.rank < 48 → IsNotHolding (record_in (sight_of old)) k
-    → Did (sight_of old) (take_of k false ∷ []) (sight_of new) → IsBench new cores holders
+pub found_taken : (old new : LabChipView) (cores : List meaning.Holds) (holders : List (Option ℕ)) (k : ℕ) → IsBench old cores holders → old.rank < 48 → IsNotHolding (record_in (lab_sight old)) k
+    → Did (lab_sight old) (take_of k false ∷ []) (lab_sight new) → IsBench new cores holders
 found_taken old new cores holders k bench low free did =
     let turn = turn_did old new (take_of k false ∷ []) did in
-    let setup = ap (λ (c : ChipView). c.setup) turn in
-    let rank = ap (λ (c : ChipView). c.rank) turn in
-    let same : record_in (sight_of new) ≡ record_in (sight_of old) = tried (sight_of old) (sight_of new) k false free did in
+    let setup = ap (λ (c : LabChipView). c.setup) turn in
+    let rank = ap (λ (c : LabChipView). c.rank) turn in
+    let same : record_in (lab_sight new) ≡ record_in (lab_sight old) = tried (lab_sight old) (lab_sight new) k false free did in
     let here : record_at new old.rank ≡ record_at old old.rank = ap (λ (r : ℕ). record_at new r) (sym rank) ∙ record_own new ∙ same ∙ sym (record_own old) in
     let each : (r : ℕ) → record_at new r ≡ record_at old r
     = λ r. same_or_other (record_at new r ≡ record_at old r) r old.rank (λ t is. ap (record_at new) is ∙ here ∙ sym (ap (record_at old) is)) (λ t ne. record_other old new r turn ne) in
@@ -153,10 +153,10 @@ found_taken old new cores holders k bench low free did =
     }
 
 -- a register that was freed is nobody's
-pub freed_here : (old new : ChipView) (k : ℕ) → IsHolding (record_in (sight_of old)) k → Did (sight_of old) (free_of k ∷ []) (sight_of new) → Changed old new k None None
+pub freed_here : (old new : LabChipView) (k : ℕ) → IsHolding (record_in (lab_sight old)) k → Did (lab_sight old) (free_of k ∷ []) (lab_sight new) → Changed old new k None None
 freed_here old new k held did = record {
   turn = turn_did old new (free_of k ∷ []) did;
-  record_is = was_freed (sight_of old) (sight_of new) k held did;
+  record_is = was_freed (lab_sight old) (lab_sight new) k held did;
   registers = ap (λ (m : Memory). m.register) (memory_did old new (free_of k ∷ []) did);
   own = refl;
   others = λ r ne. refl;
@@ -173,35 +173,35 @@ alone_own me (Some core) own r other = eqb_other core r (λ same. other (sym sam
 -- ---- what a take and a free come to
 
 pub taken_own : (line me k : ℕ) (expect : Option Bool) (t : Stand) (holder : Option ℕ) → is_holder me holder ≡ true
-    → taken line me k expect t holder ≡ record { stand = t; stop = Some (Holds line me k) }
+    → take_made line me k expect t holder ≡ record { stand = t; stop = Some (Holds line me k) }
 taken_own line me k expect t holder own =
     ap (λ (b : Bool). if b then (record { stand = t; stop = Some (Holds line me k) }) else (record { stand = register_read me k (is_none holder) t; stop = unmet_take line (is_none holder) expect })) own
 
 pub taken_other : (line me k : ℕ) (expect : Option Bool) (t : Stand) (holder : Option ℕ) → is_holder me holder ≡ false
-    → taken line me k expect t holder ≡ record { stand = register_read me k (is_none holder) t; stop = unmet_take line (is_none holder) expect }
+    → take_made line me k expect t holder ≡ record { stand = register_read me k (is_none holder) t; stop = unmet_take line (is_none holder) expect }
 taken_other line me k expect t holder other =
     ap (λ (b : Bool). if b then (record { stand = t; stop = Some (Holds line me k) }) else (record { stand = register_read me k (is_none holder) t; stop = unmet_take line (is_none holder) expect })) other
 
-pub freed_own : (line me k : ℕ) (t : Stand) (holder : Option ℕ) → is_holder me holder ≡ true → freed line me k t holder ≡ record { stand = register_freed me k t; stop = None }
+pub freed_own : (line me k : ℕ) (t : Stand) (holder : Option ℕ) → is_holder me holder ≡ true → free_made line me k t holder ≡ record { stand = register_freed me k t; stop = None }
 freed_own line me k t holder own =
     ap (λ (b : Bool). if b then (record { stand = register_freed me k t; stop = None }) else (record { stand = t; stop = Some (HoldsNot line me k) })) own
 
-pub freed_other : (line me k : ℕ) (t : Stand) (holder : Option ℕ) → is_holder me holder ≡ false → freed line me k t holder ≡ record { stand = t; stop = Some (HoldsNot line me k) }
+pub freed_other : (line me k : ℕ) (t : Stand) (holder : Option ℕ) → is_holder me holder ≡ false → free_made line me k t holder ≡ record { stand = t; stop = Some (HoldsNot line me k) }
 freed_other line me k t holder other =
     ap (λ (b : Bool). if b then (record { stand = register_freed me k t; stop = None }) else (record { stand = t; stop = Some (HoldsNot line me k) })) other
 
 -- a bench behind a take that was made, with what it comes to
-pub record TakeDone (line me k : ℕ) (expect : Option Bool) (took : Bool) (old new : ChipView) (cores : List Private) (holders : List (Option ℕ)) (said : List Said) : Type 0 where
-  pub stand : stand_of new cores (slice_set holders k (if took then Some me else holder_of holders k)) (said ++ Takes me k took ∷ []) ≡ (taken line me k expect (stand_of old cores holders said) (holder_of holders k)).stand
-  pub stop : unmet_take line took expect ≡ (taken line me k expect (stand_of old cores holders said) (holder_of holders k)).stop
+pub record TakeDone (line me k : ℕ) (expect : Option Bool) (took : Bool) (old new : LabChipView) (cores : List Private) (holders : List (Option ℕ)) (said : List Said) : Type 0 where
+  pub stand : stand_of new cores (slice_set holders k (if took then Some me else holder_of holders k)) (said ++ Takes me k took ∷ []) ≡ (take_made line me k expect (stand_of old cores holders said) (holder_of holders k)).stand
+  pub stop : unmet_take line took expect ≡ (take_made line me k expect (stand_of old cores holders said) (holder_of holders k)).stop
   pub stands : IsBench new (map holds_of cores) (slice_set holders k (if took then Some me else holder_of holders k))
 
 none_is : (o : Option ℕ) → is_none o ≡ true → o ≡ None
 none_is None none = refl
 none_is (Some x) none = absurd (true_not_false (sym none))
 
-take_by : (took : Bool) (line k : ℕ) (expect : Option Bool) (old new : ChipView) (cores : List Private) (holders : List (Option ℕ)) (said : List Said) → IsBench old (map holds_of cores) holders
-    → old.rank < 48 → k < 48 → is_holder old.rank (holder_of holders k) ≡ false → Did (sight_of old) (take_of k took ∷ []) (sight_of new) → took ≡ is_none (holder_of holders k)
+take_by : (took : Bool) (line k : ℕ) (expect : Option Bool) (old new : LabChipView) (cores : List Private) (holders : List (Option ℕ)) (said : List Said) → IsBench old (map holds_of cores) holders
+    → old.rank < 48 → k < 48 → is_holder old.rank (holder_of holders k) ≡ false → Did (lab_sight old) (take_of k took ∷ []) (lab_sight new) → took ≡ is_none (holder_of holders k)
     → TakeDone line old.rank k expect took old new cores holders said
 take_by true line k expect old new cores holders said bench low below other did found =
     let done = taken_other line old.rank k expect (stand_of old cores holders said) (holder_of holders k) other in
@@ -224,8 +224,8 @@ take_by false line k expect old new cores holders said bench low below other did
           (found_taken old new (map holds_of cores) holders k bench low (may_take old (map holds_of cores) holders k bench low below other) did);
     }
 
-pub take_done : (took : Bool) (line me k : ℕ) (expect : Option Bool) (old new : ChipView) (cores : List Private) (holders : List (Option ℕ)) (said : List Said) → IsBench old (map holds_of cores) holders
-    → old.rank ≡ me → me < 48 → k < 48 → is_holder me (holder_of holders k) ≡ false → Did (sight_of old) (take_of k took ∷ []) (sight_of new) → IsRun zeros (all_of new)
+pub take_done : (took : Bool) (line me k : ℕ) (expect : Option Bool) (old new : LabChipView) (cores : List Private) (holders : List (Option ℕ)) (said : List Said) → IsBench old (map holds_of cores) holders
+    → old.rank ≡ me → me < 48 → k < 48 → is_holder me (holder_of holders k) ≡ false → Did (lab_sight old) (take_of k took ∷ []) (lab_sight new) → IsRun zeros (all_events new)
     → TakeDone line me k expect took old new cores holders said
 take_done took line me k expect old new cores holders said bench turn low below other did run =
     subst (λ (r : ℕ). TakeDone line r k expect took old new cores holders said) turn
@@ -233,13 +233,13 @@ take_done took line me k expect old new cores holders said bench turn low below 
     (was_free old new (holder_of holders k) k took (bench.registers k below) did run))
 
 -- a bench behind a free
-pub record FreeDone (line me k : ℕ) (old new : ChipView) (cores : List Private) (holders : List (Option ℕ)) (said : List Said) : Type 0 where
-  pub stand : stand_of new cores (slice_set holders k None) (said ++ Frees me k ∷ []) ≡ (freed line me k (stand_of old cores holders said) (holder_of holders k)).stand
-  pub stop : None ≡ (freed line me k (stand_of old cores holders said) (holder_of holders k)).stop
+pub record FreeDone (line me k : ℕ) (old new : LabChipView) (cores : List Private) (holders : List (Option ℕ)) (said : List Said) : Type 0 where
+  pub stand : stand_of new cores (slice_set holders k None) (said ++ Frees me k ∷ []) ≡ (free_made line me k (stand_of old cores holders said) (holder_of holders k)).stand
+  pub stop : None ≡ (free_made line me k (stand_of old cores holders said) (holder_of holders k)).stop
   pub stands : IsBench new (map holds_of cores) (slice_set holders k None)
 
-pub free_done : (line me k : ℕ) (old new : ChipView) (cores : List Private) (holders : List (Option ℕ)) (said : List Said) → IsBench old (map holds_of cores) holders
-    → old.rank ≡ me → me < 48 → k < 48 → is_holder me (holder_of holders k) ≡ true → Did (sight_of old) (free_of k ∷ []) (sight_of new) → FreeDone line me k old new cores holders said
+pub free_done : (line me k : ℕ) (old new : LabChipView) (cores : List Private) (holders : List (Option ℕ)) (said : List Said) → IsBench old (map holds_of cores) holders
+    → old.rank ≡ me → me < 48 → k < 48 → is_holder me (holder_of holders k) ≡ true → Did (lab_sight old) (free_of k ∷ []) (lab_sight new) → FreeDone line me k old new cores holders said
 free_done line me k old new cores holders said bench turn low below own did =
     let done = freed_own line me k (stand_of old cores holders said) (holder_of holders k) own in
     let low_here = subst (λ (r : ℕ). r < 48) (sym turn) low in

@@ -1,7 +1,7 @@
 -- How a bench stands for a stand of the plain meaning.
 use Rattle.std.specs.Prelude.{◌≡◌, map, Option}
 use Rattle.lab_plain.specs.declared.said.Stopped.{Stopped}
-use Rattle.lab_plain.specs.Meaning.{Done, Stand, start}
+use Rattle.lab_plain.specs.Meaning.{Done, Stand, lab_start}
 use Rattle.lab_run.specs.declared.bench.Bench.{Bench}
 use Rattle.lab_run.specs.Stands.{IsBench, holds_of, stand_of}
 
@@ -10,16 +10,16 @@ abbrev pub bench_stand : Bench → Stand
 bench_stand b = stand_of b.chip b.cores.items b.holders b.said.items
 
 -- what holds of a bench between two steps
-abbrev pub Stands : Bench → Type 0
-Stands b = IsBench b.chip (map holds_of b.cores.items) b.holders
+abbrev pub BenchStands : Bench → Type 0
+BenchStands b = IsBench b.chip (map holds_of b.cores.items) b.holders
 
 -- nothing was done yet
-pub record IsNew (b : Bench) : Type 0 where
-  pub stand : bench_stand b ≡ start
-  pub stands : Stands b
+pub record IsNewBench (b : Bench) : Type 0 where
+  pub stand : bench_stand b ≡ lab_start
+  pub stands : BenchStands b
 
 -- a step came to this
 pub record HasMade (done : Done) (stopped : Option Stopped) (b : Bench) : Type 0 where
   pub stand : bench_stand b ≡ done.stand
   pub stop : stopped ≡ done.stop
-  pub stands : Stands b
+  pub stands : BenchStands b

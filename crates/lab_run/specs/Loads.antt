@@ -3,13 +3,13 @@ use Rattle.std.specs.Prelude.{◌≡◌, Option}
 use Rattle.scc_base.specs.Places.{LineAt}
 use Rattle.line_cache.specs.Lines.{filled}
 use Rattle.put_get.specs.Cores.{Private}
-use Rattle.lab_chip.specs.Chips.{ChipView}
+use Rattle.lab_chip.specs.Chips.{LabChipView}
 use Rattle.lab_plain.specs.Scenes.{is_evicted, left_by, line_in}
 use Rattle.lab_run.specs.declared.reads.Loaded.{Loaded}
 use Rattle.lab_run.specs.Turns.{IsKept, IsReady, memory_in}
 
 -- The words are the shared ones; the line came in, and the one that is named left, if it was cached then; the shared words stayed.
-pub record LoadsLine (evict : Option LineAt) (c : Private) (s : ChipView) (line : LineAt) (loaded : Loaded) (d : Private) (t : ChipView) : Type 0 where
+pub record LoadsLine (evict : Option LineAt) (c : Private) (s : LabChipView) (line : LineAt) (loaded : Loaded) (d : Private) (t : LabChipView) : Type 0 where
   pub words : loaded.words ≡ line_in (memory_in s) line
   pub left : loaded.left ≡ is_evicted evict (filled c.lines line (line_in (memory_in s) line))
   pub lines : d.lines ≡ left_by evict (filled c.lines line (line_in (memory_in s) line))

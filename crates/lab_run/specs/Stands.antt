@@ -5,7 +5,7 @@ use Rattle.scc_proto.specs.Words.{zeros, IsRun}
 use Rattle.scc_proto.specs.Histories.{records_of}
 use Rattle.put_get.specs.Cores.{Private}
 use Rattle.put_get.specs.HeapStores.{AwaitsHeap}
-use Rattle.lab_chip.specs.Chips.{ChipView, all_of}
+use Rattle.lab_chip.specs.Chips.{LabChipView, all_events}
 use Rattle.lab_plain.specs.declared.said.Said.{Said}
 use Rattle.lab_plain.specs.declared.said.Stopped.{Stopped}
 use Rattle.lab_plain.specs.Meaning.{Done, Holds, Stand, core_at, holder_of, holds_nothing, is_holder}
@@ -16,7 +16,7 @@ abbrev pub holds_of : Private → Holds
 holds_of core = record { lines = core.lines; out = core.out }
 
 -- the cores over the chip, which core has each register, and what was printed
-abbrev pub stand_of : ChipView → List Private → List (Option ℕ) → List Said → Stand
+abbrev pub stand_of : LabChipView → List Private → List (Option ℕ) → List Said → Stand
 stand_of chip cores holders said = record { memory = memory_in chip; cores = map holds_of cores; holders = holders; said = said }
 
 -- 48 cores that hold nothing
@@ -24,8 +24,8 @@ pub record AreNew (cores : List Private) : Type 0 where
   pub nothing : map holds_of cores ≡ replicate 48 holds_nothing
 
 -- the record of a rank of a chip
-abbrev pub record_at : ChipView → ℕ → Record
-record_at chip r = records_of chip.setup (all_of chip) r
+abbrev pub record_at : LabChipView → ℕ → Record
+record_at chip r = records_of chip.setup (all_events chip) r
 
 -- the word of a register that somebody has, or nobody
 abbrev pub held_word : Option ℕ → ℕ
@@ -33,7 +33,7 @@ held_word holder = if is_some holder then 1 else 0
 
 -- Of a lab's chip: no call of any rank is open, in each write-combining buffer stands a heap line or none, a rank holds exactly the
 -- registers that its core has, and a register is 1 exactly where some core has it.
-pub record IsBench (chip : ChipView) (cores : List Holds) (holders : List (Option ℕ)) : Type 0 where
+pub record IsBench (chip : LabChipView) (cores : List Holds) (holders : List (Option ℕ)) : Type 0 where
   pub setup : IsLabSetup chip.setup
   pub ranks : length cores ≡ 48
   pub places : length holders ≡ 48
@@ -43,6 +43,6 @@ pub record IsBench (chip : ChipView) (cores : List Holds) (holders : List (Optio
   pub registers : (k : ℕ) → k < 48 → (memory_in chip).register k ≡ held_word (holder_of holders k)
 
 -- a run came to what a lab comes to
-pub record HasDone (done : Done) (said : List Said) (stopped : Option Stopped) : Type 0 where
+pub record HasDoneLab (done : Done) (said : List Said) (stopped : Option Stopped) : Type 0 where
   pub printed : said ≡ done.stand.said
   pub why : stopped ≡ done.stop

@@ -7,16 +7,16 @@ use Rattle.scc_proto.specs.Histories.{memory_from}
 use Rattle.scc_proto.specs.Ports.{record_in}
 use Rattle.put_get.specs.Cores.{Private}
 use Rattle.put_get.specs.HeapStores.{AwaitsHeap}
-use Rattle.lab_chip.specs.Chips.{ChipView, all_of, sight_of}
+use Rattle.lab_chip.specs.Chips.{LabChipView, all_events, lab_sight}
 use Rattle.lab_plain.specs.declared.said.Said.{Said}
-use Rattle.lab_plain.specs.Scenes.{Scene}
+use Rattle.lab_plain.specs.Scenes.{CoreScene}
 
 -- the shared words as the events of a chip have left them
-unfoldable pub memory_in : ChipView → Memory
-memory_in chip = memory_from zeros (all_of chip)
+unfoldable pub memory_in : LabChipView → Memory
+memory_in chip = memory_from zeros (all_events chip)
 
 -- a core at work, and what was printed
-abbrev pub scene_of : Private → ChipView → List Said → Scene
+abbrev pub scene_of : Private → LabChipView → List Said → CoreScene
 scene_of core chip said = record { memory = memory_in chip; lines = core.lines; out = core.out; said = said }
 
 -- the setup of a lab: 48 ranks, rank r on core r
@@ -26,22 +26,22 @@ pub record IsLabSetup (s : SetupView) : Type 0 where
   pub hosts : (r : ℕ) → r < 48 → host_of s.hosts r ≡ r
 
 -- a core may go on: no call of its rank is open, and in its write-combining buffer stands a heap line or none
-pub record IsReady (core : Private) (chip : ChipView) : Type 0 where
+pub record IsReady (core : Private) (chip : LabChipView) : Type 0 where
   pub setup : IsLabSetup chip.setup
   pub below : chip.rank < 48
-  pub idle : (record_in (sight_of chip)).stage ≡ Idle
+  pub idle : (record_in (lab_sight chip)).stage ≡ Idle
   pub awaits : AwaitsHeap chip.setup core.out
 
 -- The rank that has its turn made heap accesses alone: it is the same turn of the same chip, the rank's record has the same stage
 -- and holds the same registers, and the registers are as they were.
-pub record IsKept (old new : ChipView) : Type 0 where
+pub record IsKept (old new : LabChipView) : Type 0 where
   pub turn : new ≡ record old { own = new.own }
-  pub stage : (record_in (sight_of new)).stage ≡ (record_in (sight_of old)).stage
-  pub held : (record_in (sight_of new)).held ≡ (record_in (sight_of old)).held
+  pub stage : (record_in (lab_sight new)).stage ≡ (record_in (lab_sight old)).stage
+  pub held : (record_in (lab_sight new)).held ≡ (record_in (lab_sight old)).held
   pub registers : (memory_in new).register ≡ (memory_in old).register
 
 -- a core did to the shared words, to what it holds and to what was printed what a function says, and may go on
-pub record Turned (op : Scene → Scene) (c : Private) (s : ChipView) (said : List Said) (d : Private) (t : ChipView) (told : List Said) : Type 0 where
+pub record CoreTurned (op : CoreScene → CoreScene) (c : Private) (s : LabChipView) (said : List Said) (d : Private) (t : LabChipView) (told : List Said) : Type 0 where
   pub scene : scene_of d t told ≡ op (scene_of c s said)
   pub ready : IsReady d t
   pub kept : IsKept s t

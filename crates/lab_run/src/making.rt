@@ -2,7 +2,7 @@
 
 ghost use Rattle.std.specs.Prelude.{◌≡◌, ◌<◌, IfOk};
 ghost use Rattle.lab_plain.specs.Meaning.{core_done, step_done};
-ghost use Rattle.lab_run.specs.Benches.{HasMade, IsNew, Stands, bench_stand};
+ghost use Rattle.lab_run.specs.Benches.{HasMade, IsNewBench, BenchStands, bench_stand};
 ghost use Rattle.lab_run.specs.Stands.{AreNew};
 
 use crate::acting::act;
@@ -31,7 +31,7 @@ fn new_cores(alloc: Global) -> Result<Vec<Core<Named>>, AllocError>
 impl Bench {
     /// Nothing was done yet.
     pub(crate) fn new(alloc: Global) -> Result<Bench, AllocError>
-        ensures { IfOk result IsNew }
+        ensures { IfOk result IsNewBench }
     {
         let chip = LabChip::new(alloc, lab_setup(), Rank::of(0))?;
         let cores = new_cores(alloc)?;
@@ -45,7 +45,7 @@ impl Bench {
 
     /// Makes a step. Why the lab stops at it, if it does.
     pub(crate) fn make(&mut self, alloc: Global, step: &Step) -> Result<Option<Stopped>, AllocError>
-        requires stands { Stands self.old }
+        requires stands { BenchStands self.old }
         ensures { IfOk result (λ stopped. HasMade (step_done step.now (bench_stand self.old)) stopped self.new) }
     {
         let text = Bytes::from_slice(alloc, step.text.as_slice())?;
@@ -70,7 +70,7 @@ impl Bench {
         own: CoreId,
         action: &Action,
     ) -> Result<Option<Stopped>, AllocError>
-        requires stands { Stands self.old }
+        requires stands { BenchStands self.old }
         requires turn { self.old.chip.rank ≡ own }
         requires below { own < 48 }
         ensures { IfOk result (λ stopped. HasMade (core_done line own action.now (bench_stand self.old)) stopped self.new) }

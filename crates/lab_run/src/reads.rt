@@ -4,10 +4,10 @@ ghost use Rattle.std.specs.Prelude.{◌≡◌, ◌==◌, ◌++◌, if◌then◌e
 ghost use Rattle.std.specs.Option.{unwrap_or};
 ghost use Rattle.scc_base.specs.Places.{line_of_word};
 ghost use Rattle.line_cache.specs.Lines.{IsPlaceOf, filled, held};
-ghost use Rattle.lab_plain.specs.Scenes.{answer, buffered, line_answer, line_in, line_read, say_left, word_fetched, word_loaded, word_read};
+ghost use Rattle.lab_plain.specs.Scenes.{answer, waiting_word, line_answer, line_in, line_read, say_left, word_fetched, word_loaded, word_read};
 ghost use Rattle.lab_run.specs.Evicting.{IsPlaceIn};
 ghost use Rattle.lab_run.specs.Loads.{LoadsLine};
-ghost use Rattle.lab_run.specs.Turns.{IsReady, Turned, memory_in, scene_of};
+ghost use Rattle.lab_run.specs.Turns.{IsReady, CoreTurned, memory_in, scene_of};
 
 use crate::evictor::Named;
 use crate::moves::{answer, own};
@@ -31,7 +31,7 @@ const MOST_LINES: usize = 512;
 
 /// The word that waits in the write-combining buffer, if it was written there.
 fn buffered_word(core: &Core<Named>, at: HeapWord) -> Option<u64>
-    ensures { result ≡ buffered core.now.out at }
+    ensures { result ≡ waiting_word core.now.out at }
 {
     match core.buffered() {
         Some(out) => {
@@ -135,7 +135,7 @@ fn load_word(
 ) -> Result<u64, AllocError>
     requires ready { IsReady core.old chip.old }
     requires new { held core.old.lines (line_of_word at) ≡ None }
-    ensures turned { OnOk result (Turned (word_loaded chip.old.rank at evict.now) core.old chip.old said.old.items core.new chip.new said.new.items) }
+    ensures turned { OnOk result (CoreTurned (word_loaded chip.old.rank at evict.now) core.old chip.old said.old.items core.new chip.new said.new.items) }
     ensures answers { IfOk result (λ v. v ≡ slice_index (line_in (memory_in chip.old) (line_of_word at)) at.word) }
 {
     let Loaded { words, left } = load_line(core, chip, at.line(), evict);
@@ -159,7 +159,7 @@ fn fetch_word(
     evict: &Option<HeapLine>,
 ) -> Result<u64, AllocError>
     requires ready { IsReady core.old chip.old }
-    ensures turned { OnOk result (Turned (λ s. word_fetched chip.old.rank at evict.now s (held s.lines (line_of_word at))) core.old chip.old said.old.items core.new chip.new said.new.items) }
+    ensures turned { OnOk result (CoreTurned (λ s. word_fetched chip.old.rank at evict.now s (held s.lines (line_of_word at))) core.old chip.old said.old.items core.new chip.new said.new.items) }
     ensures answers { IfOk result (λ v. v ≡ slice_index (unwrap_or (held core.old.lines (line_of_word at)) (line_in (memory_in chip.old) (line_of_word at))) at.word) }
 {
     let line = at.line().line();
@@ -181,7 +181,7 @@ pub(crate) fn read_word(
     evict: &Option<HeapLine>,
 ) -> Result<u64, AllocError>
     requires ready { IsReady core.old chip.old }
-    ensures turned { OnOk result (Turned (word_read chip.old.rank at evict.now) core.old chip.old said.old.items core.new chip.new said.new.items) }
+    ensures turned { OnOk result (CoreTurned (word_read chip.old.rank at evict.now) core.old chip.old said.old.items core.new chip.new said.new.items) }
     ensures answers { IfOk result (λ v. v ≡ answer at (scene_of core.old chip.old said.old.items)) }
 {
     match buffered_word(core, at) {
@@ -202,7 +202,7 @@ pub(crate) fn read_line(
     evict: &Option<HeapLine>,
 ) -> Result<[u64; 4], AllocError>
     requires ready { IsReady core.old chip.old }
-    ensures turned { OnOk result (Turned (line_read chip.old.rank at evict.now) core.old chip.old said.old.items core.new chip.new said.new.items) }
+    ensures turned { OnOk result (CoreTurned (line_read chip.old.rank at evict.now) core.old chip.old said.old.items core.new chip.new said.new.items) }
     ensures answers { IfOk result (λ words. words ≡ line_answer chip.old.rank at evict.now (scene_of core.old chip.old said.old.items)) }
 {
     let first = read_word(core, chip, said, at.word(0), evict)?;

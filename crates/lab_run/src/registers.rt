@@ -1,8 +1,8 @@
 //! Takes and frees of the test-and-set registers.
 
 ghost use Rattle.std.specs.Prelude.{◌≡◌, ◌<◌, IfOk, Some, if◌then◌else◌};
-ghost use Rattle.lab_plain.specs.Meaning.{freed, holder_of, is_holder, taken, unmet_take};
-ghost use Rattle.lab_run.specs.Benches.{HasMade, Stands, bench_stand};
+ghost use Rattle.lab_plain.specs.Meaning.{free_made, holder_of, is_holder, take_made, unmet_take};
+ghost use Rattle.lab_run.specs.Benches.{HasMade, BenchStands, bench_stand};
 
 use crate::bench::Bench;
 use lab_plain::{Said, Stopped};
@@ -52,10 +52,10 @@ impl Bench {
         register: CoreId,
         expect: Option<bool>,
     ) -> Result<Option<Stopped>, AllocError>
-        requires stands { Stands self.old }
+        requires stands { BenchStands self.old }
         requires turn { self.old.chip.rank ≡ core }
         requires below { core < 48 }
-        ensures { IfOk result (λ stopped. HasMade (taken line core register expect (bench_stand self.old) (holder_of self.old.holders register)) stopped self.new) }
+        ensures { IfOk result (λ stopped. HasMade (take_made line core register expect (bench_stand self.old) (holder_of self.old.holders register)) stopped self.new) }
     {
         if self.has(core, register) {
             return Ok(Some(Stopped::Holds {
@@ -83,10 +83,10 @@ impl Bench {
         core: CoreId,
         register: CoreId,
     ) -> Result<Option<Stopped>, AllocError>
-        requires stands { Stands self.old }
+        requires stands { BenchStands self.old }
         requires turn { self.old.chip.rank ≡ core }
         requires below { core < 48 }
-        ensures { IfOk result (λ stopped. HasMade (freed line core register (bench_stand self.old) (holder_of self.old.holders register)) stopped self.new) }
+        ensures { IfOk result (λ stopped. HasMade (free_made line core register (bench_stand self.old) (holder_of self.old.holders register)) stopped self.new) }
     {
         if !self.has(core, register) {
             return Ok(Some(Stopped::HoldsNot {

@@ -2,7 +2,7 @@
 
 ghost use Rattle.std.specs.Prelude.{IfOk};
 ghost use Rattle.lab_plain.specs.Meaning.{lab_done};
-ghost use Rattle.lab_run.specs.Stands.{HasDone};
+ghost use Rattle.lab_run.specs.Stands.{HasDoneLab};
 
 use crate::bench::Bench;
 use lab_plain::{Said, Stopped};
@@ -18,7 +18,7 @@ pub struct LabRun {
 
 /// Makes the steps of a lab one after the other, until one stops it.
 pub fn run_lab(alloc: Global, steps: &[Step]) -> Result<LabRun, AllocError>
-    ensures { IfOk result (λ run. HasDone (lab_done steps.now) run.said.items run.stopped) }
+    ensures { IfOk result (λ run. HasDoneLab (lab_done steps.now) run.said.items run.stopped) }
 {
     let mut bench = Bench::new(alloc)?;
     for step in steps {

@@ -1,5 +1,5 @@
 use Rattle.std.proofs.Common.{◌≡◌, ◌++◌, ◌∙◌, List, ap}
-use Rattle.lab_plain.specs.Scenes.{Scene, line_in, say_got}
+use Rattle.lab_plain.specs.Scenes.{CoreScene, line_in, say_got}
 use Rattle.lab_run.proofs.MoveLaws.{got_turn}
 use Rattle.lab_run.proofs.TurnLaws.{rank_kept}
 use Rattle.lab_run.proofs.moves.get.Goals as goal
@@ -12,4 +12,4 @@ returns-clause-turned c =
     (c.in_ok-say_got.ensures ∙ (λ i. c.flush.new.said.items ++ say_got ((c.own.ensures ∙ rank_kept c.flush.new.chip c.get_line-words.new.chip got.kept) i) c.args.at c.get_line-words.result))
 
 pub returns-clause-answers : goal.returns-clause-answers
-returns-clause-answers c = c.get_line-words.ensures.words ∙ ap (λ (x : Scene). line_in x.memory c.args.at) c.in_ok-flush.ensures.turned.scene
+returns-clause-answers c = c.get_line-words.ensures.words ∙ ap (λ (x : CoreScene). line_in x.memory c.args.at) c.in_ok-flush.ensures.turned.scene

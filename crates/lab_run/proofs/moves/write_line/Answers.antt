@@ -1,6 +1,6 @@
 use Rattle.std.proofs.Common.{ℕ, List, slice_index}
 use Rattle.scc_base.specs.Places.{WordAt, word_of_line}
-use Rattle.lab_plain.specs.Scenes.{Scene, word_written}
+use Rattle.lab_plain.specs.Scenes.{CoreScene, word_written}
 use Rattle.lab_run.proofs.TurnLaws.{on_ok, turned_at, turned_four}
 use Rattle.lab_run.proofs.moves.write_line.Goals as goal
 
@@ -8,7 +8,7 @@ pub returns : goal.returns
 returns c =
     let at = c.args.at in
     let words = c.args.words.now in
-    let step : ℕ → ℕ → Scene → Scene = λ k r. word_written r (word_of_line at k) (slice_index words k) in
+    let step : ℕ → ℕ → CoreScene → CoreScene = λ k r. word_written r (word_of_line at k) (slice_index words k) in
     record {
       turned = on_ok c.write_word-4.result
           (λ then. turned_four (step 0) (step 1) (step 2) (step 3)

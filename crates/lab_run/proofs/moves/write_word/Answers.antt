@@ -3,7 +3,7 @@ use Rattle.scc_base.specs.Places.{WordAt, line_of_word}
 use Rattle.write_combine.specs.Combining.{handed_out}
 use Rattle.lab_reader.specs.Places.{IsInHeap}
 use Rattle.lab_plain.specs.Scenes.{say_stores, word_written}
-use Rattle.lab_run.specs.Turns.{Turned}
+use Rattle.lab_run.specs.Turns.{CoreTurned}
 use Rattle.lab_run.proofs.MoveLaws.{may_write, written_turn}
 use Rattle.lab_run.proofs.moves.write_word.Goals as goal
 
@@ -18,6 +18,6 @@ returns c =
     let heap : IsInHeap (line_of_word place) = subst (λ (p : WordAt). IsInHeap (line_of_word p)) (sym is) c.number-word.ensures.valid.0 in
     let prints = c.in_ok-say_handed_out.ensures ∙ (λ i. c.args.said.now.items ++ say_stores s.rank (handed_out c.args.core.now.out (c.line_at.ensures.gives i))) in
     record {
-      turned = subst (λ (p : WordAt). Turned (word_written s.rank p c.args.value) c.args.core.now s c.args.said.now.items c.word_write.new.self c.word_write.new.port c.say_handed_out.new.said.items) is
+      turned = subst (λ (p : WordAt). CoreTurned (word_written s.rank p c.args.value) c.args.core.now s c.args.said.now.items c.word_write.new.self c.word_write.new.port c.say_handed_out.new.said.items) is
           (written_turn c.args.core.now c.word_write.new.self s c.word_write.new.port place c.args.value c.args.said.now.items c.say_handed_out.new.said.items c.requires.ready heap c.word_write.ensures.writes prints);
     }

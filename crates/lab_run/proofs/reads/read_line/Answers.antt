@@ -1,6 +1,6 @@
 use Rattle.std.proofs.Common.{◌≡◌, ◌∙◌, ℕ, List, [], ◌∷◌, ap}
 use Rattle.scc_base.specs.Places.{WordAt, word_of_line}
-use Rattle.lab_plain.specs.Scenes.{Scene, answer, before_word, word_read}
+use Rattle.lab_plain.specs.Scenes.{CoreScene, answer, before_word, word_read}
 use Rattle.lab_run.specs.Turns.{scene_of}
 use Rattle.lab_run.proofs.TurnLaws.{turned_at, turned_four, turned_three, turned_two}
 use Rattle.lab_run.proofs.reads.read_line.Goals as goal
@@ -9,7 +9,7 @@ pub returns-clause-turned : goal.returns-clause-turned
 returns-clause-turned c =
     let at = c.args.at in
     let evict = c.args.evict.now in
-    let step : ℕ → ℕ → Scene → Scene = λ k r. word_read r (word_of_line at k) evict in
+    let step : ℕ → ℕ → CoreScene → CoreScene = λ k r. word_read r (word_of_line at k) evict in
     turned_four (step 0) (step 1) (step 2) (step 3)
     c.args.core.now c.read_word.new.core c.read_word-2.new.core c.read_word-3.new.core c.read_word-4.new.core
     c.args.chip.now c.read_word.new.chip c.read_word-2.new.chip c.read_word-3.new.chip c.read_word-4.new.chip
@@ -24,7 +24,7 @@ returns-clause-answers c =
     let at = c.args.at in
     let evict = c.args.evict.now in
     let start = scene_of c.args.core.now c.args.chip.now c.args.said.now.items in
-    let step : ℕ → ℕ → Scene → Scene = λ k r. word_read r (word_of_line at k) evict in
+    let step : ℕ → ℕ → CoreScene → CoreScene = λ k r. word_read r (word_of_line at k) evict in
     let one = turned_at (λ p. word_read c.args.chip.now.rank p evict) _ _ _ _ _ _ _ _ c.word.ensures.gives c.in_ok-first.ensures.turned in
     let two = turned_at (λ p. word_read c.read_word.new.chip.rank p evict) _ _ _ _ _ _ _ _ c.word-2.ensures.gives c.in_ok-second.ensures.turned in
     let three = turned_at (λ p. word_read c.read_word-2.new.chip.rank p evict) _ _ _ _ _ _ _ _ c.word-3.ensures.gives c.in_ok-third.ensures.turned in

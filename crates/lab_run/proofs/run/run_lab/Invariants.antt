@@ -1,11 +1,11 @@
 use Rattle.std.proofs.Common.{◌≡◌, drop}
-use Rattle.lab_plain.specs.Meaning.{start, steps_done}
-use Rattle.lab_run.specs.Benches.{Stands, bench_stand}
+use Rattle.lab_plain.specs.Meaning.{lab_start, steps_done}
+use Rattle.lab_run.specs.Benches.{BenchStands, bench_stand}
 use Rattle.lab_run.proofs.run.run_lab.Given as goal
 
 -- the steps that are left come, from the stand so far, to what all steps come to
 abbrev pub invariant-loop-step : goal.invariant-loop-step
 invariant-loop-step l = record {
-  stands : Stands l.bench;
-  same : steps_done (drop l.step-index l.steps) (bench_stand l.bench) ≡ steps_done l.steps start;
+  stands : BenchStands l.bench;
+  same : steps_done (drop l.step-index l.steps) (bench_stand l.bench) ≡ steps_done l.steps lab_start;
 }

@@ -1,18 +1,18 @@
 use Rattle.std.proofs.Common.{List, ◌<◌, sym, subst}
 use Rattle.scc_base.specs.Setups.{IsSetup}
 use Rattle.scc_proto.specs.Words.{IsRun, RankEvent, zeros}
-use Rattle.lab_chip.specs.Chips.{ChipView, all_of, run_of}
+use Rattle.lab_chip.specs.Chips.{LabChipView, all_events, run_of}
 use Rattle.lab_chip.proofs.ChipLaws.{all_is}
 use Rattle.lab_chip.proofs.chip.LabChip.tells.Goals as goal
 
 pub returns-clause-run : goal.returns-clause-run
 returns-clause-run c =
     let p = c.self.inside in
-    subst (λ (v : ChipView). IsRun zeros (all_of v)) c.self.view_is
+    subst (λ (v : LabChipView). IsRun zeros (all_events v)) c.self.view_is
     (subst (λ (l : List RankEvent). IsRun zeros l) (sym (all_is p.setup p.rank p.words.items (run_of p.all.items) p.own.items c.self.invariant)) c.self.invariant.run)
 
 pub returns-clause-valid : goal.returns-clause-valid
-returns-clause-valid c = subst (λ (v : ChipView). IsSetup v.setup) c.self.view_is c.self.invariant.valid
+returns-clause-valid c = subst (λ (v : LabChipView). IsSetup v.setup) c.self.view_is c.self.invariant.valid
 
 pub returns-clause-below : goal.returns-clause-below
-returns-clause-below c = subst (λ (v : ChipView). v.rank < v.setup.nue) c.self.view_is c.self.invariant.below
+returns-clause-below c = subst (λ (v : LabChipView). v.rank < v.setup.nue) c.self.view_is c.self.invariant.below

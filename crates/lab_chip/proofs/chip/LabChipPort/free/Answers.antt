@@ -1,7 +1,7 @@
 use Rattle.std.proofs.Common.{subst, sym}
 use Rattle.scc_base.specs.Events.{free_of}
 use Rattle.scc_proto.specs.Ports.{MayMake, record_in}
-use Rattle.lab_chip.specs.Chips.{ChipView, WasStepHere, sight_of}
+use Rattle.lab_chip.specs.Chips.{LabChipView, WasStepHere, lab_sight}
 use Rattle.lab_chip.proofs.ChipLaws.{went_free}
 use Rattle.lab_chip.proofs.chip.LabChipPort.free.Goals as goal
 
@@ -12,7 +12,7 @@ invariant_of-self c =
     let all = c.and-self-inside-2 in
     let w = went_free p.setup p.rank p.words.items p.all.items p.own.items c.self.invariant c.free-event.result all.result.items all.ensures own.result.items own.ensures
     c.number_of_register.result c.args.c c.number_of_register.ensures.core c.number_of_register.ensures.gives
-    (subst (λ (v : ChipView). MayMake (sight_of v).seat (record_in (sight_of v)) (free_of c.args.c)) (sym c.self.view_is) c.requires.permitted) c.free-event.ensures.gives in
+    (subst (λ (v : LabChipView). MayMake (lab_sight v).seat (record_in (lab_sight v)) (free_of c.args.c)) (sym c.self.view_is) c.requires.permitted) c.free-event.ensures.gives in
     w.chip
 
 pub returns-clause-sound : goal.returns-clause-sound
@@ -22,5 +22,5 @@ returns-clause-sound c =
     let all = c.and-self-inside-2 in
     let w = went_free p.setup p.rank p.words.items p.all.items p.own.items c.self.invariant c.free-event.result all.result.items all.ensures own.result.items own.ensures
     c.number_of_register.result c.args.c c.number_of_register.ensures.core c.number_of_register.ensures.gives
-    (subst (λ (v : ChipView). MayMake (sight_of v).seat (record_in (sight_of v)) (free_of c.args.c)) (sym c.self.view_is) c.requires.permitted) c.free-event.ensures.gives in
+    (subst (λ (v : LabChipView). MayMake (lab_sight v).seat (record_in (lab_sight v)) (free_of c.args.c)) (sym c.self.view_is) c.requires.permitted) c.free-event.ensures.gives in
     w.sound

@@ -1,0 +1,39 @@
+-- Small labs that lose nothing, and show what this memory does.
+use Rattle.std.specs.Prelude.{ℕ, List, ◌++◌, codes}
+
+-- each of two cores writes its word and then reads the other's
+abbrev pub store_buffering : List ℕ
+store_buffering =
+    codes "core 0 write 0.0 1\n"
+    ++ codes "core 1 write 0.0 1\n"
+    ++ codes "core 0 read 1:0.0 expect 0\n"
+    ++ codes "core 1 read 0:0.0 expect 0\n"
+
+-- a core reads its own word while that waits, and again when it has left
+abbrev pub own_word_back : List ℕ
+own_word_back =
+    codes "core 0 write 0.0 1\n"
+    ++ codes "core 0 read 0.1 expect 0\n"
+    ++ codes "core 0 read 0.0 expect 1\n"
+    ++ codes "core 0 flush\n"
+    ++ codes "core 0 read 0.0 expect 0\n"
+
+-- two cores that have a copy of one line each write a word of it
+abbrev pub words_of_one_line : List ℕ
+words_of_one_line =
+    codes "core 0 read 0 expect 0 0 0 0\n"
+    ++ codes "core 1 read 0:0 expect 0 0 0 0\n"
+    ++ codes "core 0 write 0.0 1\n"
+    ++ codes "core 1 write 0:0.1 2\n"
+    ++ codes "core 0 flush\n"
+    ++ codes "core 1 flush\n"
+    ++ codes "core 2 read 0:0 expect 1 2 0 0\n"
+
+-- a register is taken, found taken, freed, and taken again; then a core frees it that does not have it
+abbrev pub register_taken_twice : List ℕ
+register_taken_twice =
+    codes "core 0 take 5 expect took\n"
+    ++ codes "core 1 take 5 expect taken\n"
+    ++ codes "core 0 free 5\n"
+    ++ codes "core 1 take 5 expect took\n"
+    ++ codes "core 0 free 5\n"

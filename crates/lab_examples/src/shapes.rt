@@ -1,0 +1,27 @@
+//! What this memory does: small labs in which each value comes that is expected.
+#![tactic(auto, unfolding(script_reader::specs::Words::number_of, lab_plain::specs::Meaning::lab_start))]
+
+ghost use Rattle.std.specs.Prelude.{◌≡◌, Ok, Some};
+ghost use Rattle.lab_examples.specs.Ends.{all_came, end_of_text};
+ghost use Rattle.lab_examples.specs.Shapes.{own_word_back, register_taken_twice, store_buffering, words_of_one_line};
+ghost use Rattle.lab_plain.specs.declared.said.Stopped.TheVariants.{HoldsNot};
+
+/// Two cores both miss what the other has written.
+pub fn both_miss_the_other()
+    ensures both { end_of_text store_buffering ≡ all_came }
+{}
+
+/// A core reads its own word, and then what was there before.
+pub fn a_core_goes_back()
+    ensures back { end_of_text own_word_back ≡ all_came }
+{}
+
+/// Two words of one line, written by two cores that each have a copy of it, are both kept.
+pub fn words_of_a_line_are_kept()
+    ensures kept { end_of_text words_of_one_line ≡ all_came }
+{}
+
+/// A register is taken once, until it is freed, and not freed by another core.
+pub fn a_register_is_taken_once()
+    ensures once { end_of_text register_taken_twice ≡ Ok (Some (HoldsNot 5 0 5)) }
+{}
