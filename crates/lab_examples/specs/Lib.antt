@@ -2,3 +2,4 @@ pub mod Ends
 pub mod Lessons
 pub mod Mended
 pub mod Shapes
+pub mod Alone

@@ -1,9 +1,11 @@
 //! Whole labs with what they come to, computed by the definitions.
 #![tactic(auto)]
 
+mod alone;
 mod lessons;
 mod shapes;
 
+pub use alone::a_core_alone_answers_the_shared_words;
 pub use lessons::{
     a_chunk_is_overwritten, a_flag_overtakes_its_data, a_lock_is_freed_early,
     a_message_is_taken_twice, a_written_word_waits, an_eviction_heals_by_luck, an_old_copy_is_read,
