@@ -7,6 +7,7 @@ use Rattle.scc_proto.proofs.Tests.{eqb_same}
 use Rattle.line_cache.specs.declared.cache.Entry.{Entry}
 use Rattle.line_cache.specs.Lines.{filled, held, line_noted, most_lines, noted, written}
 use Rattle.line_cache.proofs.LineLemmas.{same_line-is}
+use Rattle.write_combine.specs.declared.combiner.Out.{Out}
 use Rattle.write_combine.specs.Combining.{handed_out, held_after, one_word, whole_line}
 use Rattle.put_get.specs.Accesses.{stores_of, stores_of_line}
 use Rattle.lab_plain.specs.Scenes.{CoreScene, after_all, after_flushing, answer, left_by, line_in, waiting_word, without_line, word_fetched, word_read, word_read_by}
@@ -161,11 +162,25 @@ module _ (line : LineAt) (words : List ℕ) where
 
   copies_put : (m : Memory) (es : List Entry) → AreCopies m es → AreCopies (after_all m (stores_of_line (whole_line line words))) (line_noted es line words)
   copies_put m es copies =
+      let p0 = word_of_line line 0 in
+      let p1 = word_of_line line 1 in
+      let p2 = word_of_line line 2 in
+      let p3 = word_of_line line 3 in
+      let v0 = slice_index words 0 in
+      let v1 = slice_index words 1 in
+      let v2 = slice_index words 2 in
+      let v3 = slice_index words 3 in
+      let m1 = memory_after m (store_of p0 v0) in
+      let m2 = memory_after m1 (store_of p1 v1) in
+      let m3 = memory_after m2 (store_of p2 v2) in
+      let es1 = noted es p0 v0 in
+      let es2 = noted es1 p1 v1 in
+      let es3 = noted es2 p2 v2 in
+      let first : AreCopies m1 es1 = copies_noted m p0 v0 es (omega arith) copies in
+      let second : AreCopies m2 es2 = copies_noted m1 p1 v1 es1 (omega arith) first in
+      let third : AreCopies m3 es3 = copies_noted m2 p2 v2 es2 (omega arith) second in
       copies_same (stored_up m line words) (after_all m (stores_of_line (whole_line line words))) (either_way m) (line_noted es line words)
-      (copies_noted _ (word_of_line line 3) (slice_index words 3) _ (omega arith)
-      (copies_noted _ (word_of_line line 2) (slice_index words 2) _ (omega arith)
-      (copies_noted _ (word_of_line line 1) (slice_index words 1) _ (omega arith)
-      (copies_noted m (word_of_line line 0) (slice_index words 0) es (omega arith) copies))))
+      (copies_noted m3 p3 v3 es3 (omega arith) third)
 
 -- ---- one call
 
@@ -194,7 +209,7 @@ fetch_done me p evict s None up = record {
 
 read_done : (me : ℕ) (p : WordAt) (evict : Option LineAt) (s : CoreScene) → IsUpToDate s → ReadDone s (word_read me p evict s)
 read_done me p evict s up =
-    subst (λ (o : Option ℕ). ReadDone s (word_read_by me p evict s o)) (sym (ap (λ o. waiting_word o p) up.out)) (fetch_done me p evict s (held s.lines (line_of_word p)) up)
+    subst (λ (o : Option ℕ). ReadDone s (word_read_by me p evict s o)) (sym (ap (λ (o : Option Out). waiting_word o p) up.out)) (fetch_done me p evict s (held s.lines (line_of_word p)) up)
 
 word_in_line : (w : ℕ) (f : ℕ → ℕ) → w < 4 → slice_index (f 0 ∷ f 1 ∷ f 2 ∷ f 3 ∷ []) w ≡ f w
 word_in_line zero f below = refl

@@ -64,7 +64,8 @@ fn run_words<'a, F: Files>(
 }
 
 fn run_file<'a, F: Files>(alloc: Global, files: &mut F, file: &'a str) -> Result<Lab, Complaint<'a>>
-    ensures { Comes (codes "rccelab") (file_plan file.now) (F.seen files.old) (F.seen files.new) (outcome_of (codes "rccelab") lab_ran result) }
+    ensures { Comes (codes "rccelab") (file_plan file.now) (F.seen files.old) (F.seen files.new)
+        (outcome_of (codes "rccelab") lab_ran result) }
 {
     match read_file(alloc, files, file, MOST_LAB_BYTES) {
         Ok(bytes) => run_bytes(alloc, file, bytes.as_slice()),
@@ -73,7 +74,8 @@ fn run_file<'a, F: Files>(alloc: Global, files: &mut F, file: &'a str) -> Result
 }
 
 fn run_bytes<'a>(alloc: Global, file: &'a str, bytes: &[u8]) -> Result<Lab, Complaint<'a>>
-    ensures { (files : FilesView) → Comes (codes "rccelab") (bytes_plan file.now bytes.now) files files (outcome_of (codes "rccelab") lab_ran result) }
+    ensures { (files : FilesView) → Comes (codes "rccelab") (bytes_plan file.now bytes.now) files files
+        (outcome_of (codes "rccelab") lab_ran result) }
 {
     match read_lab(alloc, bytes) {
         Ok(steps) => match run_lab(alloc, steps.as_slice()) {

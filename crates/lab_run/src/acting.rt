@@ -74,7 +74,8 @@ pub(crate) fn act(
     action: &Action,
 ) -> Result<Option<Stopped>, AllocError>
     requires ready { IsReady core.old chip.old }
-    ensures turned { OnOk result (CoreTurned (after_action chip.old.rank action.now) core.old chip.old said.old.items core.new chip.new said.new.items) }
+    ensures turned { OnOk result (CoreTurned (after_action chip.old.rank action.now)
+        core.old chip.old said.old.items core.new chip.new said.new.items) }
     ensures stop { IfOk result (λ stop. stop ≡ act_stop line chip.old.rank action.now (scene_of core.old chip.old said.old.items)) }
 {
     match action {

@@ -59,7 +59,15 @@ impl Bench {
                 self.take(step.line, step.core, *register, *expect)
             }
             Action::Free { register } => self.free(step.line, step.core, *register),
-            action => self.act(step.line, step.core, action),
+            Action::WriteWord { .. }
+            | Action::WriteLine { .. }
+            | Action::ReadWord { .. }
+            | Action::ReadLine { .. }
+            | Action::Flush
+            | Action::Invalidate
+            | Action::Put { .. }
+            | Action::Get { .. }
+            | Action::Print => self.act(step.line, step.core, &step.action),
         }
     }
 

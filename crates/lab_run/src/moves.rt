@@ -76,7 +76,8 @@ pub(crate) fn flush(
     said: &mut Vec<Said>,
 ) -> Result<(), AllocError>
     requires ready { IsReady core.old chip.old }
-    ensures turned { OnOk result (CoreTurned (after_flushing chip.old.rank) core.old chip.old said.old.items core.new chip.new said.new.items) }
+    ensures turned { OnOk result (CoreTurned (after_flushing chip.old.rank)
+        core.old chip.old said.old.items core.new chip.new said.new.items) }
 {
     say_flush(core, chip, said)?;
     core.flush(chip);
@@ -92,7 +93,8 @@ pub(crate) fn write_word(
     value: u64,
 ) -> Result<(), AllocError>
     requires ready { IsReady core.old chip.old }
-    ensures turned { OnOk result (CoreTurned (word_written chip.old.rank at value) core.old chip.old said.old.items core.new chip.new said.new.items) }
+    ensures turned { OnOk result (CoreTurned (word_written chip.old.rank at value)
+        core.old chip.old said.old.items core.new chip.new said.new.items) }
 {
     let _word = at.number();
     let place = at.place();
@@ -110,7 +112,8 @@ pub(crate) fn write_line(
     words: &[u64; 4],
 ) -> Result<(), AllocError>
     requires ready { IsReady core.old chip.old }
-    ensures turned { OnOk result (CoreTurned (line_written chip.old.rank at words.now) core.old chip.old said.old.items core.new chip.new said.new.items) }
+    ensures turned { OnOk result (CoreTurned (line_written chip.old.rank at words.now)
+        core.old chip.old said.old.items core.new chip.new said.new.items) }
 {
     write_word(core, chip, said, at.word(0), words[0])?;
     write_word(core, chip, said, at.word(1), words[1])?;
@@ -146,7 +149,8 @@ fn store_line(
 ) -> Result<(), AllocError>
     requires ready { IsReady core.old chip.old }
     requires empty { core.old.out ≡ None }
-    ensures turned { OnOk result (CoreTurned (line_stored chip.old.rank at words.now) core.old chip.old said.old.items core.new chip.new said.new.items) }
+    ensures turned { OnOk result (CoreTurned (line_stored chip.old.rank at words.now)
+        core.old chip.old said.old.items core.new chip.new said.new.items) }
 {
     say_line(said, own(chip), at.line(), words)?;
     match core.put(chip, owner_of(at), buffer_of(at), &[*words]) {
@@ -164,7 +168,8 @@ pub(crate) fn put(
     words: &[u64; 4],
 ) -> Result<(), AllocError>
     requires ready { IsReady core.old chip.old }
-    ensures turned { OnOk result (CoreTurned (line_put chip.old.rank at words.now) core.old chip.old said.old.items core.new chip.new said.new.items) }
+    ensures turned { OnOk result (CoreTurned (line_put chip.old.rank at words.now)
+        core.old chip.old said.old.items core.new chip.new said.new.items) }
 {
     flush(core, chip, said)?;
     store_line(core, chip, said, at, words)
@@ -214,8 +219,10 @@ pub(crate) fn get(
     at: HeapLine,
 ) -> Result<[u64; 4], AllocError>
     requires ready { IsReady core.old chip.old }
-    ensures turned { OnOk result (CoreTurned (line_got chip.old.rank at) core.old chip.old said.old.items core.new chip.new said.new.items) }
-    ensures answers { IfOk result (λ words. words ≡ line_in (after_flushing chip.old.rank (scene_of core.old chip.old said.old.items)).memory at) }
+    ensures turned { OnOk result (CoreTurned (line_got chip.old.rank at)
+        core.old chip.old said.old.items core.new chip.new said.new.items) }
+    ensures answers { IfOk result (λ words. words ≡ line_in
+        (after_flushing chip.old.rank (scene_of core.old chip.old said.old.items)).memory at) }
 {
     flush(core, chip, said)?;
     let words = get_line(core, chip, at);

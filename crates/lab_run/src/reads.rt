@@ -135,7 +135,8 @@ fn load_word(
 ) -> Result<u64, AllocError>
     requires ready { IsReady core.old chip.old }
     requires new { held core.old.lines (line_of_word at) ≡ None }
-    ensures turned { OnOk result (CoreTurned (word_loaded chip.old.rank at evict.now) core.old chip.old said.old.items core.new chip.new said.new.items) }
+    ensures turned { OnOk result (CoreTurned (word_loaded chip.old.rank at evict.now)
+        core.old chip.old said.old.items core.new chip.new said.new.items) }
     ensures answers { IfOk result (λ v. v ≡ slice_index (line_in (memory_in chip.old) (line_of_word at)) at.word) }
 {
     let Loaded { words, left } = load_line(core, chip, at.line(), evict);
@@ -159,8 +160,10 @@ fn fetch_word(
     evict: &Option<HeapLine>,
 ) -> Result<u64, AllocError>
     requires ready { IsReady core.old chip.old }
-    ensures turned { OnOk result (CoreTurned (λ s. word_fetched chip.old.rank at evict.now s (held s.lines (line_of_word at))) core.old chip.old said.old.items core.new chip.new said.new.items) }
-    ensures answers { IfOk result (λ v. v ≡ slice_index (unwrap_or (held core.old.lines (line_of_word at)) (line_in (memory_in chip.old) (line_of_word at))) at.word) }
+    ensures turned { OnOk result (CoreTurned (λ s. word_fetched chip.old.rank at evict.now s (held s.lines (line_of_word at)))
+        core.old chip.old said.old.items core.new chip.new said.new.items) }
+    ensures answers { IfOk result (λ v. v ≡ slice_index (unwrap_or (held core.old.lines (line_of_word at))
+        (line_in (memory_in chip.old) (line_of_word at))) at.word) }
 {
     let line = at.line().line();
     if place_of(core.lines(), line).is_none() {
@@ -181,7 +184,8 @@ pub(crate) fn read_word(
     evict: &Option<HeapLine>,
 ) -> Result<u64, AllocError>
     requires ready { IsReady core.old chip.old }
-    ensures turned { OnOk result (CoreTurned (word_read chip.old.rank at evict.now) core.old chip.old said.old.items core.new chip.new said.new.items) }
+    ensures turned { OnOk result (CoreTurned (word_read chip.old.rank at evict.now)
+        core.old chip.old said.old.items core.new chip.new said.new.items) }
     ensures answers { IfOk result (λ v. v ≡ answer at (scene_of core.old chip.old said.old.items)) }
 {
     match buffered_word(core, at) {
@@ -202,7 +206,8 @@ pub(crate) fn read_line(
     evict: &Option<HeapLine>,
 ) -> Result<[u64; 4], AllocError>
     requires ready { IsReady core.old chip.old }
-    ensures turned { OnOk result (CoreTurned (line_read chip.old.rank at evict.now) core.old chip.old said.old.items core.new chip.new said.new.items) }
+    ensures turned { OnOk result (CoreTurned (line_read chip.old.rank at evict.now)
+        core.old chip.old said.old.items core.new chip.new said.new.items) }
     ensures answers { IfOk result (λ words. words ≡ line_answer chip.old.rank at evict.now (scene_of core.old chip.old said.old.items)) }
 {
     let first = read_word(core, chip, said, at.word(0), evict)?;

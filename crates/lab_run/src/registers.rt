@@ -55,7 +55,8 @@ impl Bench {
         requires stands { BenchStands self.old }
         requires turn { self.old.chip.rank ≡ core }
         requires below { core < 48 }
-        ensures { IfOk result (λ stopped. HasMade (take_made line core register expect (bench_stand self.old) (holder_of self.old.holders register)) stopped self.new) }
+        ensures { IfOk result (λ stopped. HasMade (take_made line core register expect (bench_stand self.old)
+            (holder_of self.old.holders register)) stopped self.new) }
     {
         if self.has(core, register) {
             return Ok(Some(Stopped::Holds {
@@ -86,7 +87,8 @@ impl Bench {
         requires stands { BenchStands self.old }
         requires turn { self.old.chip.rank ≡ core }
         requires below { core < 48 }
-        ensures { IfOk result (λ stopped. HasMade (free_made line core register (bench_stand self.old) (holder_of self.old.holders register)) stopped self.new) }
+        ensures { IfOk result (λ stopped. HasMade (free_made line core register (bench_stand self.old)
+            (holder_of self.old.holders register)) stopped self.new) }
     {
         if !self.has(core, register) {
             return Ok(Some(Stopped::HoldsNot {
