@@ -1,5 +1,5 @@
 -- What a step of one core leaves on a bench.
-use Rattle.std.proofs.Common.{◌≡◌, ◌≢◌, ℕ, ◌<◌, ◌==◌, ◌⊎◌, inl, inr, Bool, true, false, if◌then◌else◌, List, [], ◌∷◌, ◌++◌, length, map, replicate, slice_index, slice_index_or, slice_set, Option, None, Some, is_some, is_none, refl, sym, ◌∙◌, ap, subst, arith}
+use Rattle.std.proofs.Common.{◌≡◌, ◌≢◌, ℕ, ◌<◌, ◌==◌, ◌⊎◌, inl, inr, Bool, true, false, if◌then◌else◌, List, [], ◌∷◌, ◌++◌, length, map, replicate, slice_index, slice_index_or, slice_set, Option, None, Some, is_some, is_none, Result, Ok, Err, IfOk, refl, sym, ◌∙◌, ap, subst, arith}
 use Rattle.std.proofs.lemmas.List.{append-nil, get_or-map, get_or-set_other, get_or-set_same, length-map, length-set, map-set}
 use Rattle.scc_base.specs.Events.{take_of, free_of}
 use Rattle.scc_base.specs.Setups.{SetupView}
@@ -14,9 +14,13 @@ use Rattle.put_get.specs.Cores.{Private}
 use Rattle.put_get.specs.HeapStores.{AwaitsHeap}
 use Rattle.lab_chip.specs.Chips.{LabChipView, all_events, of_rank_all, lab_sight, with_turn}
 use Rattle.lab_chip.proofs.ChipLaws.{events_of-append, own_events, other_events}
+use Rattle.lab_reader.specs.declared.steps.Action.{Action}
+use Rattle.lab_reader.specs.declared.steps.Step.{Step}
 use Rattle.lab_plain.specs.declared.said.Said.{Said}
 use Rattle.lab_plain.specs.Scenes.{CoreScene}
-use Rattle.lab_plain.specs.Meaning.{Holds, Stand, core_at, holder_of, holds_nothing, is_holder, scene_at, with_scene}
+use Rattle.lab_plain.specs.declared.said.Said.TheVariants.{Begins}
+use Rattle.lab_plain.specs.declared.said.Stopped.{Stopped}
+use Rattle.lab_plain.specs.Meaning.{Holds, Stand, act_stop, after_action, begun, core_at, core_done, holder_of, holds_nothing, is_holder, scene_at, with_scene}
 use Rattle.lab_run.specs.Turns.{IsKept, IsLabSetup, IsReady, CoreTurned, memory_in, scene_of}
 use Rattle.lab_run.specs.Stands.{IsBench, held_word, holds_of, record_at, stand_of}
 use Rattle.lab_run.proofs.TurnLaws.{rank_kept, setup_kept}
@@ -114,3 +118,48 @@ stand_after op old new cores c d holders said told me is turned =
     let after : scene_of d new told ≡ op (scene_at me (stand_of old cores holders said)) = turned.scene ∙ sym (ap op before) in
     (λ i. record { memory = memory_in new; cores = map-set holds_of cores me d i; holders = holders; said = told })
     ∙ (λ i. with_scene me (stand_of old cores holders said) (after i))
+
+-- a step that a core made
+pub record ActDone (line me : ℕ) (act : Action) (old new : LabChipView) (cores : List Private) (d : Private) (holders : List (Option ℕ)) (said told : List Said) (stop : Option Stopped) : Type 0 where
+  pub stand : stand_of new (slice_set cores me d) holders told ≡ (core_done line me act (stand_of old cores holders said)).stand
+  pub stopped : stop ≡ (core_done line me act (stand_of old cores holders said)).stop
+  pub stands : IsBench new (map holds_of (slice_set cores me d)) holders
+
+act_by : (line : ℕ) (act : Action) (old new : LabChipView) (cores : List Private) (c d : Private) (holders : List (Option ℕ)) (said told : List Said) (stop : Option Stopped)
+    → IsBench old (map holds_of cores) holders → old.rank < 48 → c ≡ slice_index_or cores old.rank c → CoreTurned (after_action old.rank act) c old said d new told
+    → stop ≡ act_stop line old.rank act (scene_of c old said) → ActDone line old.rank act old new cores d holders said told stop
+act_by line act old new cores c d holders said told stop bench below value turned stops =
+    let here : core_at (map holds_of cores) old.rank ≡ holds_of c = core_there cores old.rank c (omega (arith, length-map holds_of cores, bench.ranks, below)) ∙ ap holds_of (sym value) in
+    let scene : scene_at old.rank (stand_of old cores holders said) ≡ scene_of c old said = λ i. record { memory = memory_in old; lines = (here i).lines; out = (here i).out; said = said } in
+    record {
+      stand = stand_after (after_action old.rank act) old new cores c d holders said told old.rank here turned;
+      stopped = stops ∙ sym (ap (act_stop line old.rank act) scene);
+      stands = subst (λ (l : List Holds). IsBench new l holders) (sym (map-set holds_of cores old.rank d)) (bench_kept old new (map holds_of cores) holders d bench below turned.kept turned.ready);
+    }
+
+pub act_done : (line me : ℕ) (act : Action) (old new : LabChipView) (cores : List Private) (c d : Private) (holders : List (Option ℕ)) (said told : List Said) (stop : Option Stopped)
+    → IsBench old (map holds_of cores) holders → old.rank ≡ me → me < 48 → c ≡ slice_index_or cores me c → CoreTurned (after_action old.rank act) c old said d new told
+    → stop ≡ act_stop line old.rank act (scene_of c old said) → ActDone line me act old new cores d holders said told stop
+act_done line me act old new cores c d holders said told stop bench turn below value turned stops =
+    subst (λ (r : ℕ). ActDone line r act old new cores d holders said told stop) turn
+    (act_by line act old new cores c d holders said told stop bench (subst (λ (r : ℕ). r < 48) (sym turn) below) (subst (λ (r : ℕ). c ≡ slice_index_or cores r c) (sym turn) value) turned stops)
+
+-- the core that is to act may go on
+pub act_ready : (chip : LabChipView) (cores : List Private) (holders : List (Option ℕ)) (core : Private) (me : ℕ) → IsBench chip (map holds_of cores) holders → chip.rank ≡ me → me < 48
+    → core ≡ slice_index_or cores me core → IsReady core chip
+act_ready chip cores holders core me bench turn below value =
+    ready_there chip (map holds_of cores) holders core bench (subst (λ (r : ℕ). r < 48) (sym turn) below)
+    (ap (core_at (map holds_of cores)) turn ∙ core_there cores me core (omega (arith, length-map holds_of cores, bench.ranks, below)) ∙ ap holds_of (sym value))
+
+-- ---- a step begins
+
+pub begun_stand : (chip new : LabChipView) (k : ℕ) (cores : List Private) (holders : List (Option ℕ)) (said told : List Said) (step : Step) → new ≡ with_turn chip k
+    → told ≡ said ++ Begins step.line step.text ∷ [] → stand_of new cores holders told ≡ begun step (stand_of chip cores holders said)
+begun_stand chip new k cores holders said told step is prints = λ i. record { memory = (ap memory_in is ∙ memory_turned chip k) i; cores = map holds_of cores; holders = holders; said = prints i }
+
+pub begun_bench : (chip new : LabChipView) (k : ℕ) (cores : List Holds) (holders : List (Option ℕ)) → new ≡ with_turn chip k → IsBench chip cores holders → IsBench new cores holders
+begun_bench chip new k cores holders is bench = subst (λ (c : LabChipView). IsBench c cores holders) (sym is) (bench_turned chip k cores holders bench)
+
+pub if_ok : {A E : Type 0} {P Q : A → Type 0} (r : Result A E) → ((x : A) → P x → Q x) → IfOk r P → IfOk r Q
+if_ok (Ok x) then p = then x p
+if_ok (Err e) then p = tt

@@ -1,6 +1,6 @@
 -- A bench at which nothing was done yet.
-use Rattle.std.proofs.Common.{◌≡◌, ℕ, ◌<◌, List, [], ◌∷◌, length, map, replicate, slice_index_or, Option, None, Some, is_some, refl, sym, ◌∙◌, ap, subst, arith}
-use Rattle.std.proofs.lemmas.List.{get_or-replicate, length-replicate}
+use Rattle.std.proofs.Common.{◌≡◌, ℕ, ◌<◌, List, [], ◌∷◌, ◌++◌, ◌+◌, length, map, replicate, slice_index_or, Option, None, Some, is_some, refl, sym, ◌∙◌, ap, subst, arith}
+use Rattle.std.proofs.lemmas.List.{get_or-replicate, length-replicate, map-append, replicate-append-replicate}
 use Rattle.scc_base.specs.Setups.{SetupView}
 use Rattle.scc_proto.specs.Stages.{Record, blank}
 use Rattle.scc_proto.specs.Words.{Memory, zeros}
@@ -40,3 +40,8 @@ pub new_stand : (s : SetupView) (chip : LabChipView) (cores : List Private) (hol
 unfolding lab_start
 new_stand s chip cores holders is nothing none =
     λ i. record { memory = (ap memory_in is ∙ memory_new s) i; cores = nothing i; holders = none i; said = [] }
+
+-- one core more that holds nothing
+pub one_more : (n : ℕ) (cores : List Private) (core : Private) → map holds_of cores ≡ replicate n holds_nothing → holds_of core ≡ holds_nothing
+    → map holds_of (cores ++ core ∷ []) ≡ replicate (n + 1) holds_nothing
+one_more n cores core same is = map-append holds_of cores (core ∷ []) ∙ (λ i. same i ++ is i ∷ []) ∙ replicate-append-replicate n 1 holds_nothing
