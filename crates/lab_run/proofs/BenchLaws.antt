@@ -1,6 +1,7 @@
 -- What a step of one core leaves on a bench.
 use Rattle.std.proofs.Common.{◌≡◌, ◌≢◌, ℕ, ◌<◌, ◌==◌, ◌⊎◌, inl, inr, Bool, true, false, if◌then◌else◌, List, [], ◌∷◌, ◌++◌, length, map, replicate, slice_index, slice_index_or, slice_set, Option, None, Some, is_some, is_none, Result, Ok, Err, IfOk, refl, sym, ◌∙◌, ap, subst, arith}
 use Rattle.std.proofs.lemmas.List.{append-nil, get_or-map, get_or-set_other, get_or-set_same, length-map, length-set, map-set}
+use Rattle.std.specs.Prelude.{OnOk}
 use Rattle.scc_base.specs.Events.{take_of, free_of}
 use Rattle.scc_base.specs.Setups.{SetupView}
 use Rattle.scc_base.specs.declared.events.Event.{Event}
@@ -14,13 +15,16 @@ use Rattle.put_get.specs.Cores.{Private}
 use Rattle.put_get.specs.HeapStores.{AwaitsHeap}
 use Rattle.lab_chip.specs.Chips.{LabChipView, all_events, of_rank_all, lab_sight, with_turn}
 use Rattle.lab_chip.proofs.ChipLaws.{events_of-append, own_events, other_events}
+use Rattle.lab_reader.specs.declared.places.HeapLine.{HeapLine}
+use Rattle.lab_reader.specs.declared.places.HeapWord.{HeapWord}
 use Rattle.lab_reader.specs.declared.steps.Action.{Action}
+use Rattle.lab_reader.specs.declared.steps.Action.TheVariants.{WriteWord, WriteLine, ReadWord, ReadLine, Flush, Invalidate, Put, Get, Print}
 use Rattle.lab_reader.specs.declared.steps.Step.{Step}
 use Rattle.lab_plain.specs.declared.said.Said.{Said}
 use Rattle.lab_plain.specs.Scenes.{CoreScene}
 use Rattle.lab_plain.specs.declared.said.Said.TheVariants.{Begins}
 use Rattle.lab_plain.specs.declared.said.Stopped.{Stopped}
-use Rattle.lab_plain.specs.Meaning.{Holds, Stand, act_stop, after_action, begun, core_at, core_done, holder_of, holds_nothing, is_holder, scene_at, with_scene}
+use Rattle.lab_plain.specs.Meaning.{Holds, Stand, act_stop, action_done, after_action, begun, core_at, core_done, holder_of, holds_nothing, is_holder, scene_at, with_scene}
 use Rattle.lab_run.specs.Turns.{IsKept, IsLabSetup, IsReady, CoreTurned, memory_in, scene_of}
 use Rattle.lab_run.specs.Stands.{IsBench, held_word, holds_of, record_at, stand_of}
 use Rattle.lab_run.proofs.TurnLaws.{rank_kept, setup_kept}
@@ -129,7 +133,7 @@ act_by : (line : ℕ) (act : Action) (old new : LabChipView) (cores : List Priva
     → IsBench old (map holds_of cores) holders → old.rank < 48 → c ≡ slice_index_or cores old.rank c → CoreTurned (after_action old.rank act) c old said d new told
     → stop ≡ act_stop line old.rank act (scene_of c old said) → ActDone line old.rank act old new cores d holders said told stop
 act_by line act old new cores c d holders said told stop bench below value turned stops =
-    let here : core_at (map holds_of cores) old.rank ≡ holds_of c = core_there cores old.rank c (omega (arith, length-map holds_of cores, bench.ranks, below)) ∙ ap holds_of (sym value) in
+    let here : core_at (map holds_of cores) old.rank ≡ holds_of c = core_there cores old.rank c (omega (arith, length-map cores holds_of, bench.ranks, below)) ∙ ap holds_of (sym value) in
     let scene : scene_at old.rank (stand_of old cores holders said) ≡ scene_of c old said = λ i. record { memory = memory_in old; lines = (here i).lines; out = (here i).out; said = said } in
     record {
       stand = stand_after (after_action old.rank act) old new cores c d holders said told old.rank here turned;
@@ -149,7 +153,7 @@ pub act_ready : (chip : LabChipView) (cores : List Private) (holders : List (Opt
     → core ≡ slice_index_or cores me core → IsReady core chip
 act_ready chip cores holders core me bench turn below value =
     ready_there chip (map holds_of cores) holders core bench (subst (λ (r : ℕ). r < 48) (sym turn) below)
-    (ap (core_at (map holds_of cores)) turn ∙ core_there cores me core (omega (arith, length-map holds_of cores, bench.ranks, below)) ∙ ap holds_of (sym value))
+    (ap (core_at (map holds_of cores)) turn ∙ core_there cores me core (omega (arith, length-map cores holds_of, bench.ranks, below)) ∙ ap holds_of (sym value))
 
 -- ---- a step begins
 
@@ -160,6 +164,25 @@ begun_stand chip new k cores holders said told step is prints = λ i. record { m
 pub begun_bench : (chip new : LabChipView) (k : ℕ) (cores : List Holds) (holders : List (Option ℕ)) → new ≡ with_turn chip k → IsBench chip cores holders → IsBench new cores holders
 begun_bench chip new k cores holders is bench = subst (λ (c : LabChipView). IsBench c cores holders) (sym is) (bench_turned chip k cores holders bench)
 
+-- an action that is none on a register
+pub core_is : (line me : ℕ) (t : Stand) (act : Action)
+    → ((x : HeapWord) × (v : ℕ) × (act ≡ WriteWord x v)) ⊎ (((x : HeapLine) × (v : List ℕ) × (act ≡ WriteLine x v)) ⊎ (((x : HeapWord) × (e : Option HeapLine) × (v : Option ℕ) × (act ≡ ReadWord x e v))
+    ⊎ (((x : HeapLine) × (e : Option HeapLine) × (v : Option (List ℕ)) × (act ≡ ReadLine x e v)) ⊎ ((act ≡ Flush) ⊎ ((act ≡ Invalidate) ⊎ (((x : HeapLine) × (v : List ℕ) × (act ≡ Put x v))
+    ⊎ (((x : HeapLine) × (v : Option (List ℕ)) × (act ≡ Get x v)) ⊎ (act ≡ Print)))))))) → core_done line me act t ≡ action_done line me act t
+core_is line me t act (inl found) = subst (λ (a : Action). core_done line me a t ≡ action_done line me a t) (sym found.2) refl
+core_is line me t act (inr (inl found)) = subst (λ (a : Action). core_done line me a t ≡ action_done line me a t) (sym found.2) refl
+core_is line me t act (inr (inr (inl found))) = subst (λ (a : Action). core_done line me a t ≡ action_done line me a t) (sym found.3) refl
+core_is line me t act (inr (inr (inr (inl found)))) = subst (λ (a : Action). core_done line me a t ≡ action_done line me a t) (sym found.3) refl
+core_is line me t act (inr (inr (inr (inr (inl is))))) = subst (λ (a : Action). core_done line me a t ≡ action_done line me a t) (sym is) refl
+core_is line me t act (inr (inr (inr (inr (inr (inl is)))))) = subst (λ (a : Action). core_done line me a t ≡ action_done line me a t) (sym is) refl
+core_is line me t act (inr (inr (inr (inr (inr (inr (inl found))))))) = subst (λ (a : Action). core_done line me a t ≡ action_done line me a t) (sym found.2) refl
+core_is line me t act (inr (inr (inr (inr (inr (inr (inr (inl found)))))))) = subst (λ (a : Action). core_done line me a t ≡ action_done line me a t) (sym found.2) refl
+core_is line me t act (inr (inr (inr (inr (inr (inr (inr (inr is)))))))) = subst (λ (a : Action). core_done line me a t ≡ action_done line me a t) (sym is) refl
+
 pub if_ok : {A E : Type 0} {P Q : A → Type 0} (r : Result A E) → ((x : A) → P x → Q x) → IfOk r P → IfOk r Q
-if_ok (Ok x) then p = then x p
-if_ok (Err e) then p = tt
+if_ok (Ok x) next p = next x p
+if_ok (Err e) next p = tt
+
+pub both_ok : {A E T : Type 0} {P Q : A → Type 0} (r : Result A E) → ((x : A) → T → P x → Q x) → OnOk r T → IfOk r P → IfOk r Q
+both_ok (Ok x) next t p = next x t p
+both_ok (Err e) next t p = tt

@@ -17,15 +17,18 @@ memory_new : (s : SetupView) → memory_in (new_chip s 0) ≡ zeros
 unfolding memory_in
 memory_new s = refl
 
+abbrev nobody : Option ℕ
+nobody = None
+
 new_stands : (s : SetupView) → IsLabSetup s → IsBench (new_chip s 0) (replicate 48 holds_nothing) (replicate 48 None)
 new_stands s lab = record {
   setup = lab;
   ranks = length-replicate 48 holds_nothing;
-  places = length-replicate 48 None;
+  places = length-replicate 48 nobody;
   idle = λ r below. ap (λ (x : Record). x.stage) (record_of-nil s r);
   awaits = λ r below. subst (λ (h : meaning.Holds). AwaitsHeap s h.out) (sym (get_or-replicate 48 r holds_nothing holds_nothing below)) tt;
-  held = λ r k low below. ap (λ (x : Record). is_some (x.held k)) (record_of-nil s r) ∙ sym (ap (is_holder r) (get_or-replicate 48 k None None below));
-  registers = λ k below. ap (λ (m : Memory). m.register k) (memory_new s) ∙ sym (ap held_word (get_or-replicate 48 k None None below));
+  held = λ r k low below. ap (λ (x : Record). is_some (x.held k)) (record_of-nil s r) ∙ sym (ap (is_holder r) (get_or-replicate 48 k nobody nobody below));
+  registers = λ k below. ap (λ (m : Memory). m.register k) (memory_new s) ∙ sym (ap held_word (get_or-replicate 48 k nobody nobody below));
 }
 
 pub new_bench : (s : SetupView) (chip : LabChipView) (cores : List Private) (holders : List (Option ℕ)) → IsLabSetup s → chip ≡ new_chip s 0 → map holds_of cores ≡ replicate 48 holds_nothing

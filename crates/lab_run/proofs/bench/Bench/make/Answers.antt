@@ -1,0 +1,58 @@
+use Rattle.std.proofs.Common.{◌≡◌, ◌∙◌, ◌++◌, ◌∷◌, [], ℕ, List, ap, map, subst, sym}
+use Rattle.lab_reader.specs.declared.steps.Action.{Action}
+use Rattle.lab_plain.specs.declared.said.Said.TheVariants.{Begins}
+use Rattle.lab_plain.specs.Meaning.{Done, action_done, begun, core_done, free_made, holder_of, take_made}
+use Rattle.lab_run.specs.Benches.{HasMade, bench_stand}
+use Rattle.lab_run.specs.Stands.{holds_of}
+use Rattle.lab_run.proofs.BenchLaws.{begun_bench, begun_stand, core_is, if_ok}
+use Rattle.lab_run.proofs.bench.Bench.make.Goals as goal
+
+pub take-requires-clause-stands : goal.take-requires-clause-stands
+take-requires-clause-stands c =
+    begun_bench c.args.self.now.chip c.turn_to.new.self c.of.result (map holds_of c.args.self.now.cores.items) c.args.self.now.holders c.turn_to.ensures.turns c.requires.stands
+
+pub free-requires-clause-stands : goal.free-requires-clause-stands
+free-requires-clause-stands c =
+    begun_bench c.args.self.now.chip c.turn_to.new.self c.of.result (map holds_of c.args.self.now.cores.items) c.args.self.now.holders c.turn_to.ensures.turns c.requires.stands
+
+pub act-requires-clause-stands : goal.act-requires-clause-stands
+act-requires-clause-stands c =
+    begun_bench c.args.self.now.chip c.turn_to.new.self c.of.result (map holds_of c.args.self.now.cores.items) c.args.self.now.holders c.turn_to.ensures.turns c.requires.stands
+
+pub returns-in-Take : goal.returns-in-Take
+returns-in-Take c =
+    let b = c.args.self.now in
+    let step = c.args.step.now in
+    let prints = c.in_ok-push.ensures.items ∙ (λ i. b.said.items ++ Begins step.line ((c.in_ok-text.ensures ∙ c.as_slice.ensures) i) ∷ []) in
+    let same = begun_stand b.chip c.turn_to.new.self c.of.result b.cores.items b.holders b.said.items c.push.new.self.items step c.turn_to.ensures.turns prints in
+    let register = c.in-Take.register in
+    let expect = c.in-Take.expect in
+    if_ok c.take.result
+    (λ stop made.
+    subst (λ (d : Done). HasMade d stop c.take.new.self)
+    ((λ i. take_made step.line step.core register expect (same i) (holder_of (same i).holders register))
+    ∙ ap (λ (act : Action). action_done step.line step.core act (begun step (bench_stand b))) (sym c.in-Take.is)) made) c.take.ensures
+
+pub returns-in-Free : goal.returns-in-Free
+returns-in-Free c =
+    let b = c.args.self.now in
+    let step = c.args.step.now in
+    let prints = c.in_ok-push.ensures.items ∙ (λ i. b.said.items ++ Begins step.line ((c.in_ok-text.ensures ∙ c.as_slice.ensures) i) ∷ []) in
+    let same = begun_stand b.chip c.turn_to.new.self c.of.result b.cores.items b.holders b.said.items c.push.new.self.items step c.turn_to.ensures.turns prints in
+    let register = c.in-Free.register in
+    if_ok c.free.result
+    (λ stop made.
+    subst (λ (d : Done). HasMade d stop c.free.new.self)
+    ((λ i. free_made step.line step.core register (same i) (holder_of (same i).holders register))
+    ∙ ap (λ (act : Action). action_done step.line step.core act (begun step (bench_stand b))) (sym c.in-Free.is)) made) c.free.ensures
+
+pub returns-in-WriteWord : goal.returns-in-WriteWord
+returns-in-WriteWord c =
+    let b = c.args.self.now in
+    let step = c.args.step.now in
+    let prints = c.in_ok-push.ensures.items ∙ (λ i. b.said.items ++ Begins step.line ((c.in_ok-text.ensures ∙ c.as_slice.ensures) i) ∷ []) in
+    let same = begun_stand b.chip c.turn_to.new.self c.of.result b.cores.items b.holders b.said.items c.push.new.self.items step c.turn_to.ensures.turns prints in
+    if_ok c.act.result
+    (λ stop made.
+    subst (λ (d : Done). HasMade d stop c.act.new.self)
+    ((λ i. core_done step.line step.core step.action (same i)) ∙ core_is step.line step.core (begun step (bench_stand b)) step.action c.in-WriteWord.is) made) c.act.ensures
