@@ -16,17 +16,17 @@ use Rattle.lab_examples.specs.Alone.{LoneCall, FlushedWrite, LinePut, WordRead, 
 -- ---- copies
 
 -- each copy is as the shared words are
-AreCopies : Memory → List Entry → Type 0
+abbrev pub AreCopies : Memory → List Entry → Type 0
 AreCopies m [] = Unit {0}
 AreCopies m (e ∷ es) = (e.words ≡ line_in m e.line) × AreCopies m es
 
 held_copy : (m : Memory) (es : List Entry) (line : LineAt) (words : List ℕ) → AreCopies m es → held es line ≡ Some words → words ≡ line_in m line
 held_copy m [] line words copies found = absurd (cc (found))
-held_copy m (e ∷ es) line words copies found = by (same_line e.line line) refl found
+held_copy m (e ∷ es) line words copies found = by (same_line e.line line) refl found (held_copy m es line words copies.1)
   where
-    by : (b : Bool) → same_line e.line line ≡ b → (if b then Some e.words else held es line) ≡ Some words → words ≡ line_in m line
-    by true same is = sym (ap (λ (o : Option (List ℕ)). unwrap_or o words) is) ∙ copies.0 ∙ ap (line_in m) (same_line-is e.line line same)
-    by false other is = held_copy m es line words copies.1 is
+    by : (b : Bool) → same_line e.line line ≡ b → (if b then Some e.words else held es line) ≡ Some words → (held es line ≡ Some words → words ≡ line_in m line) → words ≡ line_in m line
+    by true same is rest = sym (ap (λ (o : Option (List ℕ)). unwrap_or o words) is) ∙ copies.0 ∙ ap (line_in m) (same_line-is e.line line same)
+    by false other is rest = rest is
 
 copies_push : (m : Memory) (es : List Entry) (e : Entry) → AreCopies m es → e.words ≡ line_in m e.line → AreCopies m (es ++ e ∷ [])
 copies_push m [] e copies is = (is, tt)
@@ -43,11 +43,11 @@ copies_filled m es line copies =
 
 copies_without : (m : Memory) (line : LineAt) (es : List Entry) → AreCopies m es → AreCopies m (without_line line es)
 copies_without m line [] copies = tt
-copies_without m line (e ∷ es) copies = by (not (same_line e.line line))
+copies_without m line (e ∷ es) copies = by (not (same_line e.line line)) (copies_without m line es copies.1)
   where
-    by : (b : Bool) → AreCopies m (if b then e ∷ without_line line es else without_line line es)
-    by true = (copies.0, copies_without m line es copies.1)
-    by false = copies_without m line es copies.1
+    by : (b : Bool) → AreCopies m (without_line line es) → AreCopies m (if b then e ∷ without_line line es else without_line line es)
+    by true rest = (copies.0, rest)
+    by false rest = rest
 
 copies_left : (m : Memory) (evict : Option LineAt) (es : List Entry) → AreCopies m es → AreCopies m (left_by evict es)
 copies_left m None es copies = copies
@@ -117,7 +117,7 @@ one_by m core line v (suc (suc (suc (suc w)))) below = absurd (omega (arith, bel
 -- ---- a line is stored
 
 -- the words of a line, stored in this order
-stored_up : Memory → LineAt → List ℕ → Memory
+abbrev stored_up : Memory → LineAt → List ℕ → Memory
 stored_up m line words =
     memory_after (memory_after (memory_after (memory_after m (store_of (word_of_line line 0) (slice_index words 0))) (store_of (word_of_line line 1) (slice_index words 1)))
     (store_of (word_of_line line 2) (slice_index words 2))) (store_of (word_of_line line 3) (slice_index words 3))
