@@ -1,8 +1,7 @@
 -- What a step of one core leaves on a bench.
-use Rattle.std.proofs.Common.{◌≡◌, ◌≢◌, ℕ, ◌<◌, ◌==◌, ◌⊎◌, inl, inr, Bool, true, false, if◌then◌else◌, List, [], ◌∷◌, ◌++◌, length, map, replicate, slice_index, slice_index_or, slice_set, Option, None, Some, is_some, is_none, Result, Ok, Err, IfOk, refl, sym, ◌∙◌, ap, subst, arith}
+use Rattle.std.proofs.Common.{◌≡◌, ◌≢◌, ℕ, ◌<◌, ◌⊎◌, inl, inr, List, [], ◌∷◌, ◌++◌, length, map, slice_index_or, slice_set, Option, is_some, Result, Ok, Err, IfOk, refl, sym, ◌∙◌, ap, subst, arith}
 use Rattle.std.proofs.lemmas.List.{append-nil, get_or-map, get_or-set_other, get_or-set_same, length-map, length-set, map-set}
 use Rattle.std.specs.Prelude.{OnOk}
-use Rattle.scc_base.specs.Events.{take_of, free_of}
 use Rattle.scc_base.specs.Setups.{SetupView}
 use Rattle.scc_base.specs.declared.events.Event.{Event}
 use Rattle.scc_proto.specs.Stages.{Idle, Record}
@@ -26,7 +25,7 @@ use Rattle.lab_plain.specs.declared.said.Said.TheVariants.{Begins}
 use Rattle.lab_plain.specs.declared.said.Stopped.{Stopped}
 use Rattle.lab_plain.specs.Meaning.{Holds, Stand, act_stop, action_done, after_action, begun, core_at, core_done, holder_of, holds_nothing, is_holder, scene_at, with_scene}
 use Rattle.lab_run.specs.Turns.{IsKept, IsLabSetup, IsReady, CoreTurned, memory_in, scene_of}
-use Rattle.lab_run.specs.Stands.{IsBench, held_word, holds_of, record_at, stand_of}
+use Rattle.lab_run.specs.Stands.{IsBench, holds_of, record_at, stand_of}
 use Rattle.lab_run.proofs.TurnLaws.{rank_kept, setup_kept}
 
 -- ---- records of a chip

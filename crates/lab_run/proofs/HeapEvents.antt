@@ -1,5 +1,5 @@
 -- Accesses to heap words by a rank that is in no call: they are permitted, and leave its stage, what it holds, and the registers.
-use Rattle.std.proofs.Common.{◌≡◌, ℕ, ◌<◌, Bool, true, false, if◌then◌else◌, List, [], ◌∷◌, ◌++◌, length, map, slice_index, slice_index_or, Option, None, Some, refl, sym, ◌∙◌, ap, subst, arith}
+use Rattle.std.proofs.Common.{◌≡◌, ℕ, Bool, true, false, if◌then◌else◌, List, [], ◌∷◌, ◌++◌, length, slice_index, slice_index_or, Option, None, Some, refl, sym, ◌∙◌, ap, subst, arith}
 use Rattle.std.proofs.lemmas.List.{append_assoc, map-append}
 use Rattle.scc_base.specs.Places.{LineAt, WordAt, line_of_word, word_of_line}
 use Rattle.scc_base.specs.Events.{load_of, store_of}
@@ -9,9 +9,9 @@ use Rattle.scc_base.specs.declared.events.Access.TheVariants.{Load, Store, Take,
 use Rattle.scc_base.specs.declared.events.Event.{Event}
 use Rattle.scc_proto.specs.Stages.{Idle, Record}
 use Rattle.scc_proto.specs.Permission.{leaves_heap}
-use Rattle.scc_proto.specs.Words.{Memory, zeros, IsRun, RankEvent, memory_by, word_at}
+use Rattle.scc_proto.specs.Words.{Memory, zeros, IsRun, RankEvent, memory_by}
 use Rattle.scc_proto.specs.Histories.{memory_from}
-use Rattle.scc_proto.specs.Ports.{Seat, Sight, Did, MayMake, MayMakeAll, record_in, record_next, record_on}
+use Rattle.scc_proto.specs.Ports.{Seat, Did, MayMake, MayMakeAll, record_in, record_next, record_on}
 use Rattle.scc_proto.proofs.PortLaws.{record_did}
 use Rattle.scc_proto.proofs.PlaceMoves.{heap_loaded, heap_stored}
 use Rattle.write_combine.specs.declared.combiner.Out.{Out}

@@ -1,11 +1,11 @@
 -- What the calls of a core are to the scene of it.
-use Rattle.std.proofs.Common.{◌≡◌, ℕ, ◌<◌, Bool, true, false, if◌then◌else◌, unwrap_or, List, [], ◌∷◌, ◌++◌, length, map, slice_index, Option, None, Some, refl, sym, ◌∙◌, ap, subst, arith}
+use Rattle.std.proofs.Common.{◌≡◌, ℕ, Bool, true, false, if◌then◌else◌, unwrap_or, List, [], ◌∷◌, ◌++◌, slice_index, Option, None, Some, refl, sym, ◌∙◌, ap, subst}
 use Rattle.std.proofs.lemmas.List.{append-nil, append_assoc}
-use Rattle.scc_base.specs.Places.{LineAt, WordAt, line_of_word, word_of_line, same_line}
+use Rattle.scc_base.specs.Places.{LineAt, WordAt, line_of_word, same_line}
 use Rattle.scc_base.specs.Setups.{SetupView, host_of}
 use Rattle.scc_base.specs.declared.events.Event.{Event}
 use Rattle.scc_proto.specs.Permission.{leaves_heap}
-use Rattle.scc_proto.specs.Words.{Memory, IsRun, zeros}
+use Rattle.scc_proto.specs.Words.{IsRun, zeros}
 use Rattle.scc_proto.specs.Ports.{Did, MayMakeAll, record_in}
 use Rattle.line_cache.specs.declared.cache.Entry.{Entry}
 use Rattle.line_cache.specs.Lines.{IsCache, filled, held, line_noted}
@@ -14,7 +14,7 @@ use Rattle.write_combine.specs.declared.combiner.Out.{Out}
 use Rattle.write_combine.specs.Combining.{handed_out}
 use Rattle.put_get.specs.Accesses.{loads_of, stores_of, stores_of_line, whole_line}
 use Rattle.put_get.specs.Cores.{Private, Fetch, Held, Loaded, Flushes, Writes}
-use Rattle.put_get.specs.HeapStores.{IsHeapLine, AwaitsHeap}
+use Rattle.put_get.specs.HeapStores.{AwaitsHeap}
 use Rattle.put_get.specs.Transfers.{Puts, line_at, put_lines, put_stores}
 use Rattle.put_get.proofs.HeapLemmas.{word_awaits}
 use Rattle.lab_chip.proofs.ChipLaws.{chip_did}
@@ -24,11 +24,11 @@ use Rattle.lab_plain.specs.declared.said.Said.{Said}
 use Rattle.lab_plain.specs.declared.said.Said.TheVariants.{Answers, Loads, Stores}
 use Rattle.lab_plain.specs.declared.said.Source.{Source}
 use Rattle.lab_plain.specs.declared.said.Source.TheVariants.{BufferLine, Cache, Words}
-use Rattle.lab_plain.specs.Scenes.{after_all, after_answer, waiting_word, word_fetched, word_read, word_read_by, after_invalidate, after_print, say_buffer, say_lines, after_flushing, is_evicted, say_evicted, say_left, word_loaded, left_by, line_in, line_stored, say_got, say_stores, line_got, line_loaded, CoreScene, word_written}
+use Rattle.lab_plain.specs.Scenes.{after_answer, waiting_word, word_fetched, word_read, word_read_by, after_invalidate, after_print, say_buffer, say_lines, after_flushing, is_evicted, say_evicted, say_left, word_loaded, left_by, line_in, line_stored, say_got, say_stores, line_got, line_loaded, CoreScene, word_written}
 use Rattle.lab_run.specs.Evicting.{IsPlaceIn, named_answer}
 use Rattle.lab_run.specs.Turns.{IsKept, IsLabSetup, IsReady, CoreTurned, memory_in, scene_of}
 use Rattle.lab_run.proofs.EvictLaws.{Leaves, filled_left}
-use Rattle.lab_run.proofs.HeapEvents.{AreHeap, line_heap, loads_heap, memory_did, out_heap, quiet, went, words_loaded}
+use Rattle.lab_run.proofs.HeapEvents.{line_heap, loads_heap, out_heap, quiet, went, words_loaded}
 use Rattle.lab_run.proofs.TurnLaws.{in_heap, kept_both, kept_none, rank_kept, ready_after}
 
 -- ---- what is permitted

@@ -1,17 +1,15 @@
 -- Takes and frees of registers by the core that has its turn.
-use Rattle.std.proofs.Common.{◌≡◌, ◌≢◌, ℕ, ◌<◌, ◌==◌, ◌⊎◌, inl, inr, Bool, true, false, if◌then◌else◌, IsTrue, List, [], ◌∷◌, ◌++◌, length, map, slice_index_or, slice_set, Option, None, Some, is_some, is_none, refl, sym, ◌∙◌, ap, subst, arith}
+use Rattle.std.proofs.Common.{◌≡◌, ◌≢◌, ℕ, ◌<◌, ◌⊎◌, inl, inr, Bool, true, false, if◌then◌else◌, List, [], ◌∷◌, ◌++◌, length, map, slice_set, Option, None, Some, is_some, is_none, refl, sym, ◌∙◌, ap, subst, arith}
 use Rattle.std.proofs.lemmas.List.{get_or-set_other, get_or-set_same, length-set, set-get_or}
 use Rattle.scc_base.specs.Events.{take_of, free_of}
 use Rattle.scc_base.specs.Setups.{SetupView}
 use Rattle.scc_proto.specs.Tables.{put}
 use Rattle.scc_proto.specs.Stages.{Idle, FlagWords, Record}
-use Rattle.scc_proto.specs.Words.{Memory, IsRun, RankEvent, IsStepBy, memory_after, zeros}
-use Rattle.scc_base.specs.declared.events.Access.TheVariants.{Take}
-use Rattle.scc_base.specs.Places.{register_place}
-use Rattle.scc_proto.specs.Ports.{Did, MayMake, record_in}
+use Rattle.scc_proto.specs.Words.{Memory, IsRun, RankEvent, zeros}
+use Rattle.scc_proto.specs.Ports.{Did, record_in}
 use Rattle.std.proofs.lemmas.Bool.Decides.{nat_tests}
 use Rattle.scc_proto.proofs.Tests.{eqb_other, eqb_same, put_here, put_there, same_or_other, true_not_false}
-use Rattle.tas_lock.specs.Holds.{IsHolding, IsNotHolding, after_try, after_release}
+use Rattle.tas_lock.specs.Holds.{IsHolding, IsNotHolding}
 use Rattle.tas_lock.proofs.HoldLemmas.{freed as was_freed, tried}
 use Rattle.put_get.specs.Cores.{Private}
 use Rattle.put_get.specs.HeapStores.{AwaitsHeap}

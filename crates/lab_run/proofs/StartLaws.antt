@@ -1,8 +1,8 @@
 -- A bench at which nothing was done yet.
-use Rattle.std.proofs.Common.{◌≡◌, ℕ, ◌<◌, List, [], ◌∷◌, ◌++◌, ◌+◌, length, map, replicate, slice_index_or, Option, None, Some, is_some, refl, sym, ◌∙◌, ap, subst, arith}
+use Rattle.std.proofs.Common.{◌≡◌, ℕ, List, [], ◌∷◌, ◌++◌, ◌+◌, map, replicate, Option, None, is_some, refl, sym, ◌∙◌, ap, subst}
 use Rattle.std.proofs.lemmas.List.{get_or-replicate, length-replicate, map-append, replicate-append-replicate}
 use Rattle.scc_base.specs.Setups.{SetupView}
-use Rattle.scc_proto.specs.Stages.{Record, blank}
+use Rattle.scc_proto.specs.Stages.{Record}
 use Rattle.scc_proto.specs.Words.{Memory, zeros}
 use Rattle.scc_proto.proofs.PortLaws.{record_of-nil}
 use Rattle.put_get.specs.Cores.{Private}

@@ -1,17 +1,15 @@
 -- Scenes of a core at work, one after the other.
-use Rattle.std.proofs.Common.{◌≡◌, ℕ, ◌<◌, ◌≤◌, List, [], ◌∷◌, ◌++◌, Option, None, Some, Result, Ok, Err, refl, sym, ◌∙◌, ap, subst, arith}
+use Rattle.std.proofs.Common.{◌≡◌, ℕ, ◌<◌, List, ◌++◌, Result, Ok, Err, refl, sym, ◌∙◌, ap, subst, arith}
 use Rattle.std.specs.Prelude.{OnOk}
-use Rattle.scc_base.specs.Places.{LineAt, WordAt, line_of_word}
+use Rattle.scc_base.specs.Places.{LineAt, WordAt}
 use Rattle.scc_base.specs.Setups.{SetupView}
-use Rattle.scc_proto.specs.Stages.{Idle, Record}
-use Rattle.scc_proto.specs.Ports.{record_in}
 use Rattle.put_get.specs.Cores.{Private}
 use Rattle.put_get.specs.HeapStores.{IsHeapLine, AwaitsHeap}
-use Rattle.lab_chip.specs.Chips.{LabChipView, lab_sight}
+use Rattle.lab_chip.specs.Chips.{LabChipView}
 use Rattle.lab_reader.specs.Places.{IsInHeap}
 use Rattle.lab_plain.specs.declared.said.Said.{Said}
 use Rattle.lab_plain.specs.Scenes.{CoreScene}
-use Rattle.lab_run.specs.Turns.{IsKept, IsLabSetup, IsReady, CoreTurned, memory_in, scene_of}
+use Rattle.lab_run.specs.Turns.{IsKept, IsLabSetup, IsReady, CoreTurned, scene_of}
 
 pub kept_none : (chip : LabChipView) → IsKept chip chip
 kept_none chip = record { turn = refl; stage = refl; held = refl; registers = refl }

@@ -1,7 +1,6 @@
 -- How the cores of a lab stand for a stand of the plain meaning.
-use Rattle.std.specs.Prelude.{◌≡◌, ℕ, ◌<◌, Bool, if◌then◌else◌, List, length, map, replicate, Option, is_some}
+use Rattle.std.specs.Prelude.{◌≡◌, ℕ, ◌<◌, if◌then◌else◌, List, length, map, replicate, Option, is_some}
 use Rattle.scc_proto.specs.Stages.{Idle, Record}
-use Rattle.scc_proto.specs.Words.{zeros, IsRun}
 use Rattle.scc_proto.specs.Histories.{records_of}
 use Rattle.put_get.specs.Cores.{Private}
 use Rattle.put_get.specs.HeapStores.{AwaitsHeap}

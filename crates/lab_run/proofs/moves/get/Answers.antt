@@ -1,4 +1,4 @@
-use Rattle.std.proofs.Common.{◌≡◌, ◌++◌, ◌∙◌, List, ap}
+use Rattle.std.proofs.Common.{◌++◌, ◌∙◌, ap}
 use Rattle.lab_plain.specs.Scenes.{CoreScene, line_in, say_got}
 use Rattle.lab_run.proofs.MoveLaws.{got_turn}
 use Rattle.lab_run.proofs.TurnLaws.{rank_kept}

@@ -1,5 +1,4 @@
-use Rattle.std.proofs.Common.{◌≡◌, ◌∙◌, List, Option, None, ap, subst, sym}
-use Rattle.line_cache.specs.declared.cache.Entry.{Entry}
+use Rattle.std.proofs.Common.{◌∙◌, ap, subst, sym}
 use Rattle.line_cache.specs.Lines.{filled, held}
 use Rattle.put_get.specs.Cores.{Private}
 use Rattle.put_get.specs.HeapStores.{AwaitsHeap}

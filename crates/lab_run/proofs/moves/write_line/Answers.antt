@@ -1,5 +1,5 @@
-use Rattle.std.proofs.Common.{ℕ, List, slice_index}
-use Rattle.scc_base.specs.Places.{WordAt, word_of_line}
+use Rattle.std.proofs.Common.{ℕ, slice_index}
+use Rattle.scc_base.specs.Places.{word_of_line}
 use Rattle.lab_plain.specs.Scenes.{CoreScene, word_written}
 use Rattle.lab_run.proofs.TurnLaws.{on_ok, turned_at, turned_four}
 use Rattle.lab_run.proofs.moves.write_line.Goals as goal

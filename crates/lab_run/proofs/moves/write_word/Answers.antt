@@ -1,4 +1,4 @@
-use Rattle.std.proofs.Common.{◌++◌, ◌∙◌, List, subst, sym}
+use Rattle.std.proofs.Common.{◌++◌, ◌∙◌, subst, sym}
 use Rattle.scc_base.specs.Places.{WordAt, line_of_word}
 use Rattle.write_combine.specs.Combining.{handed_out}
 use Rattle.lab_reader.specs.Places.{IsInHeap}

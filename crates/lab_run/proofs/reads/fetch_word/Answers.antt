@@ -1,7 +1,7 @@
-use Rattle.std.proofs.Common.{◌≡◌, ◌∙◌, ◌∷◌, ◌++◌, [], ℕ, List, Option, Some, ap, not, slice_index, subst, sym}
+use Rattle.std.proofs.Common.{◌∙◌, ◌∷◌, ◌++◌, [], ℕ, List, ap, not, slice_index, subst}
 use Rattle.scc_base.specs.Places.{LineAt, line_of_word}
 use Rattle.line_cache.specs.declared.cache.Entry.{Entry}
-use Rattle.line_cache.specs.Lines.{IsPlaceOf, held}
+use Rattle.line_cache.specs.Lines.{IsPlaceOf}
 use Rattle.put_get.specs.Cores.{Fetch}
 use Rattle.lab_chip.specs.Chips.{lab_sight}
 use Rattle.lab_plain.specs.declared.said.Said.TheVariants.{Answers}

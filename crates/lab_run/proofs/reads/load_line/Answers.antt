@@ -1,4 +1,4 @@
-use Rattle.std.proofs.Common.{◌≡◌, ◌∙◌, List, ℕ, Option, None, subst, sym}
+use Rattle.std.proofs.Common.{◌∙◌, None, subst}
 use Rattle.scc_base.specs.Places.{LineAt}
 use Rattle.line_cache.specs.Eviction.{answers_of}
 use Rattle.line_cache.specs.Lines.{filled}

@@ -1,5 +1,5 @@
-use Rattle.std.proofs.Common.{◌≡◌, ◌++◌, ◌∷◌, [], ◌∙◌, List, Option, None, ap, slice_index, subst, sym}
-use Rattle.scc_base.specs.Places.{LineAt, line_of_word}
+use Rattle.std.proofs.Common.{◌++◌, ◌∷◌, [], ◌∙◌, ap, slice_index, sym}
+use Rattle.scc_base.specs.Places.{LineAt}
 use Rattle.line_cache.specs.Lines.{held}
 use Rattle.lab_plain.specs.declared.said.Said.TheVariants.{Answers, Loads}
 use Rattle.lab_plain.specs.declared.said.Source.TheVariants.{Words}

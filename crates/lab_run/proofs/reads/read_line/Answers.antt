@@ -1,6 +1,6 @@
-use Rattle.std.proofs.Common.{◌≡◌, ◌∙◌, ℕ, List, [], ◌∷◌, ap}
+use Rattle.std.proofs.Common.{◌∙◌, ℕ, [], ◌∷◌, ap}
 use Rattle.scc_base.specs.Places.{WordAt, word_of_line}
-use Rattle.lab_plain.specs.Scenes.{CoreScene, answer, before_word, word_read}
+use Rattle.lab_plain.specs.Scenes.{CoreScene, answer, word_read}
 use Rattle.lab_run.specs.Turns.{scene_of}
 use Rattle.lab_run.proofs.TurnLaws.{turned_at, turned_four, turned_three, turned_two}
 use Rattle.lab_run.proofs.reads.read_line.Goals as goal

@@ -1,4 +1,4 @@
-use Rattle.std.proofs.Common.{◌≡◌, ◌∙◌, ℕ, List, Option, IfOk, ap, slice_index, subst, unwrap_or}
+use Rattle.std.proofs.Common.{◌≡◌, ℕ, Option, IfOk, slice_index, subst, unwrap_or}
 use Rattle.scc_base.specs.Places.{line_of_word}
 use Rattle.line_cache.specs.Lines.{held}
 use Rattle.lab_plain.specs.Scenes.{line_in}

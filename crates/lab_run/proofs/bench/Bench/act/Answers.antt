@@ -1,4 +1,4 @@
-use Rattle.std.proofs.Common.{◌≡◌, ◌∙◌, ℕ, List, map, slice_index_or, slice_set, subst, sym}
+use Rattle.std.proofs.Common.{◌≡◌, ◌∙◌, ℕ, map, slice_index_or, slice_set, subst, sym}
 use Rattle.lab_run.specs.Stands.{IsBench, holds_of, stand_of}
 use Rattle.lab_run.proofs.BenchLaws.{act_done, act_ready, both_ok}
 use Rattle.lab_run.proofs.bench.Bench.act.Goals as goal

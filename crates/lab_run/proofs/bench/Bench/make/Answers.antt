@@ -1,4 +1,4 @@
-use Rattle.std.proofs.Common.{◌≡◌, ◌∙◌, ◌++◌, ◌∷◌, [], ℕ, List, ap, map, subst, sym}
+use Rattle.std.proofs.Common.{◌∙◌, ◌++◌, ◌∷◌, [], ap, map, subst, sym}
 use Rattle.lab_reader.specs.declared.steps.Action.{Action}
 use Rattle.lab_plain.specs.declared.said.Said.TheVariants.{Begins}
 use Rattle.lab_plain.specs.Meaning.{Done, action_done, begun, core_done, free_made, holder_of, take_made}

@@ -1,4 +1,4 @@
-use Rattle.std.proofs.Common.{◌≡◌, ◌∙◌, ℕ, List, Option, None, ap, refl, replicate}
+use Rattle.std.proofs.Common.{◌∙◌, ℕ, List, Option, None, ap, refl, replicate}
 use Rattle.lab_chip.specs.Chips.{new_chip}
 use Rattle.lab_run.specs.Stands.{stand_of}
 use Rattle.lab_run.proofs.StartLaws.{new_bench, new_stand}

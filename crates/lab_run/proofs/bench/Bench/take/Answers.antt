@@ -1,4 +1,4 @@
-use Rattle.std.proofs.Common.{rules, ◌≡◌, ◌<◌, ◌∙◌, ap, ℕ, Bool, true, false, List, Option, Some, if◌then◌else◌, map, slice_set, subst, sym}
+use Rattle.std.proofs.Common.{◌≡◌, ◌<◌, ◌∙◌, ap, ℕ, List, Option, Some, if◌then◌else◌, map, slice_set, subst, sym}
 use Rattle.lab_plain.specs.Meaning.{holder_of, is_holder}
 use Rattle.lab_run.specs.Stands.{IsBench, holds_of, stand_of}
 use Rattle.lab_run.proofs.RegisterLaws.{may_take, take_done}
