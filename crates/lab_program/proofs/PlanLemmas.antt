@@ -1,5 +1,5 @@
 -- What a lab's file comes to.
-use Rattle.std.proofs.Common.{◌≡◌, ◌∙◌, ℕ, List, refl, sym, subst, ap, inl, Option, Result, Ok, Err}
+use Rattle.std.proofs.Common.{◌≡◌, ℕ, List, refl, sym, subst, ap, inl, Option, Result, Ok, Err}
 use Rattle.rcce_io.specs.Files.{FilesView}
 use Rattle.outcomes.specs.Coming.{Comes}
 use Rattle.outcomes.specs.Outcomes.{file_refused, run_outcome}
