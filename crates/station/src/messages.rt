@@ -109,6 +109,9 @@ impl<V: Evict> Station<V> {
         ensures open { IfErr result (λ stall. IsInSend (P.sight port.new) self.new stall.op bytes.now) }
         ensures owes { IfErr result (λ stall. ((record_in (P.sight port.new)).calls ≡ (record_in (P.sight port.old)).calls)
             × (send_call stall.op bytes.now ≡ Send to (plain_head (length bytes.now)) bytes.now ∷ [])) }
+        ensures stalled { IfErr result (λ stall. (stall.polls ≡ self.old.polls)
+            × SendStalled (sending (P.sight port.old) self.old.core (new_send to (plain_head (length bytes.now)) false) self.old.slot bytes.now)
+            self.old.polls (sending (P.sight port.new) self.new.core stall.op self.new.slot bytes.now) stall.spot) }
         ensures seat { (P.sight port.new).seat ≡ (P.sight port.old).seat }
         ensures same { KeepsHeap self.old self.new }
     {
