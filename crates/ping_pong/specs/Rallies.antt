@@ -3,7 +3,7 @@ use Rattle.std.specs.Prelude.{◌≡◌, ℕ, List, [], ◌∷◌}
 use Rattle.scc_base.specs.Calls.{DataCall, Recv, Send}
 use Rattle.scc_base.specs.Heads.{plain_head}
 use Rattle.scc_proto.specs.Ports.{Sight}
-use Rattle.station.specs.Stations.{IsBetweenCalls, StationAt}
+use Rattle.station.specs.Stations.{NoCallOpen, StationAt}
 
 -- a ball is a message of four bytes
 abbrev pub Ball : Type 0
@@ -22,4 +22,4 @@ hits (ball ∷ seen) = Recv 0 (plain_head 4) ball ∷ Send 0 (plain_head 4) ball
 
 -- a station that has made no call
 abbrev pub IsFresh : StationAt → Type 0
-IsFresh station = (s : Sight) → s.events ≡ [] → IsBetweenCalls s station
+IsFresh station = (s : Sight) → s.events ≡ [] → NoCallOpen s station

@@ -5,7 +5,7 @@ ghost use Rattle.scc_base.specs.Calls.{Recv, Send};
 ghost use Rattle.scc_base.specs.Heads.{plain_head};
 ghost use Rattle.scc_proto.specs.Ports.{record_in};
 ghost use Rattle.scc_proto.specs.Words.{are_peers};
-ghost use Rattle.station.specs.Stations.{IsBetweenCalls};
+ghost use Rattle.station.specs.Stations.{NoCallOpen};
 ghost use Rattle.ping_pong.specs.Rallies.{hits, serves};
 
 use crate::rallies::Ball;
@@ -25,9 +25,9 @@ fn give<P: Port>(
     to: Rank,
     ball: &Ball,
 ) -> Result<(), SendStall>
-    requires free { IsBetweenCalls (P.sight port.old) station.old }
+    requires free { NoCallOpen (P.sight port.old) station.old }
     requires peers { are_peers (P.sight port.old).seat.setup (P.sight port.old).seat.rank to ≡ true }
-    ensures free { IfOk result (λ done. IsBetweenCalls (P.sight port.new) station.new) }
+    ensures free { IfOk result (λ done. NoCallOpen (P.sight port.new) station.new) }
     ensures calls { IfOk result (λ done. (record_in (P.sight port.new)).calls
         ≡ (record_in (P.sight port.old)).calls ++ Send to (plain_head 4) ball.now ∷ []) }
     ensures seat { (P.sight port.new).seat ≡ (P.sight port.old).seat }
@@ -42,9 +42,9 @@ fn get<P: Port>(
     from: Rank,
     ball: &mut Ball,
 ) -> Result<(), RecvStop>
-    requires free { IsBetweenCalls (P.sight port.old) station.old }
+    requires free { NoCallOpen (P.sight port.old) station.old }
     requires peers { are_peers (P.sight port.old).seat.setup (P.sight port.old).seat.rank from ≡ true }
-    ensures free { IfOk result (λ done. IsBetweenCalls (P.sight port.new) station.new) }
+    ensures free { IfOk result (λ done. NoCallOpen (P.sight port.new) station.new) }
     ensures calls { IfOk result (λ done. (record_in (P.sight port.new)).calls
         ≡ (record_in (P.sight port.old)).calls ++ Recv from (plain_head 4) ball.new ∷ []) }
     ensures seat { (P.sight port.new).seat ≡ (P.sight port.old).seat }
@@ -72,7 +72,7 @@ pub(crate) fn serve<P: Port>(
     balls: &[Ball],
     back: &mut [Ball],
 ) -> Result<(), Stop>
-    requires free { IsBetweenCalls (P.sight port.old) station.old }
+    requires free { NoCallOpen (P.sight port.old) station.old }
     requires peers { are_peers (P.sight port.old).seat.setup (P.sight port.old).seat.rank 1 ≡ true }
     requires as_many { length back.old ≡ length balls.now }
     ensures calls { IfOk result (λ done. (record_in (P.sight port.new)).calls ≡ (record_in (P.sight port.old)).calls ++ serves balls.now back.new) }
@@ -93,7 +93,7 @@ pub(crate) fn hit<P: Port>(
     port: &mut P,
     seen: &mut [Ball],
 ) -> Result<(), Stop>
-    requires free { IsBetweenCalls (P.sight port.old) station.old }
+    requires free { NoCallOpen (P.sight port.old) station.old }
     requires peers { are_peers (P.sight port.old).seat.setup (P.sight port.old).seat.rank 0 ≡ true }
     ensures calls { IfOk result (λ done. (record_in (P.sight port.new)).calls ≡ (record_in (P.sight port.old)).calls ++ hits seen.new) }
     ensures as_many { length seen.new ≡ length seen.old }

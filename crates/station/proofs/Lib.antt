@@ -1,3 +1,5 @@
 pub mod StationLemmas
 pub mod HeapFacts
+pub mod PatienceLemmas
+pub mod PortLemmas
 pub mod WorldLemmas

@@ -14,12 +14,12 @@ use Rattle.send_recv.proofs.SendFacts.{slot_kept}
 use Rattle.send_recv.proofs.Starts as message
 use Rattle.barrier.specs.Flags.{IsParityOf, value_at}
 use Rattle.barrier.proofs.OtherPort as bar
-use Rattle.station.specs.Stations.{HoldsNoRegister, IsBetweenCalls, StationAt}
+use Rattle.station.specs.Stations.{HoldsNoRegister, NoCallOpen, StationAt}
 use Rattle.station.proofs.HeapFacts.{HeapAlone}
 
 -- before its first event a rank with a new core, a new slot and a new parity is between two calls
 pub free_at_new : (a : StationAt) → a.core.out ≡ None → a.slot ≡ empty_slot → ((comm : ℕ) → value_at a.parity comm ≡ false)
-    → (s : Sight) → s.events ≡ [] → IsBetweenCalls s a
+    → (s : Sight) → s.events ≡ [] → NoCallOpen s a
 free_at_new a out empty unset s none = record {
   messages = subst (λ (x : SlotAt). IsBetweenMessages s a.core x) (sym empty) (message.free_at_start s a.core none out);
   parity = (bar.free_at_start s a.core a.parity none out unset).parity;
@@ -30,12 +30,12 @@ holds_none : (layout : Layout) (rec : Record) → HoldsNoRegister rec → HoldsN
 holds_none LineFlags rec none = tt
 holds_none BitFlags rec none = none
 
-parity_kept : (rec new : Record) (values : List Bool) → new.flips ≡ rec.flips → IsParityOf rec values → IsParityOf new values
+pub parity_kept : (rec new : Record) (values : List Bool) → new.flips ≡ rec.flips → IsParityOf rec values → IsParityOf new values
 parity_kept rec new values same is = λ comm low. is comm low ∙ ap (λ (flips : ℕ → ℕ). flips comm % 2) (sym same)
 
 -- a call over the heap leaves the rank between two calls
-pub free_after_heap : {s t : Sight} {a : StationAt} (d : Private) → IsBetweenCalls s a → t.seat ≡ s.seat → HeapAlone (record_in s) (record_in t) → d.out ≡ None
-    → IsBetweenCalls t (record a { core = d })
+pub free_after_heap : {s t : Sight} {a : StationAt} (d : Private) → NoCallOpen s a → t.seat ≡ s.seat → HeapAlone (record_in s) (record_in t) → d.out ≡ None
+    → NoCallOpen t (record a { core = d })
 free_after_heap {s} {t} {a} d free seat alone empty =
     let none : HoldsNoRegister (record_in t) = λ core. alone.held core ∙ free.registers core in
     record {

@@ -1,3 +1,5 @@
 pub mod Stations
+pub mod Calls
 pub mod Stops
+pub mod Patience
 pub mod Worlds

@@ -26,7 +26,7 @@ HoldsNoRegister rec = (core : ℕ) → rec.held core ≡ None
 
 -- the rank is between two calls, holds no register, and its slot and its gather flags are the record's: any call of its station
 -- can begin (RCCE specification 2.0: a unit of execution is in one call at a time)
-pub record IsBetweenCalls (s : Sight) (a : StationAt) : Type 0 where
+pub record NoCallOpen (s : Sight) (a : StationAt) : Type 0 where
   pub messages : IsBetweenMessages s a.core a.slot
   pub parity : IsParityOf (record_in s) a.parity
   pub registers : HoldsNoRegister (record_in s)

@@ -16,7 +16,7 @@ impl<V: Evict> Station<V> {
     ghost use Rattle.sync_flags.specs.Looks.{ReadsFlag, WaitsFor};
     ghost use Rattle.sync_flags.specs.Tries.{AtFlag, AtRegister, TriedInVain};
     ghost use Rattle.sync_flags.specs.Writes.{WritesFlag};
-    ghost use Rattle.station.specs.Stations.{IsBetweenCalls, KeepsAllButHeap, KeepsSlot};
+    ghost use Rattle.station.specs.Stations.{KeepsAllButHeap, KeepsSlot, NoCallOpen};
 
     /// Takes one line of the heap for flags (RCCE_flag_alloc). `free` gives it back (RCCE_flag_free).
     pub fn flag_alloc(&mut self) -> Result<Buf, MallocFault>
@@ -38,13 +38,13 @@ impl<V: Evict> Station<V> {
         flag: Flag,
         value: bool,
     ) -> Result<(), Stalled>
-        requires free { IsBetweenCalls (P.sight port.old) self.old }
+        requires free { NoCallOpen (P.sight port.old) self.old }
         requires below { at < (P.sight port.old).seat.setup.nue }
         requires heap { 225 ≤ flag.line }
-        ensures free { IsBetweenCalls (P.sight port.new) self.new }
+        ensures free { NoCallOpen (P.sight port.new) self.new }
         ensures calls { (record_in (P.sight port.new)).calls ≡ (record_in (P.sight port.old)).calls }
-        ensures writes { WritesFlag (P.sight port.old) self.old.core (flag_of (P.sight port.old).seat.setup at flag) flag.bit value self.old.polls
-            (P.sight port.new) self.new.core result }
+        ensures writes { WritesFlag (P.sight port.old) self.old.core (flag_of (P.sight port.old).seat.setup at flag) flag.bit value
+            self.old.polls (P.sight port.new) self.new.core result }
         ensures stalls { (events : List Event) → Did (P.sight port.old) events (P.sight port.new) → (IsErr result
             ↔ TriedInVain (AtRegister (flag_of (P.sight port.old).seat.setup at flag).core) self.old.polls events) }
         ensures seat { (P.sight port.new).seat ≡ (P.sight port.old).seat }
@@ -56,10 +56,10 @@ impl<V: Evict> Station<V> {
 
     /// Whether a flag of the heap at a rank is set, by one look (RCCE_flag_read).
     pub fn read<P: Port>(&mut self, port: &mut P, at: Rank, flag: Flag) -> bool
-        requires free { IsBetweenCalls (P.sight port.old) self.old }
+        requires free { NoCallOpen (P.sight port.old) self.old }
         requires below { at < (P.sight port.old).seat.setup.nue }
         requires heap { 225 ≤ flag.line }
-        ensures free { IsBetweenCalls (P.sight port.new) self.new }
+        ensures free { NoCallOpen (P.sight port.new) self.new }
         ensures calls { (record_in (P.sight port.new)).calls ≡ (record_in (P.sight port.old)).calls }
         ensures reads { ReadsFlag (P.sight port.old) self.old.core (flag_of (P.sight port.old).seat.setup at flag) flag.bit result
             (P.sight port.new) self.new.core }
@@ -77,14 +77,16 @@ impl<V: Evict> Station<V> {
         flag: Flag,
         want: bool,
     ) -> Result<(), Stalled>
-        requires free { IsBetweenCalls (P.sight port.old) self.old }
+        requires free { NoCallOpen (P.sight port.old) self.old }
         requires heap { 225 ≤ flag.line }
-        ensures free { IsBetweenCalls (P.sight port.new) self.new }
+        ensures free { NoCallOpen (P.sight port.new) self.new }
         ensures calls { (record_in (P.sight port.new)).calls ≡ (record_in (P.sight port.old)).calls }
-        ensures waits { WaitsFor (P.sight port.old) self.old.core (flag_of (P.sight port.old).seat.setup (P.sight port.old).seat.rank flag) flag.bit want
+        ensures waits { WaitsFor (P.sight port.old) self.old.core
+            (flag_of (P.sight port.old).seat.setup (P.sight port.old).seat.rank flag) flag.bit want
             self.old.polls (P.sight port.new) self.new.core result }
         ensures stalls { (events : List Event) → Did (P.sight port.old) events (P.sight port.new) → (IsErr result
-            ↔ TriedInVain (AtFlag (flag_of (P.sight port.old).seat.setup (P.sight port.old).seat.rank flag) flag.bit want) self.old.polls events) }
+            ↔ TriedInVain (AtFlag (flag_of (P.sight port.old).seat.setup (P.sight port.old).seat.rank flag) flag.bit want)
+            self.old.polls events) }
         ensures seat { (P.sight port.new).seat ≡ (P.sight port.old).seat }
         ensures same { KeepsSlot self.old self.new }
     {

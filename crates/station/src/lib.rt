@@ -2,6 +2,7 @@
 #![tactic(auto)]
 
 mod flagging;
+mod laws;
 mod meetings;
 mod memory;
 mod messages;
@@ -11,6 +12,7 @@ mod setups;
 mod stations;
 mod stops;
 
+pub use laws::other_port_law;
 pub use setups::world_of;
 pub use stations::Station;
 pub use stops::{BarStall, RecvStall, RecvStop, SendStall, Stop};

@@ -13,24 +13,25 @@ impl<V: Evict> Station<V> {
     ghost use Rattle.scc_base.specs.declared.communicators.CommRule.TheVariants.{Absent};
     ghost use Rattle.scc_proto.specs.Ports.{record_in};
     ghost use Rattle.barrier.specs.Calls.{Finishes, Stalls};
-    ghost use Rattle.barrier.specs.Stages.{bar_call, meeting, new_barrier, with_parity};
-    ghost use Rattle.station.specs.Stations.{IsBetweenCalls, IsInBarrier, KeepsSlot};
+    ghost use Rattle.barrier.specs.Stages.{bar_call};
+    ghost use Rattle.station.specs.Calls.{at_barrier, behind_barrier, in_barrier};
+    ghost use Rattle.station.specs.Stations.{IsInBarrier, KeepsSlot, NoCallOpen};
     ghost use Rattle.station.specs.Stops.{bar_stop_of};
 
     /// Waits until all members of the own group of a communicator have entered the barrier (RCCE_barrier).
     pub fn barrier<P: Port>(&mut self, port: &mut P, comm: u8) -> Result<(), BarStall>
-        requires free { IsBetweenCalls (P.sight port.old) self.old }
+        requires free { NoCallOpen (P.sight port.old) self.old }
         requires below { comm < 16 }
         requires present { rule_of (P.sight port.old).seat.setup.comms comm ≢ Absent }
-        ensures free { IfOk result (λ done. IsBetweenCalls (P.sight port.new) self.new) }
+        ensures free { IfOk result (λ done. NoCallOpen (P.sight port.new) self.new) }
         ensures calls { IfOk result (λ done. (record_in (P.sight port.new)).calls ≡ (record_in (P.sight port.old)).calls ++ Bar comm ∷ []) }
-        ensures met { IfOk result (λ done. Finishes (meeting (P.sight port.old) self.old.core (new_barrier comm) self.old.parity)
-            (with_parity (P.sight port.new) self.new.core self.new.parity)) }
+        ensures met { IfOk result (λ done. Finishes (at_barrier (P.sight port.old) self.old comm)
+            (behind_barrier (P.sight port.new) self.new)) }
         ensures open { IfErr result (λ stall. IsInBarrier (P.sight port.new) self.new stall.op) }
         ensures owes { IfErr result (λ stall. ((record_in (P.sight port.new)).calls ≡ (record_in (P.sight port.old)).calls)
             × (bar_call stall.op ≡ Bar comm ∷ [])) }
-        ensures stalled { IfErr result (λ stall. Stalls (meeting (P.sight port.old) self.old.core (new_barrier comm) self.old.parity) self.old.polls
-            (with_parity (P.sight port.new) self.new.core self.new.parity) (bar_stop_of stall)) }
+        ensures stalled { IfErr result (λ stall. Stalls (at_barrier (P.sight port.old) self.old comm) self.old.polls
+            (behind_barrier (P.sight port.new) self.new) (bar_stop_of stall)) }
         ensures seat { (P.sight port.new).seat ≡ (P.sight port.old).seat }
         ensures same { KeepsSlot self.old self.new }
     {
@@ -40,15 +41,16 @@ impl<V: Evict> Station<V> {
     /// Goes on with a barrier that gave up.
     pub fn barrier_on<P: Port>(&mut self, port: &mut P, stall: BarStall) -> Result<(), BarStall>
         requires open { IsInBarrier (P.sight port.old) self.old stall.op }
-        ensures free { IfOk result (λ done. IsBetweenCalls (P.sight port.new) self.new) }
-        ensures calls { IfOk result (λ done. (record_in (P.sight port.new)).calls ≡ (record_in (P.sight port.old)).calls ++ bar_call stall.op) }
-        ensures met { IfOk result (λ done. Finishes (meeting (P.sight port.old) self.old.core stall.op self.old.parity)
-            (with_parity (P.sight port.new) self.new.core self.new.parity)) }
+        ensures free { IfOk result (λ done. NoCallOpen (P.sight port.new) self.new) }
+        ensures calls { IfOk result (λ done. (record_in (P.sight port.new)).calls
+            ≡ (record_in (P.sight port.old)).calls ++ bar_call stall.op) }
+        ensures met { IfOk result (λ done. Finishes (in_barrier (P.sight port.old) self.old stall.op)
+            (behind_barrier (P.sight port.new) self.new)) }
         ensures open { IfErr result (λ later. IsInBarrier (P.sight port.new) self.new later.op) }
         ensures owes { IfErr result (λ later. ((record_in (P.sight port.new)).calls ≡ (record_in (P.sight port.old)).calls)
             × (bar_call later.op ≡ bar_call stall.op)) }
-        ensures stalled { IfErr result (λ later. Stalls (meeting (P.sight port.old) self.old.core stall.op self.old.parity) self.old.polls
-            (with_parity (P.sight port.new) self.new.core self.new.parity) (bar_stop_of later)) }
+        ensures stalled { IfErr result (λ later. Stalls (in_barrier (P.sight port.old) self.old stall.op) self.old.polls
+            (behind_barrier (P.sight port.new) self.new) (bar_stop_of later)) }
         ensures seat { (P.sight port.new).seat ≡ (P.sight port.old).seat }
         ensures same { KeepsSlot self.old self.new }
     {
@@ -58,14 +60,14 @@ impl<V: Evict> Station<V> {
     // Goes on with a barrier.
     fn finish_barrier<P: Port>(&mut self, port: &mut P, op: BarOp) -> Result<(), BarStall>
         requires open { IsInBarrier (P.sight port.old) self.old op }
-        ensures free { IfOk result (λ done. IsBetweenCalls (P.sight port.new) self.new) }
-        ensures met { IfOk result (λ done. Finishes (meeting (P.sight port.old) self.old.core op self.old.parity)
-            (with_parity (P.sight port.new) self.new.core self.new.parity)) }
+        ensures free { IfOk result (λ done. NoCallOpen (P.sight port.new) self.new) }
+        ensures met { IfOk result (λ done. Finishes (in_barrier (P.sight port.old) self.old op)
+            (behind_barrier (P.sight port.new) self.new)) }
         ensures open { IfErr result (λ stall. IsInBarrier (P.sight port.new) self.new stall.op) }
         ensures owes { IfErr result (λ stall. ((record_in (P.sight port.new)).calls ≡ (record_in (P.sight port.old)).calls)
             × (bar_call stall.op ≡ bar_call op)) }
-        ensures stalled { IfErr result (λ stall. Stalls (meeting (P.sight port.old) self.old.core op self.old.parity) self.old.polls
-            (with_parity (P.sight port.new) self.new.core self.new.parity) (bar_stop_of stall)) }
+        ensures stalled { IfErr result (λ stall. Stalls (in_barrier (P.sight port.old) self.old op) self.old.polls
+            (behind_barrier (P.sight port.new) self.new) (bar_stop_of stall)) }
         ensures seat { (P.sight port.new).seat ≡ (P.sight port.old).seat }
         ensures same { KeepsSlot self.old self.new }
     {

@@ -11,7 +11,7 @@ impl<V: Evict> Station<V> {
     ghost use Rattle.scc_base.specs.Setups.{host_of};
     ghost use Rattle.scc_proto.specs.Ports.{record_in};
     ghost use Rattle.put_get.specs.Transfers.{Gets, Puts};
-    ghost use Rattle.station.specs.Stations.{IsBetweenCalls, KeepsSlot};
+    ghost use Rattle.station.specs.Stations.{KeepsSlot, NoCallOpen};
 
     /// Writes lines into a buffer at a rank, from the buffer's first line on (RCCE_put).
     ///
@@ -23,15 +23,16 @@ impl<V: Evict> Station<V> {
         at: Buf,
         src: &[[u64; 4]],
     ) -> Result<(), RangeFault>
-        requires free { IsBetweenCalls (P.sight port.old) self.old }
+        requires free { NoCallOpen (P.sight port.old) self.old }
         requires below { to < (P.sight port.old).seat.setup.nue }
-        ensures free { IsBetweenCalls (P.sight port.new) self.new }
+        ensures free { NoCallOpen (P.sight port.new) self.new }
         ensures calls { (record_in (P.sight port.new)).calls ≡ (record_in (P.sight port.old)).calls }
         ensures fits { IsOk result ↔ (length src.now ≤ at.lines) }
         ensures range { IfErr result (λ e. e ≡ record { asked = length src.now; len = at.lines }) }
         ensures unchanged { OnErr result ((P.sight port.new ≡ P.sight port.old) × (self.new ≡ self.old)) }
         ensures puts { OnOk result
-            (Puts (P.sight port.old) self.old.core (host_of (P.sight port.old).seat.setup.hosts to) at.first src.now (P.sight port.new) self.new.core) }
+            (Puts (P.sight port.old) self.old.core (host_of (P.sight port.old).seat.setup.hosts to) at.first src.now
+            (P.sight port.new) self.new.core) }
         ensures seat { (P.sight port.new).seat ≡ (P.sight port.old).seat }
         ensures same { KeepsSlot self.old self.new }
     {
@@ -50,15 +51,16 @@ impl<V: Evict> Station<V> {
         at: Buf,
         dst: &mut [[u64; 4]],
     ) -> Result<(), RangeFault>
-        requires free { IsBetweenCalls (P.sight port.old) self.old }
+        requires free { NoCallOpen (P.sight port.old) self.old }
         requires below { from < (P.sight port.old).seat.setup.nue }
-        ensures free { IsBetweenCalls (P.sight port.new) self.new }
+        ensures free { NoCallOpen (P.sight port.new) self.new }
         ensures calls { (record_in (P.sight port.new)).calls ≡ (record_in (P.sight port.old)).calls }
         ensures fits { IsOk result ↔ (length dst.old ≤ at.lines) }
         ensures range { IfErr result (λ e. e ≡ record { asked = length dst.old; len = at.lines }) }
         ensures unchanged { OnErr result ((P.sight port.new ≡ P.sight port.old) × (self.new ≡ self.old) × (dst.new ≡ dst.old)) }
         ensures gets { OnOk result
-            (Gets (P.sight port.old) self.old.core (host_of (P.sight port.old).seat.setup.hosts from) at.first dst.new (P.sight port.new) self.new.core) }
+            (Gets (P.sight port.old) self.old.core (host_of (P.sight port.old).seat.setup.hosts from) at.first dst.new
+            (P.sight port.new) self.new.core) }
         ensures seat { (P.sight port.new).seat ≡ (P.sight port.old).seat }
         ensures same { KeepsSlot self.old self.new }
     {

@@ -2,7 +2,7 @@
 
 ghost use Rattle.std.specs.Prelude.{◌≡◌, ◌≤◌, length};
 ghost use Rattle.scc_base.specs.Heads.{plain_head};
-ghost use Rattle.station.specs.Stops.{stop_of};
+ghost use Rattle.station.specs.Stops.{recv_stop_of};
 
 use crate::stations::Station;
 use crate::stops::{RecvStall, RecvStop, SendStall};
@@ -23,8 +23,8 @@ pub(crate) fn head_of(bytes: &[u8]) -> Head
 }
 
 // What stopped a receive, in a station's words.
-fn stop_of(stop: send_recv::RecvStop) -> RecvStop
-    ensures gives { result ≡ stop_of stop }
+fn recv_stop_of(stop: send_recv::RecvStop) -> RecvStop
+    ensures gives { result ≡ recv_stop_of stop }
 {
     match stop {
         send_recv::RecvStop::Stalled { op, spot, polls } => RecvStop::Stalled(RecvStall {
@@ -43,11 +43,10 @@ impl<V: Evict> Station<V> {
     ghost use Rattle.scc_proto.specs.Ports.{record_in};
     ghost use Rattle.scc_proto.specs.Words.{are_peers};
     ghost use Rattle.send_recv.specs.Calling.{Received, Sent, SendStalled, TestEnds};
-    ghost use Rattle.send_recv.specs.Ops.{new_receive, new_send};
-    ghost use Rattle.send_recv.specs.Ranks.{receiving, sending, with_bytes, with_slot};
     ghost use Rattle.send_recv.specs.Receiving.{recv_call};
     ghost use Rattle.send_recv.specs.Sending.{send_call};
-    ghost use Rattle.station.specs.Stations.{IsBetweenCalls, IsInReceive, IsInSend, KeepsHeap, KeepsSlot};
+    ghost use Rattle.station.specs.Calls.{at_receive, at_send, behind_receive, behind_send, in_receive, in_send};
+    ghost use Rattle.station.specs.Stations.{IsInReceive, IsInSend, KeepsHeap, KeepsSlot, NoCallOpen};
     ghost use Rattle.station.specs.Stops.{Owes, SaysWhy, StopsReceive};
 
     // Goes on with a send or a post.
@@ -58,12 +57,13 @@ impl<V: Evict> Station<V> {
         bytes: &[u8],
     ) -> Result<(), SendStall>
         requires open { IsInSend (P.sight port.old) self.old op bytes.now }
-        ensures free { IfOk result (λ done. IsBetweenCalls (P.sight port.new) self.new) }
-        ensures sent { IfOk result (λ done. Sent (sending (P.sight port.old) self.old.core op self.old.slot bytes.now)
-            (with_slot (P.sight port.new) self.new.core self.new.slot)) }
+        ensures free { IfOk result (λ done. NoCallOpen (P.sight port.new) self.new) }
+        ensures sent { IfOk result (λ done. Sent (in_send (P.sight port.old) self.old op bytes.now)
+            (behind_send (P.sight port.new) self.new)) }
         ensures open { IfErr result (λ stall. IsInSend (P.sight port.new) self.new stall.op bytes.now) }
-        ensures stalled { IfErr result (λ stall. (stall.polls ≡ self.old.polls) × SendStalled (sending (P.sight port.old) self.old.core op self.old.slot bytes.now)
-            self.old.polls (sending (P.sight port.new) self.new.core stall.op self.new.slot bytes.now) stall.spot) }
+        ensures stalled { IfErr result (λ stall. (stall.polls ≡ self.old.polls)
+            × SendStalled (in_send (P.sight port.old) self.old op bytes.now) self.old.polls
+            (in_send (P.sight port.new) self.new stall.op bytes.now) stall.spot) }
         ensures seat { (P.sight port.new).seat ≡ (P.sight port.old).seat }
         ensures same { KeepsHeap self.old self.new }
     {
@@ -81,37 +81,37 @@ impl<V: Evict> Station<V> {
         buffer: &mut [u8],
     ) -> Result<(), RecvStop>
         requires open { IsInReceive (P.sight port.old) self.old op buffer.old }
-        ensures free { IfOk result (λ done. IsBetweenCalls (P.sight port.new) self.new) }
-        ensures received { IfOk result (λ done. Received (receiving (P.sight port.old) self.old.core op buffer.old) self.old.polls
-            (with_bytes (P.sight port.new) self.new.core buffer.new)) }
+        ensures free { IfOk result (λ done. NoCallOpen (P.sight port.new) self.new) }
+        ensures received { IfOk result (λ done. Received (in_receive (P.sight port.old) self.old op buffer.old) self.old.polls
+            (behind_receive (P.sight port.new) self.new buffer.new)) }
         ensures stops { IfErr result (λ stop. StopsReceive (P.sight port.new) self.new buffer.new stop) }
-        ensures why { IfErr result (λ stop. SaysWhy (receiving (P.sight port.old) self.old.core op buffer.old) self.old.polls
-            (with_bytes (P.sight port.new) self.new.core buffer.new) stop) }
+        ensures why { IfErr result (λ stop. SaysWhy (in_receive (P.sight port.old) self.old op buffer.old) self.old.polls
+            (behind_receive (P.sight port.new) self.new buffer.new) stop) }
         ensures seat { (P.sight port.new).seat ≡ (P.sight port.old).seat }
         ensures same { KeepsSlot self.old self.new }
     {
         match recv(&mut self.core, port, op, buffer, self.polls) {
             Ok(()) => Ok(()),
-            Err(stop) => Err(stop_of(stop)),
+            Err(stop) => Err(recv_stop_of(stop)),
         }
     }
 
     /// Sends bytes to a rank, and waits until they are taken (RCCE_send).
     pub fn send<P: Port>(&mut self, port: &mut P, to: Rank, bytes: &[u8]) -> Result<(), SendStall>
-        requires free { IsBetweenCalls (P.sight port.old) self.old }
+        requires free { NoCallOpen (P.sight port.old) self.old }
         requires peers { are_peers (P.sight port.old).seat.setup (P.sight port.old).seat.rank to ≡ true }
         requires short { length bytes.now ≤ 65536 }
-        ensures free { IfOk result (λ done. IsBetweenCalls (P.sight port.new) self.new) }
+        ensures free { IfOk result (λ done. NoCallOpen (P.sight port.new) self.new) }
         ensures calls { IfOk result (λ done. (record_in (P.sight port.new)).calls
             ≡ (record_in (P.sight port.old)).calls ++ Send to (plain_head (length bytes.now)) bytes.now ∷ []) }
-        ensures sent { IfOk result (λ done. Sent (sending (P.sight port.old) self.old.core (new_send to (plain_head (length bytes.now)) false) self.old.slot bytes.now)
-            (with_slot (P.sight port.new) self.new.core self.new.slot)) }
+        ensures sent { IfOk result (λ done. Sent (at_send (P.sight port.old) self.old to bytes.now)
+            (behind_send (P.sight port.new) self.new)) }
         ensures open { IfErr result (λ stall. IsInSend (P.sight port.new) self.new stall.op bytes.now) }
         ensures owes { IfErr result (λ stall. ((record_in (P.sight port.new)).calls ≡ (record_in (P.sight port.old)).calls)
             × (send_call stall.op bytes.now ≡ Send to (plain_head (length bytes.now)) bytes.now ∷ [])) }
         ensures stalled { IfErr result (λ stall. (stall.polls ≡ self.old.polls)
-            × SendStalled (sending (P.sight port.old) self.old.core (new_send to (plain_head (length bytes.now)) false) self.old.slot bytes.now)
-            self.old.polls (sending (P.sight port.new) self.new.core stall.op self.new.slot bytes.now) stall.spot) }
+            × SendStalled (at_send (P.sight port.old) self.old to bytes.now) self.old.polls
+            (in_send (P.sight port.new) self.new stall.op bytes.now) stall.spot) }
         ensures seat { (P.sight port.new).seat ≡ (P.sight port.old).seat }
         ensures same { KeepsHeap self.old self.new }
     {
@@ -127,16 +127,17 @@ impl<V: Evict> Station<V> {
         bytes: &[u8],
     ) -> Result<(), SendStall>
         requires open { IsInSend (P.sight port.old) self.old stall.op bytes.now }
-        ensures free { IfOk result (λ done. IsBetweenCalls (P.sight port.new) self.new) }
+        ensures free { IfOk result (λ done. NoCallOpen (P.sight port.new) self.new) }
         ensures calls { IfOk result (λ done. (record_in (P.sight port.new)).calls
             ≡ (record_in (P.sight port.old)).calls ++ send_call stall.op bytes.now) }
-        ensures sent { IfOk result (λ done. Sent (sending (P.sight port.old) self.old.core stall.op self.old.slot bytes.now)
-            (with_slot (P.sight port.new) self.new.core self.new.slot)) }
+        ensures sent { IfOk result (λ done. Sent (in_send (P.sight port.old) self.old stall.op bytes.now)
+            (behind_send (P.sight port.new) self.new)) }
         ensures open { IfErr result (λ later. IsInSend (P.sight port.new) self.new later.op bytes.now) }
         ensures owes { IfErr result (λ later. ((record_in (P.sight port.new)).calls ≡ (record_in (P.sight port.old)).calls)
             × (send_call later.op bytes.now ≡ send_call stall.op bytes.now)) }
-        ensures stalled { IfErr result (λ later. (later.polls ≡ self.old.polls) × SendStalled (sending (P.sight port.old) self.old.core stall.op self.old.slot bytes.now)
-            self.old.polls (sending (P.sight port.new) self.new.core later.op self.new.slot bytes.now) later.spot) }
+        ensures stalled { IfErr result (λ later. (later.polls ≡ self.old.polls)
+            × SendStalled (in_send (P.sight port.old) self.old stall.op bytes.now) self.old.polls
+            (in_send (P.sight port.new) self.new later.op bytes.now) later.spot) }
         ensures seat { (P.sight port.new).seat ≡ (P.sight port.old).seat }
         ensures same { KeepsHeap self.old self.new }
     {
@@ -150,18 +151,19 @@ impl<V: Evict> Station<V> {
         from: Rank,
         buffer: &mut [u8],
     ) -> Result<(), RecvStop>
-        requires free { IsBetweenCalls (P.sight port.old) self.old }
+        requires free { NoCallOpen (P.sight port.old) self.old }
         requires peers { are_peers (P.sight port.old).seat.setup (P.sight port.old).seat.rank from ≡ true }
         requires short { length buffer.old ≤ 65536 }
-        ensures free { IfOk result (λ done. IsBetweenCalls (P.sight port.new) self.new) }
+        ensures free { IfOk result (λ done. NoCallOpen (P.sight port.new) self.new) }
         ensures calls { IfOk result (λ done. (record_in (P.sight port.new)).calls
             ≡ (record_in (P.sight port.old)).calls ++ Recv from (plain_head (length buffer.old)) buffer.new ∷ []) }
-        ensures received { IfOk result (λ done. Received (receiving (P.sight port.old) self.old.core (new_receive from (plain_head (length buffer.old))) buffer.old)
-            self.old.polls (with_bytes (P.sight port.new) self.new.core buffer.new)) }
+        ensures received { IfOk result (λ done. Received (at_receive (P.sight port.old) self.old from buffer.old) self.old.polls
+            (behind_receive (P.sight port.new) self.new buffer.new)) }
         ensures stops { IfErr result (λ stop. StopsReceive (P.sight port.new) self.new buffer.new stop) }
-        ensures owes { IfErr result (λ stop. Owes (λ bytes. Recv from (plain_head (length buffer.old)) bytes ∷ []) (P.sight port.old) (P.sight port.new) stop) }
-        ensures why { IfErr result (λ stop. SaysWhy (receiving (P.sight port.old) self.old.core (new_receive from (plain_head (length buffer.old))) buffer.old)
-            self.old.polls (with_bytes (P.sight port.new) self.new.core buffer.new) stop) }
+        ensures owes { IfErr result (λ stop. Owes (λ bytes. Recv from (plain_head (length buffer.old)) bytes ∷ [])
+            (P.sight port.old) (P.sight port.new) stop) }
+        ensures why { IfErr result (λ stop. SaysWhy (at_receive (P.sight port.old) self.old from buffer.old) self.old.polls
+            (behind_receive (P.sight port.new) self.new buffer.new) stop) }
         ensures seat { (P.sight port.new).seat ≡ (P.sight port.old).seat }
         ensures same { KeepsSlot self.old self.new }
     {
@@ -177,15 +179,15 @@ impl<V: Evict> Station<V> {
         buffer: &mut [u8],
     ) -> Result<(), RecvStop>
         requires open { IsInReceive (P.sight port.old) self.old stall.op buffer.old }
-        ensures free { IfOk result (λ done. IsBetweenCalls (P.sight port.new) self.new) }
+        ensures free { IfOk result (λ done. NoCallOpen (P.sight port.new) self.new) }
         ensures calls { IfOk result (λ done. (record_in (P.sight port.new)).calls
             ≡ (record_in (P.sight port.old)).calls ++ recv_call stall.op buffer.new) }
-        ensures received { IfOk result (λ done. Received (receiving (P.sight port.old) self.old.core stall.op buffer.old) self.old.polls
-            (with_bytes (P.sight port.new) self.new.core buffer.new)) }
+        ensures received { IfOk result (λ done. Received (in_receive (P.sight port.old) self.old stall.op buffer.old) self.old.polls
+            (behind_receive (P.sight port.new) self.new buffer.new)) }
         ensures stops { IfErr result (λ stop. StopsReceive (P.sight port.new) self.new buffer.new stop) }
         ensures owes { IfErr result (λ stop. Owes (recv_call stall.op) (P.sight port.old) (P.sight port.new) stop) }
-        ensures why { IfErr result (λ stop. SaysWhy (receiving (P.sight port.old) self.old.core stall.op buffer.old) self.old.polls
-            (with_bytes (P.sight port.new) self.new.core buffer.new) stop) }
+        ensures why { IfErr result (λ stop. SaysWhy (in_receive (P.sight port.old) self.old stall.op buffer.old) self.old.polls
+            (behind_receive (P.sight port.new) self.new buffer.new) stop) }
         ensures seat { (P.sight port.new).seat ≡ (P.sight port.old).seat }
         ensures same { KeepsSlot self.old self.new }
     {
@@ -199,25 +201,26 @@ impl<V: Evict> Station<V> {
         from: Rank,
         buffer: &mut [u8],
     ) -> Result<bool, RecvStop>
-        requires free { IsBetweenCalls (P.sight port.old) self.old }
+        requires free { NoCallOpen (P.sight port.old) self.old }
         requires peers { are_peers (P.sight port.old).seat.setup (P.sight port.old).seat.rank from ≡ true }
         requires short { length buffer.old ≤ 65536 }
-        ensures free { IfOk result (λ found. IsBetweenCalls (P.sight port.new) self.new) }
+        ensures free { IfOk result (λ found. NoCallOpen (P.sight port.new) self.new) }
         ensures calls { IfOk result (λ found. (record_in (P.sight port.new)).calls
             ≡ (record_in (P.sight port.old)).calls ++ (if found then Recv from (plain_head (length buffer.old)) buffer.new ∷ [] else [])) }
-        ensures tells { IfOk result (λ found. TestEnds (receiving (P.sight port.old) self.old.core (new_receive from (plain_head (length buffer.old))) buffer.old)
-            self.old.polls (with_bytes (P.sight port.new) self.new.core buffer.new) (Ok found)) }
+        ensures tells { IfOk result (λ found. TestEnds (at_receive (P.sight port.old) self.old from buffer.old) self.old.polls
+            (behind_receive (P.sight port.new) self.new buffer.new) (Ok found)) }
         ensures stops { IfErr result (λ stop. StopsReceive (P.sight port.new) self.new buffer.new stop) }
-        ensures owes { IfErr result (λ stop. Owes (λ bytes. Recv from (plain_head (length buffer.old)) bytes ∷ []) (P.sight port.old) (P.sight port.new) stop) }
-        ensures why { IfErr result (λ stop. SaysWhy (receiving (P.sight port.old) self.old.core (new_receive from (plain_head (length buffer.old))) buffer.old)
-            self.old.polls (with_bytes (P.sight port.new) self.new.core buffer.new) stop) }
+        ensures owes { IfErr result (λ stop. Owes (λ bytes. Recv from (plain_head (length buffer.old)) bytes ∷ [])
+            (P.sight port.old) (P.sight port.new) stop) }
+        ensures why { IfErr result (λ stop. SaysWhy (at_receive (P.sight port.old) self.old from buffer.old) self.old.polls
+            (behind_receive (P.sight port.new) self.new buffer.new) stop) }
         ensures seat { (P.sight port.new).seat ≡ (P.sight port.old).seat }
         ensures same { KeepsSlot self.old self.new }
     {
         let op = RecvOp::new(from, head_of(buffer));
         match recv_test(&mut self.core, port, op, buffer, self.polls) {
             Ok(found) => Ok(found),
-            Err(stop) => Err(stop_of(stop)),
+            Err(stop) => Err(recv_stop_of(stop)),
         }
     }
 }

@@ -15,27 +15,26 @@ impl<V: Evict> Station<V> {
     ghost use Rattle.scc_proto.specs.Ports.{record_in};
     ghost use Rattle.scc_proto.specs.Words.{are_peers};
     ghost use Rattle.send_recv.specs.Calling.{Sent, SendStalled};
-    ghost use Rattle.send_recv.specs.Ops.{new_send};
-    ghost use Rattle.send_recv.specs.Ranks.{sending, with_slot};
     ghost use Rattle.send_recv.specs.Sending.{SlotTurned, send_call};
-    ghost use Rattle.station.specs.Stations.{IsBetweenCalls, IsInSend, KeepsHeap};
+    ghost use Rattle.station.specs.Calls.{at_post, behind_send, in_send};
+    ghost use Rattle.station.specs.Stations.{IsInSend, KeepsHeap, NoCallOpen};
 
     /// Posts bytes to a rank, without waiting until they are taken; a message that was posted before is waited for first.
     pub fn post<P: Port>(&mut self, port: &mut P, to: Rank, bytes: &[u8]) -> Result<(), SendStall>
-        requires free { IsBetweenCalls (P.sight port.old) self.old }
+        requires free { NoCallOpen (P.sight port.old) self.old }
         requires peers { are_peers (P.sight port.old).seat.setup (P.sight port.old).seat.rank to ≡ true }
         requires short { length bytes.now ≤ 3584 }
-        ensures free { IfOk result (λ done. IsBetweenCalls (P.sight port.new) self.new) }
+        ensures free { IfOk result (λ done. NoCallOpen (P.sight port.new) self.new) }
         ensures calls { IfOk result (λ done. (record_in (P.sight port.new)).calls
             ≡ (record_in (P.sight port.old)).calls ++ Post to (plain_head (length bytes.now)) bytes.now ∷ []) }
-        ensures posted { IfOk result (λ done. Sent (sending (P.sight port.old) self.old.core (new_send to (plain_head (length bytes.now)) true) self.old.slot bytes.now)
-            (with_slot (P.sight port.new) self.new.core self.new.slot)) }
+        ensures posted { IfOk result (λ done. Sent (at_post (P.sight port.old) self.old to bytes.now)
+            (behind_send (P.sight port.new) self.new)) }
         ensures open { IfErr result (λ stall. IsInSend (P.sight port.new) self.new stall.op bytes.now) }
         ensures owes { IfErr result (λ stall. ((record_in (P.sight port.new)).calls ≡ (record_in (P.sight port.old)).calls)
             × (send_call stall.op bytes.now ≡ Post to (plain_head (length bytes.now)) bytes.now ∷ [])) }
         ensures stalled { IfErr result (λ stall. (stall.polls ≡ self.old.polls)
-            × SendStalled (sending (P.sight port.old) self.old.core (new_send to (plain_head (length bytes.now)) true) self.old.slot bytes.now)
-            self.old.polls (sending (P.sight port.new) self.new.core stall.op self.new.slot bytes.now) stall.spot) }
+            × SendStalled (at_post (P.sight port.old) self.old to bytes.now) self.old.polls
+            (in_send (P.sight port.new) self.new stall.op bytes.now) stall.spot) }
         ensures seat { (P.sight port.new).seat ≡ (P.sight port.old).seat }
         ensures same { KeepsHeap self.old self.new }
     {
@@ -54,10 +53,10 @@ impl<V: Evict> Station<V> {
 
     /// Goes on with the posted message by one turn: it looks once whether the message was taken, or lowers the flag that said so.
     pub fn push<P: Port>(&mut self, port: &mut P) -> Turn
-        requires free { IsBetweenCalls (P.sight port.old) self.old }
-        ensures free { IsBetweenCalls (P.sight port.new) self.new }
+        requires free { NoCallOpen (P.sight port.old) self.old }
+        ensures free { NoCallOpen (P.sight port.new) self.new }
         ensures calls { (record_in (P.sight port.new)).calls ≡ (record_in (P.sight port.old)).calls }
-        ensures turned { SlotTurned (with_slot (P.sight port.old) self.old.core self.old.slot) (with_slot (P.sight port.new) self.new.core self.new.slot) result }
+        ensures turned { SlotTurned (behind_send (P.sight port.old) self.old) (behind_send (P.sight port.new) self.new) result }
         ensures seat { (P.sight port.new).seat ≡ (P.sight port.old).seat }
         ensures same { KeepsHeap self.old self.new }
     {

@@ -14,7 +14,7 @@ const POLLS: u32 = 1_000_000;
 /// What one rank keeps for itself between its calls: its core, the slot of its posted message, the values of its own gather
 /// flags, its heap, and how many vain tries in a row end a call.
 ///
-/// Its calls go through a port that the caller lends. `IsBetweenCalls` says that any of them can begin; each call asks for
+/// Its calls go through a port that the caller lends. `NoCallOpen` says that any of them can begin; each call asks for
 /// that and gives it back, so that nothing is to be proved between one call and the next.
 #[derive(Drop)]
 pub struct Station<V: Evict> {
@@ -40,11 +40,11 @@ impl<V: Evict> Station<V> {
     ghost use Rattle.std.specs.Prelude.{◌≡◌, ◌≤◌, ◌↔◌, ◌++◌, ◌∷◌, [], IsTrue, IfOk, OnErr, Contains};
     ghost use Rattle.mpb_alloc.specs.Heaps.{all_free, given_back, malloc_answer, returned, run_of};
     ghost use Rattle.scc_proto.specs.Ports.{Sight};
-    ghost use Rattle.station.specs.Stations.{IsBetweenCalls, KeepsAllButHeap};
+    ghost use Rattle.station.specs.Stations.{KeepsAllButHeap, NoCallOpen};
 
     /// The station of a rank that has made no call, with an evictor for its cache (RCCE_init).
     pub fn new(evict: V) -> Station<V>
-        ensures free { (s : Sight) → s.events ≡ [] → IsBetweenCalls s result }
+        ensures free { (s : Sight) → s.events ≡ [] → NoCallOpen s result }
         ensures heap { result.heap ≡ all_free }
         ensures polls { result.polls ≡ 1000000 }
     {

@@ -1,12 +1,12 @@
 use Rattle.std.proofs.Common.{◌≡◌, ◌++◌, length, take}
 use Rattle.scc_proto.specs.Ports.{record_in}
-use Rattle.station.specs.Stations.{IsBetweenCalls}
+use Rattle.station.specs.Stations.{NoCallOpen}
 use Rattle.ping_pong.specs.Rallies.{hits}
 use Rattle.ping_pong.proofs.players.hit.Given as goal
 
 abbrev pub invariant-rounds : goal.invariant-rounds
 invariant-rounds g l = record {
-  free : IsBetweenCalls (g.P.Port.sight l.port) l.station;
+  free : NoCallOpen (g.P.Port.sight l.port) l.station;
   calls : (record_in (g.P.Port.sight l.port)).calls ≡ (record_in (g.P.Port.sight l.fn.port)).calls ++ hits (take l.round l.seen);
   as_many : length l.seen ≡ length l.fn.seen;
   seat : (g.P.Port.sight l.port).seat ≡ (g.P.Port.sight l.fn.port).seat;

@@ -3,7 +3,7 @@ use Rattle.scc_base.specs.Setups.{IsSetup}
 use Rattle.scc_proto.specs.Permission.{leaves_heap}
 use Rattle.scc_proto.specs.Ports.{record_in}
 use Rattle.put_get.proofs.HeapLemmas.{put_leaves}
-use Rattle.station.specs.Stations.{IsBetweenCalls, StationAt}
+use Rattle.station.specs.Stations.{NoCallOpen, StationAt}
 use Rattle.station.proofs.HeapFacts.{put_call}
 use Rattle.station.proofs.StationLemmas.{free_after_heap}
 use Rattle.station.proofs.stations.Station.put.Goals as goal
@@ -16,7 +16,7 @@ put-requires-clause-permitted g c fits =
 pub returns-clause-free : goal.returns-clause-free
 returns-clause-free g c =
     let s = g.P.Port.sight c.args.port.now in
-    let free = subst (λ (a : StationAt). IsBetweenCalls s a) (sym c.self.view_is) c.requires.free in
+    let free = subst (λ (a : StationAt). NoCallOpen s a) (sym c.self.view_is) c.requires.free in
     let call = put_call s.seat (subst IsSetup c.setup.ensures.gives c.nue-nue.ensures.valid) c.args.to c.requires.below s _ c.self.inside.core _ refl
     (ap leaves_heap free.messages.between.stage) free.registers c.put.result c.args.at.first c.args.src.now c.first-first.ensures.valid.from_heap
     free.messages.between.empty c.put.ensures.port_unchanged c.put.ensures.core_unchanged c.put.ensures.puts in
@@ -25,7 +25,7 @@ returns-clause-free g c =
 pub returns-clause-calls : goal.returns-clause-calls
 returns-clause-calls g c =
     let s = g.P.Port.sight c.args.port.now in
-    let free = subst (λ (a : StationAt). IsBetweenCalls s a) (sym c.self.view_is) c.requires.free in
+    let free = subst (λ (a : StationAt). NoCallOpen s a) (sym c.self.view_is) c.requires.free in
     (put_call s.seat (subst IsSetup c.setup.ensures.gives c.nue-nue.ensures.valid) c.args.to c.requires.below s _ c.self.inside.core _ refl
     (ap leaves_heap free.messages.between.stage) free.registers c.put.result c.args.at.first c.args.src.now c.first-first.ensures.valid.from_heap
     free.messages.between.empty c.put.ensures.port_unchanged c.put.ensures.core_unchanged c.put.ensures.puts).alone.calls

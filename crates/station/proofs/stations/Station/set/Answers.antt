@@ -6,7 +6,7 @@ use Rattle.scc_proto.specs.Ports.{Seat, record_in}
 use Rattle.sync_flags.specs.Flags.{FlagView, flag_of, flag_value}
 use Rattle.sync_flags.specs.Writes.{MayWrite}
 use Rattle.sync_flags.proofs.HeapStores.{heap_bit_may, heap_store_may}
-use Rattle.station.specs.Stations.{HoldsNoRegister, IsBetweenCalls, StationAt}
+use Rattle.station.specs.Stations.{HoldsNoRegister, NoCallOpen, StationAt}
 use Rattle.station.proofs.HeapFacts.{set_call}
 use Rattle.station.proofs.StationLemmas.{free_after_heap}
 use Rattle.station.proofs.stations.Station.set.Goals as goal
@@ -26,7 +26,7 @@ flag_write-requires-clause-permitted g c =
 pub returns-clause-free : goal.returns-clause-free
 returns-clause-free g c =
     let s = g.P.Port.sight c.args.port.now in
-    let free = subst (λ (a : StationAt). IsBetweenCalls s a) (sym c.self.view_is) c.requires.free in
+    let free = subst (λ (a : StationAt). NoCallOpen s a) (sym c.self.view_is) c.requires.free in
     let call = set_call s.seat (subst IsSetup c.setup.ensures.gives c.nue-nue.ensures.valid) c.args.at c.requires.below s _ c.self.inside.core _ refl
     (ap leaves_heap free.messages.between.stage) free.registers c.args.flag c.requires.heap c.flag_write.ensures.empty c.args.value c.self.inside.polls c.args.flag.bit c.flag_write.result c.flag_write.ensures.writes in
     free_after_heap _ free call.seat_is call.alone call.empty
@@ -34,6 +34,6 @@ returns-clause-free g c =
 pub returns-clause-calls : goal.returns-clause-calls
 returns-clause-calls g c =
     let s = g.P.Port.sight c.args.port.now in
-    let free = subst (λ (a : StationAt). IsBetweenCalls s a) (sym c.self.view_is) c.requires.free in
+    let free = subst (λ (a : StationAt). NoCallOpen s a) (sym c.self.view_is) c.requires.free in
     (set_call s.seat (subst IsSetup c.setup.ensures.gives c.nue-nue.ensures.valid) c.args.at c.requires.below s _ c.self.inside.core _ refl
     (ap leaves_heap free.messages.between.stage) free.registers c.args.flag c.requires.heap c.flag_write.ensures.empty c.args.value c.self.inside.polls c.args.flag.bit c.flag_write.result c.flag_write.ensures.writes).alone.calls
