@@ -1,8 +1,10 @@
 -- The rank of a station as a sender, as a receiver and as a member of a barrier: at the start of a call, in it, and behind it.
 use Rattle.std.specs.Prelude.{ℕ, true, false, List, length}
 use Rattle.scc_base.specs.Heads.{plain_head}
-use Rattle.scc_proto.specs.Ports.{Sight}
+use Rattle.scc_base.specs.declared.events.Event.{Event}
+use Rattle.scc_proto.specs.Ports.{Did, Sight, record_in}
 use Rattle.send_recv.specs.Ops.{RecvAt, SendAt, new_receive, new_send}
+use Rattle.send_recv.specs.Turns.{KeepsAllButMessages}
 use Rattle.send_recv.specs.Ranks.{BufferHolder, Receiver, Sender, SlotHolder, receiving, sending, with_bytes, with_slot}
 use Rattle.barrier.specs.Stages.{BarAt, Member, ParityHolder, meeting, new_barrier, with_parity}
 use Rattle.station.specs.Stations.{StationAt}
@@ -46,3 +48,9 @@ at_barrier s a comm = in_barrier s a (new_barrier comm)
 -- behind a barrier
 abbrev pub behind_barrier : Sight → StationAt → ParityHolder
 behind_barrier s a = with_parity s a.core a.parity
+
+-- from here to there a rank was in messages alone: of its record all else is as it was
+pub record OnlyMessages (s t : Sight) : Type 0 where
+  pub events : List Event
+  pub did : Did s events t
+  pub rest : KeepsAllButMessages (record_in s) (record_in t)

@@ -1,6 +1,7 @@
 //! The library in a program of one's own: a rank with all that it keeps between its calls.
 #![tactic(auto)]
 
+mod collectives;
 mod flagging;
 mod laws;
 mod meetings;
@@ -15,4 +16,4 @@ mod stops;
 pub use laws::other_port_law;
 pub use setups::world_of;
 pub use stations::Station;
-pub use stops::{BarStall, RecvStall, RecvStop, SendStall, Stop};
+pub use stops::{BarStall, CollStall, CollStop, RecvStall, RecvStop, SendStall, Stop};

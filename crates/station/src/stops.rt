@@ -1,6 +1,7 @@
 //! Why a call of a station stopped. Each of these prints itself.
 
 use barrier::BarOp;
+use coll_more::MoreOp;
 use mpb_alloc::MallocFault;
 use put_get::RangeFault;
 use scc_base::{Head, Spot, Stalled};
@@ -38,6 +39,23 @@ pub struct BarStall {
     pub op: BarOp,
     pub spot: Spot,
     pub polls: u32,
+}
+
+/// A collective call gave up: the last `polls` tries at this spot were vain. It can go on with the same bytes.
+#[derive(Drop)]
+pub struct CollStall {
+    pub op: MoreOp,
+    pub spot: Spot,
+    pub polls: u32,
+}
+
+/// Why a collective call stopped.
+#[derive(Drop)]
+pub enum CollStop {
+    /// It gave up.
+    Stalled(CollStall),
+    /// A message was sent that is none of the call: it has this head. It stays untaken.
+    Mismatch { op: MoreOp, sent: Head },
 }
 
 // Writes what stalled, where, and after how many tries.
@@ -131,6 +149,36 @@ impl fmt::Debug for BarStall {
     }
 }
 
+impl fmt::Display for CollStall {
+    fn fmt<W: fmt::Write>(&self, f: &mut fmt::Formatter<W>) -> fmt::Result {
+        stalled(f, "a collective call", &self.spot, self.polls)
+    }
+}
+
+impl fmt::Debug for CollStall {
+    fn fmt<W: fmt::Write>(&self, f: &mut fmt::Formatter<W>) -> fmt::Result {
+        fmt::Display::fmt(self, f)
+    }
+}
+
+impl fmt::Display for CollStop {
+    fn fmt<W: fmt::Write>(&self, f: &mut fmt::Formatter<W>) -> fmt::Result {
+        match self {
+            CollStop::Stalled(stall) => fmt::Display::fmt(stall, f),
+            CollStop::Mismatch { op: _, sent } => {
+                write!(f, "a collective call met another message: sent ")?;
+                message(f, sent)
+            }
+        }
+    }
+}
+
+impl fmt::Debug for CollStop {
+    fn fmt<W: fmt::Write>(&self, f: &mut fmt::Formatter<W>) -> fmt::Result {
+        fmt::Display::fmt(self, f)
+    }
+}
+
 /// Why a call of a station stopped, whichever call it was: for a caller's `?`.
 #[derive(Drop)]
 pub enum Stop {
@@ -140,6 +188,8 @@ pub enum Stop {
     Recv(RecvStop),
     /// A barrier.
     Barrier(BarStall),
+    /// A gather, a scatter, an allgather or an alltoall.
+    Collective(CollStop),
     /// A flag's write, or a wait for a flag.
     Flag(Stalled),
     /// A put or a get.
@@ -163,6 +213,12 @@ impl From<RecvStop> for Stop {
 impl From<BarStall> for Stop {
     fn from(stall: BarStall) -> Stop {
         Stop::Barrier(stall)
+    }
+}
+
+impl From<CollStop> for Stop {
+    fn from(stop: CollStop) -> Stop {
+        Stop::Collective(stop)
     }
 }
 
@@ -190,6 +246,7 @@ impl fmt::Display for Stop {
             Stop::Send(stall) => fmt::Display::fmt(stall, f),
             Stop::Recv(stop) => fmt::Display::fmt(stop, f),
             Stop::Barrier(stall) => fmt::Display::fmt(stall, f),
+            Stop::Collective(stop) => fmt::Display::fmt(stop, f),
             Stop::Flag(stall) => stalled(f, "a flag", &stall.spot, stall.polls),
             Stop::Range(fault) => fmt::Display::fmt(fault, f),
             Stop::Malloc(fault) => fmt::Display::fmt(fault, f),
