@@ -102,7 +102,8 @@ impl<V: Evict> Station<V> {
     ) -> Result<(), CollStop>
         requires open { (base : List DataCall) × IsInCollective base (P.sight port.old) self.old stall.op src.now dst.old }
         ensures free { IfOk result (λ done. NoCallOpen (P.sight port.new) self.new) }
-        ensures calls { IfOk result (λ done. (base : List DataCall) → IsInCollective base (P.sight port.old) self.old stall.op src.now dst.old
+        ensures calls { IfOk result (λ done. (base : List DataCall)
+            → IsInCollective base (P.sight port.old) self.old stall.op src.now dst.old
             → (record_in (P.sight port.new)).calls ≡ base
             ++ data_calls stall.op.more (P.sight port.old).seat.rank (P.sight port.old).seat.setup.nue stall.op.len src.now dst.new) }
         ensures own { IfOk result (λ done. HasOwn stall.op.more (P.sight port.old).seat.rank stall.op.len src.now dst.new) }
