@@ -70,6 +70,7 @@ impl Cache {
     }
 
     /// The number of lines held.
+    #[inline(always)]
     pub fn len(&self) -> usize
         ensures value { result ≡ length self.now }
         ensures cache { IsCache self.now }
@@ -86,6 +87,7 @@ impl Cache {
     }
 
     /// Whether nothing is held.
+    #[inline(always)]
     pub fn is_empty(&self) -> bool
         ensures { result ≡ (length self.now == 0) }
     {
@@ -93,6 +95,7 @@ impl Cache {
     }
 
     /// The place of a line, if it is held.
+    #[inline(always)]
     fn find(&self, line: Line) -> Option<usize>
         ensures place { IsPlaceOf self.now line result }
         ensures cache { IsCache self.now }
@@ -109,6 +112,7 @@ impl Cache {
     }
 
     /// The words that are held of a line.
+    #[inline(always)]
     pub fn look(&self, line: Line) -> Option<[u64; 4]>
         ensures { result ≡ held self.now line }
     {
@@ -119,6 +123,7 @@ impl Cache {
     }
 
     /// Brings a line in, behind the others. Where 512 are held the first leaves.
+    #[inline]
     pub fn fill(&mut self, line: Line, words: [u64; 4])
         requires { held self.old line ≡ None }
         ensures lines { self.new ≡ filled self.old line words }
@@ -136,6 +141,7 @@ impl Cache {
     }
 
     /// Notes a word that the core wrote, where its line is held.
+    #[inline]
     pub fn note_write(&mut self, place: Place, value: u64)
         ensures lines { self.new ≡ noted self.old place value }
         ensures cache { IsCache self.new }
@@ -146,6 +152,7 @@ impl Cache {
     }
 
     /// Notes the four words of a line that the core wrote, where it is held.
+    #[inline]
     pub fn note_line(&mut self, line: Line, words: &[u64; 4])
         ensures lines { self.new ≡ line_noted self.old line words.now }
         ensures cache { IsCache self.new }
@@ -159,6 +166,7 @@ impl Cache {
     }
 
     /// Drops the entry at this place.
+    #[inline]
     pub fn drop_at(&mut self, at: usize)
         requires { at < length self.old }
         ensures lines { self.new ≡ remove self.old at }
@@ -169,6 +177,7 @@ impl Cache {
     }
 
     /// Drops all lines.
+    #[inline]
     pub fn invalidate(&mut self)
         ensures { self.new ≡ [] }
     {

@@ -11,6 +11,7 @@ use scc_proto::Port;
 use write_combine::Out;
 
 /// Loads the four words of a line, in order.
+#[inline(always)]
 pub(crate) fn load_line<P: Port>(port: &mut P, line: Line) -> [u64; 4]
     ensures did { Did (P.sight port.old) (loads_of line result) (P.sight port.new) }
     ensures steps { MadeSteps P.stepped (P.sight port.old) (P.sight port.new) }
@@ -23,6 +24,7 @@ pub(crate) fn load_line<P: Port>(port: &mut P, line: Line) -> [u64; 4]
 }
 
 /// Stores one word of a line, where it was written.
+#[inline(always)]
 fn store_word<P: Port>(port: &mut P, out: &Out, word: u8)
     requires below { word < 4 }
     requires permitted { MayMakeAll (P.sight port.old).seat (record_in (P.sight port.old)) (store_of_word out.now word) }
@@ -36,6 +38,7 @@ fn store_word<P: Port>(port: &mut P, out: &Out, word: u8)
 }
 
 /// Stores the words of a line that were written, the last word first.
+#[inline]
 fn store_line<P: Port>(port: &mut P, out: &Out)
     requires permitted { MayMakeAll (P.sight port.old).seat (record_in (P.sight port.old)) (stores_of_line out.now) }
     ensures did { Did (P.sight port.old) (stores_of_line out.now) (P.sight port.new) }
@@ -48,6 +51,7 @@ fn store_line<P: Port>(port: &mut P, out: &Out)
 }
 
 /// Stores what left the write-combining buffer.
+#[inline]
 pub(crate) fn store_out<P: Port>(port: &mut P, out: &Option<Out>)
     requires permitted { MayMakeAll (P.sight port.old).seat (record_in (P.sight port.old)) (stores_of out.now) }
     ensures did { Did (P.sight port.old) (stores_of out.now) (P.sight port.new) }

@@ -64,6 +64,7 @@ impl<V: Evict> Core<V> {
     }
 
     /// Whether the write-combining buffer holds nothing, as reads, put and get ask for.
+    #[inline(always)]
     pub fn is_flushed(&self) -> bool
         ensures empty { IsTrue result ↔ (self.now.out ≡ None) }
         ensures valid { IsCore self.now.lines self.now.out }
@@ -100,6 +101,7 @@ impl<V: Evict> Core<V> {
     }
 
     /// Drops all cached lines, as the instruction CL1INVMB does.
+    #[inline(always)]
     pub fn cl1invmb(&mut self)
         ensures { self.new ≡ record self.old { lines = [] } }
     {
@@ -107,6 +109,7 @@ impl<V: Evict> Core<V> {
     }
 
     /// Brings a line in. Then the evictor is asked once, and the entry that it names leaves. Whether it named none.
+    #[inline(always)]
     fn bring(&mut self, line: Line, words: [u64; 4]) -> bool
         requires { held self.old.lines line ≡ None }
         ensures fills { Fills self.old line words self.new }
@@ -122,6 +125,7 @@ impl<V: Evict> Core<V> {
     }
 
     /// The words of a line, from the cache where it is held there. What waits in the write-combining buffer is not looked at.
+    #[inline]
     pub fn fetch<P: Port>(&mut self, port: &mut P, line: Line) -> [u64; 4]
         ensures fetch { Fetch (P.sight port.old) self.old line result (P.sight port.new) self.new }
         ensures steps { MadeSteps P.stepped (P.sight port.old) (P.sight port.new) }
@@ -135,6 +139,7 @@ impl<V: Evict> Core<V> {
     }
 
     /// Reads a word.
+    #[inline]
     pub fn word_read<P: Port>(&mut self, port: &mut P, place: Place) -> u64
         requires empty { self.old.out ≡ None }
         ensures reads { ReadsWord (P.sight port.old) self.old place result (P.sight port.new) self.new }
@@ -145,6 +150,7 @@ impl<V: Evict> Core<V> {
     }
 
     /// Drops all cached lines and reads a word. Its line is loaded, with no search for it.
+    #[inline]
     pub fn fresh_word<P: Port>(&mut self, port: &mut P, place: Place) -> u64
         requires empty { self.old.out ≡ None }
         ensures reads { ReadsWord (P.sight port.old) (record self.old { lines = [] }) place result (P.sight port.new) self.new }
@@ -158,6 +164,7 @@ impl<V: Evict> Core<V> {
     }
 
     /// Reads the four words of a line, in order.
+    #[inline]
     pub fn line_read<P: Port>(&mut self, port: &mut P, line: Line) -> [u64; 4]
         requires empty { self.old.out ≡ None }
         ensures reads { ReadsLine (P.sight port.old) self.old line result (P.sight port.new) self.new }
@@ -191,6 +198,7 @@ impl<V: Evict> Core<V> {
 
     /// Stores what the buffer holds, and then a word of another line, which is noted in the cache. The buffer holds
     /// nothing afterwards.
+    #[inline]
     pub fn word_write_through<P: Port>(&mut self, port: &mut P, place: Place, word: u64)
         requires other { handed_out self.old.out (line_of_word place) ≡ self.old.out }
         requires permitted { MayMakeAll (P.sight port.old).seat (record_in (P.sight port.old)) (stores_of self.old.out ++ store_of place word ∷ []) }
@@ -204,6 +212,7 @@ impl<V: Evict> Core<V> {
     }
 
     /// Writes the four words of a line that is not the one in the buffer, so that the whole line stands there.
+    #[inline]
     pub fn line_write<P: Port>(&mut self, port: &mut P, line: Line, words: &[u64; 4])
         requires other { handed_out self.old.out line ≡ self.old.out }
         requires permitted { MayMakeAll (P.sight port.old).seat (record_in (P.sight port.old)) (stores_of self.old.out) }
@@ -216,6 +225,7 @@ impl<V: Evict> Core<V> {
     }
 
     /// Stores what the buffer holds. It holds nothing afterwards.
+    #[inline]
     pub fn flush<P: Port>(&mut self, port: &mut P)
         requires permitted { MayMakeAll (P.sight port.old).seat (record_in (P.sight port.old)) (stores_of self.old.out) }
         ensures flushes { Flushes (P.sight port.old) self.old (P.sight port.new) self.new }

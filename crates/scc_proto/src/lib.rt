@@ -15,6 +15,7 @@ mod ports;
 pub mod refusals;
 
 pub use counting::CountingPort;
+pub use history::History;
 pub use lone::LonePort;
 pub use numbers::{NUMBERS, number_of_register, number_of_word};
 pub use ports::Port;

@@ -11,6 +11,7 @@ use scc_proto::Port;
 use sync_flags::{is_set_in, look_word, try_change_bit};
 
 // The bit of its word that a flag is: with line flags it is the whole word.
+#[inline(always)]
 fn bit_of(layout: Layout, flag: FlagAt) -> Option<u8>
     ensures gives { result ≡ bit_of layout flag.bit }
     ensures below { IfSome result (λ b. b < 64) }
@@ -22,6 +23,7 @@ fn bit_of(layout: Layout, flag: FlagAt) -> Option<u8>
 }
 
 /// Looks at a flag at a core. The look is fresh: the cache is emptied before.
+#[inline(always)]
 pub(crate) fn look<V: Evict, P: Port>(
     core: &mut Core<V>,
     port: &mut P,
@@ -37,6 +39,7 @@ pub(crate) fn look<V: Evict, P: Port>(
 }
 
 // The word of a line flag.
+#[inline(always)]
 fn flag_value(set: bool) -> u64
     ensures gives { result ≡ (if set then 1 else 0) }
 {
@@ -44,6 +47,7 @@ fn flag_value(set: bool) -> u64
 }
 
 // Writes a line flag.
+#[inline(always)]
 fn write_flag<V: Evict, P: Port>(
     core: &mut Core<V>,
     port: &mut P,
@@ -77,6 +81,7 @@ fn change_bit<V: Evict, P: Port>(
 }
 
 /// Changes a flag at a core in one turn. False where its bit lies under a register that another rank has.
+#[inline]
 pub(crate) fn change<V: Evict, P: Port>(
     core: &mut Core<V>,
     port: &mut P,

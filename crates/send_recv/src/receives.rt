@@ -60,14 +60,15 @@ impl RecvOp {
         }
     }
 
-    // The head that is asked for.
-    pub(crate) fn head(&self) -> Head
+    /// The head that is asked for.
+    pub fn head(&self) -> Head
         ensures gives { result ≡ self.now.head }
     {
         self.head
     }
 
     // Looks whether the next chunk was sent.
+    #[inline]
     fn look_sent<V: Evict, P: Port>(&mut self, core: &mut Core<V>, port: &mut P) -> RecvTurn
         requires empty { core.old.out ≡ None }
         ensures looks { LooksForSent (P.sight port.old) core.old self.old.from (goes_on result) (P.sight port.new) core.new }
@@ -135,6 +136,7 @@ impl RecvOp {
     }
 
     // Reads a line of the chunk into the buffer.
+    #[inline]
     fn read_line<V: Evict, P: Port>(
         &mut self,
         core: &mut Core<V>,

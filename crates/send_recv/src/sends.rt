@@ -109,6 +109,7 @@ impl SendOp {
     }
 
     // Writes a line of the chunk.
+    #[inline]
     fn write_line<V: Evict, P: Port>(
         &mut self,
         core: &mut Core<V>,
@@ -178,6 +179,7 @@ impl SendOp {
     }
 
     // Looks whether the chunk was taken.
+    #[inline]
     fn look_ready<V: Evict, P: Port>(&mut self, core: &mut Core<V>, port: &mut P) -> Turn
         requires empty { core.old.out ≡ None }
         ensures looks { LooksForReady (P.sight port.old) core.old self.old.to (moves_on result) (P.sight port.new) core.new }

@@ -19,6 +19,7 @@ fn byte_at(bytes: &[u8], at: usize) -> u8
 }
 
 // The word of eight bytes that are there, the lowest first.
+#[inline(always)]
 fn eight_from(bytes: &[u8], at: usize) -> u64
     requires within { at + 8 ≤ length bytes.now }
     ensures gives { result ≡ word_at bytes.now at }
@@ -61,6 +62,7 @@ fn four_from(bytes: &[u8], at: usize) -> u32
 }
 
 // The four words of a whole line of bytes.
+#[inline(always)]
 fn four_words_from(line: &[u8]) -> [u64; 4]
     requires whole { length line.now ≡ 32 }
     ensures gives { result ≡ words_at line.now 0 }
@@ -74,6 +76,7 @@ fn four_words_from(line: &[u8]) -> [u64; 4]
 }
 
 /// The four words of a line of a message, from byte `at` on, with zeros past the message's end.
+#[inline]
 pub(crate) fn line_from(bytes: &[u8], at: usize) -> [u64; 4]
     requires fits { at ≤ 2 ^ 31 }
     ensures gives { result ≡ words_at bytes.now at }
@@ -107,6 +110,7 @@ fn put_word(bytes: &mut [u8], at: usize, word: u64)
 }
 
 // Writes the 32 bytes of a line.
+#[inline(always)]
 fn put_four_words(line: &mut [u8], words: &[u64; 4])
     requires whole { length line.old ≡ 32 }
     ensures put { (k : ℕ) → k < 32 → slice_index line.new k ≡ byte_of_line words.now k }
@@ -118,6 +122,7 @@ fn put_four_words(line: &mut [u8], words: &[u64; 4])
 }
 
 /// Writes the 32 bytes of a line into a message, from byte `at` on, up to the message's end.
+#[inline]
 pub(crate) fn put_line(bytes: &mut [u8], at: usize, words: &[u64; 4])
     requires fits { at ≤ 2 ^ 31 }
     ensures put { (k : ℕ) → k < 32 → at + k < length bytes.old → slice_index bytes.new (at + k) ≡ byte_of_line words.now k }

@@ -70,6 +70,7 @@ impl Flag {
     }
 
     /// The flag's word at a core.
+    #[inline]
     pub fn place(self, core: CoreId) -> Place
         ensures gives { result ≡ flag_at core self }
         ensures below { self.word < 4 }
@@ -96,6 +97,7 @@ impl Flag {
 }
 
 /// Whether a flag is set in this word: a flag that is the whole word where there is no bit.
+#[inline(always)]
 pub fn is_set_in(bit: Option<u8>, word: u64) -> bool
     requires below { IfSome bit (λ b. b < 64) }
     ensures tells { result ≡ is_set_in bit word }

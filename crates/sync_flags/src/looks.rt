@@ -16,6 +16,7 @@ use scc_proto::Port;
 
 /// Looks at a word. The cached lines are dropped first, so the answer is a load's of this call.
 #[tactic(auto, using(crate::proofs::LookLemmas::word_looks))]
+#[inline(always)]
 pub fn look_word<V: Evict, P: Port>(core: &mut Core<V>, port: &mut P, place: Place) -> u64
     requires empty { core.old.out ≡ None }
     ensures looks { LooksAt (P.sight port.old) core.old place result (P.sight port.new) core.new }

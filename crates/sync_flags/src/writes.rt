@@ -19,6 +19,7 @@ use scc_proto::Port;
 use tas_lock::{Held, release, try_acquire};
 
 /// Writes a word and sends it out.
+#[inline]
 pub fn store_word<V: Evict, P: Port>(core: &mut Core<V>, port: &mut P, place: Place, value: u64)
     requires empty { core.old.out ≡ None }
     requires permitted { MayMake (P.sight port.old).seat (record_in (P.sight port.old)) (store_of place value) }
@@ -45,6 +46,7 @@ fn acquire_within<P: Port>(port: &mut P, c: CoreId, polls: u32) -> Option<Held>
 }
 
 /// The word with one bit as asked.
+#[inline]
 fn changed(word: u64, bit: u8, set: bool) -> u64
     requires { bit < 64 }
     ensures { result ≡ with_bit bit set word }

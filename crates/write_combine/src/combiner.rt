@@ -63,6 +63,7 @@ impl Combiner {
     }
 
     /// Whether nothing is held.
+    #[inline(always)]
     pub fn is_empty(&self) -> bool
         ensures { result ≡ is_none self.now }
     {
@@ -78,6 +79,7 @@ impl Combiner {
     }
 
     /// Notes a word that a core wrote, and hands out the line that was held before if it is another one.
+    #[inline]
     pub fn write(&mut self, place: Place, value: u64) -> Option<Out>
         ensures out { result ≡ handed_out self.old (line_of_word place) }
         ensures held { self.new ≡ Some (held_after self.old place value) }
@@ -96,6 +98,7 @@ impl Combiner {
 
     /// Notes the four words of a line that a core wrote, and hands out the line that was held before if it is
     /// another one.
+    #[inline]
     pub fn write_line(&mut self, line: Line, words: &[u64; 4]) -> Option<Out>
         ensures out { result ≡ handed_out self.old line }
         ensures held { self.new ≡ Some (whole_line line words.now) }
@@ -116,6 +119,7 @@ impl Combiner {
     }
 
     /// Hands out what is held. Nothing is held afterwards.
+    #[inline]
     pub fn flush(&mut self) -> Option<Out>
         ensures out { result ≡ self.old }
         ensures held { self.new ≡ None }
