@@ -15,7 +15,7 @@ use std::thread::Threads;
 const RANKS: usize = 4;
 
 /// How often a rank looks for the other ones.
-const LOOKS: u64 = 50_000_000;
+const LOOKS: u64 = 5_000_000_000;
 
 /// A place where the threads of all ranks meet: how many have come to it, and how many waited there in vain.
 #[derive(Drop)]

@@ -39,7 +39,11 @@ mod own_flags;
 #[cfg(test)]
 mod private_lines;
 #[cfg(test)]
+mod stalled_calls;
+#[cfg(test)]
 mod steps;
+#[cfg(test)]
+mod waiting_messages;
 #[cfg(test)]
 mod whole_barriers;
 #[cfg(test)]

@@ -9,7 +9,7 @@ ghost use Rattle.chip_teams.specs.Teams.{sight_alone};
 ghost use Rattle.scc_rows.specs.Talkers.{IsTalking};
 
 use crate::fixtures::{LAYOUTS, as_named};
-use crate::steps::{Answer, Step, takes};
+use crate::steps::{Step, takes};
 use chip_teams::{Player, Team, opened};
 use line_cache::{Always, Evict, Never};
 use put_get::Core;
@@ -80,8 +80,8 @@ pub(crate) struct Talker<V: Evict + Drop> {
     // How many messages were received with the bytes that were to be found.
     pub arrived: u32,
     // The head that a receive met in place of its own, and how many bytes it asked for.
-    met: Option<Head>,
-    asked: usize,
+    pub met: Option<Head>,
+    pub asked: usize,
 }
 
 impl<V: Evict + Drop> Talker<V> {
@@ -292,7 +292,7 @@ fn rank_with_tasks<V: Evict + Drop>(
 }
 
 // A pair of ranks of which rank 0 does the first deeds and rank 1 the others.
-fn talking<V: Evict + Drop>(
+pub(crate) fn talking<V: Evict + Drop>(
     alloc: Global,
     layout: Layout,
     evictors: (V, V),
@@ -306,12 +306,12 @@ fn talking<V: Evict + Drop>(
 }
 
 // How many messages of rank 1 arrived as they were to.
-fn arrived_in<V: Evict + Drop>(team: &Team<Talker<V>>) -> u32 {
+pub(crate) fn arrived_in<V: Evict + Drop>(team: &Team<Talker<V>>) -> u32 {
     team.player(1).map_or(0, |talker| talker.arrived)
 }
 
 // Shows that rank 0 does the first deeds and rank 1 the others by these steps, and that so many messages arrive.
-fn shows_exchange<V: Evict + Drop>(
+pub(crate) fn shows_exchange<V: Evict + Drop>(
     alloc: Global,
     layout: Layout,
     evictors: (V, V),
@@ -324,7 +324,7 @@ fn shows_exchange<V: Evict + Drop>(
 }
 
 /// In turn, until all are done.
-const IN_TURN: &[Step] = &[Step::Rounds(&[0, 1], 6_000, true)];
+pub(crate) const IN_TURN: &[Step] = &[Step::Rounds(&[0, 1], 6_000, true)];
 
 /// No byte, one byte, one chunk and one byte more, in the chunks of either layout, and the longest message; and two
 /// messages of one length in order, sent and posted.
@@ -372,79 +372,6 @@ fn messages_arrive_whole_and_in_order(rt: HostRuntime) -> Result<(), Fail> {
     for layout in LAYOUTS {
         shows_exchanges(rt.alloc(), *layout)?;
         shows_evictions(rt.alloc(), *layout)?;
-    }
-    Ok(())
-}
-
-const SEND: &[(Deed, usize)] = &[(Deed::Send, 100)];
-
-const RECEIVE: &[(Deed, usize)] = &[(Deed::Receive, 100)];
-
-/// A receive waits until the sender has taken its turns. Once the message is sent the sender waits in its turn, and
-/// the receive goes on.
-const RECEIVE_WAITS: &[Step] = &[
-    Step::Rounds(&[1], 20, false),
-    Step::Turn(1, Answer::Waits),
-    Step::Rounds(&[0], 20, false),
-    Step::Turn(0, Answer::Waits),
-    Step::Turn(1, Answer::Moves),
-    Step::Rounds(&[1, 0], 20, true),
-];
-
-fn shows_receive(alloc: Global, layout: Layout) -> Result<(), Fail> {
-    let evictors = (Never, Never);
-    shows_exchange(alloc, layout, evictors, (SEND, RECEIVE), RECEIVE_WAITS, 1)
-}
-
-const SEND_FORTY: &[(Deed, usize)] = &[(Deed::Send, 40)];
-
-const RECEIVE_MORE: &[(Deed, usize)] = &[(Deed::Receive, 41), (Deed::Receive, 40)];
-
-// Whether a receive of rank 1 met a head of 40 bytes where it asked for 41.
-fn met_forty(team: &Team<Talker<Never>>) -> bool {
-    match team.player(1) {
-        Some(receiver) => receiver.met == Head::plain(40) && receiver.asked == 41,
-        None => false,
-    }
-}
-
-// Shows that a receive of another length meets the head that was sent, and leaves the message to the next receive.
-fn shows_other_length(alloc: Global, layout: Layout) -> Result<(), Fail> {
-    let mut team = talking(alloc, layout, (Never, Never), SEND_FORTY, RECEIVE_MORE)?;
-    as_named(takes(&mut team, IN_TURN) && met_forty(&team) && arrived_in(&team) == 1)
-}
-
-const LONG_AND_SHORT: &[(Deed, usize)] = &[(Deed::Post, 3_584), (Deed::Post, 7)];
-
-const THEIR_RECEIVES: &[(Deed, usize)] = &[(Deed::Receive, 3_584), (Deed::Receive, 7)];
-
-/// A second post waits. The first is received while the sender does nothing, and the second has not come.
-const SECOND_POST_WAITS: &[Step] = &[
-    Step::Rounds(&[0], 300, false),
-    Step::Turn(0, Answer::Waits),
-    Step::Rounds(&[1], 300, false),
-];
-
-// Whether a second post waits until the first is taken.
-fn second_post_waits(team: &mut Team<Talker<Never>>) -> bool {
-    takes(team, SECOND_POST_WAITS)
-        && arrived_in(team) == 1
-        && takes(team, IN_TURN)
-        && arrived_in(team) == 2
-}
-
-fn shows_second_post(alloc: Global, layout: Layout) -> Result<(), Fail> {
-    let evictors = (Never, Never);
-    let mut team = talking(alloc, layout, evictors, LONG_AND_SHORT, THEIR_RECEIVES)?;
-    as_named(second_post_waits(&mut team))
-}
-
-#[test]
-fn a_call_that_waits_goes_on(rt: HostRuntime) -> Result<(), Fail> {
-    for layout in LAYOUTS {
-        shows_receive(rt.alloc(), *layout)?;
-        shows_other_length(rt.alloc(), *layout)?;
-        shows_second_post(rt.alloc(), *layout)?;
     }
     Ok(())
 }
