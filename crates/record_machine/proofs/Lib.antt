@@ -1,0 +1,9 @@
+pub mod ChunkLaws
+pub mod MachineLaws
+pub mod NotedLaws
+pub mod PartLaws
+pub mod ReceiveLaws
+pub mod SendLaws
+pub mod StageLaws
+pub mod StepLaws
+pub mod WorkLaws

@@ -1,0 +1,12 @@
+-- The words of bit flags that a machine keeps under held registers.
+use Rattle.std.specs.Prelude.{◌≡◌, ℕ, ◌<◌, List, Option, None, option_map, slice_index_or}
+use Rattle.scc_proto.specs.Stages.{FlagWords}
+use Rattle.record_machine.specs.declared.held.NotedFlags.{NotedFlags}
+
+-- the words of bit flags of a core as a record notes them
+abbrev pub flag_words : NotedFlags → FlagWords
+flag_words flags = record { sent = flags.sent; ready = flags.ready }
+
+-- by core, what is noted under the own hold of its register
+abbrev pub KeepsHeld : List (Option NotedFlags) → (ℕ → Option FlagWords) → Type 0
+KeepsHeld held records = (core : ℕ) → core < 48 → option_map flag_words (slice_index_or held core None) ≡ records core

@@ -1,0 +1,6 @@
+pub mod Following
+pub mod Held
+pub mod Noted
+pub mod Standing
+pub mod Steps
+pub mod Uses

@@ -1,0 +1,25 @@
+-- Noted words as a machine keeps them: of each word the newest value.
+use Rattle.std.specs.Prelude.{◌≡◌, ℕ, ◌<◌, true, false, not, List, Option, None, Some, slice_index_or}
+use Rattle.scc_base.specs.Heads.{MessageHead}
+use Rattle.scc_proto.specs.Messages.{Notes, noted, head_of}
+use Rattle.scc_proto.specs.Permission.{is_empty, says_head}
+use Rattle.record_machine.specs.declared.chunks.NotedChunk.{NotedChunk}
+use Rattle.record_machine.specs.declared.lines.NotedLine.{NotedLine}
+
+-- each of the first n slots has what is noted under its number
+abbrev pub AreSlotsOf : ℕ → List (Option ℕ) → Notes → Type 0
+AreSlotsOf n slots notes = (k : ℕ) → k < n → slice_index_or slots k None ≡ noted notes k
+
+-- these words of a header line are noted
+abbrev pub IsLineOf : NotedLine → Notes → Type 0
+IsLineOf line notes = AreSlotsOf 4 line.words notes
+
+-- these words of a chunk buffer are noted
+pub record IsChunkOf (chunk : NotedChunk) (notes : Notes) : Type 0 where
+  pub words : AreSlotsOf 828 chunk.words notes
+  pub some : chunk.some ≡ not (is_empty notes)
+
+-- the head that noted words say, where they say one that a message may have
+abbrev pub TellsHead : Notes → Option MessageHead → Type 0
+TellsHead notes None = says_head notes ≡ false
+TellsHead notes (Some head) = (says_head notes ≡ true) × (head_of notes ≡ head)

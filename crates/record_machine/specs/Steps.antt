@@ -1,0 +1,54 @@
+-- What the steps of a machine mean.
+use Rattle.std.specs.Prelude.{ℕ, ◌<◌, Bool, ◌&&◌, ◌==◌, not, nat_lt}
+use Rattle.std.specs.Int.{bit_at}
+use Rattle.scc_proto.specs.Moves.{Move, DraftHeader, DraftChunk, RaiseSent, LookSent, ReadHeader, ReadChunk, LowerSent, RaiseReady, LookReady, LowerReady, FlipGather, LookGather, WriteRelease, LookRelease, StoreHeap, NoMove, Misplaced}
+use Rattle.scc_proto.specs.Records.{look_at}
+use Rattle.record_machine.specs.declared.changes.Change.{Change}
+use Rattle.record_machine.specs.declared.changes.Change.TheVariants as change
+use Rattle.record_machine.specs.declared.looks.Look.{Look}
+use Rattle.record_machine.specs.declared.looks.Look.TheVariants as look
+use Rattle.record_machine.specs.declared.steps.Step.{Step}
+use Rattle.record_machine.specs.declared.steps.Step.TheVariants as step
+
+-- of which ranks a look saw the flag set
+abbrev pub look_of : Look → ℕ → Bool
+look_of (look.Line from value) = look_at from value
+look_of (look.Bits me nue value) = λ j. (nat_lt me nue && (nat_lt j nue && not (me == j))) && (bit_at value j == 1)
+
+-- the move that a step is
+abbrev pub move_of : Step → Move
+move_of (step.DraftHeader word value) = DraftHeader word value
+move_of (step.DraftChunk word value) = DraftChunk word value
+move_of (step.RaiseSent to) = RaiseSent to
+move_of (step.LookSent seen) = LookSent (look_of seen)
+move_of (step.ReadHeader from word value) = ReadHeader from word value
+move_of (step.ReadChunk from word value) = ReadChunk from word value
+move_of (step.LowerSent from) = LowerSent from
+move_of (step.RaiseReady to) = RaiseReady to
+move_of (step.LookReady seen) = LookReady (look_of seen)
+move_of (step.LowerReady by) = LowerReady by
+move_of (step.FlipGather comm value last) = FlipGather comm value last
+move_of (step.LookGather comm from place value) = LookGather comm from place value
+move_of (step.WriteRelease comm to place value last) = WriteRelease comm to place value last
+move_of (step.LookRelease comm value) = LookRelease comm value
+move_of (step.StoreHeap place value) = StoreHeap place value
+move_of step.Nothing = NoMove
+move_of step.Misplaced = Misplaced
+
+-- the numbers are those of words of a header line or of a chunk buffer, and of communicators
+abbrev pub IsStepWithin : Step → Type 0
+IsStepWithin (step.DraftHeader word value) = word < 4
+IsStepWithin (step.DraftChunk word value) = word < 828
+IsStepWithin (step.ReadHeader from word value) = word < 4
+IsStepWithin (step.ReadChunk from word value) = word < 828
+IsStepWithin (step.FlipGather comm value last) = comm < 16
+IsStepWithin (step.LookGather comm from place value) = comm < 16
+IsStepWithin (step.WriteRelease comm to place value last) = comm < 16
+IsStepWithin (step.LookRelease comm value) = comm < 16
+IsStepWithin other = Unit {0}
+
+-- the move that a change of a word of bit flags is
+abbrev pub change_by : (lower raise : ℕ → Move) → Change → Move
+change_by lower raise (change.Lowered from) = lower from
+change_by lower raise (change.Raised to) = raise to
+change_by lower raise change.Misplaced = Misplaced

@@ -1,0 +1,23 @@
+//! The record of a rank as a machine: it takes the rank's events one after the other, says which of them the protocol does not
+//! permit, and hands out each call at the event that finishes it.
+#![tactic(auto)]
+
+mod barriers;
+mod bools;
+mod changes;
+mod chunks;
+mod held;
+mod lines;
+mod looks;
+mod machines;
+mod receives;
+mod sends;
+mod steps;
+mod uses;
+mod works;
+
+pub use chunks::NotedChunk;
+pub use held::NotedFlags;
+pub use lines::NotedLine;
+pub use machines::{Machine, Refused};
+pub use works::{Posted, Standing, Work};
