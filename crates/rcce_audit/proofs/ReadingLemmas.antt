@@ -57,10 +57,10 @@ pub record IsReading (r : Reading) : Type 0 where
   pub unbegun : r.rank ≡ None → (q : ℕ) → calls_of r.log q ≡ []
   pub begun : (last : ℕ) → r.rank ≡ Some last → (q : ℕ) → last < q → calls_of r.log q ≡ []
 
-no_rules : (c : ℕ) → rule_of world_alone (suc c) ≡ Absent
+pub no_rules : (c : ℕ) → rule_of world_alone (suc c) ≡ Absent
 no_rules c = world.absent_after c
 
-world_rules : AreRules world_alone
+pub world_rules : AreRules world_alone
 world_rules = world.world_alone world_alone refl
 
 no_lists : (q : ℕ) → get_or no_calls q [] ≡ []
@@ -122,14 +122,14 @@ module _ (comms : List CommRule) (c : ℕ) (rule : CommRule) (sixteen : length c
   rule_stays k (Mod parent parts) (low, had, some, most) = (low, stays parent had, some, most)
   rule_stays k (Div parent parts) (low, had, some, most) = (low, stays parent had, some, most)
 
-  rules_more : AreRules comms → IsRule comms c rule → AreRules more_comms
+  pub rules_more : AreRules comms → IsRule comms c rule → AreRules more_comms
   rules_more rules new k under =
       ⊎_elim
       (λ (at : k ≡ c). subst (λ (x : ℕ). IsRule more_comms x (rule_of more_comms x)) (sym at) (subst (IsRule more_comms c) (sym here) (rule_stays c rule new)))
       (λ (other : k ≢ c). subst (IsRule more_comms k) (sym (there k other)) (rule_stays k (rule_of comms k) (rules k under)))
       (cases_eq k c)
 
-split_stands : (comms : List CommRule) (rule : CommRule) → IsSplitRule comms rule → rule ≢ Absent
+pub split_stands : (comms : List CommRule) (rule : CommRule) → IsSplitRule comms rule → rule ≢ Absent
 split_stands comms rule (ByMod parent k had some most) is = absurd cc
 split_stands comms rule (ByDiv parent k had some most) is = absurd cc
 
@@ -139,7 +139,7 @@ had_rule World test is = absurd cc
 had_rule (Mod parent k) test is = absurd cc
 had_rule (Div parent k) test is = absurd cc
 
-split_rule_is : (last c : ℕ) (comms : List CommRule) (rule : CommRule) → last < c → ((k : ℕ) → last < k → rule_of comms k ≡ Absent) → IsSplitRule comms rule → IsRule comms c rule
+pub split_rule_is : (last c : ℕ) (comms : List CommRule) (rule : CommRule) → last < c → ((k : ℕ) → last < k → rule_of comms k ≡ Absent) → IsSplitRule comms rule → IsRule comms c rule
 split_rule_is last c comms rule above later (ByMod parent k had some most) =
     (⊎_elim (λ (low : parent < c). low) (λ (high : c ≤ parent). absurd (had_rule (rule_of comms parent) had (later parent (omega arith)))) (cases_lt parent c), had_rule (rule_of comms parent) had, some, most)
 split_rule_is last c comms rule above later (ByDiv parent k had some most) =

@@ -13,13 +13,16 @@ mod reader;
 mod reading;
 mod steps;
 mod verdicts;
-mod words;
+pub mod words;
 mod writing;
 
 pub use faults::{LogFault, LogKind, LogStop};
 pub use held::{CallList, HeldLog};
 pub use judging::audit;
 pub use laws::{size_law, text_law, verdict_law};
+pub use lines::{CommSplit, begins_comm, comm_said, rank_said};
+pub use lists::{no_calls, push_call};
 pub use logs::{Log, LogCall};
 pub use reading::{MOST_LOG_BYTES, read_log};
 pub use verdicts::Verdict;
+pub use writing::write_lists;

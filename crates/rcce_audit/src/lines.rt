@@ -19,9 +19,9 @@ pub(crate) struct RankCall {
 
 /// A communicator that is a split, with its rule.
 #[derive(Clone, Copy)]
-pub(crate) struct CommSplit {
-    pub(crate) comm: u8,
-    pub(crate) rule: CommRule,
+pub struct CommSplit {
+    pub comm: u8,
+    pub rule: CommRule,
 }
 
 /// The two ranks of a message: the caller's and its peer's.
@@ -31,7 +31,8 @@ pub(crate) struct EndRanks {
     pub(crate) peer: Rank,
 }
 
-fn rank_said(word: &[u8], nue: u8) -> Option<Rank>
+/// A rank of the run.
+pub fn rank_said(word: &[u8], nue: u8) -> Option<Rank>
     requires some { 1 ≤ nue }
     requires most { nue ≤ 48 }
     ensures { result ≡ rank_said nue word.now }
@@ -247,7 +248,7 @@ fn split_said(
 }
 
 /// The communicator of a line, by its words.
-pub(crate) fn comm_said(last: u8, comms: &[CommRule; 16], words: &[&[u8]]) -> Option<CommSplit>
+pub fn comm_said(last: u8, comms: &[CommRule; 16], words: &[&[u8]]) -> Option<CommSplit>
     requires { last < 16 }
     ensures gives { result ≡ comm_said last comms.now (map (λ word. word.now) words.now) }
     ensures below { IfSome result (λ split. split.comm < 16) }
@@ -259,7 +260,7 @@ pub(crate) fn comm_said(last: u8, comms: &[CommRule; 16], words: &[&[u8]]) -> Op
 }
 
 /// Whether a line begins with `comm`.
-pub(crate) fn begins_comm(line: &[u8]) -> bool
+pub fn begins_comm(line: &[u8]) -> bool
     ensures { result ≡ begins_comm line.now }
 {
     let front = &line[..line.len().min(4)];

@@ -8,7 +8,7 @@ use crate::logs::LogCall;
 use std::alloc::{AllocError, Global};
 
 /// A list without calls for each rank.
-pub(crate) fn no_calls(alloc: Global) -> Result<Vec<Vec<LogCall>>, AllocError>
+pub fn no_calls(alloc: Global) -> Result<Vec<Vec<LogCall>>, AllocError>
     ensures gives { IfOk result (λ lists. data_lists lists.items ≡ no_calls) }
     ensures ranks { IfOk result (λ lists. vec_len lists ≡ 48) }
 {
@@ -20,7 +20,7 @@ pub(crate) fn no_calls(alloc: Global) -> Result<Vec<Vec<LogCall>>, AllocError>
 }
 
 /// One more call of a rank.
-pub(crate) fn push_call(
+pub fn push_call(
     lists: &mut Vec<Vec<LogCall>>,
     rank: usize,
     call: LogCall,

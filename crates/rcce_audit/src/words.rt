@@ -9,14 +9,14 @@ use script_reader::{Bytes, number};
 use std::alloc::{AllocError, Global};
 
 /// The parts of a text between its line feeds.
-pub(crate) fn parts(alloc: Global, text: &[u8]) -> Result<Vec<&[u8]>, AllocError>
+pub fn parts(alloc: Global, text: &[u8]) -> Result<Vec<&[u8]>, AllocError>
     ensures { IfOk result (λ v. map (λ part. part.now) v.items ≡ parts_of text.now) }
 {
     text.split(|b| *b == b'\n').collect(alloc)
 }
 
 /// The words of a line.
-pub(crate) fn words(alloc: Global, line: &[u8]) -> Result<Vec<&[u8]>, AllocError>
+pub fn words(alloc: Global, line: &[u8]) -> Result<Vec<&[u8]>, AllocError>
     ensures { IfOk result (λ v. map (λ word. word.now) v.items ≡ words_of line.now) }
 {
     line.split(|b| *b == b' ').collect(alloc)
@@ -40,7 +40,7 @@ pub(crate) fn number_said(word: &[u8]) -> Option<u32>
 }
 
 /// A number from a range.
-pub(crate) fn range_said(word: &[u8], low: u32, high: u32) -> Option<u32>
+pub fn range_said(word: &[u8], low: u32, high: u32) -> Option<u32>
     ensures gives { result ≡ range_said low high word.now }
     ensures least { IfSome result (λ n. low ≤ n) }
     ensures most { IfSome result (λ n. n ≤ high) }
@@ -70,7 +70,8 @@ pub(crate) fn kind_said(word: &[u8]) -> Option<Kind>
     }
 }
 
-fn is_lower(word: &[u8]) -> bool
+/// Whether no capital letter stands in a word.
+pub fn is_lower(word: &[u8]) -> bool
     ensures { result ≡ is_lower word.now }
 {
     word.iter().all(|b| *b <= b'9' || b'a' <= *b)

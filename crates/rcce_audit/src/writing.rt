@@ -111,7 +111,7 @@ fn write_calls<S: Sink>(sink: &mut S, rank: u8, calls: &[LogCall]) -> Result<(),
 }
 
 /// Writes the lines of all ranks' calls.
-fn write_lists<S: Sink>(sink: &mut S, lists: &[Vec<LogCall>]) -> Result<(), WriteFault>
+pub fn write_lists<S: Sink>(sink: &mut S, lists: &[Vec<LogCall>]) -> Result<(), WriteFault>
     requires { length lists.now ≡ 48 }
     ensures { Sends (text_of (table_lines call_lines 0 (data_lists lists.now))) (S.seen sink.old) (S.seen sink.new) result }
 {

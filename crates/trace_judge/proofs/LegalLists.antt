@@ -1,0 +1,97 @@
+-- Lists of events that are taken as a whole.
+use Rattle.std.proofs.Common.{◌≡◌, ℕ, ◌+◌, ◌<◌, ◌⊎◌, inl, inr, Bool, true, false, ◌&&◌, ◌||◌, ◌==◌, if◌then◌else◌, List, [], ◌∷◌, Option, Some, None, Result, Ok, refl, arith}
+use Rattle.std.specs.Prelude.{IsOk}
+use Rattle.std.proofs.lemmas.Bool.Decides.{nat_tests}
+use Rattle.std.proofs.lemmas.List.Elements.{All-head, All-tail}
+use Rattle.scc_base.specs.Events.{IsEvent}
+use Rattle.scc_base.specs.Places.{WordAt}
+use Rattle.scc_base.specs.Setups.{SetupView}
+use Rattle.scc_base.specs.declared.events.Access.{Access}
+use Rattle.scc_base.specs.declared.events.Access.TheVariants.{Load, Store, Take, Free}
+use Rattle.scc_proto.specs.Histories.{IsPermittedRun, memory_from, records_from}
+use Rattle.scc_proto.specs.Records.{is_permitted, IsPermitted}
+use Rattle.scc_proto.specs.Stages.{Record}
+use Rattle.scc_proto.specs.Words.{Memory, IsStepBy, IsStep, IsRun, RankEvent}
+use Rattle.trace_judge.specs.Judged.{Judged, judged_after}
+use Rattle.trace_judge.specs.Rulings.{AreRankEvents, RefusedAt, stands_by, stands_at, is_step_by, is_step, refusal_of, ruling_from, unless_refused}
+use Rattle.trace_judge.specs.declared.judge.Refusal.{Refusal}
+use Rattle.trace_judge.specs.declared.judge.Refusal.TheVariants.{OtherValue, NotPermitted}
+
+-- the test tells what a step is
+step_told : (a : Access) (place : WordAt) (value : ℕ) (memory : Memory) → is_step_by a value (stands_by a place memory) ≡ true → IsStepBy a place value memory
+step_told Load place value memory test = grind (arith, nat_tests)
+step_told Store place value memory test = tt
+step_told Take place value memory test = took value (memory.register place.core) test
+  where
+    took : (v found : ℕ) → ((v == 1 && found == 0) || (v == 0 && found == 1)) ≡ true → ((v ≡ 1) × (found ≡ 0)) ⊎ ((v ≡ 0) × (found ≡ 1))
+    took v found t = grind (arith, nat_tests)
+step_told Free place value memory test = tt
+
+step_tested : (a : Access) (place : WordAt) (value : ℕ) (memory : Memory) → IsStepBy a place value memory → is_step_by a value (stands_by a place memory) ≡ true
+step_tested Load place value memory step = grind (arith, nat_tests)
+step_tested Store place value memory step = refl
+step_tested Take place value memory (inl found) = let one = found.0 in let free = found.1 in grind (arith, nat_tests)
+step_tested Take place value memory (inr found) = let none = found.0 in let held = found.1 in grind (arith, nat_tests)
+step_tested Free place value memory step = refl
+
+abbrev IsTaken : Judged → RankEvent → Type 0
+IsTaken j e = IsStep j.memory e.event × IsPermitted j.setup e.rank (j.records e.rank) e.event
+
+none_told : (step permitted : Bool) (found : ℕ) → (if step then (if permitted then None else Some NotPermitted) else Some (OtherValue found)) ≡ None → (step ≡ true) × (permitted ≡ true)
+none_told true true found is = (refl, refl)
+none_told true false found is = absurd cc
+none_told false permitted found is = absurd cc
+
+none_from : (step permitted : Bool) (found : ℕ) → step ≡ true → permitted ≡ true → (if step then (if permitted then None else Some NotPermitted) else Some (OtherValue found)) ≡ None
+none_from true true found s p = refl
+none_from true false found s p = absurd cc
+none_from false permitted found s p = absurd cc
+
+pub ruling_told : (j : Judged) (e : RankEvent) → refusal_of j e ≡ None → IsTaken j e
+ruling_told j e none =
+    let both = none_told (is_step j.memory e.event) (is_permitted j.setup e.rank (j.records e.rank) e.event) (stands_at j.memory e.event) none in
+    (step_told e.event.access e.event.place e.event.value j.memory both.0, both.1)
+
+pub ruling_from_taken : (j : Judged) (e : RankEvent) → IsTaken j e → refusal_of j e ≡ None
+ruling_from_taken j e taken = none_from (is_step j.memory e.event) (is_permitted j.setup e.rank (j.records e.rank) e.event) (stands_at j.memory e.event)
+    (step_tested e.event.access e.event.place e.event.value j.memory taken.0) taken.1
+
+-- a ruling that goes on refuses nothing
+went_on : {A : Type 0} (n r : ℕ) (why : Option Refusal) (rest : Result A RefusedAt) → IsOk (unless_refused n r why rest) → (why ≡ None) × IsOk rest
+went_on n r None rest ok = (refl, ok)
+went_on n r (Some why) rest ok = absurd cc
+
+goes_on : {A : Type 0} (n r : ℕ) (why : Option Refusal) (rest : Result A RefusedAt) → why ≡ None → IsOk rest → IsOk (unless_refused n r why rest)
+goes_on n r None rest none ok = ok
+goes_on n r (Some why) rest none ok = absurd cc
+
+pub legal_told : (n : ℕ) (s : SetupView) (memory : Memory) (records : ℕ → Record) (run : List RankEvent) → AreRankEvents s run
+    → IsOk (ruling_from n (record { setup = s; memory = memory; records = records }) run) → IsRun memory run × IsPermittedRun s records run
+legal_told n s memory records [] are ok = (tt, tt)
+legal_told n s memory records (e ∷ run) are ok =
+    let j : Judged = record { setup = s; memory = memory; records = records } in
+    let both = went_on n e.rank (refusal_of j e) (ruling_from (n + 1) (judged_after j e) run) ok in
+    let taken = ruling_told j e both.0 in
+    let first = All-head (λ (x : RankEvent). (x.rank < s.nue) × IsEvent x.event) e run are in
+    let rest = legal_told (n + 1) s (judged_after j e).memory (judged_after j e).records run (All-tail (λ (x : RankEvent). (x.rank < s.nue) × IsEvent x.event) e run are) both.1 in
+    ((taken.0, rest.0), (first.0, first.1, taken.1, rest.1))
+
+pub legal_from : (n : ℕ) (s : SetupView) (memory : Memory) (records : ℕ → Record) (run : List RankEvent)
+    → IsRun memory run → IsPermittedRun s records run → IsOk (ruling_from n (record { setup = s; memory = memory; records = records }) run)
+legal_from n s memory records [] made may = refl
+legal_from n s memory records (e ∷ run) made may =
+    let j : Judged = record { setup = s; memory = memory; records = records } in
+    goes_on n e.rank (refusal_of j e) (ruling_from (n + 1) (judged_after j e) run) (ruling_from_taken j e (made.0, may.2))
+    (legal_from (n + 1) s (judged_after j e).memory (judged_after j e).records run made.1 may.3)
+
+-- the chip is then that of the list
+ok_told : (n r : ℕ) (why : Option Refusal) (rest : Result Judged RefusedAt) (j : Judged) → unless_refused n r why rest ≡ Ok j → rest ≡ Ok j
+ok_told n r None rest j is = is
+ok_told n r (Some why) rest j is = absurd cc
+
+pub chip_told : (n : ℕ) (s : SetupView) (memory : Memory) (records : ℕ → Record) (run : List RankEvent) (j : Judged)
+    → ruling_from n (record { setup = s; memory = memory; records = records }) run ≡ Ok j → j ≡ record { setup = s; memory = memory_from memory run; records = records_from s records run }
+chip_told n s memory records [] j is = cc
+chip_told n s memory records (e ∷ run) j is =
+    let now = judged_after (record { setup = s; memory = memory; records = records }) e in
+    chip_told (n + 1) s now.memory now.records run j (ok_told n e.rank (refusal_of (record { setup = s; memory = memory; records = records }) e) (ruling_from (n + 1) now run) j is)

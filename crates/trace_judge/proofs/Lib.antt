@@ -1,0 +1,4 @@
+pub mod FollowFacts
+pub mod LegalLists
+pub mod MemoryFacts
+pub mod RefusalFacts

@@ -1,0 +1,73 @@
+-- What a judge says of an event, and of a list of events (this project's profile).
+use Rattle.std.specs.Prelude.{ℕ, ◌+◌, ◌<◌, ◌==◌, ◌&&◌, ◌||◌, Bool, true, if◌then◌else◌, List, [], ◌∷◌, Option, Some, None, Result, Ok, Err, All}
+use Rattle.scc_base.specs.Events.{IsEvent}
+use Rattle.scc_base.specs.Places.{WordAt}
+use Rattle.scc_base.specs.Setups.{SetupView}
+use Rattle.scc_base.specs.declared.events.Access.{Access}
+use Rattle.scc_base.specs.declared.events.Access.TheVariants.{Load, Store, Take, Free}
+use Rattle.scc_base.specs.declared.calls.Call.{Call}
+use Rattle.scc_base.specs.declared.events.Event.{Event}
+use Rattle.scc_proto.specs.Records.{is_permitted}
+use Rattle.scc_proto.specs.Tables.{put}
+use Rattle.scc_proto.specs.Words.{Memory, word_at, RankEvent}
+use Rattle.trace_judge.specs.declared.judge.Refusal.{Refusal}
+use Rattle.trace_judge.specs.declared.judge.Refusal.TheVariants.{OtherValue, NotPermitted}
+use Rattle.record_machine.specs.Following.{Adds}
+use Rattle.trace_judge.specs.Judged.{Judged, JudgeView, bytes_at, chip_of, judged_after}
+
+-- what stands where an access is: the word at its place, or the register of its core
+abbrev pub stands_by : Access → WordAt → Memory → ℕ
+stands_by Load place memory = word_at memory place
+stands_by Store place memory = word_at memory place
+stands_by Take place memory = memory.register place.core
+stands_by Free place memory = memory.register place.core
+
+-- what stands where an event is
+abbrev pub stands_at : Memory → Event → ℕ
+stands_at memory e = stands_by e.access e.place memory
+
+-- the memory with another value in a core's register
+abbrev pub register_changed : Memory → ℕ → ℕ → Memory
+register_changed memory core value = record memory { register = put memory.register core value }
+
+-- an access is a step, where this value stands: a load tells it; a take has 1 where it found 0, and 0 where it found 1
+abbrev pub is_step_by : Access → (value found : ℕ) → Bool
+is_step_by Load value found = found == value
+is_step_by Store value found = true
+is_step_by Take value found = (value == 1 && found == 0) || (value == 0 && found == 1)
+is_step_by Free value found = true
+
+-- the event is a step of the memory, as a test
+abbrev pub is_step : Memory → Event → Bool
+is_step memory e = is_step_by e.access e.value (stands_at memory e)
+
+-- why an event is refused: another value stands there, or else the record of its rank does not permit it
+abbrev pub refusal_of : Judged → RankEvent → Option Refusal
+refusal_of j e =
+    if is_step j.memory e.event then (if is_permitted j.setup e.rank (j.records e.rank) e.event then None else Some NotPermitted)
+    else Some (OtherValue (stands_at j.memory e.event))
+
+-- an event that was refused: its number in the list, from 0, its rank, and why
+pub record RefusedAt : Type 0 where
+  pub number : ℕ
+  pub rank : ℕ
+  pub why : Refusal
+
+-- the rest of a ruling, unless an event was refused
+abbrev pub unless_refused : {A : Type 0} → (number rank : ℕ) → Option Refusal → Result A RefusedAt → Result A RefusedAt
+unless_refused number rank None rest = rest
+unless_refused number rank (Some why) rest = Err (record { number = number; rank = rank; why = why })
+
+-- what a list of events comes to, the first of which has this number: the chip after all of them, or the first that is refused
+abbrev pub ruling_from : ℕ → Judged → List RankEvent → Result Judged RefusedAt
+ruling_from number j [] = Ok j
+ruling_from number j (e ∷ es) = unless_refused number e.rank (refusal_of j e) (ruling_from (number + 1) (judged_after j e) es)
+
+-- the calls of a rank have gained the one that its event finished, with the bytes that are shown, or none
+abbrev pub HandsOutCall : ℕ → JudgeView → JudgeView → Result (Option Call) Refusal → Type 0
+HandsOutCall r before now (Ok call) = Adds call (bytes_at now r) ((chip_of before).records r).calls ((chip_of now).records r).calls
+HandsOutCall r before now (Err why) = Unit {0}
+
+-- events that ranks of a chip may make
+abbrev pub AreRankEvents : SetupView → List RankEvent → Type 0
+AreRankEvents s run = All (λ (e : RankEvent). (e.rank < s.nue) × IsEvent e.event) run

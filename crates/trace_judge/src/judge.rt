@@ -1,0 +1,138 @@
+//! The judge of events.
+
+ghost use Rattle.std.specs.Prelude.{◌≡◌, ◌<◌, ℕ, IfOk, length, slice_get};
+ghost use Rattle.scc_proto.specs.Stages.{blank};
+ghost use Rattle.trace_judge.specs.Followed.{FollowsAt};
+
+use crate::memory::ChipWords;
+use record_machine::Machine;
+use scc_base::{Call, Event, Rank, Setup};
+use scc_proto::History;
+use std::alloc::{AllocError, Global};
+use std::marker::Model;
+
+/// Why an event is refused.
+#[derive(Debug, Drop, PartialEq, Eq)]
+pub enum Refusal {
+    /// It is no step: this value stands at its word, or in its core's register.
+    OtherValue { found: u64 },
+    /// It is a step, but the record of its rank does not permit it next.
+    NotPermitted,
+}
+
+/// An event that was taken, and the rank that made it.
+#[derive(Drop)]
+struct Made {
+    rank: Rank,
+    event: Event,
+}
+
+/// The whole memory of a chip and the record of each of its ranks, which take the ranks' events one after the other. Memory is
+/// taken in `new` alone. The list of the events that were taken stands in proofs alone.
+#[derive(Drop)]
+pub struct Judge {
+    setup: Setup,
+    words: ChipWords,
+    machines: Vec<Machine>,
+    history: History<Made>,
+}
+
+// The event of a rank, as the list of events has it.
+fn held(rank: Rank, event: &Event) -> Made
+    ensures gives { result ≡ record { rank = rank; event = event.now } }
+{
+    let event = Event {
+        access: event.access,
+        place: event.place,
+        value: event.value,
+    };
+    Made { rank, event }
+}
+
+impl Model for Judge {
+    ghost use Rattle.trace_judge.specs.Followed.{IsFollowed, bytes_shown, chip_memory, run_made};
+    ghost use Rattle.trace_judge.specs.Judged.{JudgeView};
+
+    ghost Value = { JudgeView };
+
+    ghost view = { λ j. record { setup = j.setup; run = run_made j.history.items; bytes = bytes_shown j.machines.items } };
+
+    ghost invariant = { λ j. IsFollowed j.setup (chip_memory j.words) j.machines.items (run_made j.history.items) };
+}
+
+// A machine for each rank.
+fn new_machines(alloc: Global, setup: &Setup) -> Result<Vec<Machine>, AllocError>
+    ensures count { IfOk result (λ machines. length machines.items ≡ setup.now.nue) }
+    ensures follows { IfOk result (λ machines. (r : ℕ) → r < setup.now.nue → FollowsAt setup.now r blank (slice_get machines.items r)) }
+{
+    let mut machines = Vec::new(alloc);
+    for number in 0..setup.nue() {
+        let machine = Machine::new(alloc, setup.copy(), Rank::of(number))?;
+        machines.push(machine)?;
+    }
+    Ok(machines)
+}
+
+impl Judge {
+    ghost use Rattle.std.specs.Prelude.{◌≡◌, ◌<◌, ◌∷◌, ◌++◌, [], IfOk, OnErr, OnOk};
+    ghost use Rattle.std.specs.Result.{result_err};
+    ghost use Rattle.trace_judge.specs.Judged.{bytes_at, chip_of};
+    ghost use Rattle.trace_judge.specs.Rulings.{HandsOutCall, refusal_of};
+
+    /// A chip on which no event was made: all its words and registers are 0.
+    pub fn new(alloc: Global, setup: Setup) -> Result<Judge, AllocError>
+        ensures setup { IfOk result (λ judge. judge.setup ≡ setup) }
+        ensures run { IfOk result (λ judge. judge.run ≡ []) }
+    {
+        let _nue = setup.nue();
+        let words = ChipWords::new(alloc)?;
+        let machines = new_machines(alloc, &setup)?;
+        Ok(Judge {
+            setup,
+            words,
+            machines,
+            history: History::new(),
+        })
+    }
+
+    /// The setup of the chip.
+    pub fn setup(&self) -> &Setup
+        ensures gives { result.now ≡ self.now.setup }
+    {
+        &self.setup
+    }
+
+    /// The bytes of the call that a rank's last event finished.
+    pub fn bytes(&self, rank: Rank) -> &[u8]
+        requires below { rank < self.now.setup.nue }
+        ensures gives { result.now ≡ bytes_at self.now rank }
+    {
+        self.machines[rank.number() as usize].bytes()
+    }
+
+    /// Takes the next event, where it is a step of the words and the record of its rank permits it: the call that is finished by
+    /// it, whose bytes are `bytes(rank)` until the rank's next event. A refused event changes nothing.
+    pub fn take(&mut self, rank: Rank, event: &Event) -> Result<Option<Call>, Refusal>
+        requires below { rank < self.old.setup.nue }
+        ensures refused { result_err result ≡ refusal_of (chip_of self.old) (record { rank = rank; event = event.now }) }
+        ensures takes { OnOk result (self.new.run ≡ self.old.run ++ (record { rank = rank; event = event.now }) ∷ []) }
+        ensures finishes { HandsOutCall rank self.old self.new result }
+        ensures setup { self.new.setup ≡ self.old.setup }
+        ensures unchanged { OnErr result (self.new ≡ self.old) }
+    {
+        if !self.words.is_step(event) {
+            let found = self.words.stands_at(event);
+            return Err(Refusal::OtherValue { found });
+        }
+        let machine = &mut self.machines[rank.number() as usize];
+        let taken = machine.take(event);
+        match taken {
+            Ok(call) => {
+                self.words.make(event);
+                self.history = self.history.and(&held(rank, event));
+                Ok(call)
+            }
+            Err(_) => Err(Refusal::NotPermitted),
+        }
+    }
+}

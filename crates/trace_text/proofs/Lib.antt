@@ -1,0 +1,4 @@
+pub mod HeadLemmas
+pub mod RuleLemmas
+pub mod StepLemmas
+pub mod TraceLemmas

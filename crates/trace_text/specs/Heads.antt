@@ -1,0 +1,10 @@
+-- How the first line of a trace is held.
+use Rattle.trace_text.specs.declared.hosts.Hosts.{Hosts}
+use Rattle.trace_text.specs.declared.hosts.Head.{Head}
+use Rattle.trace_text.specs.Grammar.{HostTable, TraceHead}
+
+abbrev pub table_view : Hosts → HostTable
+table_view table = record { count = table.count; hosts = table.cores }
+
+abbrev pub head_view : Head → TraceHead
+head_view head = record { nue = head.nue; layout = head.layout; hosts = head.hosts }

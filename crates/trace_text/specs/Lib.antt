@@ -1,0 +1,7 @@
+pub mod Grammar
+pub mod Heads
+pub mod Kinds
+pub mod Progress
+pub mod Traces
+pub mod Views
+pub mod Words

@@ -1,0 +1,67 @@
+//! The faults of a trace's text, and why a reading stops.
+
+ghost use Rattle.std.specs.Prelude.{◌≡◌, codes};
+ghost use Rattle.trace_text.specs.Kinds.{trace_fault_name};
+
+use std::alloc::{AllocError, AllocFailed};
+
+/// What is wrong in a line.
+#[derive(Clone, Copy, Debug)]
+pub enum TraceKind {
+    /// The file has more bytes or lines than a trace may have.
+    TooLong,
+    /// The first line is not `rcce trace 1 nue N layout L hosts C,C,..`, or there is none.
+    BadHead,
+    /// A line that begins with `comm` is not of its form, or not in its place.
+    BadComm,
+    /// Another line is not of its form.
+    BadEvent,
+}
+
+impl TraceKind {
+    /// The name of the kind, as a program prints it.
+    pub fn name(self) -> &'static str
+        ensures { result.now ≡ trace_fault_name self }
+    {
+        match self {
+            TraceKind::TooLong => "TooLong",
+            TraceKind::BadHead => "BadHead",
+            TraceKind::BadComm => "BadComm",
+            TraceKind::BadEvent => "BadEvent",
+        }
+    }
+}
+
+/// The first fault of a file. Lines count from 1; line 0 stands for the file as a whole.
+#[derive(Clone, Copy, Debug)]
+pub struct TraceFault {
+    pub line: u32,
+    pub kind: TraceKind,
+}
+
+/// Why a reading stops: the file has a fault, or no memory is left.
+#[derive(Clone, Copy, Debug)]
+pub enum TraceStop {
+    Fault(TraceFault),
+    Memory,
+}
+
+impl From<AllocError> for TraceStop {
+    ghost use Rattle.trace_text.specs.declared.faults.TraceStop.TheVariants.{Memory};
+
+    ghost from_gives = { λ _ stop. stop ≡ Memory };
+
+    fn from(_error: AllocError) -> TraceStop {
+        TraceStop::Memory
+    }
+}
+
+impl<T: Drop> From<AllocFailed<T>> for TraceStop {
+    ghost use Rattle.trace_text.specs.declared.faults.TraceStop.TheVariants.{Memory};
+
+    ghost from_gives = { λ _ stop. stop ≡ Memory };
+
+    fn from(_error: AllocFailed<T>) -> TraceStop {
+        TraceStop::Memory
+    }
+}
