@@ -4,3 +4,9 @@ pub mod PatienceLemmas
 pub mod PortLemmas
 pub mod CollLemmas
 pub mod WorldLemmas
+pub mod StepLemmas
+pub mod GroupLemmas
+pub mod ReduceLemmas
+pub mod ToldLemmas
+pub mod BeginLemmas
+pub mod ArmLemmas

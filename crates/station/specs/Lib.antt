@@ -4,3 +4,6 @@ pub mod Stops
 pub mod Patience
 pub mod Collectives
 pub mod Worlds
+pub mod Steps
+pub mod Groups
+pub mod Reductions

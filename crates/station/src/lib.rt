@@ -9,11 +9,16 @@ mod memory;
 mod messages;
 mod patience;
 mod posts;
+mod reductions;
 mod setups;
 mod stations;
+mod steps;
 mod stops;
 
-pub use laws::other_port_law;
+pub use laws::{bcast_law, other_port_law};
 pub use setups::world_of;
 pub use stations::Station;
-pub use stops::{BarStall, CollStall, CollStop, RecvStall, RecvStop, SendStall, Stop};
+pub use steps::{Folding, GroupOp, Hand};
+pub use stops::{
+    BarStall, CollStall, CollStop, GroupStall, GroupStop, RecvStall, RecvStop, SendStall, Stop,
+};

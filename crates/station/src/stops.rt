@@ -1,5 +1,6 @@
 //! Why a call of a station stopped. Each of these prints itself.
 
+use crate::steps::GroupOp;
 use barrier::BarOp;
 use coll_more::MoreOp;
 use mpb_alloc::MallocFault;
@@ -54,8 +55,31 @@ pub struct CollStall {
 pub enum CollStop {
     /// It gave up.
     Stalled(CollStall),
-    /// A message was sent that is none of the call: it has this head. It stays untaken.
+    /// A message was sent that is none of the call: it has this head. It stays untaken, and the rank's calls end here: unlike a
+    /// receive, the rank stands in the call still (clause `open`), and nothing goes on with it.
     Mismatch { op: MoreOp, sent: Head },
+}
+
+/// A broadcast or a reduction gave up: the last `polls` tries at this spot were vain. It can go on with the same bytes.
+#[derive(Drop)]
+pub struct GroupStall {
+    pub op: GroupOp,
+    pub spot: Spot,
+    pub polls: u32,
+}
+
+/// Why a broadcast or a reduction stopped.
+#[derive(Drop)]
+pub enum GroupStop {
+    /// It gave up.
+    Stalled(GroupStall),
+    /// The message that was sent has another head. It stays untaken, and the rank is between two calls: it can take the message by
+    /// a call of its head. `op` says which steps were done.
+    Mismatch {
+        op: GroupOp,
+        sent: Head,
+        asked: Head,
+    },
 }
 
 // Writes what stalled, where, and after how many tries.
@@ -179,6 +203,38 @@ impl fmt::Debug for CollStop {
     }
 }
 
+impl fmt::Display for GroupStall {
+    fn fmt<W: fmt::Write>(&self, f: &mut fmt::Formatter<W>) -> fmt::Result {
+        stalled(f, "a collective call", &self.spot, self.polls)
+    }
+}
+
+impl fmt::Debug for GroupStall {
+    fn fmt<W: fmt::Write>(&self, f: &mut fmt::Formatter<W>) -> fmt::Result {
+        fmt::Display::fmt(self, f)
+    }
+}
+
+impl fmt::Display for GroupStop {
+    fn fmt<W: fmt::Write>(&self, f: &mut fmt::Formatter<W>) -> fmt::Result {
+        match self {
+            GroupStop::Stalled(stall) => fmt::Display::fmt(stall, f),
+            GroupStop::Mismatch { op: _, sent, asked } => {
+                write!(f, "a collective call met another message: sent ")?;
+                message(f, sent)?;
+                write!(f, ", asked ")?;
+                message(f, asked)
+            }
+        }
+    }
+}
+
+impl fmt::Debug for GroupStop {
+    fn fmt<W: fmt::Write>(&self, f: &mut fmt::Formatter<W>) -> fmt::Result {
+        fmt::Display::fmt(self, f)
+    }
+}
+
 /// Why a call of a station stopped, whichever call it was: for a caller's `?`.
 #[derive(Drop)]
 pub enum Stop {
@@ -190,6 +246,8 @@ pub enum Stop {
     Barrier(BarStall),
     /// A gather, a scatter, an allgather or an alltoall.
     Collective(CollStop),
+    /// A broadcast or a reduction.
+    Group(GroupStop),
     /// A flag's write, or a wait for a flag.
     Flag(Stalled),
     /// A put or a get.
@@ -222,6 +280,12 @@ impl From<CollStop> for Stop {
     }
 }
 
+impl From<GroupStop> for Stop {
+    fn from(stop: GroupStop) -> Stop {
+        Stop::Group(stop)
+    }
+}
+
 impl From<Stalled> for Stop {
     fn from(stalled: Stalled) -> Stop {
         Stop::Flag(stalled)
@@ -247,6 +311,7 @@ impl fmt::Display for Stop {
             Stop::Recv(stop) => fmt::Display::fmt(stop, f),
             Stop::Barrier(stall) => fmt::Display::fmt(stall, f),
             Stop::Collective(stop) => fmt::Display::fmt(stop, f),
+            Stop::Group(stop) => fmt::Display::fmt(stop, f),
             Stop::Flag(stall) => stalled(f, "a flag", &stall.spot, stall.polls),
             Stop::Range(fault) => fmt::Display::fmt(fault, f),
             Stop::Malloc(fault) => fmt::Display::fmt(fault, f),

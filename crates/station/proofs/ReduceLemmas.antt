@@ -1,0 +1,207 @@
+-- What the steps of a broadcast and of a reduction come to.
+use Rattle.std.proofs.Common.{◌≡◌, ℕ, suc, Bool, true, false, List, [], ◌∷◌, ◌++◌, length, Option, Some, None, refl, sym, ap, ◌∙◌, subst, append_assoc, append-nil}
+use Rattle.std.specs.Prelude.{cond}
+use Rattle.scc_base.specs.Calls.{DataCall}
+use Rattle.scc_base.specs.Calls.DataCall.{Send as CallSend, Recv as CallRecv}
+use Rattle.scc_base.specs.Heads.{MessageHead}
+use Rattle.scc_base.specs.declared.kinds.Kind.TheVariants as kind
+use Rattle.scc_proto.specs.Ports.{Seat, Sight, record_in}
+use Rattle.groups.specs.Collectives.{fold_each, head_of, other_steps, root_steps, send_each}
+use Rattle.groups.specs.Folds.{fold_of, fold_values}
+use Rattle.groups.specs.declared.collectives.Coll.TheVariants.{Bcast, Reduce, Allreduce}
+use Rattle.groups.specs.declared.collectives.Step.{Step}
+use Rattle.groups.specs.declared.collectives.Step.TheVariants.{Begin, Finish}
+use Rattle.station.specs.Groups.{HasRun, in_group_call, new_group, part_in, start_at, steps_at}
+use Rattle.station.specs.Stations.{StationAt}
+use Rattle.station.specs.declared.steps.GroupOp.{GroupOp}
+use Rattle.station.specs.Reductions.{AllreduceBy, AllreduceDoes, GainsCalls, GroupCall, ReduceBy, ReduceDoes, bcast_by, bcast_calls, group_call, is_root_of, other_ranks, receives_from, root_rank, sends_to}
+use Rattle.station.specs.Steps.{Held, GroupPart, StepsDo, part_by}
+use Rattle.station.specs.declared.steps.Folding.{Folding}
+
+-- steps in two parts
+pub record InTwo (p : GroupPart) (xs ys : List Step) (old new : Held) (calls : List DataCall) : Type 0 where
+  pub mid : Held
+  pub first : List DataCall
+  pub rest : List DataCall
+  pub one : StepsDo p xs old mid first
+  pub two : StepsDo p ys mid new rest
+  pub all : calls ≡ first ++ rest
+
+in_two : (p : GroupPart) (xs ys : List Step) (old new : Held) (calls : List DataCall) → StepsDo p (xs ++ ys) old new calls → InTwo p xs ys old new calls
+in_two p [] ys old new calls did = record { mid = old; first = []; rest = calls; one = (refl, refl); two = did; all = refl }
+in_two p (x ∷ xs) ys old new calls did =
+    let later = in_two p xs ys did.0 new did.2 did.4 in
+    record {
+      mid = later.mid;
+      first = did.1 ++ later.first;
+      rest = later.rest;
+      one = (did.0, did.1, later.first, did.3, later.one, refl);
+      two = later.two;
+      all = did.5 ∙ ap (λ (l : List DataCall). did.1 ++ l) later.all ∙ sym (append_assoc did.1 later.first later.rest);
+    }
+
+-- sends of the root leave its buffers
+sends_do : (folding : Option Folding) (input : List ℕ) (head : MessageHead) (xs : List ℕ) (old new : Held) (calls : List DataCall)
+    → StepsDo (part_by true folding input) (send_each head xs) old new calls → (new ≡ old) × (calls ≡ sends_to head old.output xs)
+sends_do folding input head [] old new calls did = did
+sends_do folding input head (x ∷ xs) old new calls did =
+    let rest = sends_do folding input head xs did.0 new did.2 did.4 in
+    (rest.0 ∙ did.3.0, did.5 ∙ (λ i. did.3.1 i ++ rest.1 i) ∙ ap (λ (h : Held). CallSend x head old.output ∷ sends_to head h.output xs) did.3.0)
+
+-- what folds come to
+pub record Folds (how : Folding) (head : MessageHead) (xs : List ℕ) (first result : List ℕ) (calls : List DataCall) : Type 0 where
+  pub pieces : List (List ℕ)
+  pub each : length pieces ≡ length xs
+  pub calls_are : calls ≡ receives_from head xs pieces
+  pub result_is : result ≡ fold_of how.op how.ty first pieces
+
+folds_do : (how : Folding) (input : List ℕ) (head : MessageHead) (xs : List ℕ) (old new : Held) (calls : List DataCall)
+    → StepsDo (part_by true (Some how) input) (fold_each head xs) old new calls → Folds how head xs old.output new.output calls
+folds_do how input head [] old new calls did =
+    record { pieces = []; each = refl; calls_are = did.1; result_is = ap (λ (h : Held). h.output) did.0 }
+folds_do how input head (x ∷ xs) old new calls did =
+    let got = did.3 in
+    let more = did.4 in
+    let later = folds_do how input head xs more.0 new more.2 more.4 in
+    let bytes : List ℕ = got.0 in
+    let folded_is : more.0 ≡ record { output = fold_values how.op how.ty old.output bytes; work = bytes } =
+    more.3.0 ∙ ap (λ (h : Held). record h { output = fold_values how.op how.ty h.output h.work }) got.1 in
+    record {
+      pieces = bytes ∷ later.pieces;
+      each = ap suc later.each;
+      calls_are = did.5 ∙ (λ i. got.2 i ++ more.5 i) ∙ (λ i. CallRecv x head bytes ∷ (more.3.1 i ++ later.calls_are i));
+      result_is = later.result_is ∙ ap (λ (h : Held). fold_of how.op how.ty h.output later.pieces) folded_is;
+    }
+
+-- ---- whole calls
+
+abbrev steps_by : Bool → GroupCall → List Step
+steps_by root c = cond root (root_steps c.coll (other_ranks c)) (other_steps c.coll (root_rank c))
+
+pub bcast_does : (root : Bool) (seat : Seat) (comm place len : ℕ) (old new : Held) (calls : List DataCall)
+    → StepsDo (part_by root None []) (steps_by root (group_call seat (Bcast comm place len) [])) old new calls
+    → (calls ≡ bcast_by root (group_call seat (Bcast comm place len) []) new.output) × (root ≡ true → new ≡ old)
+bcast_does true seat comm place len old new calls did =
+    let c = group_call seat (Bcast comm place len) [] in
+    let head = head_of kind.Bcast comm len in
+    let done = sends_do None [] head (other_ranks c) old new calls did in
+    (done.1 ∙ ap (λ (h : Held). sends_to head h.output (other_ranks c)) (sym done.0), λ is. done.0)
+bcast_does false seat comm place len old new calls did =
+    let c = group_call seat (Bcast comm place len) [] in
+    let head = head_of kind.Bcast comm len in
+    let got = did.3 in
+    let more = did.4 in
+    let kept : new ≡ did.0 = more.4.0 ∙ more.3.0 in
+    let rest : did.2 ≡ [] = more.5 ∙ (λ i. more.3.1 i ++ more.4.1 i) in
+    let bytes : new.output ≡ got.0 = ap (λ (h : Held). h.output) (kept ∙ got.1) in
+    (did.5 ∙ (λ i. got.2 i ++ rest i) ∙ ap (λ (b : List ℕ). CallRecv (root_rank c) head b ∷ []) (sym bytes), λ is. absurd (cc))
+
+-- the root's begin and its folds
+begins_folds : (how : Folding) (input : List ℕ) (head : MessageHead) (xs : List ℕ) (old new : Held) (calls : List DataCall)
+    → StepsDo (part_by true (Some how) input) (Begin ∷ fold_each head xs) old new calls → Folds how head xs input new.output calls
+begins_folds how input head xs old new calls did =
+    let later = folds_do how input head xs did.0 new did.2 did.4 in
+    record {
+      pieces = later.pieces;
+      each = later.each;
+      calls_are = did.5 ∙ (λ i. did.3.1 i ++ later.calls_are i);
+      result_is = later.result_is ∙ ap (λ (h : Held). fold_of how.op how.ty h.output later.pieces) did.3.0;
+    }
+
+-- the last step of the root does nothing
+ends : (p : GroupPart) (old new : Held) (calls : List DataCall) → StepsDo p (Finish ∷ []) old new calls → (new ≡ old) × (calls ≡ [])
+ends p old new calls did = (did.4.0 ∙ did.3.0, did.5 ∙ (λ i. did.3.1 i ++ did.4.1 i))
+
+pub reduce_does : (root : Bool) (how : Folding) (seat : Seat) (comm place len : ℕ) (input : List ℕ) (old new : Held) (calls : List DataCall)
+    → StepsDo (part_by root (Some how) input) (steps_by root (group_call seat (Reduce comm place len) input)) old new calls
+    → ReduceBy root how (group_call seat (Reduce comm place len) input) old new calls
+reduce_does true how seat comm place len input old new calls did =
+    let c = group_call seat (Reduce comm place len) input in
+    let head = head_of kind.Reduce comm len in
+    let two = in_two (part_by true (Some how) input) (Begin ∷ fold_each head (other_ranks c)) (Finish ∷ []) old new calls did in
+    let folds = begins_folds how input head (other_ranks c) old two.mid two.first two.one in
+    let end = ends (part_by true (Some how) input) two.mid new two.rest two.two in
+    record {
+      pieces = folds.pieces;
+      each = folds.each;
+      calls_are = two.all ∙ (λ i. two.first ++ end.1 i) ∙ append-nil two.first ∙ folds.calls_are;
+      result_is = ap (λ (h : Held). h.output) end.0 ∙ folds.result_is;
+    }
+reduce_does false how seat comm place len input old new calls did =
+    (did.4.0 ∙ did.3.0, did.5 ∙ (λ i. did.3.1 i ++ did.4.1 i))
+
+pub allreduce_does : (root : Bool) (how : Folding) (seat : Seat) (comm len : ℕ) (input : List ℕ) (old new : Held) (calls : List DataCall)
+    → StepsDo (part_by root (Some how) input) (steps_by root (group_call seat (Allreduce comm len) input)) old new calls
+    → AllreduceBy root how (group_call seat (Allreduce comm len) input) old new calls
+allreduce_does true how seat comm len input old new calls did =
+    let c = group_call seat (Allreduce comm len) input in
+    let p = part_by true (Some how) input in
+    let up = head_of kind.AllUp comm len in
+    let down = head_of kind.AllDown comm len in
+    let both = in_two p (Begin ∷ fold_each up (other_ranks c) ++ send_each down (other_ranks c)) (Finish ∷ []) old new calls did in
+    let parts = in_two p (Begin ∷ fold_each up (other_ranks c)) (send_each down (other_ranks c)) old both.mid both.first both.one in
+    let folds = begins_folds how input up (other_ranks c) old parts.mid parts.first parts.one in
+    let shares = sends_do (Some how) input down (other_ranks c) parts.mid both.mid parts.rest parts.two in
+    let end = ends p both.mid new both.rest both.two in
+    let same : new ≡ parts.mid = end.0 ∙ shares.0 in
+    record {
+      up = parts.first;
+      gathers = record {
+        pieces = folds.pieces;
+        each = folds.each;
+        calls_are = folds.calls_are;
+        result_is = ap (λ (h : Held). h.output) same ∙ folds.result_is;
+      };
+      calls_are = both.all ∙ (λ i. both.first ++ end.1 i) ∙ append-nil both.first ∙ parts.all ∙ ap (λ (l : List DataCall). parts.first ++ l) shares.1
+          ∙ ap (λ (h : Held). parts.first ++ sends_to down h.output (other_ranks c)) (sym same);
+    }
+allreduce_does false how seat comm len input old new calls did =
+    let c = group_call seat (Allreduce comm len) input in
+    let down = head_of kind.AllDown comm len in
+    let sent = did.3 in
+    let more = did.4 in
+    let got = more.3 in
+    let left = more.4 in
+    let kept : new ≡ more.0 = left.4.0 ∙ left.3.0 in
+    let rest : more.2 ≡ [] = left.5 ∙ (λ i. left.3.1 i ++ left.4.1 i) in
+    let bytes : new.output ≡ got.0 = ap (λ (h : Held). h.output) (kept ∙ got.1) in (
+      ap (λ (h : Held). h.work) (kept ∙ got.1 ∙ ap (λ (h : Held). record h { output = got.0 }) sent.0),
+      did.5 ∙ (λ i. sent.1 i ++ (more.5 ∙ (λ j. got.2 j ++ rest j)) i)
+          ∙ ap (λ (b : List ℕ). CallSend (root_rank c) (head_of kind.AllUp comm len) input ∷ CallRecv (root_rank c) down b ∷ []) (sym bytes),
+    )
+
+-- ---- at a rank
+
+module _ (s t : Sight) (b : StationAt) (input : List ℕ) (old new : Held) (seat : t.seat ≡ s.seat) where
+  run_at : (op : GroupOp) (run : HasRun (start_at s old) (in_group_call t b op input new)) → StepsDo (part_in s.seat op input) (steps_at s.seat op) old new run.run.calls
+  run_at op run = subst (λ (x : Seat). StepsDo (part_in x op input) (steps_at x op) old new run.run.calls) seat run.run.did
+
+  pub reduced_at : (how : Folding) (comm place len : ℕ) → HasRun (start_at s old) (in_group_call t b (new_group (Reduce comm place len) (Some how)) input new)
+      → GainsCalls s t (λ calls. ReduceDoes how (group_call s.seat (Reduce comm place len) input) old new calls)
+  reduced_at how comm place len run = (
+    run.run.calls,
+    run.run.made,
+    reduce_does (is_root_of (group_call s.seat (Reduce comm place len) input)) how s.seat comm place len input old new run.run.calls
+        (run_at (new_group (Reduce comm place len) (Some how)) run),
+  )
+
+  pub allreduced_at : (how : Folding) (comm len : ℕ) → HasRun (start_at s old) (in_group_call t b (new_group (Allreduce comm len) (Some how)) input new)
+      → GainsCalls s t (λ calls. AllreduceDoes how (group_call s.seat (Allreduce comm len) input) old new calls)
+  allreduced_at how comm len run = (
+    run.run.calls,
+    run.run.made,
+    allreduce_does (is_root_of (group_call s.seat (Allreduce comm len) input)) how s.seat comm len input old new run.run.calls
+        (run_at (new_group (Allreduce comm len) (Some how)) run),
+  )
+
+module _ (s t : Sight) (b : StationAt) (old new : Held) (comm place len : ℕ) (seat : t.seat ≡ s.seat)
+    (run : HasRun (start_at s old) (in_group_call t b (new_group (Bcast comm place len) None) [] new)) where
+  bcast_at : (run.run.calls ≡ bcast_calls (group_call s.seat (Bcast comm place len) []) new.output) × (is_root_of (group_call s.seat (Bcast comm place len) []) ≡ true → new ≡ old)
+  bcast_at = bcast_does (is_root_of (group_call s.seat (Bcast comm place len) [])) s.seat comm place len old new run.run.calls
+      (run_at s t b [] old new seat (new_group (Bcast comm place len) None) run)
+
+  pub bcast_made : (record_in t).calls ≡ (record_in s).calls ++ bcast_calls (group_call s.seat (Bcast comm place len) []) new.output
+  bcast_made = run.run.made ∙ ap (λ (l : List DataCall). (record_in s).calls ++ l) bcast_at.0
+
+  pub bcast_kept : is_root_of (group_call s.seat (Bcast comm place len) []) ≡ true → new.output ≡ old.output
+  bcast_kept is = ap (λ (h : Held). h.output) (bcast_at.1 is)
