@@ -8,13 +8,13 @@ use std::process::Abort;
 use std::thread::Threads;
 
 /// A run, and what comes of it where no call fails.
-struct Case {
-    given: Given,
-    wanted: Wanted<'static>,
+pub struct Case {
+    pub given: Given,
+    pub wanted: Wanted<'static>,
     /// How many calls read the host file, which comes first.
-    host_reads: u64,
-    /// What is told where the script or the log cannot be read.
-    fault: &'static [u8],
+    pub host_reads: u64,
+    /// What is told where the script, the log or the lab cannot be read.
+    pub fault: &'static [u8],
 }
 
 /// Its second message is never received.
@@ -143,7 +143,7 @@ fn expect_whole<R: Threads + Sync + Abort, P: Program>(
 }
 
 /// Runs each case whole, and then with each of its calls failing in turn.
-fn expect<R: Threads + Sync + Abort, P: Program>(
+pub fn expect<R: Threads + Sync + Abort, P: Program>(
     rt: &R,
     alloc: Global,
     program: &P,

@@ -12,6 +12,8 @@ mod faults;
 #[cfg(test)]
 mod generated;
 #[cfg(test)]
+mod labs;
+#[cfg(test)]
 mod limits;
 #[cfg(test)]
 mod line_count;

@@ -1,4 +1,4 @@
-//! The five programs by one trait, so that what is asked of all of them is said once.
+//! The six programs by one trait, so that what is asked of all of them is said once.
 
 ghost use Rattle.std.specs.Thread.{IsSync};
 
@@ -6,6 +6,7 @@ use audit_program::rcceaudit;
 use check_program::rccecheck;
 use chip_run::Open;
 use coll_program::rccecoll;
+use lab_program::rccelab;
 use mesh_program::rccemesh;
 use outcomes::Status;
 use rcce_io::{Files, Sink};
@@ -123,5 +124,25 @@ impl Program for WaitCheck {
     ) -> Status {
         let _ = rt;
         rccecheck(alloc, words, files, out, err)
+    }
+}
+
+/// `rccelab`.
+#[derive(Drop)]
+pub struct Laboratory;
+
+impl Program for Laboratory {
+    fn run<R: Threads + Sync, F: Files, O: Sink, E: Sink>(
+        &self,
+        rt: &R,
+        alloc: Global,
+        words: &[String],
+        files: &mut F,
+        out: &mut O,
+        err: &mut E,
+    ) -> Status {
+        let _ = rt;
+        let mut left = None;
+        rccelab(alloc, words, files, out, err, &mut left)
     }
 }

@@ -1,29 +1,31 @@
 -- A chip whose ranks take turns: what each of its events keeps, and tells.
-use Rattle.std.proofs.Common.{◌≡◌, ◌≢◌, ◌⊎◌, inl, inr, ℕ, ◌+◌, ◌-◌, ◌<◌, ◌≤◌, ◌^◌, Bool, true, false, ◌==◌, if◌then◌else◌, List, [], ◌∷◌, ◌++◌, length, slice_index, slice_set, get_or, map, take, refl, sym, ◌∙◌, ap, subst, arith}
+use Rattle.std.proofs.Common.{◌≡◌, ◌≢◌, ◌⊎◌, inl, inr, ℕ, ◌-◌, ◌<◌, ◌^◌, Bool, true, false, ◌==◌, if◌then◌else◌, List, [], ◌∷◌, ◌++◌, length, slice_index, slice_set, get_or, take, refl, sym, ◌∙◌, ap, subst, arith}
 use Rattle.std.proofs.lemmas.List.{append-nil, append_assoc, append_cancel_left, length-append, length-set, get_or_read_under, map-append, take-append-le}
 use Rattle.std.proofs.Math.Seq.{take-length}
 use Rattle.scc_base.specs.Places.{WordAt, IsPlace}
 use Rattle.scc_base.specs.Events.{IsEvent, load_of, store_of, take_of, free_of}
 use Rattle.scc_base.specs.Setups.{SetupView, IsSetup}
 use Rattle.scc_base.specs.declared.events.Event.{Event}
-use Rattle.scc_proto.specs.Stages.{Record}
+use Rattle.scc_proto.specs.Stages.{Record, blank}
 use Rattle.scc_proto.specs.Words.{Memory, zeros, IsStep, IsRun, RankEvent, memory_after, SameWords}
-use Rattle.scc_proto.specs.Records.{IsPermitted, IsHonest, record_of}
-use Rattle.scc_proto.specs.Histories.{events_of, memory_from, records_of}
+use Rattle.scc_proto.specs.Records.{IsPermitted, IsHonest, record_after, record_of}
+use Rattle.scc_proto.specs.Tables.{put}
+use Rattle.scc_proto.specs.Histories.{IsPermittedRun, events_of, memory_from, records_from, records_of}
 use Rattle.scc_proto.specs.Memories.{word_number, register_number, memory_of}
 use Rattle.scc_proto.specs.Ports.{Sight, Did, MayMake, IsSoundPort, record_in}
 use Rattle.scc_proto.specs.Registers.{Holder, Nobody, HeldBy}
 use Rattle.scc_proto.specs.Soundness.{IsSound}
 use Rattle.scc_proto.specs.Agreement.{Agrees}
-use Rattle.scc_proto.proofs.Tests.{eqb_same, eqb_other, same_or_other}
+use Rattle.scc_proto.proofs.Tests.{eqb_same, eqb_other}
 use Rattle.scc_proto.proofs.PortLaws.{record_of-nil}
+use Rattle.scc_proto.proofs.ListLaw.{records_from_start}
 use Rattle.scc_proto.proofs.StartLaw.{agrees_at_start}
 use Rattle.scc_proto.proofs.AgreementLaw.{OneMore, lists_kept}
 use Rattle.scc_proto.proofs.SoundLaw.{sound_law}
 use Rattle.scc_proto.proofs.HonestLaw.{told_law}
 use Rattle.scc_proto.proofs.MemoryLemmas.{words_at_start, word_is, register_is, same_words, word_stored, register_freed, register_taken}
 use Rattle.lab_chip.specs.declared.chip.Made.{Made}
-use Rattle.lab_chip.specs.Chips.{LabChipView, of_rank, of_rank_all, all_events, new_chip, with_turn, run_of, before_of, chip_view, IsChip, run_coded, lab_sight, WasStepHere}
+use Rattle.lab_chip.specs.Chips.{LabChipView, of_rank, of_rank_all, all_events, with_turn, run_of, before_of, chip_view, IsChip, run_coded, lab_sight, WasStepHere}
 
 -- ---- lists of events of all ranks
 
@@ -64,6 +66,18 @@ pub run_left : (memory : Memory) (a b : List RankEvent) → IsRun memory (a ++ b
 run_left memory [] b run = run
 run_left memory (e ∷ a) b run = run_left (memory_after memory e.event) a b run.1
 
+permitted_both : (s : SetupView) (records : ℕ → Record) (a b : List RankEvent) → IsPermittedRun s records a → IsPermittedRun s (records_from s records a) b → IsPermittedRun s records (a ++ b)
+permitted_both s records [] b first second = second
+permitted_both s records (e ∷ a) b first second =
+    (first.0, first.1, first.2, permitted_both s (put records e.rank (record_after s e.rank (records e.rank) e.event)) a b first.3 second)
+
+-- one event more, which the record of its rank permits
+permitted_more : (s : SetupView) (run : List RankEvent) (r : ℕ) (e : Event) → IsPermittedRun s (λ k. blank) run → r < s.nue → IsEvent e → IsPermitted s r (records_of s run r) e
+    → IsPermittedRun s (λ k. blank) (run ++ of_rank r e ∷ [])
+permitted_more s run r e permitted below event may =
+    permitted_both s (λ k. blank) run (of_rank r e ∷ []) permitted
+    (below, event, subst (λ (x : ℕ → Record). IsPermitted s r (x r) e) (sym (records_from_start s run)) may, tt)
+
 one_memory : (m n : Memory) → SameWords m n → m ≡ n
 one_memory m n same = λ i. record { word = λ core line word. same.words core line word i; register = λ core. same.registers core i }
 
@@ -88,6 +102,7 @@ chip_at_start s r words valid below long clear = record {
   count = long;
   holds = words_at_start words clear;
   run = tt;
+  permitted = tt;
   agree = subst (λ (x : ℕ → Record). Agrees s zeros x) (λ i k. sym (record_of-nil s k) i) (agrees_at_start s);
   ends = refl;
 }
@@ -101,6 +116,7 @@ chip_turned s r k words all own chip below = record {
   count = chip.count;
   holds = chip.holds;
   run = chip.run;
+  permitted = chip.permitted;
   agree = chip.agree;
   ends = sym (append-nil (before_of all []) ∙ before_all all);
 }
@@ -171,6 +187,7 @@ module _ (s : SetupView) (r : ℕ) (words : List ℕ) (all : List RankEvent) (ow
     count = long;
     holds = subst (λ (m : Memory). SameWords m (memory_of now)) (ap (λ (m : Memory). memory_after m e) (sym same_now) ∙ sym pushed) same;
     run = run_both zeros all (of_rank r e ∷ []) chip.run (step_here, tt);
+    permitted = permitted_more s all r e chip.permitted chip.below event may_here;
     agree = agree_after;
     ends = ends_after;
   }

@@ -1,2 +1,1 @@
 pub mod ChipLaws
-pub mod HistoryWalks

@@ -7,7 +7,8 @@ use Rattle.scc_base.specs.Setups.{SetupView, IsSetup}
 use Rattle.scc_base.specs.contracts.events.Event.{the_row}
 use Rattle.scc_base.specs.declared.events.Event.{Event}
 use Rattle.scc_proto.specs.Words.{zeros, IsStep, IsRun, SameWords, RankEvent}
-use Rattle.scc_proto.specs.Histories.{events_of, memory_from, records_of}
+use Rattle.scc_proto.specs.Stages.{blank}
+use Rattle.scc_proto.specs.Histories.{IsPermittedRun, events_of, memory_from, records_of}
 use Rattle.scc_proto.specs.Memories.{memory_of}
 use Rattle.scc_proto.specs.Ports.{Seat, Sight}
 use Rattle.scc_proto.specs.Agreement.{Agrees}
@@ -52,14 +53,15 @@ before_of all own = take (length all - length own) all
 abbrev pub chip_view : SetupView → ℕ → List RankEvent → List Event → LabChipView
 chip_view s r all own = record { setup = s; rank = r; before = before_of all own; own = own }
 
--- The words stand as the events have left them; each event was a step of the words before it; and the events of all ranks agree
--- with the words.
+-- The words stand as the events have left them; each event was a step of the words before it, and permitted by the record of its
+-- rank; and the events of all ranks agree with the words.
 pub record IsChip (s : SetupView) (r : ℕ) (words : List ℕ) (all : List RankEvent) (own : List Event) : Type 0 where
   pub valid : IsSetup s
   pub below : r < s.nue
   pub count : length words ≡ 49200
   pub holds : SameWords (memory_from zeros all) (memory_of words)
   pub run : IsRun zeros all
+  pub permitted : IsPermittedRun s (λ r. blank) all
   pub agree : Agrees s (memory_from zeros all) (records_of s all)
   pub ends : all ≡ before_of all own ++ of_rank_all r own
 

@@ -4,9 +4,8 @@ ghost use Rattle.std.specs.Prelude.{◌≡◌, ◌<◌, ℕ, [], IfOk, length, s
 ghost use Rattle.scc_proto.specs.Words.{IsRun, zeros};
 ghost use Rattle.lab_chip.specs.Chips.{all_events, new_chip, with_turn};
 
-use crate::history::History;
 use scc_base::{CoreId, Event, Place, Rank, Setup};
-use scc_proto::{NUMBERS, Port, number_of_register, number_of_word};
+use scc_proto::{History, NUMBERS, Port, number_of_register, number_of_word};
 use std::alloc::{AllocError, Global};
 use std::marker::Model;
 
@@ -50,6 +49,8 @@ impl Model for LabChip {
 impl LabChip {
     ghost use Rattle.std.specs.Prelude.{◌≡◌, ◌<◌, IfOk};
     ghost use Rattle.scc_base.specs.Setups.{IsSetup};
+    ghost use Rattle.scc_proto.specs.Histories.{IsPermittedRun};
+    ghost use Rattle.scc_proto.specs.Stages.{blank};
     ghost use Rattle.scc_proto.specs.Words.{IsRun, zeros};
     ghost use Rattle.lab_chip.specs.Chips.{all_events, new_chip, with_turn};
 
@@ -82,6 +83,8 @@ impl LabChip {
     pub fn tells(&self)
         // Each event was a step of the words as the events before it left them: a load answered what was stored last.
         ensures run { IsRun zeros (all_events self.now) }
+        // Each was one that the record of its rank permitted behind the rank's events before it.
+        ensures permitted { IsPermittedRun self.now.setup (λ r. blank) (all_events self.now) }
         ensures valid { IsSetup self.now.setup }
         ensures below { self.now.rank < self.now.setup.nue }
     {

@@ -2,6 +2,5 @@
 #![tactic(auto)]
 
 mod chip;
-mod history;
 
 pub use chip::LabChip;

@@ -27,7 +27,7 @@ ran_of said stopped = record { finished = is_none stopped; out = joined (map sai
 
 -- what a run came to
 abbrev pub lab_ran : Lab → Ran
-lab_ran lab = ran_of lab.run.said.items lab.run.stopped
+lab_ran lab = ran_of lab.said.items lab.stopped
 
 -- what the steps of a lab come to: their plain meaning
 abbrev pub steps_ran : List Step → Ran

@@ -1,18 +1,20 @@
 //! The top call.
 
-ghost use Rattle.std.specs.Prelude.{◌≡◌, codes, map, string_bytes};
+ghost use Rattle.std.specs.Prelude.{◌≡◌, ◌≤◌, codes, length, List, map, string_bytes, Option, Some, None};
 ghost use Rattle.std.specs.Option.{option_copied};
-ghost use Rattle.rcce_io.specs.Files.{FilesView};
-ghost use Rattle.outcomes.specs.Coming.{Comes, IsMeant};
+ghost use Rattle.rcce_io.specs.Files.{FilesView, NamedFile};
+ghost use Rattle.outcomes.specs.Coming.{Comes, Holds, IsMeant};
 ghost use Rattle.outcomes.specs.Complaints.{outcome_of};
 ghost use Rattle.outcomes.specs.Delivery.{sinks};
-ghost use Rattle.outcomes.specs.Promises.{Promises};
+ghost use Rattle.outcomes.specs.Promises.{EndsWith, Promises};
 ghost use Rattle.rcce_words.specs.ScriptWords.{plan_of};
+ghost use Rattle.lab_reader.specs.Reading.{most_lab_bytes};
+ghost use Rattle.lab_program.specs.History.{LabTells};
 ghost use Rattle.lab_program.specs.Program.{bytes_plan, lab_file_named, file_plan, lab_ran, rccelab};
 
 use crate::report::Lab;
 use lab_reader::{LabStop, MOST_LAB_BYTES, read_lab};
-use lab_run::run_lab;
+use lab_run::{LabLeft, run_lab};
 use outcomes::{Complaint, Status, deliver, is_option, read_file};
 use rcce_io::{Files, Sink};
 use std::alloc::Global;
@@ -22,20 +24,28 @@ use std::alloc::Global;
 ///
 /// The checks go in this order, and the first that refuses counts: the words, the reading of the file, its grammar. Memory is
 /// taken by the reading, the grammar and the steps, before anything is printed. A sink that fails is not written to again, nor
-/// is the other one.
+/// is the other one. The chip and the cores that made the steps are left.
 pub fn rccelab<F: Files, O: Sink, E: Sink>(
     alloc: Global,
     words: &[String],
     files: &mut F,
     out: &mut O,
     err: &mut E,
+    left: &mut Option<LabLeft>,
 ) -> Status
+    requires blank { left.old ≡ None }
     // What is printed and the status are those of the plain meaning of the lab. What is promised has a name for each fact, among
     // them `output`, the output theorem.
     ensures promises { Promises rccelab (map string_bytes words.now) (F.seen files.old) (F.seen files.new)
         (sinks (O.seen out.old) (E.seen err.old)) (sinks (O.seen out.new) (E.seen err.new)) result }
+    // With the statuses 0 and 3 each access that is printed was made by the chip that is left, once and in this order, and no other;
+    // each was a step of its words and permitted by its rank's record; and its cores hold what the lab's hold at the end. With 1, 2,
+    // 4 and 5 nothing is left. Where a write failed, it is as the outcome says that was to be written.
+    ensures history { EndsWith (LabTells (F.seen files.old).told (lab_file_named (map string_bytes words.now)) left.new)
+        rccelab (map string_bytes words.now) (F.seen files.old) (F.seen files.new)
+        (sinks (O.seen out.old) (E.seen err.old)) (sinks (O.seen out.new) (E.seen err.new)) result }
 {
-    let ending = run_words(alloc, words, files);
+    let ending = run_words(alloc, words, files, left);
     deliver("rccelab", &ending, out, err)
 }
 
@@ -53,33 +63,59 @@ fn run_words<'a, F: Files>(
     alloc: Global,
     words: &'a [String],
     files: &mut F,
+    left: &mut Option<LabLeft>,
 ) -> Result<Lab, Complaint<'a>>
-    ensures { IsMeant (codes "rccelab") (plan_of file_plan (lab_file_named (map string_bytes words.now)))
+    requires blank { left.old ≡ None }
+    ensures meant { IsMeant (codes "rccelab") (plan_of file_plan (lab_file_named (map string_bytes words.now)))
         (F.seen files.old) (F.seen files.new) (outcome_of (codes "rccelab") lab_ran result) }
+    ensures tells { LabTells (F.seen files.old).told (lab_file_named (map string_bytes words.now)) left.new
+        (outcome_of (codes "rccelab") lab_ran result) }
 {
     match file_named(words) {
-        Some(file) => run_file(alloc, files, file),
+        Some(file) => run_file(alloc, files, file, left),
         None => Err(Complaint::words("words refused")),
     }
 }
 
-fn run_file<'a, F: Files>(alloc: Global, files: &mut F, file: &'a str) -> Result<Lab, Complaint<'a>>
-    ensures { Comes (codes "rccelab") (file_plan file.now) (F.seen files.old) (F.seen files.new)
+fn run_file<'a, F: Files>(
+    alloc: Global,
+    files: &mut F,
+    file: &'a str,
+    left: &mut Option<LabLeft>,
+) -> Result<Lab, Complaint<'a>>
+    requires blank { left.old ≡ None }
+    ensures comes { Comes (codes "rccelab") (file_plan file.now) (F.seen files.old) (F.seen files.new)
         (outcome_of (codes "rccelab") lab_ran result) }
+    ensures tells { LabTells (F.seen files.old).told (Some file.now) left.new (outcome_of (codes "rccelab") lab_ran result) }
 {
     match read_file(alloc, files, file, MOST_LAB_BYTES) {
-        Ok(bytes) => run_bytes(alloc, file, bytes.as_slice()),
+        Ok(bytes) => run_bytes(alloc, file, bytes.as_slice(), left),
         Err(complaint) => Err(complaint),
     }
 }
 
-fn run_bytes<'a>(alloc: Global, file: &'a str, bytes: &[u8]) -> Result<Lab, Complaint<'a>>
-    ensures { (files : FilesView) → Comes (codes "rccelab") (bytes_plan file.now bytes.now) files files
+fn run_bytes<'a>(
+    alloc: Global,
+    file: &'a str,
+    bytes: &[u8],
+    left: &mut Option<LabLeft>,
+) -> Result<Lab, Complaint<'a>>
+    requires blank { left.old ≡ None }
+    requires few { length bytes.now ≤ most_lab_bytes }
+    ensures comes { (files : FilesView) → Comes (codes "rccelab") (bytes_plan file.now bytes.now) files files
         (outcome_of (codes "rccelab") lab_ran result) }
+    ensures tells { (told : Option (List NamedFile)) → Holds told file.now bytes.now
+        → LabTells told (Some file.now) left.new (outcome_of (codes "rccelab") lab_ran result) }
 {
     match read_lab(alloc, bytes) {
         Ok(steps) => match run_lab(alloc, steps.as_slice()) {
-            Ok(run) => Ok(Lab { run }),
+            Ok(run) => {
+                *left = Some(run.left);
+                Ok(Lab {
+                    said: run.said,
+                    stopped: run.stopped,
+                })
+            }
             Err(_) => Err(Complaint::Memory),
         },
         Err(LabStop::Fault(fault)) => Err(Complaint::Refused {

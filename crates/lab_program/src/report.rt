@@ -1,13 +1,14 @@
 //! What a lab came to, as it is written.
 
-use lab_run::LabRun;
+use lab_plain::{Said, Stopped};
 use outcomes::Report;
 use rcce_io::{Sink, TextSource, WriteFault, write_texts};
 
-/// A lab that was run.
+/// A lab that was run: what it printed, and why it stopped, if it did.
 #[derive(Drop)]
 pub struct Lab {
-    pub run: LabRun,
+    pub said: Vec<Said>,
+    pub stopped: Option<Stopped>,
 }
 
 impl Report for Lab {
@@ -16,15 +17,15 @@ impl Report for Lab {
     ghost ran = { lab_ran };
 
     fn is_finished(&self) -> bool {
-        self.run.stopped.is_none()
+        self.stopped.is_none()
     }
 
     fn write_out<S: Sink>(&self, sink: &mut S) -> Result<(), WriteFault> {
-        write_texts(sink, self.run.said.as_slice())
+        write_texts(sink, self.said.as_slice())
     }
 
     fn write_err<S: Sink>(&self, sink: &mut S) -> Result<(), WriteFault> {
-        match &self.run.stopped {
+        match &self.stopped {
             Some(stopped) => stopped.write_to(sink),
             None => Ok(()),
         }

@@ -1,6 +1,6 @@
 -- What a step of one core leaves on a bench.
-use Rattle.std.proofs.Common.{◌≡◌, ◌≢◌, ℕ, ◌<◌, ◌⊎◌, inl, inr, List, [], ◌∷◌, ◌++◌, length, map, slice_index_or, slice_set, Option, is_some, Result, Ok, Err, IfOk, refl, sym, ◌∙◌, ap, subst, arith}
-use Rattle.std.proofs.lemmas.List.{append-nil, get_or-map, get_or-set_other, get_or-set_same, length-map, length-set, map-set}
+use Rattle.std.proofs.Common.{◌≡◌, ◌≢◌, ℕ, ◌+◌, ◌<◌, ◌≤◌, drop, get_or, ◌⊎◌, inl, inr, List, [], ◌∷◌, ◌++◌, length, map, slice_index_or, slice_set, true, Option, None, Some, is_some, Result, Ok, Err, IfOk, refl, sym, ◌∙◌, ap, subst, arith}
+use Rattle.std.proofs.lemmas.List.{append-nil, at_drop_all, at_drop_more, get_or-map, get_or-set_other, get_or-set_same, length-map, length-set, map-set}
 use Rattle.std.specs.Prelude.{OnOk}
 use Rattle.scc_base.specs.Setups.{SetupView}
 use Rattle.scc_base.specs.declared.events.Event.{Event}
@@ -9,7 +9,7 @@ use Rattle.scc_proto.specs.Words.{Memory, RankEvent, zeros}
 use Rattle.scc_proto.specs.Histories.{events_of, memory_from, records_of}
 use Rattle.scc_proto.specs.Records.{record_of}
 use Rattle.scc_proto.specs.Ports.{record_in}
-use Rattle.scc_proto.proofs.Tests.{same_or_other}
+use Rattle.scc_proto.proofs.Tests.{same_or_other, true_not_false}
 use Rattle.put_get.specs.Cores.{Private}
 use Rattle.put_get.specs.HeapStores.{AwaitsHeap}
 use Rattle.lab_chip.specs.Chips.{LabChipView, all_events, of_rank_all, lab_sight, with_turn}
@@ -23,7 +23,7 @@ use Rattle.lab_plain.specs.declared.said.Said.{Said}
 use Rattle.lab_plain.specs.Scenes.{CoreScene}
 use Rattle.lab_plain.specs.declared.said.Said.TheVariants.{Begins}
 use Rattle.lab_plain.specs.declared.said.Stopped.{Stopped}
-use Rattle.lab_plain.specs.Meaning.{Holds, Stand, act_stop, action_done, after_action, begun, core_at, core_done, holder_of, holds_nothing, is_holder, scene_at, with_scene}
+use Rattle.lab_plain.specs.Meaning.{Done, Holds, Stand, step_done, steps_done, unless_stopped, act_stop, action_done, after_action, begun, core_at, core_done, holder_of, holds_nothing, is_holder, scene_at, with_scene}
 use Rattle.lab_run.specs.Turns.{IsKept, IsLabSetup, IsReady, CoreTurned, memory_in, scene_of}
 use Rattle.lab_run.specs.Stands.{IsBench, holds_of, record_at, stand_of}
 use Rattle.lab_run.proofs.TurnLaws.{rank_kept, setup_kept}
@@ -185,3 +185,28 @@ if_ok (Err e) next p = tt
 pub both_ok : {A E T : Type 0} {P Q : A → Type 0} (r : Result A E) → ((x : A) → T → P x → Q x) → OnOk r T → IfOk r P → IfOk r Q
 both_ok (Ok x) next t p = next x t p
 both_ok (Err e) next t p = tt
+
+-- ---- the end of a lab
+
+-- a step that stops a lab is its end
+pub stops_there : (t : Stand) (stop : Option Stopped) (next : Stand → Done) → is_some stop ≡ true → unless_stopped t stop next ≡ record { stand = t; stop = stop }
+stops_there t None next some = absurd (true_not_false (sym some))
+stops_there t (Some why) next some = refl
+
+-- the steps from one on: it is made, and what follows it unless it stops the lab
+pub made_then : (steps : List Step) (n : ℕ) (step : Step) (t : Stand) → n < length steps → step ≡ get_or steps n step
+    → steps_done (drop n steps) t ≡ unless_stopped (step_done step t).stand (step_done step t).stop (steps_done (drop (n + 1) steps))
+made_then steps n step t below is =
+    at_drop_more (λ (l : List Step). steps_done l t) steps n step below
+    ∙ (λ i. unless_stopped (step_done (sym is i) t).stand (step_done (sym is i) t).stop (steps_done (drop (n + 1) steps)))
+
+-- a lab that stops at this step has come to its end
+pub ends_there : (steps : List Step) (n : ℕ) (step : Step) (t u : Stand) (stop : Option Stopped) (done : Done) → n < length steps → step ≡ get_or steps n step
+    → steps_done (drop n steps) t ≡ done → u ≡ (step_done step t).stand → stop ≡ (step_done step t).stop → is_some stop ≡ true → done ≡ record { stand = u; stop = stop }
+ends_there steps n step t u stop done below is same stand stops some =
+    sym same ∙ made_then steps n step t below is ∙ (λ i. unless_stopped (sym stand i) (sym stops i) (steps_done (drop (n + 1) steps)))
+    ∙ stops_there u stop (steps_done (drop (n + 1) steps)) some
+
+-- and so has one of which no step is left
+pub ends_last : (steps : List Step) (n : ℕ) (t : Stand) (done : Done) → length steps ≤ n → steps_done (drop n steps) t ≡ done → done ≡ record { stand = t; stop = None }
+ends_last steps n t done all same = sym same ∙ at_drop_all (λ (l : List Step). steps_done l t) steps n all

@@ -56,7 +56,7 @@ cache_front es line false not_full cache new =
 cache_front [] line true is_full cache new = (omega arith, cache, new)
 cache_front (x ∷ es) line true is_full cache new = (omega (arith, cache.few), cache-remove (x ∷ es) 0 cache, held-remove (x ∷ es) 0 line new)
 
-cache_filled : (es : List Entry) (line : LineAt) (words : List ℕ) → IsCache es → held es line ≡ None → IsCache (filled es line words)
+pub cache_filled : (es : List Entry) (line : LineAt) (words : List ℕ) → IsCache es → held es line ≡ None → IsCache (filled es line words)
 cache_filled es line words cache new =
     let front = cache_front es line (length es == most_lines) refl cache new in
     cache-push (if length es == most_lines then drop 1 es else es) (record { line = line; words = words }) front.0 front.1 front.2
@@ -71,7 +71,7 @@ without_none : (line : LineAt) (es : List Entry) → held es line ≡ None → w
 without_none line [] none = refl
 without_none line (e ∷ es) none = let n = not_held e es line none in kept_first line e es n.0 ∙ ap (λ (l : List Entry). e ∷ l) (without_none line es n.1)
 
-line_self : (line : LineAt) → same_line line line ≡ true
+pub line_self : (line : LineAt) → same_line line line ≡ true
 line_self line = grind (arith, nat_tests)
 
 some_held : (es : List Entry) (line : LineAt) (at : ℕ) → IsPlaceOf es line (Some at) → is_some (held es line) ≡ true
@@ -119,7 +119,7 @@ leaves_none (Some line) es place = record { lines = sym (without_none line es pl
 some_none : {P : Type 0} (at : ℕ) → Some at ≡ None → P
 some_none at same = true_not_false (ap (λ (o : Option ℕ). is_some o) same)
 
-leaves_some : (evict : Option LineAt) (es : List Entry) (at : ℕ) → AreDistinct es → IsPlaceIn evict es (Some at) → Leaves evict es (Some at) (remove es at)
+pub leaves_some : (evict : Option LineAt) (es : List Entry) (at : ℕ) → AreDistinct es → IsPlaceIn evict es (Some at) → Leaves evict es (Some at) (remove es at)
 leaves_some None es at distinct place = some_none at place
 leaves_some (Some line) es at distinct place = record { lines = removed_is es line at distinct place; left = sym (some_held es line at place) }
 

@@ -142,7 +142,7 @@ out_heap s (Some o) awaits = line_heap s o awaits
 pub loads_heap : (s : SetupView) (line : LineAt) (words : List ℕ) → IsHeapLine s line → AreHeap s (loads_of line words)
 loads_heap s line words heap = (heap, (heap, (heap, (heap, tt))))
 
-four_words : (words : List ℕ) → length words ≡ 4 → words ≡ slice_index words 0 ∷ slice_index words 1 ∷ slice_index words 2 ∷ slice_index words 3 ∷ []
+pub four_words : (words : List ℕ) → length words ≡ 4 → words ≡ slice_index words 0 ∷ slice_index words 1 ∷ slice_index words 2 ∷ slice_index words 3 ∷ []
 four_words [] long = absurd (omega (arith, long))
 four_words (a ∷ []) long = absurd (omega (arith, long))
 four_words (a ∷ b ∷ []) long = absurd (omega (arith, long))

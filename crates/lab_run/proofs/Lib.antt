@@ -4,4 +4,6 @@ pub mod HeapEvents
 pub mod MoveLaws
 pub mod RegisterLaws
 pub mod StartLaws
+pub mod CallLaws
+pub mod ToldLaws
 pub mod TurnLaws

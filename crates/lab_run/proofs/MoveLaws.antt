@@ -18,7 +18,7 @@ use Rattle.put_get.specs.HeapStores.{AwaitsHeap}
 use Rattle.put_get.specs.Transfers.{Puts, line_at, put_lines, put_stores}
 use Rattle.put_get.proofs.HeapLemmas.{word_awaits}
 use Rattle.lab_chip.proofs.ChipLaws.{chip_did}
-use Rattle.lab_chip.specs.Chips.{LabChipView, all_events, lab_sight}
+use Rattle.lab_chip.specs.Chips.{LabChipView, all_events, of_rank_all, lab_sight}
 use Rattle.lab_reader.specs.Places.{IsInHeap}
 use Rattle.lab_plain.specs.declared.said.Said.{Said}
 use Rattle.lab_plain.specs.declared.said.Said.TheVariants.{Answers, Loads, Stores}
@@ -26,9 +26,10 @@ use Rattle.lab_plain.specs.declared.said.Source.{Source}
 use Rattle.lab_plain.specs.declared.said.Source.TheVariants.{BufferLine, Cache, Words}
 use Rattle.lab_plain.specs.Scenes.{after_answer, waiting_word, word_fetched, word_read, word_read_by, after_invalidate, after_print, say_buffer, say_lines, after_flushing, is_evicted, say_evicted, say_left, word_loaded, left_by, line_in, line_stored, say_got, say_stores, line_got, line_loaded, CoreScene, word_written}
 use Rattle.lab_run.specs.Evicting.{IsPlaceIn, named_answer}
-use Rattle.lab_run.specs.Turns.{IsKept, IsLabSetup, IsReady, CoreTurned, memory_in, scene_of}
+use Rattle.lab_run.specs.Turns.{IsKept, IsLabSetup, IsReady, IsTold, CoreTurned, memory_in, scene_of}
 use Rattle.lab_run.proofs.EvictLaws.{Leaves, filled_left}
-use Rattle.lab_run.proofs.HeapEvents.{line_heap, loads_heap, out_heap, quiet, went, words_loaded}
+use Rattle.lab_run.proofs.HeapEvents.{all_did, line_heap, loads_heap, out_heap, quiet, went, words_loaded}
+use Rattle.lab_run.proofs.ToldLaws.{left_told, print_told, stores_told, told_both, told_by, told_more, told_none}
 use Rattle.lab_run.proofs.TurnLaws.{in_heap, kept_both, kept_none, rank_kept, ready_after}
 
 -- ---- what is permitted
@@ -48,7 +49,7 @@ pub may_write : (c : Private) (s : LabChipView) (line : LineAt) → IsReady c s 
 may_write c s line ready =
     (quiet (lab_sight s).seat ready.setup.valid (record_in (lab_sight s)) (stores_of (handed_out c.out line)) (ap leaves_heap ready.idle) (out_heap s.setup (handed_out c.out line) (handed_awaits s.setup c.out line ready.awaits))).may
 
-one_line : (core line : ℕ) (words : List ℕ) → put_stores core line (words ∷ []) ≡ stores_of_line (whole_line (line_at core line) words)
+pub one_line : (core line : ℕ) (words : List ℕ) → put_stores core line (words ∷ []) ≡ stores_of_line (whole_line (line_at core line) words)
 one_line core line words = append-nil (stores_of_line (whole_line (line_at core line) words))
 
 pub may_put : (c : Private) (s : LabChipView) (line : LineAt) (words : List ℕ) (core first : ℕ) → IsReady c s → IsInHeap line → core ≡ line.core → first ≡ line.line
@@ -71,6 +72,7 @@ flushed_turn c d s t said told ready flushes prints =
       scene = λ i. record { memory = w.memory i; lines = (flushes.is i).lines; out = (flushes.is i).out; said = prints i };
       ready = ready_after c d s t ready w.kept (subst (λ (x : Private). AwaitsHeap s.setup x.out) (sym flushes.is) tt);
       kept = w.kept;
+      tells = told_by s t (stores_of c.out) said (say_stores s.rank c.out) told flushes.did prints (stores_told s.rank c.out);
     }
 
 pub written_turn : (c d : Private) (s t : LabChipView) (p : WordAt) (v : ℕ) (said told : List Said) → IsReady c s → IsInHeap (line_of_word p) → Writes (lab_sight s) c p v (lab_sight t) d
@@ -81,6 +83,8 @@ written_turn c d s t p v said told ready heap writes prints =
       scene = λ i. record { memory = w.memory i; lines = (writes.is i).lines; out = (writes.is i).out; said = prints i };
       ready = ready_after c d s t ready w.kept (subst (λ (x : Private). AwaitsHeap s.setup x.out) (sym writes.is) (word_awaits s.setup c.out p v ready.awaits (in_heap s.setup (line_of_word p) ready.setup heap)));
       kept = w.kept;
+      tells = told_by s t (stores_of (handed_out c.out (line_of_word p))) said (say_stores s.rank (handed_out c.out (line_of_word p))) told writes.did prints
+          (stores_told s.rank (handed_out c.out (line_of_word p)));
     }
 
 pub put_turn : (c d : Private) (s t : LabChipView) (line : LineAt) (words : List ℕ) (core first : ℕ) (said told : List Said) → IsReady c s → IsInHeap line → core ≡ line.core → first ≡ line.line
@@ -95,6 +99,8 @@ put_turn c d s t line words core first said told ready heap at_core at_line puts
       scene = λ i. record { memory = w.memory i; lines = (is i).lines; out = (is i).out; said = prints i };
       ready = ready_after c d s t ready w.kept (subst (λ (x : Private). AwaitsHeap s.setup x.out) (sym is) ready.awaits);
       kept = w.kept;
+      tells = told_by s t (stores_of_line (whole_line line words)) said (Stores s.rank line words (true ∷ true ∷ true ∷ true ∷ []) ∷ []) told did prints
+          (append-nil (of_rank_all s.rank (stores_of_line (whole_line line words))));
     }
 
 -- ---- loads
@@ -104,6 +110,7 @@ pub record LoadedLine (evict : Option LineAt) (at : Option ℕ) (c : Private) (s
   pub same : words ≡ line_in (memory_in s) line
   pub leaves : Leaves evict (filled c.lines line (line_in (memory_in s) line)) at d.lines
   pub memory : memory_in t ≡ memory_in s
+  pub makes : all_events t ≡ all_events s ++ of_rank_all s.rank (loads_of line words)
   pub out : d.out ≡ c.out
   pub ready : IsReady d t
   pub kept : IsKept s t
@@ -130,6 +137,7 @@ loaded_line evict at c e d s t line words ready heap cache new place given (Load
       same = is;
       leaves = subst (λ (l : List Entry). Leaves evict l at d.lines) (λ i. filled (lines i) line (is i)) left.0;
       memory = w.memory;
+      makes = all_did s t (loads_of line words) did;
       out = out;
       ready = ready_after c d s t ready w.kept (subst (λ (o : Option Out). AwaitsHeap s.setup o) (sym out) ready.awaits);
       kept = w.kept;
@@ -152,8 +160,9 @@ fetched_there c d s t line words kept found (Loaded none long did fills) = no_wo
 -- a line was loaded into an empty cache, behind a flush
 pub got_turn : (c m d : Private) (s q t : LabChipView) (said told end : List Said) (line : LineAt) (words : List ℕ) → CoreTurned (after_flushing s.rank) c s said m q told
     → words ≡ line_in (memory_in q) line → d.lines ≡ filled [] line (line_in (memory_in q) line) → memory_in t ≡ memory_in q → d.out ≡ None → IsReady d t → IsKept q t
+    → all_events t ≡ all_events q ++ of_rank_all q.rank (loads_of line words)
     → end ≡ told ++ say_got q.rank line words → CoreTurned (line_got s.rank line) c s said d t end
-got_turn c m d s q t said told end line words first same lines memory out ready kept prints =
+got_turn c m d s q t said told end line words first same lines memory out ready kept makes prints =
     let empty : m.out ≡ None = ap (λ (x : CoreScene). x.out) first.scene in
     let rank = rank_kept s q first.kept in
     let loaded : scene_of d t end ≡ line_loaded s.rank line (scene_of m q told)
@@ -162,6 +171,7 @@ got_turn c m d s q t said told end line words first same lines memory out ready 
       scene = loaded ∙ ap (line_loaded s.rank line) first.scene;
       ready = ready;
       kept = kept_both s q t first.kept kept;
+      tells = told_both s q t said told end first.tells (record { more = say_got q.rank line words; prints = prints; makes = makes });
     }
 
 -- ---- a read of a word whose line is not cached
@@ -172,25 +182,33 @@ said_three said a b rest = append_assoc (said ++ a ∷ []) (b ∷ []) rest ∙ a
 pub loaded_turn : (evict : Option LineAt) (c d : Private) (s t : LabChipView) (p : WordAt) (line : LineAt) (words : List ℕ) (left : Bool) (said end : List Said) → line ≡ line_of_word p
     → words ≡ line_in (memory_in s) line → left ≡ is_evicted evict (filled c.lines line (line_in (memory_in s) line)) → d.lines ≡ left_by evict (filled c.lines line (line_in (memory_in s) line))
     → memory_in t ≡ memory_in s → d.out ≡ c.out → IsReady d t → IsKept s t
+    → all_events t ≡ all_events s ++ of_rank_all s.rank (loads_of line words)
     → end ≡ said ++ Loads t.rank line words ∷ [] ++ Answers p (slice_index words p.word) Words ∷ [] ++ say_left evict left
     → CoreTurned (word_loaded s.rank p evict) c s said d t end
-loaded_turn evict c d s t p line words left said end at same gone lines memory out ready kept prints =
+loaded_turn evict c d s t p line words left said end at same gone lines memory out ready kept makes prints =
     let rank = rank_kept s t kept in
     let told : end ≡ said ++ (Loads s.rank (line_of_word p) (line_in (memory_in s) (line_of_word p)) ∷ Answers p (slice_index (line_in (memory_in s) (line_of_word p)) p.word) Words
     ∷ say_evicted evict (filled c.lines (line_of_word p) (line_in (memory_in s) (line_of_word p))))
     = prints ∙ said_three said (Loads t.rank line words) (Answers p (slice_index words p.word) Words) (say_left evict left)
     ∙ (λ i. said ++ (Loads (rank i) line (same i) ∷ Answers p (slice_index (same i) p.word) Words ∷ say_left evict (gone i)))
     ∙ (λ i. said ++ (Loads s.rank (at i) (line_in (memory_in s) (at i)) ∷ Answers p (slice_index (line_in (memory_in s) (at i)) p.word) Words ∷ say_evicted evict (filled c.lines (at i) (line_in (memory_in s) (at i))))) in
+    let there = line_in (memory_in s) (line_of_word p) in
     let came = lines ∙ (λ i. left_by evict (filled c.lines (at i) (line_in (memory_in s) (at i)))) in
     record {
       scene = λ i. record { memory = memory i; lines = came i; out = out i; said = told i };
       ready = ready;
       kept = kept;
+      tells = record {
+        more = Loads s.rank (line_of_word p) there ∷ Answers p (slice_index there p.word) Words ∷ say_evicted evict (filled c.lines (line_of_word p) there);
+        prints = told;
+        makes = makes ∙ (λ i. all_events s ++ of_rank_all s.rank (loads_of line (same i))) ∙ (λ i. all_events s ++ of_rank_all s.rank (loads_of (at i) (line_in (memory_in s) (at i))))
+            ∙ (λ i. all_events s ++ (of_rank_all s.rank (loads_of (line_of_word p) there) ++ sym (left_told evict (is_evicted evict (filled c.lines (line_of_word p) there))) i));
+      };
     }
 
 -- a read of what the core holds: nothing was done but that it was answered
 pub answered_turn : (c : Private) (s : LabChipView) (p : WordAt) (v : ℕ) (from : Source) (said end : List Said) → IsReady c s → end ≡ said ++ Answers p v from ∷ [] → CoreTurned (after_answer p v from) c s said c s end
-answered_turn c s p v from said end ready prints = record { scene = λ i. record { memory = memory_in s; lines = c.lines; out = c.out; said = prints i }; ready = ready; kept = kept_none s }
+answered_turn c s p v from said end ready prints = record { scene = λ i. record { memory = memory_in s; lines = c.lines; out = c.out; said = prints i }; ready = ready; kept = kept_none s; tells = told_more s said (Answers p v from ∷ []) end prints refl }
 
 -- ---- what holds nothing of the shared words
 
@@ -199,13 +217,19 @@ invalidated_turn c d s said ready is = record {
   scene = λ i. record { memory = memory_in s; lines = (is i).lines; out = (is i).out; said = said };
   ready = ready_after c d s s ready (kept_none s) (subst (λ (x : Private). AwaitsHeap s.setup x.out) (sym is) ready.awaits);
   kept = kept_none s;
+  tells = told_none s said;
 }
 
 pub printed_turn : (me : ℕ) (c : Private) (s : LabChipView) (said end : List Said) → IsReady c s → end ≡ said ++ say_lines me c.lines ++ say_buffer me c.out → CoreTurned (after_print me) c s said c s end
-printed_turn me c s said end ready prints = record { scene = λ i. record { memory = memory_in s; lines = c.lines; out = c.out; said = prints i }; ready = ready; kept = kept_none s }
+printed_turn me c s said end ready prints = record {
+  scene = λ i. record { memory = memory_in s; lines = c.lines; out = c.out; said = prints i };
+  ready = ready;
+  kept = kept_none s;
+  tells = told_more s said (say_lines me c.lines ++ say_buffer me c.out) end (prints ∙ append_assoc said (say_lines me c.lines) (say_buffer me c.out)) (print_told me c.lines c.out);
+}
 
 pub nothing_turn : (c : Private) (s : LabChipView) (said : List Said) → IsReady c s → CoreTurned (λ x. x) c s said c s said
-nothing_turn c s said ready = record { scene = refl; ready = ready; kept = kept_none s }
+nothing_turn c s said ready = record { scene = refl; ready = ready; kept = kept_none s; tells = told_none s said }
 
 -- ---- reads of what the core holds
 
@@ -219,6 +243,7 @@ cached_turn c d s t p evict words kept said end ready found fetch prints =
       scene = (λ i. scene_of (f.2 i) (f.1 i) ((prints ∙ (λ j. said ++ Answers p (slice_index (f.0 j) p.word) Cache ∷ [])) i)) ∙ sym (ap (word_fetched s.rank p evict (scene_of c s said)) found);
       ready = subst (λ (x : LabChipView). IsReady d x) (sym f.1) (subst (λ (x : Private). IsReady x s) (sym f.2) ready);
       kept = subst (λ (x : LabChipView). IsKept s x) (sym f.1) (kept_none s);
+      tells = subst (λ (x : LabChipView). IsTold s said x end) (sym f.1) (told_more s said (Answers p (slice_index words p.word) Cache ∷ []) end prints refl);
     }
 
 -- what it answers
@@ -234,6 +259,7 @@ buffered_turn c s p evict v said end ready waits prints = record {
   scene = (λ i. scene_of c s (prints i)) ∙ ap (word_read_by s.rank p evict (scene_of c s said)) waits;
   ready = ready;
   kept = kept_none s;
+  tells = told_more s said (Answers p v BufferLine ∷ []) end prints refl;
 }
 
 -- and of one that does not
@@ -243,4 +269,5 @@ unbuffered_turn c d s t p evict said end waits turned = record {
   scene = turned.scene ∙ ap (word_read_by s.rank p evict (scene_of c s said)) waits;
   ready = turned.ready;
   kept = turned.kept;
+  tells = turned.tells;
 }

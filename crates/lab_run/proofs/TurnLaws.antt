@@ -1,5 +1,5 @@
 -- Scenes of a core at work, one after the other.
-use Rattle.std.proofs.Common.{◌≡◌, ℕ, ◌<◌, List, ◌++◌, Result, Ok, Err, refl, sym, ◌∙◌, ap, subst, arith}
+use Rattle.std.proofs.Common.{◌≡◌, ℕ, ◌<◌, List, Result, Ok, Err, refl, sym, ◌∙◌, ap, subst, arith}
 use Rattle.std.specs.Prelude.{OnOk}
 use Rattle.scc_base.specs.Places.{LineAt, WordAt}
 use Rattle.scc_base.specs.Setups.{SetupView}
@@ -9,7 +9,8 @@ use Rattle.lab_chip.specs.Chips.{LabChipView}
 use Rattle.lab_reader.specs.Places.{IsInHeap}
 use Rattle.lab_plain.specs.declared.said.Said.{Said}
 use Rattle.lab_plain.specs.Scenes.{CoreScene}
-use Rattle.lab_run.specs.Turns.{IsKept, IsLabSetup, IsReady, CoreTurned, scene_of}
+use Rattle.lab_run.specs.Turns.{IsKept, IsLabSetup, IsReady, CoreTurned}
+use Rattle.lab_run.proofs.ToldLaws.{told_both}
 
 pub kept_none : (chip : LabChipView) → IsKept chip chip
 kept_none chip = record { turn = refl; stage = refl; held = refl; registers = refl }
@@ -53,15 +54,7 @@ turned_then f g c d e s m t said told end first second = record {
   scene = second.scene ∙ (λ i. g (rank_kept s m first.kept i) (first.scene i));
   ready = second.ready;
   kept = kept_both s m t first.kept second.kept;
-}
-
--- more was printed, and nothing else was done
-pub turned_said : (f : CoreScene → CoreScene) (c d : Private) (s t : LabChipView) (said told more : List Said) (end : List Said) → CoreTurned f c s said d t told → end ≡ told ++ more
-    → CoreTurned (λ x. record (f x) { said = (f x).said ++ more }) c s said d t end
-turned_said f c d s t said told more end turned is = record {
-  scene = (λ i. record (scene_of d t told) { said = is i }) ∙ (λ i. record (turned.scene i) { said = (turned.scene i).said ++ more });
-  ready = turned.ready;
-  kept = turned.kept;
+  tells = told_both s m t said told end first.tells second.tells;
 }
 
 -- four things, one after the other

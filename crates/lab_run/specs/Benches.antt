@@ -2,16 +2,19 @@
 use Rattle.std.specs.Prelude.{◌≡◌, map, Option}
 use Rattle.lab_plain.specs.declared.said.Stopped.{Stopped}
 use Rattle.lab_plain.specs.Meaning.{Done, Stand, lab_start}
+use Rattle.lab_chip.specs.Chips.{all_events}
 use Rattle.lab_run.specs.declared.bench.Bench.{Bench}
+use Rattle.lab_run.specs.Accesses.{accesses_of}
 use Rattle.lab_run.specs.Stands.{IsBench, holds_of, stand_of}
 
 -- the shared words, what the cores hold, who has the registers, and what was printed
 abbrev pub bench_stand : Bench → Stand
 bench_stand b = stand_of b.chip b.cores.items b.holders b.said.items
 
--- what holds of a bench between two steps
-abbrev pub BenchStands : Bench → Type 0
-BenchStands b = IsBench b.chip (map holds_of b.cores.items) b.holders
+-- what holds of a bench between two steps: the accesses that were printed are those that the chip has made
+pub record BenchStands (b : Bench) : Type 0 where
+  pub bench : IsBench b.chip (map holds_of b.cores.items) b.holders
+  pub told : all_events b.chip ≡ accesses_of b.said.items
 
 -- nothing was done yet
 pub record IsNewBench (b : Bench) : Type 0 where

@@ -1,14 +1,17 @@
 -- How the cores of a lab stand for a stand of the plain meaning.
 use Rattle.std.specs.Prelude.{◌≡◌, ℕ, ◌<◌, if◌then◌else◌, List, length, map, replicate, Option, is_some}
-use Rattle.scc_proto.specs.Stages.{Idle, Record}
-use Rattle.scc_proto.specs.Histories.{records_of}
+use Rattle.scc_proto.specs.Stages.{Idle, Record, blank}
+use Rattle.scc_proto.specs.Histories.{IsPermittedRun, records_of}
+use Rattle.scc_proto.specs.Words.{IsRun, zeros}
 use Rattle.put_get.specs.Cores.{Private}
 use Rattle.put_get.specs.HeapStores.{AwaitsHeap}
 use Rattle.lab_chip.specs.Chips.{LabChipView, all_events}
 use Rattle.lab_plain.specs.declared.said.Said.{Said}
-use Rattle.lab_plain.specs.declared.said.Stopped.{Stopped}
 use Rattle.lab_plain.specs.Meaning.{Done, Holds, Stand, core_at, holder_of, holds_nothing, is_holder}
+use Rattle.lab_run.specs.Accesses.{accesses_of}
 use Rattle.lab_run.specs.Turns.{IsLabSetup, memory_in}
+use Rattle.lab_run.specs.declared.run.LabLeft.{LabLeft}
+use Rattle.lab_run.specs.declared.run.LabRun.{LabRun}
 
 -- what a core holds
 abbrev pub holds_of : Private → Holds
@@ -41,7 +44,19 @@ pub record IsBench (chip : LabChipView) (cores : List Holds) (holders : List (Op
   pub held : (r k : ℕ) → r < 48 → k < 48 → is_some ((record_at chip r).held k) ≡ is_holder r (holder_of holders k)
   pub registers : (k : ℕ) → k < 48 → (memory_in chip).register k ≡ held_word (holder_of holders k)
 
--- a run came to what a lab comes to
-pub record HasDoneLab (done : Done) (said : List Said) (stopped : Option Stopped) : Type 0 where
-  pub printed : said ≡ done.stand.said
-  pub why : stopped ≡ done.stop
+-- A chip and its cores have done what a lab comes to. The accesses that it prints were made by the chip, each once and in this order,
+-- and no others; each was a step of the words as those before it left them, and permitted by the record of its rank. Words, cached
+-- lines and buffered lines are those of the lab's end.
+pub record IsLeftBy (done : Done) (left : LabLeft) : Type 0 where
+  pub accesses : all_events left.chip ≡ accesses_of done.stand.said
+  pub steps : IsRun zeros (all_events left.chip)
+  pub permitted : IsPermittedRun left.chip.setup (λ r. blank) (all_events left.chip)
+  pub setup : IsLabSetup left.chip.setup
+  pub words : memory_in left.chip ≡ done.stand.memory
+  pub cores : map holds_of left.cores.items ≡ done.stand.cores
+
+-- a run came to what a lab comes to, by its chip and its cores
+pub record HasDoneLab (done : Done) (run : LabRun) : Type 0 where
+  pub printed : run.said.items ≡ done.stand.said
+  pub why : run.stopped ≡ done.stop
+  pub left : IsLeftBy done run.left

@@ -1,5 +1,5 @@
 -- How a core at work over the chip stands for a scene of the plain meaning.
-use Rattle.std.specs.Prelude.{◌≡◌, ℕ, ◌<◌, List}
+use Rattle.std.specs.Prelude.{◌≡◌, ℕ, ◌<◌, List, ◌++◌}
 use Rattle.scc_base.specs.Setups.{SetupView, IsSetup, host_of}
 use Rattle.scc_proto.specs.Stages.{Idle}
 use Rattle.scc_proto.specs.Words.{Memory, zeros}
@@ -10,6 +10,7 @@ use Rattle.put_get.specs.HeapStores.{AwaitsHeap}
 use Rattle.lab_chip.specs.Chips.{LabChipView, all_events, lab_sight}
 use Rattle.lab_plain.specs.declared.said.Said.{Said}
 use Rattle.lab_plain.specs.Scenes.{CoreScene}
+use Rattle.lab_run.specs.Accesses.{accesses_of}
 
 -- the shared words as the events of a chip have left them
 unfoldable pub memory_in : LabChipView → Memory
@@ -40,8 +41,16 @@ pub record IsKept (old new : LabChipView) : Type 0 where
   pub held : (record_in (lab_sight new)).held ≡ (record_in (lab_sight old)).held
   pub registers : (memory_in new).register ≡ (memory_in old).register
 
--- a core did to the shared words, to what it holds and to what was printed what a function says, and may go on
+-- More was printed, and on the chip those accesses were made that were printed, each once and in their order, and no others.
+pub record IsTold (s : LabChipView) (said : List Said) (t : LabChipView) (told : List Said) : Type 0 where
+  pub more : List Said
+  pub prints : told ≡ said ++ more
+  pub makes : all_events t ≡ all_events s ++ accesses_of more
+
+-- A core did to the shared words, to what it holds and to what was printed what a function says, and may go on. The accesses that
+-- were printed are the chip's.
 pub record CoreTurned (op : CoreScene → CoreScene) (c : Private) (s : LabChipView) (said : List Said) (d : Private) (t : LabChipView) (told : List Said) : Type 0 where
   pub scene : scene_of d t told ≡ op (scene_of c s said)
   pub ready : IsReady d t
   pub kept : IsKept s t
+  pub tells : IsTold s said t told

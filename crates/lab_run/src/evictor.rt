@@ -9,7 +9,7 @@ use std::marker::Model;
 
 /// The evictor that names one place, wherever so many entries are held.
 #[derive(Drop)]
-pub(crate) struct Named {
+pub struct Named {
     at: Option<usize>,
     count: u64,
 }

@@ -4,6 +4,7 @@
 mod acting;
 mod bench;
 mod evictor;
+pub mod laws;
 mod making;
 mod moves;
 mod prints;
@@ -12,4 +13,5 @@ mod registers;
 mod run;
 mod setup;
 
-pub use run::{LabRun, run_lab};
+pub use evictor::Named;
+pub use run::{LabLeft, LabRun, run_lab};

@@ -3,6 +3,8 @@
 ghost use Rattle.std.specs.Prelude.{◌≡◌, ◌++◌, [], ◌∷◌, true, OnOk, IfOk, Some, None};
 ghost use Rattle.line_cache.specs.Lines.{filled};
 ghost use Rattle.write_combine.specs.Combining.{handed_out};
+ghost use Rattle.put_get.specs.Accesses.{loads_of};
+ghost use Rattle.lab_chip.specs.Chips.{all_events, of_rank_all};
 ghost use Rattle.lab_plain.specs.declared.said.Said.TheVariants.{Answers, Stores};
 ghost use Rattle.lab_plain.specs.Scenes.{after_flushing, line_got, line_in, line_put, line_stored, line_written, say_got, say_stores, word_written};
 ghost use Rattle.lab_run.specs.Turns.{IsKept, IsReady, CoreTurned, memory_in, scene_of};
@@ -185,6 +187,8 @@ fn get_line(core: &mut Core<Named>, chip: &mut LabChip, at: HeapLine) -> [u64; 4
     ensures empty { core.new.out ≡ None }
     ensures ready { IsReady core.new chip.new }
     ensures kept { IsKept chip.old chip.new }
+    ensures makes { all_events chip.new
+        ≡ all_events chip.old ++ of_rank_all chip.old.rank (loads_of at result) }
 {
     core.cl1invmb();
     let Loaded { words, left: _ } = load_line(core, chip, at, &None);

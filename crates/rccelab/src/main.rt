@@ -11,6 +11,14 @@ fn main(rt: HostRuntime) -> ExitCode {
     let mut files = HostFiles::new(rt);
     let mut out = StdSink::out(&rt);
     let mut err = StdSink::err(&rt);
-    let status = rccelab(rt.alloc(), words.as_slice(), &mut files, &mut out, &mut err);
+    let mut left = None;
+    let status = rccelab(
+        rt.alloc(),
+        words.as_slice(),
+        &mut files,
+        &mut out,
+        &mut err,
+        &mut left,
+    );
     ExitCode::from(status.number())
 }

@@ -1,19 +1,28 @@
-use Rattle.std.proofs.Common.{codes, List, subst}
+use Rattle.std.proofs.Common.{codes, List, refl, subst}
 use Rattle.lab_reader.specs.declared.steps.Step.{Step}
 use Rattle.lab_reader.specs.Reading.{lab_of}
 use Rattle.lab_plain.specs.Meaning.{lab_done}
 use Rattle.lab_run.specs.Stands.{HasDoneLab}
-use Rattle.lab_program.proofs.PlanLemmas.{comes_done, comes_refused}
+use Rattle.lab_program.proofs.PlanLemmas.{comes_done, comes_refused, tells_done}
 use Rattle.lab_program.proofs.launcher.run_bytes.Goals as goal
 
 pub returns-in-Ok-run_lab : goal.returns-in-Ok-run_lab
-returns-in-Ok-run_lab c = λ files.
+returns-in-Ok-run_lab c =
     let run = c.in-Ok-run_lab.run' in
-    comes_done (codes "rccelab") c.args.file.now (lab_of c.args.bytes.now) c.in-Ok.steps.items run.said.items run.stopped files c.in-Ok.ensures
-    (subst (λ (steps : List Step). HasDoneLab (lab_done steps) run.said.items run.stopped) c.as_slice.ensures.value c.in-Ok-run_lab.ensures)
+    let steps = c.in-Ok.steps.items in
+    let done : HasDoneLab (lab_done steps) run = subst (λ (l : List Step). HasDoneLab (lab_done l) run) c.as_slice.ensures.value c.in-Ok-run_lab.ensures in
+    record {
+      comes = λ files. comes_done (codes "rccelab") c.args.file.now (lab_of c.args.bytes.now) steps run files c.in-Ok.ensures done;
+      tells = λ told holds. tells_done told c.args.file.now c.args.bytes.now steps run _ c.in-Ok.ensures c.requires.few holds done refl;
+    }
 
 pub returns-in-Err-Fault : goal.returns-in-Err-Fault
-returns-in-Err-Fault c = λ files.
-    rw c.in-Err-Fault.fault-is
-    (comes_refused (codes "rccelab") c.args.file.now (lab_of c.args.bytes.now) c.in-Err-Fault.fault c.name.result.now files (rw c.in-Err-Fault.field-0-is at c.in-Err-Fault.ensures)
-    (rw c.in-Err-Fault.fault-is at c.name.ensures))
+returns-in-Err-Fault c =
+    let fault = c.in-Err-Fault.fault in
+    record {
+      comes = λ files.
+          rw c.in-Err-Fault.fault-is
+          (comes_refused (codes "rccelab") c.args.file.now (lab_of c.args.bytes.now) fault c.name.result.now files (rw c.in-Err-Fault.field-0-is at c.in-Err-Fault.ensures)
+          (rw c.in-Err-Fault.fault-is at c.name.ensures));
+      tells = λ told holds. c.requires.blank;
+    }

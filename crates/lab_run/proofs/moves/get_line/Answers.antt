@@ -32,3 +32,6 @@ returns-clause-ready c = c.load_line.ensures.loads.ready
 
 pub returns-clause-kept : goal.returns-clause-kept
 returns-clause-kept c = c.load_line.ensures.loads.kept
+
+pub returns-clause-makes : goal.returns-clause-makes
+returns-clause-makes c = c.load_line.ensures.loads.makes

@@ -22,6 +22,7 @@ returns c =
         left = c.is_some.ensures ∙ l.leaves.left;
         lines = l.leaves.lines;
         memory = l.memory;
+        makes = l.makes;
         out = l.out;
         ready = l.ready;
         kept = l.kept;

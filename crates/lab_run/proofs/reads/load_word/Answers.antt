@@ -19,7 +19,7 @@ returns-clause-turned c =
     let evict = c.args.evict.now in
     let same_line = c.line-3.ensures.gives ∙ c.line-2.ensures.gives ∙ sym c.line.ensures.gives in
     loaded_turn evict c.args.core.now c.load_line-left.new.core c.args.chip.now c.load_line-left.new.chip c.args.at c.line.result words left c.args.said.now.items c.say_evicted.new.said.items
-    c.line.ensures.gives got.words got.left got.lines got.memory got.out got.ready got.kept
+    c.line.ensures.gives got.words got.left got.lines got.memory got.out got.ready got.kept got.makes
     (c.in_ok-say_evicted.ensures
     ∙ (λ i. c.in_ok-answer.ensures i ++ say_left evict left)
     ∙ (λ i. c.in_ok-push.ensures.items i ++ Answers c.args.at (slice_index words (c.number.ensures.gives i)) Words ∷ [] ++ say_left evict left)

@@ -1,7 +1,7 @@
 use Rattle.std.proofs.Common.{subst, sym}
 use Rattle.scc_base.specs.Events.{free_of}
 use Rattle.scc_proto.specs.Ports.{MayMake, record_in}
-use Rattle.lab_chip.specs.Chips.{LabChipView, WasStepHere, lab_sight}
+use Rattle.lab_chip.specs.Chips.{LabChipView, lab_sight}
 use Rattle.lab_chip.proofs.ChipLaws.{went_free}
 use Rattle.lab_chip.proofs.chip.LabChipPort.free.Goals as goal
 

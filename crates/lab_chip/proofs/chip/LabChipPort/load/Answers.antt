@@ -1,6 +1,6 @@
 use Rattle.std.proofs.Common.{subst, rules, [], ◌∷◌}
 use Rattle.scc_base.specs.Events.{load_of}
-use Rattle.scc_proto.specs.Ports.{Did, Sight}
+use Rattle.scc_proto.specs.Ports.{Did}
 use Rattle.lab_chip.specs.Chips.{LabChipView, WasStepHere, chip_view, run_of, lab_sight}
 use Rattle.lab_chip.proofs.ChipLaws.{went_load}
 use Rattle.lab_chip.proofs.chip.LabChipPort.load.Goals as goal

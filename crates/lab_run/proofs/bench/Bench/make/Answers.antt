@@ -5,19 +5,38 @@ use Rattle.lab_plain.specs.Meaning.{Done, action_done, begun, core_done, free_ma
 use Rattle.lab_run.specs.Benches.{HasMade, bench_stand}
 use Rattle.lab_run.specs.Stands.{holds_of}
 use Rattle.lab_run.proofs.BenchLaws.{begun_bench, begun_stand, core_is, if_ok}
+use Rattle.lab_run.proofs.ToldLaws.{begun_told}
 use Rattle.lab_run.proofs.bench.Bench.make.Goals as goal
 
 pub take-requires-clause-stands : goal.take-requires-clause-stands
 take-requires-clause-stands c =
-    begun_bench c.args.self.now.chip c.turn_to.new.self c.of.result (map holds_of c.args.self.now.cores.items) c.args.self.now.holders c.turn_to.ensures.turns c.requires.stands
+    let b = c.args.self.now in
+    let step = c.args.step.now in
+    record {
+      bench = begun_bench b.chip c.turn_to.new.self c.of.result (map holds_of b.cores.items) b.holders c.turn_to.ensures.turns c.requires.stands.bench;
+      told = begun_told b.chip c.turn_to.new.self c.of.result step.line step.text b.said.items c.push.new.self.items c.turn_to.ensures.turns
+          (c.in_ok-push.ensures.items ∙ (λ i. b.said.items ++ Begins step.line ((c.in_ok-text.ensures ∙ c.as_slice.ensures) i) ∷ [])) c.requires.stands.told;
+    }
 
 pub free-requires-clause-stands : goal.free-requires-clause-stands
 free-requires-clause-stands c =
-    begun_bench c.args.self.now.chip c.turn_to.new.self c.of.result (map holds_of c.args.self.now.cores.items) c.args.self.now.holders c.turn_to.ensures.turns c.requires.stands
+    let b = c.args.self.now in
+    let step = c.args.step.now in
+    record {
+      bench = begun_bench b.chip c.turn_to.new.self c.of.result (map holds_of b.cores.items) b.holders c.turn_to.ensures.turns c.requires.stands.bench;
+      told = begun_told b.chip c.turn_to.new.self c.of.result step.line step.text b.said.items c.push.new.self.items c.turn_to.ensures.turns
+          (c.in_ok-push.ensures.items ∙ (λ i. b.said.items ++ Begins step.line ((c.in_ok-text.ensures ∙ c.as_slice.ensures) i) ∷ [])) c.requires.stands.told;
+    }
 
 pub act-requires-clause-stands : goal.act-requires-clause-stands
 act-requires-clause-stands c =
-    begun_bench c.args.self.now.chip c.turn_to.new.self c.of.result (map holds_of c.args.self.now.cores.items) c.args.self.now.holders c.turn_to.ensures.turns c.requires.stands
+    let b = c.args.self.now in
+    let step = c.args.step.now in
+    record {
+      bench = begun_bench b.chip c.turn_to.new.self c.of.result (map holds_of b.cores.items) b.holders c.turn_to.ensures.turns c.requires.stands.bench;
+      told = begun_told b.chip c.turn_to.new.self c.of.result step.line step.text b.said.items c.push.new.self.items c.turn_to.ensures.turns
+          (c.in_ok-push.ensures.items ∙ (λ i. b.said.items ++ Begins step.line ((c.in_ok-text.ensures ∙ c.as_slice.ensures) i) ∷ [])) c.requires.stands.told;
+    }
 
 pub returns-in-Take : goal.returns-in-Take
 returns-in-Take c =

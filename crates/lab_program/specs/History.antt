@@ -1,0 +1,31 @@
+-- What a call of `rccelab` leaves (this project's profile).
+use Rattle.std.specs.Prelude.{◌≡◌, ◌≤◌, ℕ, List, length, Option, Some, None, Ok}
+use Rattle.rcce_io.specs.Files.{NamedFile}
+use Rattle.outcomes.specs.Coming.{ByTest, Holds}
+use Rattle.outcomes.specs.Outcomes.{Outcome, run_outcome}
+use Rattle.outcomes.specs.Statuses.{is_quiet}
+use Rattle.lab_reader.specs.declared.steps.Step.{Step}
+use Rattle.lab_reader.specs.Reading.{lab_of, most_lab_bytes}
+use Rattle.lab_plain.specs.Meaning.{lab_done}
+use Rattle.lab_run.specs.declared.run.LabLeft.{LabLeft}
+use Rattle.lab_run.specs.Stands.{IsLeftBy}
+use Rattle.lab_program.specs.Program.{steps_ran}
+
+-- these are the steps of the lab that stands in a file, where files are told
+abbrev pub StepsIn : List ℕ → Option (List NamedFile) → List Step → Type 0
+StepsIn file told steps = (bytes : List ℕ) × (length bytes ≤ most_lab_bytes) × Holds told file bytes × (lab_of bytes ≡ Ok steps)
+
+-- The outcome is that of the steps of the lab in a file, and a chip and its cores are left that have made them.
+pub record WasMadeBy (told : Option (List NamedFile)) (file : List ℕ) (left : Option LabLeft) (o : Outcome) : Type 0 where
+  pub steps : List Step
+  pub stand : StepsIn file told steps
+  pub comes : o ≡ run_outcome (steps_ran steps)
+  pub by : LabLeft
+  pub is : left ≡ Some by
+  pub made : IsLeftBy (lab_done steps) by
+
+-- Where the run of a lab is the outcome, it was made by the chip and the cores that are left: it is that of the file which was asked
+-- for. Else nothing is left.
+abbrev pub LabTells : Option (List NamedFile) → Option (List ℕ) → Option LabLeft → Outcome → Type 0
+LabTells told None left o = left ≡ None
+LabTells told (Some file) left o = ByTest (is_quiet o.status) (left ≡ None) (WasMadeBy told file left o)

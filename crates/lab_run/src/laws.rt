@@ -1,0 +1,9 @@
+//! Laws about a lab's core. Each is a function that does nothing and ensures it.
+
+ghost use Rattle.lab_run.specs.CoreCalls.{CoreCallsLaw};
+
+/// The core of a lab is put and get's core: what a call of that core does by its relation, the lab's function does, and the accesses
+/// that a lab prints for it are the events of the call.
+pub fn core_calls_law()
+    ensures { CoreCallsLaw }
+{}
