@@ -43,6 +43,7 @@ class Scratch:
     def __init__(self) -> None:
         self.folder = tempfile.TemporaryDirectory(prefix="rcce-")
         self.count = 0
+        self.took_input = False
 
     def put(self, data: bytes) -> str:
         """The path of a file with these bytes."""
@@ -61,6 +62,9 @@ def read(name: str, scratch: Scratch) -> Given:
     """Reads a file once, standard input where its name is -."""
     try:
         if name == "-":
+            if scratch.took_input:
+                raise Stop("-: standard input can be one file alone", 2)
+            scratch.took_input = True
             data = sys.stdin.buffer.read()
         else:
             with open(name, "rb") as file:

@@ -41,7 +41,7 @@ def version() -> str:
                 return file.read().strip()
         except OSError:
             continue
-    return "0.1.0"
+    return "of no known version (the file VERSION is missing)"
 
 
 @dataclass(frozen=True)

@@ -1,4 +1,4 @@
-"""Checks how the commands trace and page end: their help, a full device, a reader that goes away, a program that is not there."""
+"""Checks the help of each command beside the product, and how trace and page end: a full device, a reader that goes away, no program there."""
 from __future__ import annotations
 
 import os
@@ -7,6 +7,9 @@ import subprocess
 import tempfile
 from typing import Any
 
+TOP = pathlib.Path(__file__).resolve().parents[2]
+# what is called by others alone, or has no words but those of the gate
+NO_WORDS = ("scripts/run_program", "scripts/installed_command", ".ci/run")
 TRACE = "rcce trace 1 nue 1 layout words hosts 0\n" + "0 load 0.225.0 0000000000000000\n" * 2000
 
 
@@ -33,4 +36,18 @@ def check_commands(called: Any, write: bool) -> tuple[int, list[str]]:
             wrong += [] if made.returncode == 0 and not made.stdout and same else [f"{name} -o"]
         gone: subprocess.CompletedProcess[bytes] = called(["trace", "a.log"], folder, env={**os.environ, "RCCE_PROGRAMS": f"{folder}/none"})
         wrong += [] if gone.returncode == 70 and gone.stderr.startswith(b"rcce: the program rcceaudit is not in ") else [f"no rcceaudit: {gone}"]
-    return 11, wrong
+    helped, unhelped = check_help()
+    return 11 + helped, wrong + unhelped
+
+
+def check_help() -> tuple[int, list[str]]:
+    """Which commands do not tell their words, with status 0 and nothing on standard error."""
+    found = [path for place in (".", "bench", "scripts", "tools", "examples", "lessons", "lessons/litmus", "rows", ".ci") for path in (TOP / place).iterdir()]
+    programs = {path.parent.parent.name for path in TOP.glob("crates/*/src/main.rt")}
+    names = sorted(str(path.relative_to(TOP)) for path in found if path.is_file() and os.access(path, os.X_OK))
+    names = [name for name in names if name not in (*NO_WORDS, *programs)]
+    wrong = []
+    for name in names:
+        told = subprocess.run([TOP / name, "--help"], capture_output=True, stdin=subprocess.DEVNULL, timeout=60)
+        wrong += [] if (told.returncode, told.stderr) == (0, b"") and len(told.stdout) > 100 else [f"{name} --help: {told}"]
+    return len(names), wrong
