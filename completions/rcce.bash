@@ -41,6 +41,7 @@ _rcce() {
     rccemesh:) options='-nue -at' ;;
     rcceaudit:) options='-log -nue' ;;
     rccelab:) options= ;;
+    rccetrace:) options='-calls' ;;
     rccecoll:)
       [ "$COMP_CWORD" -ne 2 ] || _rcce_words 'gather scatter allgather alltoall' "$word"
       return
@@ -66,4 +67,4 @@ _rcce() {
   esac
 }
 
-complete -F _rcce rcce rccerun rccecheck rccemesh rcceaudit rccecoll rccelab
+complete -F _rcce rcce rccerun rccecheck rccemesh rcceaudit rccecoll rccelab rccetrace

@@ -1,0 +1,10 @@
+//! `rccetrace`: tells whether a trace of accesses to shared words is legal.
+#![tactic(auto)]
+
+mod command;
+mod judging;
+mod launcher;
+mod report;
+
+pub use command::TraceJob;
+pub use launcher::rccetrace;

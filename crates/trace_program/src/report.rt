@@ -1,0 +1,173 @@
+//! A verdict on a trace, and its lines on out.
+
+ghost use Rattle.std.specs.Prelude.{◌≡◌, length, vec_len};
+ghost use Rattle.rcce_io.specs.Sending.{Sends};
+ghost use Rattle.rcce_audit.specs.Texts.{table_lines, text_of};
+ghost use Rattle.rcce_audit.specs.Views.{data_lists, data_list};
+ghost use Rattle.trace_program.specs.Texts.{asked_text, finished_lines, legal_text, refused_text};
+
+use outcomes::Report;
+use rcce_audit::{LogCall, write_lists};
+use rcce_io::{Sink, TextSource, WriteFault, write_all, write_hex, write_texts};
+use scc_base::Rank;
+use trace_judge::Refusal;
+
+/// How many ranks a legal trace has, whether the calls are asked for, and the calls that the ranks 0 to 47 have finished.
+#[derive(Drop)]
+pub struct RankCalls {
+    pub nue: u8,
+    pub asked: bool,
+    pub lists: Vec<Vec<LogCall>>,
+    ghost ranks: { vec_len lists ≡ 48 },
+}
+
+/// What a trace came to.
+#[derive(Drop)]
+pub enum TraceVerdict {
+    Legal(RankCalls),
+    /// The line of the first event that is refused, its rank, and why.
+    NotLegal {
+        line: usize,
+        rank: Rank,
+        why: Refusal,
+    },
+}
+
+/// A piece of a line.
+#[derive(Clone, Copy)]
+enum Part<'a> {
+    Text(&'a str),
+    Count(usize),
+    /// A value of 64 bits in 16 hex digits.
+    Value(u64),
+}
+
+impl TextSource for Part<'_> {
+    ghost use Rattle.trace_program.specs.Parts.{trace_part_text};
+
+    ghost text = { trace_part_text };
+
+    fn write_to<S: Sink>(&self, sink: &mut S) -> Result<(), WriteFault> {
+        match self {
+            Part::Text(text) => write_all(sink, text.as_bytes()),
+            Part::Count(count) => {
+                let mut buffer = itoa::Buffer::new();
+                write_all(sink, buffer.format(*count).as_bytes())
+            }
+            Part::Value(value) => write_hex(sink, &value.to_be_bytes()),
+        }
+    }
+}
+
+/// Writes the line of a rank, where it is one of the run.
+fn write_rank<S: Sink>(sink: &mut S, nue: u8, rank: u8, calls: &[LogCall]) -> Result<(), WriteFault>
+    ensures { Sends (text_of (finished_lines nue rank (data_list calls.now))) (S.seen sink.old) (S.seen sink.new) result }
+{
+    if rank >= nue {
+        return Ok(());
+    }
+    write_texts(
+        sink,
+        &[
+            Part::Text("rank "),
+            Part::Count(rank as usize),
+            Part::Text(" finished "),
+            Part::Count(calls.len()),
+            Part::Text(" calls\n"),
+        ],
+    )
+}
+
+/// Writes the lines of the ranks.
+fn write_ranks<S: Sink>(sink: &mut S, nue: u8, lists: &[Vec<LogCall>]) -> Result<(), WriteFault>
+    requires { length lists.now ≡ 48 }
+    ensures { Sends (text_of (table_lines (finished_lines nue) 0 (data_lists lists.now))) (S.seen sink.old) (S.seen sink.new) result }
+{
+    for rank in 0..48u8 {
+        write_rank(sink, nue, rank, lists[rank as usize].as_slice())?;
+    }
+    Ok(())
+}
+
+fn write_asked<S: Sink>(sink: &mut S, asked: bool, lists: &[Vec<LogCall>]) -> Result<(), WriteFault>
+    requires { length lists.now ≡ 48 }
+    ensures { Sends (asked_text asked (data_lists lists.now)) (S.seen sink.old) (S.seen sink.new) result }
+{
+    if asked {
+        write_lists(sink, lists)
+    } else {
+        Ok(())
+    }
+}
+
+fn write_legal<S: Sink>(
+    sink: &mut S,
+    nue: u8,
+    asked: bool,
+    lists: &[Vec<LogCall>],
+) -> Result<(), WriteFault>
+    requires { length lists.now ≡ 48 }
+    ensures { Sends (legal_text nue asked (data_lists lists.now)) (S.seen sink.old) (S.seen sink.new) result }
+{
+    write_all(sink, b"legal\n")?;
+    write_ranks(sink, nue, lists)?;
+    write_asked(sink, asked, lists)
+}
+
+fn write_refused<S: Sink>(
+    sink: &mut S,
+    line: usize,
+    rank: Rank,
+    why: &Refusal,
+) -> Result<(), WriteFault>
+    ensures { Sends (refused_text line rank why.now) (S.seen sink.old) (S.seen sink.new) result }
+{
+    match why {
+        Refusal::OtherValue { found } => write_texts(
+            sink,
+            &[
+                Part::Text("not legal: line "),
+                Part::Count(line),
+                Part::Text(": the value there is "),
+                Part::Value(*found),
+                Part::Text("\n"),
+            ],
+        ),
+        Refusal::NotPermitted => write_texts(
+            sink,
+            &[
+                Part::Text("not legal: line "),
+                Part::Count(line),
+                Part::Text(": the record of rank "),
+                Part::Count(rank.number() as usize),
+                Part::Text(" does not permit it\n"),
+            ],
+        ),
+    }
+}
+
+impl Report for TraceVerdict {
+    ghost use Rattle.trace_program.specs.Program.{verdict_shown};
+
+    ghost ran = { verdict_shown };
+
+    fn is_finished(&self) -> bool {
+        match self {
+            TraceVerdict::Legal(_) => true,
+            TraceVerdict::NotLegal { .. } => false,
+        }
+    }
+
+    fn write_out<S: Sink>(&self, sink: &mut S) -> Result<(), WriteFault> {
+        match self {
+            TraceVerdict::Legal(calls) => {
+                write_legal(sink, calls.nue, calls.asked, calls.lists.as_slice())
+            }
+            TraceVerdict::NotLegal { line, rank, why } => write_refused(sink, *line, *rank, why),
+        }
+    }
+
+    fn write_err<S: Sink>(&self, sink: &mut S) -> Result<(), WriteFault> {
+        Ok(())
+    }
+}
