@@ -71,13 +71,14 @@ def short_int_prints(count: int) -> bytes:
 
 @dataclass(frozen=True)
 class Largest:
-    """A script of a size that the limits allow: what is counted, how it is made, and the most MiB that a run may take. Six of them are
-    the UEs and the chip, the rest is the script, its registers or what is printed."""
+    """A script of a size that the limits allow: what is counted, how it is made, the size, the most MiB that a run may take, and a small
+    size for counts of instructions. Six MiB are the UEs and the chip, the rest is the script, its registers or what is printed."""
 
     what: str
     make: Callable[[int], bytes]
     size: int
     most: int
+    small: int
 
     @property
     def falls(self) -> bool:
@@ -86,17 +87,17 @@ class Largest:
 
 
 LARGEST = [
-    Largest("bytes of statements", statements, 4194304, 48),
-    Largest("operations a rank", operations, 100000, 10),
-    Largest("operations a rank, in a ring of messages", messages, 100000, 10),
-    Largest("operations a rank, in a ring of 65536 bytes", long_messages, 300, 20),
-    Largest("operations a rank, in a ring that falls", falling_ring, 100000, 10),
-    Largest("operations a rank, in broadcasts that fall", falling_broadcasts, 100000, 10),
-    Largest("registers of 65536 bytes a rank", registers, 64, 208),
-    Largest("prints of 65536 bytes a rank", prints, 16, 64),
-    Largest("prints of 65536 bytes a rank, as ints", int_prints, 16, 64),
-    Largest("operations a rank, nearly all prints", empty_prints, 100000, 144),
-    Largest("operations a rank, nearly all prints of an int", short_int_prints, 100000, 160),
+    Largest("bytes of statements", statements, 4194304, 48, 200000),
+    Largest("operations a rank", operations, 100000, 10, 5000),
+    Largest("operations a rank, in a ring of messages", messages, 100000, 10, 400),
+    Largest("operations a rank, in a ring of 65536 bytes", long_messages, 300, 20, 10),
+    Largest("operations a rank, in a ring that falls", falling_ring, 100000, 10, 100),
+    Largest("operations a rank, in broadcasts that fall", falling_broadcasts, 100000, 10, 300),
+    Largest("registers of 65536 bytes a rank", registers, 64, 208, 8),
+    Largest("prints of 65536 bytes a rank", prints, 16, 64, 4),
+    Largest("prints of 65536 bytes a rank, as ints", int_prints, 16, 64, 4),
+    Largest("operations a rank, nearly all prints", empty_prints, 100000, 144, 4000),
+    Largest("operations a rank, nearly all prints of an int", short_int_prints, 100000, 160, 4000),
 ]
 
 
