@@ -1,15 +1,20 @@
 -- What each turn of a rank of the ring means to a run.
-use Rattle.std.proofs.Common.{◌≡◌, ℕ, zero, suc, nat_lt, ◌==◌, ◌&&◌, ◌+◌, ◌<◌, Bool, true, false, not, List, [], ◌∷◌, length, slice_index_or, Option, Some, None, refl, sym, ap, ◌∙◌, subst, arith}
+use Rattle.std.proofs.Common.{◌≡◌, ◌⊎◌, inl, inr, ℕ, zero, suc, nat_lt, ◌==◌, ◌&&◌, ◌+◌, ◌<◌, Bool, true, false, not, List, [], ◌∷◌, length, slice_index_or, Option, Some, None, refl, sym, ap, ◌∙◌, subst, arith}
+use Rattle.std.specs.List.{list_all}
 use base.Stored.{Gv, gnil}
 use Rattle.scc_base.specs.Heads.{MessageHead, IsHead, plain_head}
 use Rattle.scc_base.specs.Setups.{SetupView}
 use Rattle.scc_base.specs.declared.events.Event.{Event}
 use Rattle.scc_base.specs.declared.events.Spot.{Spot}
 use Rattle.scc_base.specs.declared.events.Turn.TheVariants as turn
-use Rattle.scc_proto.specs.Ports.{Did, Seat, Sight, record_in}
+use Rattle.scc_proto.specs.Agreement.{Agrees}
+use Rattle.scc_proto.specs.Like.{Like}
+use Rattle.scc_proto.specs.Ports.{Did, Seat, Sight, and_then, record_in}
 use Rattle.scc_proto.specs.Records.{chunk_of, record_of}
-use Rattle.scc_proto.specs.Stages.{FlagWords}
-use Rattle.scc_proto.specs.Words.{are_peers}
+use Rattle.scc_proto.specs.Resting.{is_resting}
+use Rattle.scc_proto.specs.Stages.{FlagWords, Record}
+use Rattle.scc_proto.specs.Views.{view_of}
+use Rattle.scc_proto.specs.Words.{IsStep, Memory, are_peers}
 use Rattle.scc_proto.proofs.PortLaws.{did_nothing, seat_kept}
 use Rattle.put_get.specs.Cores.{MadeSteps, Private}
 use Rattle.sync_flags.specs.Tries.{Aim}
@@ -24,10 +29,12 @@ use Rattle.send_recv.specs.Turns.{KeepsAllButMessages}
 use Rattle.send_recv.specs.declared.answers.RecvTurn.TheVariants as got
 use Rattle.send_recv.proofs.OtherPort.{free_there, receive_there, send_there, slot_there}
 use Rattle.send_recv.proofs.Starts.{free_after_mismatch, free_after_received, free_after_sent, free_at_start, receive_starts, send_starts, slot_after}
-use Rattle.chip_run.specs.Turns.{Turned}
+use Rattle.chip_run.specs.Turns.{NoneElseHolds, Turned}
+use Rattle.chip_run.specs.Waiting.{RaiseWaits, SlotWaits, TakeWaits, Waits}
 use Rattle.chip_run.specs.Wants.{Want}
-use Rattle.waiting_laws.proofs.Messages.{receives_here, sends_here}
-use Rattle.waiting_laws.proofs.Waited.{turn_waited}
+use Rattle.chip_run.proofs.Looks.{waits_same}
+use Rattle.rcce_ue.proofs.UeLooks as looks
+use Rattle.rcce_ue.proofs.WorkerTurns.{Sought, rest_alike, sought_by, sought_like, sought_tells}
 use Rattle.chip_teams.specs.Teams.{sight_alone}
 use Rattle.scc_mesh.specs.Scenes.{ChipView, IsNew, about_in, events_in}
 use Rattle.chip_run.specs.Away.{IsAtHome, members_of}
@@ -163,14 +170,51 @@ module _ (stepped : Seat → List Event → Event → Type 0) (p : PasserView) (
     pub send_waited_ties : IsPassing sent_on t.seat.setup t.seat.rank t.events
     send_waited_ties = stands_on before_send sent_on s t turned.events turned.did ties refl refl ties.long turned.rest stands
 
+    send_sought : Sought (stepped s.seat) send_aim s.events turned.events
+    send_sought = sought_by (stepped s.seat) send_aim s.events turned.events (Some spot) spot refl (made turned.events turned.did) turned.tried
+
+    send_alike : Like (record_in s) (record_in t)
+    send_alike = rest_alike (record_in s) (record_in t) turned.means.2
+
+    send_rests : list_all is_resting turned.events ≡ true
+    send_rests = turned.rests spot refl
+
+    module _ (memory : Memory) (records : ℕ → Record) (agrees : Agrees s.seat.setup memory records) (mine : records s.seat.rank ≡ record_in (and_then s send_sought.look.before))
+        (others : NoneElseHolds s.seat.setup records s.seat.rank) (step : IsStep memory send_sought.look.event) where
+      send_like : Like (record_in s) (records s.seat.rank)
+      send_like = sought_like (stepped s.seat) send_aim s t turned.events send_sought turned.did memory records agrees mine others step send_rests send_alike
+
+      abbrev Sends : Type 0
+      Sends = Waits s.seat.setup (view_of s.seat.setup memory) s.seat.rank (records s.seat.rank) (Want.Send op.to op.head)
+
+      send_by : SlotWaits (view_of s.seat.setup memory) s.seat.rank (record_in s)
+          ⊎ ((op.posted ≡ false) × RaiseWaits s.seat.setup (view_of s.seat.setup memory) s.seat.rank op.to op.head (records s.seat.rank)) → Sends
+      send_by (inl slot_waits) = waits_same s.seat.setup (view_of s.seat.setup memory) s.seat.rank (record_in s) (records s.seat.rank) send_like (Want.Send op.to op.head) (inl slot_waits)
+      send_by (inr (own, raise)) = inr raise
+
+      sends_here : Sends
+      sends_here = send_by (looks.send_waits s.seat memory records agrees (record_in s) send_like p.core op p.slot p.number send_sought.aim
+          (sought_tells (stepped s.seat) send_aim s t turned.events send_sought turned.did memory records agrees mine others step) (shown before_send s ties) send_sought.aim_is)
+
     pub send_waited : Turned passer_conduct (stepped s.seat) before_send s sent_on t (turn.Waiting spot)
+    unfolding record_in
     send_waited = record {
       events = turned.events;
       did = turned.did;
-      means = turn_waited (stepped s.seat) send_aim s t turned.events spot turned.did (made turned.events turned.did) turned.tried (turned.rests spot refl) turned.means.2
-          passer_conduct before_send sent_on (Want.Send op.to op.head) refl (record { from = refl; to = refl; is_first = refl })
-          (λ i. passer_seen s.seat.setup s.seat.rank (record p { slot = turned.means.1 i; sending = Some (turned.means.0 i) }))
-          (λ memory records aim look is. sends_here s.seat memory records (record_in s) aim look p.core op p.slot p.number (shown before_send s ties) is);
+      means = record {
+        stays = record { from = refl; to = refl; is_first = refl };
+        seen = λ i. passer_seen s.seat.setup s.seat.rank (record p { slot = turned.means.1 i; sending = Some (turned.means.0 i) });
+        rests = send_rests;
+        alike = subst (λ (r : Record). Like (record_in s) r) (ap record_in turned.did.continues) send_alike;
+        look = record {
+          before = send_sought.look.before;
+          look = send_sought.look.event;
+          behind = send_sought.look.behind;
+          is = send_sought.look.is;
+          step = send_sought.look.step;
+          waits = λ memory records agrees mine others step. sends_here memory records agrees mine others step;
+        };
+      };
     }
 
 -- ---- a turn of a receive
@@ -239,14 +283,41 @@ module _ (stepped : Seat → List Event → Event → Type 0) (p : PasserView) (
       pub waited_ties : IsPassing got_on t.seat.setup t.seat.rank t.events
       waited_ties = stands_on before_receive got_on s t turned.events turned.did ties refl refl (still_one turned.same.1) turned.rest (stands, slot_after turned.events turned.did turned.post at_before.1)
 
+      recv_sought : Sought (stepped s.seat) recv_aim s.events turned.events
+      recv_sought = sought_by (stepped s.seat) recv_aim s.events turned.events (Some spot) spot refl (made turned.events turned.did) turned.tried
+
+      recv_alike : Like (record_in s) (record_in t)
+      recv_alike = rest_alike (record_in s) (record_in t) turned.means.2
+
+      recv_rests : list_all is_resting turned.events ≡ true
+      recv_rests = turned.rests spot refl
+
+      takes_here : (memory : Memory) (records : ℕ → Record) → Agrees s.seat.setup memory records → records s.seat.rank ≡ record_in (and_then s recv_sought.look.before)
+          → NoneElseHolds s.seat.setup records s.seat.rank → IsStep memory recv_sought.look.event → TakeWaits s.seat.setup (view_of s.seat.setup memory) s.seat.rank op.from (records s.seat.rank)
+      takes_here memory records agrees mine others step =
+          looks.recv_waits s.seat memory records agrees (record_in s)
+          (sought_like (stepped s.seat) recv_aim s t turned.events recv_sought turned.did memory records agrees mine others step recv_rests recv_alike) p.core op p.number recv_sought.aim
+          (sought_tells (stepped s.seat) recv_aim s t turned.events recv_sought turned.did memory records agrees mine others step) at_before.0 recv_sought.aim_is
+
       pub waited : Turned passer_conduct (stepped s.seat) before_receive s got_on t (turn.Waiting spot)
+      unfolding record_in
       waited = record {
         events = turned.events;
         did = turned.did;
-        means = turn_waited (stepped s.seat) recv_aim s t turned.events spot turned.did (made turned.events turned.did) turned.tried (turned.rests spot refl) turned.means.2
-            passer_conduct before_receive got_on (Want.Recv op.from) refl (record { from = refl; to = refl; is_first = refl })
-            (λ i. passer_seen s.seat.setup s.seat.rank (record p { sending = None; receiving = Some (turned.means.0 i) }))
-            (λ memory records aim look is. receives_here s.seat memory records (record_in s) aim look p.core op p.number at_before.0 is);
+        means = record {
+          stays = record { from = refl; to = refl; is_first = refl };
+          seen = λ i. passer_seen s.seat.setup s.seat.rank (record p { sending = None; receiving = Some (turned.means.0 i) });
+          rests = recv_rests;
+          alike = subst (λ (r : Record). Like (record_in s) r) (ap record_in turned.did.continues) recv_alike;
+          look = record {
+            before = recv_sought.look.before;
+            look = recv_sought.look.event;
+            behind = recv_sought.look.behind;
+            is = recv_sought.look.is;
+            step = recv_sought.look.step;
+            waits = λ memory records agrees mine others step. takes_here memory records agrees mine others step;
+          };
+        };
       }
 
 -- ---- a rank with no message under way makes no turn

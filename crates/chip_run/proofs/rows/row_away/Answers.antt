@@ -1,4 +1,5 @@
-use Rattle.std.proofs.Common.{ap}
+use Rattle.std.proofs.Common.{ap, refl, sym, ◌∙◌}
+use Rattle.scc_base.specs.Setups.{SetupView}
 use Rattle.scc_mesh.specs.AwayRanks.{Ticket}
 use Rattle.scc_mesh.specs.Scenes.{sight_away}
 use Rattle.scc_mesh.specs.Turns.{AfterTurnAway}

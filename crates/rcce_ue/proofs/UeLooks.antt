@@ -1,25 +1,33 @@
--- What a vain look of a send or a receive tells, by its stage.
-use Rattle.std.proofs.Common.{◌≡◌, ◌≢◌, ◌⊎◌, inl, inr, ℕ, ◌==◌, Bool, true, false, if◌then◌else◌, List, Option, Some, None, option_map, refl, sym, ◌∙◌, subst}
+-- What the vain try of a UE that waits tells, by the call that stands next and its stage.
+use Rattle.std.proofs.Common.{◌≡◌, ◌≢◌, ◌⊎◌, inl, inr, ⊎_elim, ℕ, suc, ◌+◌, ◌%◌, ◌<◌, ◌==◌, Bool, true, false, not, ◌&&◌, if◌then◌else◌, List, Option, Some, None, is_none, is_some, option_map, slice_get, refl, sym, ap, ◌∙◌, subst, arith}
 use Rattle.std.specs.Int.{bit_at}
-use Rattle.std.proofs.lemmas.Option.{same_Some}
+use Rattle.std.proofs.lemmas.Option.{get_or_from_slice_get, same_Some}
 use Rattle.scc_base.specs.Layouts.{ready_at, sent_at}
-use Rattle.scc_base.specs.Places.{FlagPlace, flag_word}
-use Rattle.scc_base.specs.Setups.{SetupView, host_of}
+use Rattle.scc_base.specs.Places.{FlagPlace, WordAt, flag_word}
+use Rattle.scc_base.specs.Setups.{SetupView, IsMemberAt, host_of, members_of, setup_key, size_of}
+use Rattle.scc_base.specs.Communicators.{rule_of}
+use Rattle.scc_base.specs.declared.communicators.CommRule.TheVariants.{Absent}
 use Rattle.scc_base.specs.declared.events.Spot.{Spot}
+use Rattle.scc_base.specs.declared.events.Access.{Access}
+use Rattle.scc_base.specs.declared.events.Access.TheVariants.{Load, Store, Take, Free}
+use Rattle.scc_base.specs.declared.events.Event.{Event}
 use Rattle.scc_base.specs.declared.layouts.Layout.{Layout}
 use Rattle.scc_base.specs.declared.layouts.Layout.TheVariants.{LineFlags, BitFlags}
+use Rattle.scc_base.proofs.GroupFacts.{member_at_place, place_found}
 use Rattle.scc_proto.specs.Agreement.{Agrees}
 use Rattle.scc_proto.specs.Like.{Like}
 use Rattle.scc_proto.specs.Messages.{Progress}
 use Rattle.scc_proto.specs.Ports.{Seat}
 use Rattle.scc_proto.specs.Records.{chunk_of}
+use Rattle.scc_proto.specs.Registers.{Holder, Nobody, HeldBy}
 use Rattle.scc_proto.specs.Stages.{Idle, Between, OnItsWay, Record}
 use Rattle.scc_proto.specs.Views.{View, flag_in, view_of, word_of_flag}
-use Rattle.scc_proto.specs.Words.{Memory, are_peers, word_at}
-use Rattle.scc_proto.proofs.Tests.{peers_swap}
+use Rattle.scc_proto.specs.Words.{IsStep, IsStepBy, Memory, are_peers, word_at}
+use Rattle.scc_proto.proofs.Tests.{both_first, both_second, eqb_same, not_true, peers_swap, same_by_eqb, same_or_other}
 use Rattle.put_get.specs.Cores.{Private}
-use Rattle.sync_flags.specs.Flags.{is_set_in}
-use Rattle.sync_flags.specs.Tries.{Aim, AtFlag, AtRegister}
+use Rattle.put_get.specs.Transfers.{is_load}
+use Rattle.sync_flags.specs.Flags.{flag_value, is_set_in}
+use Rattle.sync_flags.specs.Tries.{Aim, AtFlag, AtRegister, AtWord, is_at, is_take, is_try, is_vain}
 use Rattle.send_recv.specs.Flags.{bit_of}
 use Rattle.send_recv.specs.Ops.{RecvAt, SendAt, SlotAt}
 use Rattle.send_recv.specs.Receiving as recv
@@ -29,15 +37,100 @@ use Rattle.send_recv.specs.declared.stages.RecvStage.{RecvStage}
 use Rattle.send_recv.specs.declared.stages.RecvStage.TheVariants as receive
 use Rattle.send_recv.specs.declared.stages.SendStage.{SendStage}
 use Rattle.send_recv.specs.declared.stages.SendStage.TheVariants as sending
-use Rattle.chip_run.specs.Waiting.{IsLooking, RaiseWaits, SlotWaits, TakeWaits}
-use Rattle.chip_run.specs.Wants.{Want}
-use Rattle.chip_run.proofs.Looks.{raise_waits, waits_same}
-use Rattle.waiting_laws.specs.Looks.{LookedInVain, Tells, SeatWaits}
-use Rattle.waiting_laws.proofs.Looks.{aimed, differ}
+use Rattle.barrier.specs.Flags.{IsParityOf, gather_word, member_at, release_word, value_at}
+use Rattle.barrier.specs.Stages as bar
+use Rattle.barrier.specs.declared.stages.BarStage.{BarStage}
+use Rattle.barrier.specs.declared.stages.BarStage.TheVariants as barrier
+use Rattle.barrier.proofs.FlagLoads.{present_is}
+use Rattle.chip_run.specs.Waiting.{AtMember, AtRoot, BarWaits, IsLooking, RaiseWaits, SlotWaits, TakeWaits}
+use Rattle.chip_run.specs.Turns.{NoneElseHolds}
+use Rattle.chip_run.proofs.Looks.{raise_waits}
+
+-- what a vain try that was a step tells: the flag is not set, the word has another value; and no register is taken where
+-- nobody holds one
+abbrev pub Tells : Memory → Aim → Type 0
+Tells memory (AtFlag place bit true) = is_set_in bit (word_at memory place) ≡ false
+Tells memory (AtFlag place bit false) = Unit {0}
+Tells memory (AtWord place value) = word_at memory place ≢ value
+Tells memory (AtRegister core) = ⊥
+
+-- a number that is not another one by the test is not it
+differ : (a b : ℕ) → (a == b) ≡ false → a ≢ b
+differ a b test same = let is : (a == b) ≡ true = subst (λ (c : ℕ). (a == c) ≡ true) same (eqb_same a) in cc (is, test)
+
+plus_one : (n : ℕ) → n + 1 ≡ suc n
+plus_one n = omega arith
+
+-- what is told of an aim that is this one
+aimed : (memory : Memory) (one aim : Aim) → Some one ≡ Some aim → Tells memory aim → Tells memory one
+aimed memory one aim is tells = subst (Tells memory) (sym (same_Some one aim is)) tells
 
 -- the flag is not set
 abbrev Unset : Layout → Memory → ℕ → FlagPlace → Type 0
 Unset layout memory core flag = flag_in layout (word_of_flag memory core flag) flag ≢ 1
+
+load_is : (a : Access) → is_load a ≡ true → a ≡ Load
+load_is Load is = refl
+load_is Store is = absurd (cc)
+load_is Take is = absurd (cc)
+load_is Free is = absurd (cc)
+
+pub take_is : (a : Access) → is_take a ≡ true → a ≡ Take
+take_is Load is = absurd (cc)
+take_is Store is = absurd (cc)
+take_is Take is = refl
+take_is Free is = absurd (cc)
+
+none_is : {A : Type 0} (o : Option A) → is_none o ≡ true → o ≡ None
+none_is None is = refl
+none_is (Some x) is = absurd (cc)
+
+place_is : (place other : WordAt) → is_at place other ≡ true → other ≡ place
+place_is place other is =
+    let rest = both_second (other.core == place.core) ((other.line == place.line) && (other.word == place.word)) is in
+    let core = same_by_eqb other.core place.core (both_first (other.core == place.core) ((other.line == place.line) && (other.word == place.word)) is) in
+    let line = same_by_eqb other.line place.line (both_first (other.line == place.line) (other.word == place.word) rest) in
+    let word = same_by_eqb other.word place.word (both_second (other.line == place.line) (other.word == place.word) rest) in
+    λ i. record { core = core i; line = line i; word = word i }
+
+-- a load of a place that was a step has the place's word
+loaded : (changing : Bool) (memory : Memory) (place : WordAt) (e : Event) → (not changing && (is_load e.access && is_at place e.place)) ≡ true → IsStep memory e → word_at memory place ≡ e.value
+loaded changing memory place e try_is step =
+    let look = both_second (not changing) (is_load e.access && is_at place e.place) try_is in
+    let load = load_is e.access (both_first (is_load e.access) (is_at place e.place) look) in
+    let there = place_is place e.place (both_second (is_load e.access) (is_at place e.place) look) in
+    let has : word_at memory e.place ≡ e.value = subst (λ (a : Access). IsStepBy a e.place e.value memory) load step in
+    ap (word_at memory) (sym there) ∙ has
+
+module _ (s : SetupView) (memory : Memory) (records : ℕ → Record) (me : ℕ) (agrees : Agrees s memory records) (others : NoneElseHolds s records me) where
+  -- a take finds no register taken
+  no_take : (e : Event) → is_take e.access ≡ true → (e.value == 0) ≡ true → (is_take e.access ≡ true → is_none ((records me).held e.place.core) ≡ true) → IsStep memory e → ⊥
+  no_take e takes zero_is own step = by (agrees.registers e.place.core).holder
+    where
+      taken : memory.register e.place.core ≡ 1
+      taken =
+          ⊎_elim
+          (λ (one : (e.value ≡ 1) × (memory.register e.place.core ≡ 0)). let none : e.value ≡ 0 = same_by_eqb e.value 0 zero_is in let some = one.0 in absurd (omega (arith, none, some)))
+          (λ (none : (e.value ≡ 0) × (memory.register e.place.core ≡ 1)). none.1)
+          (subst (λ (a : Access). IsStepBy a e.place e.value memory) (take_is e.access takes) step)
+
+      by : Holder s.nue (memory.register e.place.core) e.place.core records → ⊥
+      by (Nobody free none) = let two = taken in omega (arith, free, two)
+      by (HeldBy holder low reg some rest) =
+          same_or_other ⊥ holder me
+          (λ t same.
+          let none : (records holder).held e.place.core ≡ None = ap (λ (k : ℕ). (records k).held e.place.core) same ∙ none_is ((records me).held e.place.core) (own takes) in
+          let not_some = ap is_some none in cc (not_some, some))
+          (λ t ne. let none = others holder e.place.core low ne in let not_some = ap is_some none in cc (not_some, some))
+
+  -- what the vain try tells
+  pub told : (changing : Bool) (aim : Aim) (e : Event) → is_try changing aim e ≡ true → is_vain aim e ≡ true → (is_take e.access ≡ true → is_none ((records me).held e.place.core) ≡ true) → IsStep memory e → Tells memory aim
+  told changing (AtFlag place bit true) e try_is vain own step =
+      ap (is_set_in bit) (loaded changing memory place e try_is step) ∙ not_true (is_set_in bit e.value) vain
+  told changing (AtFlag place bit false) e try_is vain own step = tt
+  told changing (AtWord place value) e try_is vain own step = λ is.
+      differ e.value value (not_true (e.value == value) vain) (sym (loaded changing memory place e try_is step) ∙ is)
+  told changing (AtRegister core) e try_is vain own step = no_take e (both_first (is_take e.access) (e.place.core == core) try_is) vain own step
 
 unset_by : (layout : Layout) (memory : Memory) (core : ℕ) (flag : FlagPlace) → is_set_in (bit_of layout flag.bit) (word_at memory (flag_word core flag)) ≡ false → Unset layout memory core flag
 unset_by LineFlags memory core flag off is = differ (word_of_flag memory core flag) 1 off is
@@ -119,6 +212,13 @@ looking_by : (b : Bool) (from : ℕ) (m : Progress) → IsLooking from (if b the
 looking_by true from m = tt
 looking_by false from m = refl
 
+-- the member at a place of a group
+member_is : (s : SetupView) (comm r i : ℕ) → i < size_of s comm r → IsMemberAt s comm r i (member_at s comm r i)
+member_is s comm r i low =
+    let (x, below, grouped, placed) = place_found s.nue (setup_key s comm) r i low in
+    let here : slice_get (members_of s comm r) i ≡ Some x = ap (slice_get (members_of s comm r)) (sym placed) ∙ member_at_place s.nue (setup_key s comm) r x grouped below in
+    subst (IsMemberAt s comm r i) (sym (get_or_from_slice_get (members_of s comm r) i x 0 here)) (record { below = below; grouped = grouped; placed = placed })
+
 -- what a rank waits for whose record is this one, up to looks
 module _ (seat : Seat) (memory : Memory) (records : ℕ → Record) (agrees : Agrees seat.setup memory records) (rec : Record) (like : Like rec (records seat.rank)) where
   abbrev s : SetupView
@@ -193,17 +293,21 @@ module _ (seat : Seat) (memory : Memory) (records : ℕ → Record) (agrees : Ag
     pub recv_waits : recv.IsReceiving seat rec c op bytes → aim_at s.layout (recv.recv_spot seat op) ≡ Some aim → TakeWaits s view me op.from (records me)
     recv_waits st is = recv_by st.peers op.stage st.at is
 
--- so its rank waits for the other rank
-module _ (seat : Seat) (memory : Memory) (records : ℕ → Record) (rec : Record) (aim : Aim) (look : LookedInVain seat memory records rec aim) (c : Private) where
-  sends_by : (op : SendAt) → SlotWaits (view_of seat.setup memory) seat.rank rec
-      ⊎ ((op.posted ≡ false) × RaiseWaits seat.setup (view_of seat.setup memory) seat.rank op.to op.head (records seat.rank)) → SeatWaits seat memory records (Want.Send op.to op.head)
-  sends_by op (inl slot) = waits_same seat.setup (view_of seat.setup memory) seat.rank rec (records seat.rank) look.like (Want.Send op.to op.head) (inl slot)
-  sends_by op (inr (own, raise)) = inr raise
+  module _ (comm : ℕ) (values : List Bool) (aim : Aim) (tells : Tells memory aim) (below : comm < 16) (present : rule_of s.comms comm ≢ Absent) (parity : IsParityOf rec values) where
+    word_told : (place : WordAt) → Some (AtWord place (flag_value (value_at values comm))) ≡ Some aim → word_at memory place ≢ (records me).flips comm % 2
+    word_told place is found =
+        (aimed memory (AtWord place (flag_value (value_at values comm))) aim is tells) (found ∙ ap (λ (n : ℕ). n % 2) (sym (like.flips comm)) ∙ sym (parity comm below))
 
-  pub sends_here : (op : SendAt) (slot : SlotAt) (bytes : List ℕ) → send.IsSending seat rec c op slot bytes → aim_at seat.setup.layout (send.send_spot seat op slot) ≡ Some aim
-      → SeatWaits seat memory records (Want.Send op.to op.head)
-  sends_here op slot bytes st is = sends_by op (send_waits seat memory records look.agrees rec look.like c op slot bytes aim look.tells st is)
+    bar_by : (stage : BarStage) → bar.IsAtStage seat rec comm stage → bar.aim_at seat comm stage (flag_value (value_at values comm)) ≡ Some aim → BarWaits s view me comm (records me)
+    bar_by barrier.Flip at is = absurd (cc (is))
+    bar_by (barrier.Gather seen) (root, more, stage) is =
+        let member = member_is s comm me (seen + 1) more in
+        AtRoot seen (member_at s comm me (seen + 1)) (present_is s comm below present) root (sym like.stage ∙ stage) (omega (arith, more)) member.below member.grouped (member.placed ∙ plus_one seen)
+        (word_told (gather_word seat comm (member_at s comm me (seen + 1))) is)
+    bar_by (barrier.Release released) at is = absurd (cc (is))
+    bar_by barrier.Await (apart, stage) is = AtMember (present_is s comm below present) apart (sym like.stage ∙ stage) (word_told (release_word seat comm me) is)
+    bar_by barrier.Finished at is = absurd (cc (is))
 
-  pub receives_here : (op : RecvAt) (bytes : List ℕ) → recv.IsReceiving seat rec c op bytes → aim_at seat.setup.layout (recv.recv_spot seat op) ≡ Some aim
-      → SeatWaits seat memory records (Want.Recv op.from)
-  receives_here op bytes st is = recv_waits seat memory records look.agrees rec look.like c op bytes aim look.tells st is
+    -- in a barrier
+    pub bar_waits : (stage : BarStage) → bar.IsAtStage seat rec comm stage → bar.aim_at seat comm stage (flag_value (value_at values comm)) ≡ Some aim → BarWaits s view me comm (records me)
+    bar_waits stage at is = bar_by stage at is

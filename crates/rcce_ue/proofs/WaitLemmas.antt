@@ -1,8 +1,12 @@
 -- A turn that waits made one try in vain, by a step of the chip's memory at a known point of its events.
-use Rattle.std.proofs.Common.{◌≡◌, ℕ, suc, Bool, true, false, not, ◌&&◌, ◌||◌, if◌then◌else◌, List, [], ◌∷◌, ◌++◌, refl, sym, ap, ◌∙◌, subst, arith, append_assoc, append-nil}
+use Rattle.std.proofs.Common.{◌≡◌, ℕ, suc, Bool, true, false, not, ◌&&◌, ◌||◌, if◌then◌else◌, List, [], ◌∷◌, ◌++◌, Some, refl, sym, ap, ◌∙◌, subst, arith, append_assoc, append-nil}
 use Rattle.scc_base.specs.declared.events.Event.{Event}
+use Rattle.scc_base.specs.declared.events.Spot.{Spot}
+use Rattle.scc_proto.specs.Ports.{Seat, Sight}
 use Rattle.put_get.specs.Accesses.{WereSteps}
-use Rattle.sync_flags.specs.Tries.{Aim, all_vain, changing_after, is_changing, is_try, is_vain, tries_from}
+use Rattle.sync_flags.specs.Tries.{Aim, all_vain, changing_after, is_changing, is_try, is_vain, spot_of, tries_from}
+use Rattle.rcce_ue.specs.Turns.{ue_aim}
+use Rattle.rcce_ue.specs.Ues.{UeView}
 
 -- among these events, the try, which was vain and a step made after the events before it
 pub record VainStep (stepped : List Event → Event → Type 0) (past : List Event) (aim : Aim) (changing : Bool) (events : List Event) : Type 0 where
@@ -61,3 +65,11 @@ found stepped past aim changing n (e ∷ es) one vain steps =
       step = subst (λ (l : List Event). stepped l e) (sym (append-nil past)) steps.0;
     }
     by false is rest = later stepped past aim changing e es (rest is)
+
+-- what a UE that waits has looked for in vain
+pub record WaitedAt (stepped : Seat → List Event → Event → Type 0) (ue : UeView) (s : Sight) (now : UeView) (spot : Spot) : Type 0 where
+  pub aim : Aim
+  pub aim_is : ue_aim s.seat ue now.parity ≡ Some aim
+  pub spot_is : spot_of aim ≡ spot
+  pub events : List Event
+  pub look : VainStep (stepped s.seat) s.events aim false events

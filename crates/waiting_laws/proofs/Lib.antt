@@ -1,4 +1,0 @@
-pub mod VainSteps
-pub mod Looks
-pub mod Messages
-pub mod Waited
