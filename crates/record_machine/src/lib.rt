@@ -20,4 +20,5 @@ pub use chunks::NotedChunk;
 pub use held::NotedFlags;
 pub use lines::NotedLine;
 pub use machines::{Machine, Refused};
+pub use uses::{Use, use_of};
 pub use works::{Posted, Standing, Work};

@@ -13,7 +13,7 @@ use scc_base::{Buf, CommRule, CoreId, Layout, Place, Rank, Setup};
 
 /// What a word of the buffers is for.
 #[derive(Clone, Copy)]
-pub(crate) enum Use {
+pub enum Use {
     Header { owner: Rank, word: u8 },
     Chunk { owner: Rank, word: u16 },
     Sent { from: Rank, to: Rank },
@@ -178,7 +178,7 @@ fn use_at(setup: &Setup, owner: Rank, place: Place) -> Use
 }
 
 /// What a buffer word is for; every word of a core without a rank is idle.
-pub(crate) fn use_of(setup: &Setup, place: Place) -> Use
+pub fn use_of(setup: &Setup, place: Place) -> Use
     ensures role { role_meant result ≡ role_of setup.now place }
     ensures is_use { IsWordUse setup.now result }
 {

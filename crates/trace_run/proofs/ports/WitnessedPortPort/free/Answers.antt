@@ -1,0 +1,18 @@
+use Rattle.scc_base.specs.Events.{free_of}
+use Rattle.trace_run.proofs.SeenLaws.{below_seen, seen_more}
+use Rattle.trace_run.proofs.ports.WitnessedPortPort.free.Goals as goal
+
+pub note-requires-clause-below : goal.note-requires-clause-below
+note-requires-clause-below g c =
+    let t = c.args.self.now in
+    below_seen (g.N.Witness.setup t.witness) (g.N.Witness.noted t.witness) (g.P.Port.sight t.port) c.rank-rank.result t.seen c.rank-rank.ensures.below
+
+pub invariant_of-self : goal.invariant_of-self
+invariant_of-self g c =
+    let t = c.args.self.now in
+    let end = c.note.new.self in
+    record {
+      seen = seen_more (g.N.Witness.setup t.witness) (g.N.Witness.setup end) (g.N.Witness.noted t.witness) (g.N.Witness.noted end)
+          (g.P.Port.sight t.port) (g.P.Port.sight c.free.new.self) c.rank-rank.result (free_of c.args.c) c.free-2.result c.free-2.ensures.gives
+          c.rank-rank.ensures.gives c.free.ensures.did c.note.ensures.setup c.note.ensures.noted t.seen;
+    }

@@ -1,0 +1,32 @@
+//! Who is told the events of a run.
+
+use scc_base::{Event, Rank};
+
+/// Who is told each event of a run as it is made, by its rank. A witness of one run belongs to one thread.
+pub trait Witness {
+    ghost use Rattle.std.specs.Prelude.{◌≡◌, ◌<◌, [], ◌∷◌, ◌++◌, Bool, List};
+    ghost use Rattle.scc_base.specs.Events.{IsEvent};
+    ghost use Rattle.scc_base.specs.Setups.{SetupView};
+    ghost use Rattle.scc_proto.specs.Words.{RankEvent};
+
+    /// The setup of the chip whose events it is told.
+    ghost setup: { Self → SetupView };
+
+    /// It was told these events, in the order in which they were made.
+    ghost noted: { Self → List RankEvent → Type 0 };
+
+    /// It wants to be told more. Where it does not, a run may end before its time.
+    ghost listens: { Self → Bool };
+
+    /// One event more of a rank.
+    fn note(&mut self, rank: Rank, event: Event)
+        requires below { rank < (setup self.old).nue }
+        requires made { IsEvent event }
+        ensures setup { setup self.new ≡ setup self.old }
+        ensures noted { (run : List RankEvent) → noted self.old run
+            → noted self.new (run ++ record { rank = rank; event = event } ∷ []) };
+
+    /// Whether it wants to be told more.
+    fn listens(&self) -> bool
+        ensures tells { result ≡ listens self.now };
+}
