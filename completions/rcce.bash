@@ -1,4 +1,4 @@
-# Completion in bash of the command rcce and of the six programs. Sourced, or found in share/bash-completion/completions.
+# Completion in bash of the command rcce and of the programs. Sourced, or found in share/bash-completion/completions.
 
 _rcce_files() {
   local IFS=$'\n'
