@@ -68,6 +68,9 @@ def _page_text(words: argparse.Namespace, given: Given, programs: Programs) -> I
 
 def _parser(name: str, about: str, what: str) -> Parser:
     """The parser of a command, with the words that both have."""
+    called = os.path.basename(sys.argv[0])
+    # installed they have longer names
+    name = called if called == f"rcce-{name}" else name
     parser = Parser(name, description=about, epilog=ENDS, allow_abbrev=False)
     parser.add_argument("--version", action="version", version=f"{name} {version()}")
     parser.add_argument("-o", metavar="FILE", help="the file that is written, if not standard output")
