@@ -3,6 +3,7 @@ from __future__ import annotations
 
 import argparse
 import os
+import re
 import sys
 import traceback
 from typing import Callable, Iterator
@@ -13,7 +14,7 @@ from rcce_lib.kinds import LOG
 from rcce_lib.logs import read_log
 from rcce_lib.progress import Progress
 from rcce_lib.programs import Programs, version
-from rcce_lib.stops import OWN_FAILURE, Stop
+from rcce_lib.stops import OWN_FAILURE, Fault, Refused, Stop
 from rcce_lib.words import Parser
 from trace_lib import pages, viewers
 from trace_lib.labs import Lab
@@ -34,6 +35,10 @@ goes by keys, by its slider or by its buttons; behind its name #last or a number
 shared words alone; of a lab old copies and words that wait in a write-combining buffer are marked."""
 TRACE_PAGE = "A trace of accesses to shared words, an event a step."
 LAB_PAGE = "A lab of raw accesses, a line a step."
+# a lab itself: below comments its first line names a core, or the version
+LAB = re.compile(rb"(?:[ \t\r]*(?:#[^\n]*)?\n)*[ \t\r]*(?:core|rcce[ \t]+lab)[ \t]")
+NOT_RUN = "what rccelab prints of this lab: rccelab LAB > OUT 2>&1, and then page OUT"
+NEITHER = "a trace, whose first line begins with rcce trace, or what rccelab prints of a lab: line N: STEP, and below it its accesses and answers"
 
 
 def trace(argv: list[str]) -> int:
@@ -63,6 +68,9 @@ def _page_text(words: argparse.Namespace, given: Given, programs: Programs) -> I
     """The text of a page."""
     if given.data.startswith(b"line "):
         return pages.page_of(given.name, LAB_PAGE, pages.of_lab(Lab(given.name, given.data)))
+    if not given.data.startswith(b"rcce trace"):
+        is_lab = LAB.match(given.data) is not None
+        raise Refused(Fault(given.name, 1, "NotRun" if is_lab else "Neither", NOT_RUN if is_lab else NEITHER))
     return pages.page_of(given.name, TRACE_PAGE, pages.of_trace(read_trace(given.name, given.data)))
 
 
