@@ -3,7 +3,7 @@ from __future__ import annotations
 
 from dataclasses import dataclass, field
 
-SCRIPT, HOSTS, LOG, RUN = "script", "host file", "log", "run"
+SCRIPT, HOSTS, LOG, LAB, TRACE, RUN = "script", "host file", "log", "lab", "trace", "run"
 
 
 @dataclass(frozen=True)
@@ -119,6 +119,32 @@ LOG_KINDS = [
          ["0 send 1 plain 0 2 01"], ["0 send 1 plain 0 1 01"], before=["rcce log 2"]),
 ]
 
+LAB_KINDS = [
+    Kind("TooLong", LAB, "the file has more than 1,048,576 bytes; said of line 0", "a lab of at most 1,048,576 bytes",
+         ["core 0 print", "# and 1,048,576 dashes"], ["core 0 print"], whole=True, dashes=1048576),
+    Kind("NotText", LAB, "a byte outside a comment is no blank and no printable character",
+         "blanks and the printable characters of ASCII alone, outside comments", ["core 0 print \u2460"], ["core 0 print"]),
+    Kind("BadCore", LAB, "the line does not begin with core C", "core C first, with C from 0 to 47", ["core 48 print"], ["core 47 print"]),
+    Kind("BadStep", LAB, "what follows core C is none of the forms of a step", "a step of docs/LAB.md",
+         ["core 0 writes 0.0 2a"], ["core 0 write 0.0 2a"]),
+]
+
+# (a trace that is too long is none that a test writes)
+TRACE_KINDS = [
+    Kind("TooLong", TRACE, "the file has more than 1,073,741,824 bytes or 16,777,216 lines; said of line 0",
+         "a trace of at most 1,073,741,824 bytes and 16,777,216 lines",
+         ["rcce trace 1 nue 1 layout words hosts 0", "# and 1,073,741,824 dashes"], ["rcce trace 1 nue 1 layout words hosts 0"], whole=True, dashes=1073741824),
+    Kind("BadHead", TRACE, "line 1 is not of its form",
+         "rcce trace 1 nue NUE layout words|bits hosts CORE,.. with as many cores as ranks, no two the same",
+         ["rcce trace 1 nue 2 layout words hosts 0"], ["rcce trace 1 nue 2 layout words hosts 0,1"]),
+    Kind("BadComm", TRACE, "a line that begins with comm is no split of its form, or stands out of its place",
+         "comm NUMBER PARENT mod|div PARTS before all events, with rising numbers and a parent that is there",
+         ["comm 2 0 rest 2"], ["comm 2 0 mod 2"], before=["rcce trace 1 nue 4 layout words hosts 0,1,2,3"]),
+    Kind("BadEvent", TRACE, "the line is none of an event, lacks its line feed, or has more than 255 bytes",
+         "RANK ACCESS PLACE VALUE with single blanks, no leading zero and 16 lower-case hex digits",
+         ["0 load 0.225.0 0"], ["0 load 0.225.0 0000000000000000"], before=["rcce trace 1 nue 1 layout words hosts 0"]),
+]
+
 # no faults of a file: why ranks of a run cannot end, as `rcce why` says it
 RUN_CAUSES = [
     Kind("cycle", RUN, "UEs wait for each other in a ring: a send ends only when its message was taken, and none of them takes one",
@@ -130,7 +156,7 @@ RUN_CAUSES = [
          "a receive of the kind and length that is sent", ["recv 0 y 4"], ["recv 0 y 2"], before=["ue 0", "bytes x 0001", "send 1 x", "ue 1"]),
 ]
 
-KINDS = SCRIPT_KINDS + HOST_KINDS + LOG_KINDS + RUN_CAUSES
+KINDS = SCRIPT_KINDS + HOST_KINDS + LOG_KINDS + LAB_KINDS + TRACE_KINDS + RUN_CAUSES
 # in a script that is too long for a log, a TooLong of line 0
 NO_LOG = "at most 10,000 calls and 262,144 message bytes at a UE, and a script of at most 4,194,304 bytes"
 
