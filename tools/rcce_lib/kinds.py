@@ -135,13 +135,13 @@ TRACE_KINDS = [
          "a trace of at most 1,073,741,824 bytes and 16,777,216 lines",
          ["rcce trace 1 nue 1 layout words hosts 0", "# and 1,073,741,824 dashes"], ["rcce trace 1 nue 1 layout words hosts 0"], whole=True, dashes=1073741824),
     Kind("BadHead", TRACE, "line 1 is not of its form",
-         "rcce trace 1 nue NUE layout words|bits hosts CORE,.. with as many cores as ranks, no two the same",
+         "rcce trace 1 nue N layout words|bits hosts CORE,.. with N from 1 to 48 and as many different cores below 48",
          ["rcce trace 1 nue 2 layout words hosts 0"], ["rcce trace 1 nue 2 layout words hosts 0,1"]),
     Kind("BadComm", TRACE, "a line that begins with comm is no split of its form, or stands out of its place",
          "comm NUMBER PARENT mod|div PARTS before all events, with rising numbers and a parent that is there",
          ["comm 2 0 rest 2"], ["comm 2 0 mod 2"], before=["rcce trace 1 nue 4 layout words hosts 0,1,2,3"]),
     Kind("BadEvent", TRACE, "the line is none of an event, lacks its line feed, or has more than 255 bytes",
-         "RANK ACCESS PLACE VALUE with single blanks, no leading zero and 16 lower-case hex digits",
+         "RANK load|store CORE.LINE.WORD VALUE or RANK take|free CORE.register VALUE, with 16 hex digits and what you like behind a #, 255 bytes at most",
          ["0 load 0.225.0 0"], ["0 load 0.225.0 0000000000000000"], before=["rcce trace 1 nue 1 layout words hosts 0"]),
 ]
 

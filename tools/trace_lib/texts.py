@@ -5,20 +5,15 @@ import re
 from dataclasses import dataclass
 from typing import NamedTuple
 
+from rcce_lib.kinds import TRACE, wanted
 from rcce_lib.stops import Fault, Refused
 from trace_lib.words import REGISTER, Role, Setup
 
-LONGEST_LINE, MOST_LINES = 255, 16_777_216
+LONGEST_LINE, MOST_LINES, MOST_BYTES = 255, 16_777_216, 1_073_741_824
 NUMBER = r"(0|[1-9]\d{0,4})"
 HEAD = re.compile(rf"rcce trace 1 nue {NUMBER} layout (words|bits) hosts ((?:{NUMBER},)*{NUMBER})")
 COMM = re.compile(rf"comm {NUMBER} {NUMBER} (mod|div) {NUMBER}")
 EVENT = re.compile(rf"{NUMBER} (load|store|take|free) {NUMBER}\.(?:(register)|{NUMBER}\.([0-3])) ([0-9a-f]{{16}})(?: #.*)?", re.S)
-WANTED = {
-    "TooLong": f"lines of at most {LONGEST_LINE} bytes, and at most {MOST_LINES:,} of them",
-    "BadHead": "rcce trace 1 nue N layout words|bits hosts CORE,.. with N from 1 to 48 and as many different cores below 48",
-    "BadComm": "comm NUMBER PARENT mod|div PARTS before all events, with rising numbers and a parent that is there",
-    "BadEvent": "RANK load|store CORE.LINE.WORD VALUE or RANK take|free CORE.register VALUE, with 16 hex digits and what you like behind a #",
-}
 
 
 class Event(NamedTuple):
@@ -58,26 +53,21 @@ def read_trace(name: str, data: bytes) -> Trace:
 
     def refuse(at: int, kind: str) -> Refused:
         """The refusal of a line."""
-        return Refused(Fault(name, at, kind, WANTED[kind]))
+        return Refused(Fault(name, at, kind, wanted(kind, TRACE)))
 
-    def check(at: int, line: str) -> None:
-        """Refuses a line that is too long or stands too low."""
-        if len(line) > LONGEST_LINE or at > MOST_LINES:
-            raise refuse(at, "TooLong")
-
+    if len(data) > MOST_BYTES or len(lines) > MOST_LINES:
+        raise refuse(0, "TooLong")
     if not lines and whole:
         raise refuse(1, "BadHead")
     if not whole:
         # the rest behind the last line feed is no line of the form
         lines.append(data.decode("latin-1").rpartition("\n")[2])
-    check(1, lines[0])
-    setup = None if len(lines) == 1 and not whole else _head(lines[0])
+    setup = None if len(lines) == 1 and not whole or len(lines[0]) > LONGEST_LINE else _head(lines[0])
     if setup is None:
         raise refuse(1, "BadHead")
     trace, last = Trace(name, setup, []), len(lines)
     for at, line in enumerate(lines[1:], 2):
-        check(at, line)
-        broken = at == last and not whole
+        broken = at == last and not whole or len(line) > LONGEST_LINE
         if line.startswith("comm"):
             if broken or trace.events or not _comm(setup, line):
                 raise refuse(at, "BadComm")
