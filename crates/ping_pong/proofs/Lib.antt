@@ -1,1 +1,2 @@
 pub mod RallyLemmas
+pub mod GivingUpLemmas

@@ -1,1 +1,2 @@
 pub mod Rallies
+pub mod GivingUp

@@ -1,11 +1,15 @@
 //! The two players.
 
-ghost use Rattle.std.specs.Prelude.{◌≡◌, [], ◌∷◌, ◌++◌, true, length, IfOk};
+ghost use Rattle.std.specs.Prelude.{◌≡◌, [], ◌∷◌, ◌++◌, true, length, IfErr, IfOk};
 ghost use Rattle.scc_base.specs.Calls.{Recv, Send};
 ghost use Rattle.scc_base.specs.Heads.{plain_head};
 ghost use Rattle.scc_proto.specs.Ports.{record_in};
 ghost use Rattle.scc_proto.specs.Words.{are_peers};
+ghost use Rattle.send_recv.specs.Calling.{SendStalled};
+ghost use Rattle.station.specs.Calls.{at_receive, at_send, behind_receive, in_send};
+ghost use Rattle.station.specs.Patience.{AfterStalls, SaysWhyAfter, SendStalls};
 ghost use Rattle.station.specs.Stations.{NoCallOpen};
+ghost use Rattle.ping_pong.specs.GivingUp.{HitStops, ServeStops, patience};
 ghost use Rattle.ping_pong.specs.Rallies.{hits, serves};
 
 use crate::rallies::Ball;
@@ -30,7 +34,10 @@ fn give<P: Port>(
     ensures free { IfOk result (λ done. NoCallOpen (P.sight port.new) station.new) }
     ensures calls { IfOk result (λ done. (record_in (P.sight port.new)).calls
         ≡ (record_in (P.sight port.old)).calls ++ Send to (plain_head 4) ball.now ∷ []) }
+    ensures stalled { IfErr result (λ stall. AfterStalls (SendStalls station.old.polls) (at_send (P.sight port.old) station.old to ball.now)
+        patience (λ last. SendStalled last station.old.polls (in_send (P.sight port.new) station.new stall.op ball.now) stall.spot)) }
     ensures seat { (P.sight port.new).seat ≡ (P.sight port.old).seat }
+    ensures same { station.new.polls ≡ station.old.polls }
 {
     station.send_patiently(port, to, ball, PATIENCE)
 }
@@ -47,14 +54,17 @@ fn get<P: Port>(
     ensures free { IfOk result (λ done. NoCallOpen (P.sight port.new) station.new) }
     ensures calls { IfOk result (λ done. (record_in (P.sight port.new)).calls
         ≡ (record_in (P.sight port.old)).calls ++ Recv from (plain_head 4) ball.new ∷ []) }
+    ensures why { IfErr result (λ stop. SaysWhyAfter (at_receive (P.sight port.old) station.old from ball.old) patience station.old.polls
+        (behind_receive (P.sight port.new) station.new ball.new) stop) }
     ensures seat { (P.sight port.new).seat ≡ (P.sight port.old).seat }
+    ensures same { station.new.polls ≡ station.old.polls }
 {
     let mut stall = match station.recv(port, from, ball) {
         Ok(()) => return Ok(()),
         Err(RecvStop::Stalled(stall)) => stall,
         Err(stop) => return Err(stop),
     };
-    'rounds: for _ in 0..PATIENCE {
+    'rounds: for round in 0..PATIENCE {
         thread::yield_now();
         match station.recv_on(port, stall, ball) {
             Ok(()) => return Ok(()),
@@ -76,6 +86,8 @@ pub(crate) fn serve<P: Port>(
     requires peers { are_peers (P.sight port.old).seat.setup (P.sight port.old).seat.rank 1 ≡ true }
     requires as_many { length back.old ≡ length balls.now }
     ensures calls { IfOk result (λ done. (record_in (P.sight port.new)).calls ≡ (record_in (P.sight port.old)).calls ++ serves balls.now back.new) }
+    ensures stopped { IfErr result (λ stop. ServeStops station.old.polls (record_in (P.sight port.old)).calls balls.now back.new
+        (P.sight port.new) stop) }
     ensures as_many { length back.new ≡ length balls.now }
     ensures seat { (P.sight port.new).seat ≡ (P.sight port.old).seat }
 {
@@ -96,6 +108,8 @@ pub(crate) fn hit<P: Port>(
     requires free { NoCallOpen (P.sight port.old) station.old }
     requires peers { are_peers (P.sight port.old).seat.setup (P.sight port.old).seat.rank 0 ≡ true }
     ensures calls { IfOk result (λ done. (record_in (P.sight port.new)).calls ≡ (record_in (P.sight port.old)).calls ++ hits seen.new) }
+    ensures stopped { IfErr result (λ stop. HitStops station.old.polls (record_in (P.sight port.old)).calls seen.new
+        (P.sight port.new) stop) }
     ensures as_many { length seen.new ≡ length seen.old }
     ensures seat { (P.sight port.new).seat ≡ (P.sight port.old).seat }
 {

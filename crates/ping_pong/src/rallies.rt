@@ -1,11 +1,12 @@
 //! Both players at once, on one chip.
 
-ghost use Rattle.std.specs.Prelude.{◌≡◌, ℕ, List, [], length, IfOk};
+ghost use Rattle.std.specs.Prelude.{◌≡◌, ◌⊎◌, ℕ, List, [], length, IfErr, IfOk};
 ghost use Rattle.scc_proto.specs.Ports.{Sight};
 ghost use Rattle.scc_proto.specs.Records.{record_of};
-ghost use Rattle.scc_mesh.specs.Scenes.{IsHomeBelow, IsNew, IsWhole, about_in, events_in, table_in};
+ghost use Rattle.scc_mesh.specs.Scenes.{IsHomeBelow, IsNew, IsWhole, about_in, events_in, sight_away, table_in};
 ghost use Rattle.station.specs.Stations.{NoCallOpen};
 ghost use Rattle.station.specs.Worlds.{world_setup};
+ghost use Rattle.ping_pong.specs.GivingUp.{HasCome, HitStops, ServeStops};
 ghost use Rattle.ping_pong.specs.Rallies.{IsFresh, hits, serves};
 
 use crate::players::{hit, serve};
@@ -31,6 +32,9 @@ fn serve_all(
     requires as_many { length back.old ≡ length balls.now }
     ensures same { (port.new.ticket.table ≡ port.old.ticket.table) × (port.new.ticket.rank ≡ port.old.ticket.rank) }
     ensures calls { IfOk result (λ done. (record_of (world_setup 2) 0 port.new.ticket.events).calls ≡ serves balls.now back.new) }
+    ensures stopped { IfErr result (λ stop. ServeStops station.old.polls [] balls.now back.new
+        (sight_away port.new.about port.new.ticket) stop) }
+    ensures about { port.new.about ≡ world_setup 2 }
     ensures as_many { length back.new ≡ length balls.now }
 {
     serve(station, port, balls, back)
@@ -46,6 +50,8 @@ fn hit_all(
     requires seat { (port.old.about ≡ world_setup 2) × (port.old.ticket.rank ≡ 1) × (port.old.ticket.events ≡ []) }
     ensures same { (port.new.ticket.table ≡ port.old.ticket.table) × (port.new.ticket.rank ≡ port.old.ticket.rank) }
     ensures calls { IfOk result (λ done. (record_of (world_setup 2) 1 port.new.ticket.events).calls ≡ hits seen.new) }
+    ensures stopped { IfErr result (λ stop. HitStops station.old.polls [] seen.new (sight_away port.new.about port.new.ticket) stop) }
+    ensures about { port.new.about ≡ world_setup 2 }
     ensures as_many { length seen.new ≡ length seen.old }
 {
     hit(station, port, seen)
@@ -71,6 +77,11 @@ fn play<R: Threads + Sync>(
     ensures at_other { (at_other.new.ticket.table ≡ at_other.old.ticket.table) × (at_other.new.ticket.rank ≡ at_other.old.ticket.rank) }
     ensures served { IfOk result.0 (λ done. (record_of (world_setup 2) 0 at_one.new.ticket.events).calls ≡ serves balls.now back.new) }
     ensures hit { IfOk result.1 (λ done. (record_of (world_setup 2) 1 at_other.new.ticket.events).calls ≡ hits seen.new) }
+    ensures serve_stopped { IfErr result.0 (λ stop. ServeStops one.old.polls [] balls.now back.new
+        (sight_away at_one.new.about at_one.new.ticket) stop) }
+    ensures hit_stopped { IfErr result.1 (λ stop. HitStops other.old.polls [] seen.new
+        (sight_away at_other.new.about at_other.new.ticket) stop) }
+    ensures about { (at_one.new.about ≡ world_setup 2) × (at_other.new.about ≡ world_setup 2) }
     ensures as_many { (length seen.new ≡ length seen.old) × (length back.new ≡ length balls.now) }
 {
     thread::join_mut(
@@ -124,6 +135,9 @@ pub(crate) fn rally<R: Threads + Sync>(
     requires as_many { (length seen.old ≡ length balls.now) × (length back.old ≡ length balls.now) }
     ensures seen { IfOk result (λ done. seen.new ≡ balls.now) }
     ensures back { IfOk result (λ done. back.new ≡ balls.now) }
+    ensures stopped { IfErr result (λ stop.
+        ((now : Sight) × HasCome chip.new 0 now × ServeStops one.old.polls [] balls.now back.new now stop)
+        ⊎ ((now : Sight) × HasCome chip.new 1 now × HitStops other.old.polls [] seen.new now stop)) }
     ensures whole { IsWhole chip.new }
 {
     let (first, second) = spread_both(chip);

@@ -141,7 +141,8 @@ step_stop_of (recv_stop.Mismatch sent asked) = stop.Mismatch sent asked
 abbrev pub group_stop_of : Coll → Option Folding → ℕ → StepStop → GroupStop
 group_stop_of coll folding at (stop.Stalled hand spot polls) =
     Stalled (record { op = record { coll = coll; folding = folding; at = at; hand = hand }; spot = spot; polls = polls })
-group_stop_of coll folding at (stop.Mismatch sent asked) = Mismatch (record { coll = coll; folding = folding; at = at; hand = Between }) sent asked
+group_stop_of coll folding at (stop.Mismatch sent asked) =
+    Mismatch (record { coll = coll; folding = folding; at = at; hand = Between }) sent asked
 
 -- ---- a whole call
 
@@ -174,7 +175,7 @@ part_in seat op input =
 abbrev pub steps_at : Seat → GroupOp → List Step
 steps_at seat op = steps_of seat.setup seat.rank op.coll
 
--- buffers of one length that are folded_output: whole values of the type
+-- buffers of one length that are folded: whole values of the type
 pub record IsFoldable (how : Folding) (len : ℕ) (input : List ℕ) (held : Held) : Type 0 where
   pub whole : len % value_bytes how.ty ≡ 0
   pub input_is : length input ≡ len
@@ -227,7 +228,8 @@ op_in (Mismatch op sent asked) = op
 abbrev pub SaysWhyGroup : (old : Sight) → (polls : ℕ) → GroupRank → GroupStop → Type 0
 SaysWhyGroup old polls now (Stalled stall) = (stall.polls ≡ polls) × (from : Sight) × OnlyMessages old from
     × HandStalled from polls (in_step now.sight now.station (part_in now.sight.seat now.op now.input) now.held) now.op.hand stall.spot
-SaysWhyGroup old polls now (Mismatch op sent asked) = (op.hand ≡ Between) × HandDiffers (slice_get (steps_at now.sight.seat op) op.at) now.sight sent asked
+SaysWhyGroup old polls now (Mismatch op sent asked) = (op.hand ≡ Between)
+    × HandDiffers (slice_get (steps_at now.sight.seat op) op.at) now.sight sent asked
 
 -- a call that stopped is the call that began
 pub record IsSameCall (old now : GroupOp) : Type 0 where

@@ -75,7 +75,7 @@ ReduceBy false how c old new calls =
 abbrev pub ReduceDoes : Folding → GroupCall → (old new : Held) → List DataCall → Type 0
 ReduceDoes how c old new calls = ReduceBy (is_root_of c) how c old new calls
 
--- member 0 has folded_output what the others sent, and has sent each of them the result
+-- member 0 has folded what the others sent, and has sent each of them the result
 pub record HasShared (how : Folding) (c : GroupCall) (result : List ℕ) (calls : List DataCall) : Type 0 where
   pub up : List DataCall
   pub gathers : HasFolded how (head_of kind.AllUp (comm_of c.coll) (len_of c.coll)) c result up

@@ -45,7 +45,7 @@ abbrev pub with_received : Bool → List ℕ → Held → Held
 with_received true bytes h = record h { work = bytes }
 with_received false bytes h = record h { output = bytes }
 
--- the output with what was received folded_output into it, where the call folds
+-- the output with what was received folded into it, where the call folds
 abbrev pub folded_output : Option Folding → (output work : List ℕ) → List ℕ
 folded_output None output work = output
 folded_output (Some how) output work = fold_values how.op how.ty output work

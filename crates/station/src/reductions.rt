@@ -65,7 +65,7 @@ impl<V: Evict> Station<V> {
         self.run_steps(port, begun(coll, None), &[], buffer, &mut [])
     }
 
-    /// A reduction: what the members hand in, folded_output value by value in the order root and then the others by rank, comes into the
+    /// A reduction: what the members hand in, folded value by value in the order root and then the others by rank, comes into the
     /// root's `output`. `work` is room for what the root receives. All buffers have one length, at each member (RCCE_reduce).
     pub fn reduce<P: Port>(
         &mut self,

@@ -37,8 +37,8 @@ impl<V: Evict> Model for Station<V> {
 }
 
 impl<V: Evict> Station<V> {
-    ghost use Rattle.std.specs.Prelude.{◌≡◌, ◌≤◌, ◌↔◌, ◌++◌, ◌∷◌, [], IsTrue, IfOk, OnErr, Contains};
-    ghost use Rattle.mpb_alloc.specs.Heaps.{all_free, given_back, malloc_answer, returned, run_of};
+    ghost use Rattle.std.specs.Prelude.{◌≡◌, ◌≤◌, ◌↔◌, ◌++◌, ◌∷◌, [], IsTrue, IfOk, OnErr, OnOk, Contains};
+    ghost use Rattle.mpb_alloc.specs.Heaps.{all_free, given_back, lines_for, malloc_answer, returned, run_of, taken_from};
     ghost use Rattle.scc_proto.specs.Ports.{Sight};
     ghost use Rattle.station.specs.Stations.{KeepsAllButHeap, NoCallOpen};
 
@@ -68,6 +68,7 @@ impl<V: Evict> Station<V> {
     /// Takes a buffer of so many bytes, in whole lines. Stations that make the same calls get the same buffers (RCCE_malloc).
     pub fn malloc(&mut self, bytes: usize) -> Result<Buf, MallocFault>
         ensures answer { result ≡ malloc_answer self.old.heap bytes }
+        ensures free { OnOk result (self.new.heap.free ≡ taken_from (lines_for bytes) self.old.heap.free) }
         ensures out { IfOk result (λ b. self.new.heap.out ≡ self.old.heap.out ++ run_of b ∷ []) }
         ensures unchanged { OnErr result (self.new ≡ self.old) }
         ensures same { KeepsAllButHeap self.old self.new }

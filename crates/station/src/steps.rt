@@ -16,7 +16,7 @@ use scc_base::{Head, Rank, Spot};
 use scc_proto::Port;
 use send_recv::{RecvOp, SendOp};
 
-/// How values are folded_output: by which operation, and of which type.
+/// How values are folded: by which operation, and of which type.
 #[derive(Clone, Copy)]
 pub struct Folding {
     pub op: Op,
@@ -39,7 +39,7 @@ pub enum Hand {
 pub struct GroupOp {
     /// Which call.
     pub coll: Coll,
-    /// How its values are folded_output, where they are.
+    /// How its values are folded, where they are.
     pub folding: Option<Folding>,
     /// How many of its steps have ended.
     pub at: u32,

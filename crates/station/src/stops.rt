@@ -1,5 +1,8 @@
 //! Why a call of a station stopped. Each of these prints itself.
 
+ghost use Rattle.std.specs.Prelude.{◌≡◌};
+ghost use Rattle.station.specs.declared.stops.Stop.TheVariants.{Send, Recv, Barrier, Collective, Group, Flag, Range, Malloc};
+
 use crate::steps::GroupOp;
 use barrier::BarOp;
 use coll_more::MoreOp;
@@ -257,48 +260,64 @@ pub enum Stop {
 }
 
 impl From<SendStall> for Stop {
+    ghost from_gives = { λ given stop. stop ≡ Send given };
+
     fn from(stall: SendStall) -> Stop {
         Stop::Send(stall)
     }
 }
 
 impl From<RecvStop> for Stop {
+    ghost from_gives = { λ given stop. stop ≡ Recv given };
+
     fn from(stop: RecvStop) -> Stop {
         Stop::Recv(stop)
     }
 }
 
 impl From<BarStall> for Stop {
+    ghost from_gives = { λ given stop. stop ≡ Barrier given };
+
     fn from(stall: BarStall) -> Stop {
         Stop::Barrier(stall)
     }
 }
 
 impl From<CollStop> for Stop {
+    ghost from_gives = { λ given stop. stop ≡ Collective given };
+
     fn from(stop: CollStop) -> Stop {
         Stop::Collective(stop)
     }
 }
 
 impl From<GroupStop> for Stop {
+    ghost from_gives = { λ given stop. stop ≡ Group given };
+
     fn from(stop: GroupStop) -> Stop {
         Stop::Group(stop)
     }
 }
 
 impl From<Stalled> for Stop {
+    ghost from_gives = { λ given stop. stop ≡ Flag given };
+
     fn from(stalled: Stalled) -> Stop {
         Stop::Flag(stalled)
     }
 }
 
 impl From<RangeFault> for Stop {
+    ghost from_gives = { λ given stop. stop ≡ Range given };
+
     fn from(fault: RangeFault) -> Stop {
         Stop::Range(fault)
     }
 }
 
 impl From<MallocFault> for Stop {
+    ghost from_gives = { λ given stop. stop ≡ Malloc given };
+
     fn from(fault: MallocFault) -> Stop {
         Stop::Malloc(fault)
     }

@@ -11,6 +11,7 @@ rounds-preserved g c =
     let low = subst (λ (n : ℕ). c.rounds.round < n) (sym c.rounds.invariant.as_many) c.rounds-test.true in
     record {
       free = c.in_ok-give.ensures.free;
+      polls = c.give.ensures.same ∙ c.get.ensures.same ∙ c.rounds.invariant.polls;
       calls = hit_round (record_in (g.P.Port.sight c.args.port.now)).calls c.rounds.seen low c.rounds.invariant.calls
           (c.in_ok-get.ensures.calls ∙ ap (λ (from : ℕ). (record_in (g.P.Port.sight c.rounds.port)).calls ++ Recv from (plain_head 4) c.get.new.ball ∷ []) c.of-other.ensures.gives)
           (get_or-set_same c.rounds.seen c.rounds.round c.get.new.ball [] low)

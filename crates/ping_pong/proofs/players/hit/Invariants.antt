@@ -7,6 +7,7 @@ use Rattle.ping_pong.proofs.players.hit.Given as goal
 abbrev pub invariant-rounds : goal.invariant-rounds
 invariant-rounds g l = record {
   free : NoCallOpen (g.P.Port.sight l.port) l.station;
+  polls : l.station.polls ≡ l.fn.station.polls;
   calls : (record_in (g.P.Port.sight l.port)).calls ≡ (record_in (g.P.Port.sight l.fn.port)).calls ++ hits (take l.round l.seen);
   as_many : length l.seen ≡ length l.fn.seen;
   seat : (g.P.Port.sight l.port).seat ≡ (g.P.Port.sight l.fn.port).seat;
