@@ -1,12 +1,16 @@
 -- How a player gives up: what its send or its receive says, in the words of its round.
-use Rattle.std.proofs.Common.{◌≡◌, ℕ, List, subst}
+use Rattle.std.proofs.Common.{◌≡◌, ℕ, List, refl, subst}
 use Rattle.scc_base.specs.Calls.{DataCall}
 use Rattle.scc_proto.specs.Ports.{Sight, record_in}
 use Rattle.send_recv.specs.Calling.{SendStalled}
+use Rattle.send_recv.specs.Ranks.{BufferHolder, Receiver}
 use Rattle.station.specs.Calls.{at_receive, at_send, behind_receive, in_send}
-use Rattle.station.specs.Patience.{AfterStalls, SaysWhyAfter, SendStalls}
+use Rattle.station.specs.Patience.{AfterStalls, RecvStalls, SaysWhyAfter, SendStalls, WithinStalls}
 use Rattle.station.specs.Stations.{StationAt}
+use Rattle.station.specs.Stops.{SaysWhy}
+use Rattle.station.specs.declared.stops.RecvStall.{RecvStall}
 use Rattle.station.specs.declared.stops.RecvStop.{RecvStop}
+use Rattle.station.specs.declared.stops.RecvStop.TheVariants.{Mismatch, Stalled}
 use Rattle.station.specs.declared.stops.SendStall.{SendStall}
 use Rattle.ping_pong.specs.GivingUp.{GaveUpReceiving, GaveUpSending, patience}
 use Rattle.ping_pong.specs.Rallies.{Ball}
@@ -36,3 +40,9 @@ module _ (begun now : Sight) (before after : StationAt) {polls first peer other 
     stopped = subst (λ (p : ℕ). SaysWhyAfter (at_receive begun before other room) patience p (behind_receive now after came) why) same
         (subst (λ (from : ℕ). SaysWhyAfter (at_receive begun before from room) patience polls (behind_receive now after came) why) is stopped);
   }
+
+-- a receive that stopped and did not stall met another message, after at most so many stalls
+pub met_other : {begun : Receiver} {times polls : ℕ} (now : BufferHolder) (why : RecvStop) → ((stall : RecvStall) → why ≡ Stalled stall → ⊥)
+    → WithinStalls (RecvStalls polls) begun times (λ last. SaysWhy last polls now why) → SaysWhyAfter begun times polls now why
+met_other now (Stalled stall) not came = absurd (not stall refl)
+met_other now (Mismatch sent asked) not came = came

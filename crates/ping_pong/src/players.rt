@@ -61,15 +61,19 @@ fn get<P: Port>(
 {
     let mut stall = match station.recv(port, from, ball) {
         Ok(()) => return Ok(()),
-        Err(RecvStop::Stalled(stall)) => stall,
-        Err(stop) => return Err(stop),
+        Err(stop) => match stop {
+            RecvStop::Stalled(stall) => stall,
+            other => return Err(other),
+        },
     };
     'rounds: for round in 0..PATIENCE {
         thread::yield_now();
         match station.recv_on(port, stall, ball) {
             Ok(()) => return Ok(()),
-            Err(RecvStop::Stalled(later)) => stall = later,
-            Err(stop) => return Err(stop),
+            Err(stop) => match stop {
+                RecvStop::Stalled(later) => stall = later,
+                other => return Err(other),
+            },
         }
     }
     Err(RecvStop::Stalled(stall))

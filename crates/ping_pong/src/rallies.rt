@@ -82,6 +82,7 @@ fn play<R: Threads + Sync>(
     ensures hit_stopped { IfErr result.1 (λ stop. HitStops other.old.polls [] seen.new
         (sight_away at_other.new.about at_other.new.ticket) stop) }
     ensures about { (at_one.new.about ≡ world_setup 2) × (at_other.new.about ≡ world_setup 2) }
+    ensures ranks { (at_one.new.ticket.rank ≡ 0) × (at_other.new.ticket.rank ≡ 1) }
     ensures as_many { (length seen.new ≡ length seen.old) × (length back.new ≡ length balls.now) }
 {
     thread::join_mut(

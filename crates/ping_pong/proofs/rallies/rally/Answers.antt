@@ -1,10 +1,12 @@
-use Rattle.std.proofs.Common.{◌≡◌, Result, IfOk, ap, subst, ◌∙◌, arith}
+use Rattle.std.proofs.Common.{◌≡◌, inl, inr, [], Result, IfErr, IfOk, ap, subst, sym, ◌∙◌, arith}
+use Rattle.std.proofs.lemmas.Result.{IfErr-weaker}
 use Rattle.scc_base.specs.Setups.{SetupView}
 use Rattle.scc_proto.specs.Records.{record_of}
 use Rattle.scc_mesh.specs.AwayRanks.{Ticket}
-use Rattle.scc_mesh.specs.Scenes.{about_in, records_in}
+use Rattle.scc_mesh.specs.Scenes.{about_in, records_in, sight_away}
 use Rattle.station.specs.declared.stops.Stop.{Stop}
 use Rattle.station.specs.Worlds.{world_setup}
+use Rattle.ping_pong.specs.GivingUp.{ServeStops}
 use Rattle.ping_pong.specs.Rallies.{serves}
 use Rattle.ping_pong.proofs.RallyLemmas.{back_same, map_ok, same_calls, seen_same}
 use Rattle.ping_pong.proofs.rallies.rally.Goals as goal
@@ -40,3 +42,21 @@ returns-in-Ok-clause-back g c =
     (λ done hit. back_same (about_in end) (records_in end) balls seen back (same_calls 0 about events_0 ∙ served) (same_calls 1 about events_1 ∙ hit)
     (c.play-served.ensures.as_many.0 ∙ c.requires.as_many.0) c.play-served.ensures.as_many.1 (c.agrees.ensures.messages 0 1 (omega (arith, two))) (c.agrees.ensures.messages 1 0 (omega (arith, two))))
     c.play-served.ensures.hit
+
+pub returns-in-Err-clause-stopped : goal.returns-in-Err-clause-stopped
+returns-in-Err-clause-stopped g c =
+    let port = c.play-served.new.at_one in
+    let now = sight_away port.about port.ticket in
+    let events = c.gather_both.ensures.first ∙ ap (λ (t : Ticket). t.events) c.into_token-first.ensures.gives in
+    let about = c.play-served.ensures.about.0 ∙ sym c.gather_both.ensures.about in
+    let stops = subst (λ (r : Result Unit Stop). IfErr r (λ stop. ServeStops c.args.one.now.polls [] c.args.balls.now c.play-served.new.back now stop)) c.in-Err.is c.play-served.ensures.serve_stopped in
+    inl (now, record { setup = about; is_rank = c.play-served.ensures.ranks.0; events = sym events; }, stops)
+
+pub returns-in-Ok-clause-stopped : goal.returns-in-Ok-clause-stopped
+returns-in-Ok-clause-stopped g c =
+    let port = c.play-served.new.at_other in
+    let now = sight_away port.about port.ticket in
+    let events = c.gather_both.ensures.second ∙ ap (λ (t : Ticket). t.events) c.into_token-second.ensures.gives in
+    let about = c.play-served.ensures.about.1 ∙ sym c.gather_both.ensures.about in
+    IfErr-weaker c.play-served.result.1 _ _
+    (λ stop stops. inr (now, record { setup = about; is_rank = c.play-served.ensures.ranks.1; events = sym events; }, stops)) c.play-served.ensures.hit_stopped
