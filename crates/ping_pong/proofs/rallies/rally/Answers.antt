@@ -50,7 +50,7 @@ returns-in-Err-clause-stopped g c =
     let events = c.gather_both.ensures.first ∙ ap (λ (t : Ticket). t.events) c.into_token-first.ensures.gives in
     let about = c.play-served.ensures.about.0 ∙ sym c.gather_both.ensures.about in
     let stops = subst (λ (r : Result Unit Stop). IfErr r (λ stop. ServeStops c.args.one.now.polls [] c.args.balls.now c.play-served.new.back now stop)) c.in-Err.is c.play-served.ensures.serve_stopped in
-    inl (now, record { setup = about; is_rank = c.play-served.ensures.ranks.0; events = sym events; }, stops)
+    inl (now, record { setup = about; is_rank = c.play-served.ensures.ranks.0; events = sym events }, stops)
 
 pub returns-in-Ok-clause-stopped : goal.returns-in-Ok-clause-stopped
 returns-in-Ok-clause-stopped g c =
@@ -59,4 +59,4 @@ returns-in-Ok-clause-stopped g c =
     let events = c.gather_both.ensures.second ∙ ap (λ (t : Ticket). t.events) c.into_token-second.ensures.gives in
     let about = c.play-served.ensures.about.1 ∙ sym c.gather_both.ensures.about in
     IfErr-weaker c.play-served.result.1 _ _
-    (λ stop stops. inr (now, record { setup = about; is_rank = c.play-served.ensures.ranks.1; events = sym events; }, stops)) c.play-served.ensures.hit_stopped
+    (λ stop stops. inr (now, record { setup = about; is_rank = c.play-served.ensures.ranks.1; events = sym events }, stops)) c.play-served.ensures.hit_stopped
