@@ -1,4 +1,6 @@
-//! The top call.
+//! The top call: a program of its own over the library. `rcce_io` gives it files and sinks, `outcomes` the reading of a file, the
+//! statuses and what is written at the end, `lab_reader` the grammar, and `lab_run` the run of the steps, by the cores of `put_get` and
+//! the chip of `lab_chip`.
 
 ghost use Rattle.std.specs.Prelude.{◌≡◌, ◌≤◌, codes, length, List, map, string_bytes, Option, Some, None};
 ghost use Rattle.std.specs.Option.{option_copied};

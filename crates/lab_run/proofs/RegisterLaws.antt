@@ -5,8 +5,8 @@ use Rattle.scc_base.specs.Events.{take_of, free_of}
 use Rattle.scc_base.specs.Setups.{SetupView}
 use Rattle.scc_proto.specs.Tables.{put}
 use Rattle.scc_proto.specs.Stages.{Idle, FlagWords, Record}
-use Rattle.scc_proto.specs.Words.{Memory, IsRun, RankEvent, zeros}
-use Rattle.scc_proto.specs.Ports.{Did, record_in}
+use Rattle.scc_proto.specs.Words.{Memory, IsRun, IsStep, RankEvent, zeros}
+use Rattle.scc_proto.specs.Ports.{Did, Sight, record_in}
 use Rattle.std.proofs.lemmas.Bool.Decides.{nat_tests}
 use Rattle.scc_proto.proofs.Tests.{eqb_other, eqb_same, put_here, put_there, same_or_other, true_not_false}
 use Rattle.tas_lock.specs.Holds.{IsHolding, IsNotHolding}
@@ -20,6 +20,7 @@ use Rattle.lab_plain.specs.declared.said.Said.TheVariants.{Frees, Takes}
 use Rattle.lab_plain.specs.declared.said.Stopped.TheVariants.{Holds, HoldsNot}
 use Rattle.lab_plain.specs.Meaning as meaning
 use Rattle.lab_plain.specs.Meaning.{Done, Stand, core_at, free_made, holder_of, is_holder, register_freed, register_read, take_made, unmet_take}
+use Rattle.lab_run.specs.RegisterCalls.{IsRegisterCall}
 use Rattle.lab_run.specs.Turns.{IsLabSetup, memory_in}
 use Rattle.lab_run.specs.Stands.{IsBench, held_word, holds_of, record_at, stand_of}
 use Rattle.lab_run.proofs.HeapEvents.{all_did, memory_did}
@@ -248,3 +249,26 @@ free_done line me k old new cores holders said bench turn low below own did =
       stands = bench_changed old new (map holds_of cores) holders k None None bench low_here below (alone_own old.rank (holder_of holders k) own_here)
           (freed_here old new k (may_free old (map holds_of cores) holders k bench low_here below own_here) did);
     }
+
+-- ---- the calls of tas_lock
+
+pub take_call : (line me k : ℕ) (expect : Option Bool) (t : Stand) (old new : Sight) (held : Option ℕ) → is_holder me (holder_of t.holders k) ≡ false → t.memory.register k ≡ held_word (holder_of t.holders k)
+    → Did old (take_of k (is_some held) ∷ []) new → IsStep t.memory (take_of k (is_some held))
+    → IsRegisterCall me (Takes me k (is_some held)) old new (take_made line me k expect t (holder_of t.holders k)) (record { stand = register_read me k (is_some held) t; stop = unmet_take line (is_some held) expect })
+take_call line me k expect t old new held other word did step =
+    let same = took_is (holder_of t.holders k) (is_some held) (t.memory.register k) word step in
+    record {
+      events = take_of k (is_some held) ∷ [];
+      did = did;
+      access = refl;
+      same = taken_other line me k expect t (holder_of t.holders k) other ∙ (λ i. record { stand = register_read me k (sym same i) t; stop = unmet_take line (sym same i) expect });
+    }
+
+pub free_call : (line me k : ℕ) (t : Stand) (old new : Sight) → is_holder me (holder_of t.holders k) ≡ true → Did old (free_of k ∷ []) new
+    → IsRegisterCall me (Frees me k) old new (free_made line me k t (holder_of t.holders k)) (record { stand = register_freed me k t; stop = None })
+free_call line me k t old new own did = record {
+  events = free_of k ∷ [];
+  did = did;
+  access = refl;
+  same = freed_own line me k t (holder_of t.holders k) own;
+}

@@ -5,3 +5,4 @@ pub mod Loads
 pub mod Stands
 pub mod Benches
 pub mod CoreCalls
+pub mod RegisterCalls

@@ -1,6 +1,8 @@
 -- How a core at work over the chip stands for a scene of the plain meaning.
-use Rattle.std.specs.Prelude.{◌≡◌, ℕ, ◌<◌, List, ◌++◌}
+use Rattle.std.specs.Prelude.{◌≡◌, ℕ, ◌<◌, List, ◌∷◌, ◌++◌, replicate}
 use Rattle.scc_base.specs.Setups.{SetupView, IsSetup, host_of}
+use Rattle.scc_base.specs.declared.communicators.CommRule.TheVariants.{Absent, World}
+use Rattle.scc_base.specs.declared.layouts.Layout.TheVariants.{LineFlags}
 use Rattle.scc_proto.specs.Stages.{Idle}
 use Rattle.scc_proto.specs.Words.{Memory, zeros}
 use Rattle.scc_proto.specs.Histories.{memory_from}
@@ -20,11 +22,13 @@ memory_in chip = memory_from zeros (all_events chip)
 abbrev pub scene_of : Private → LabChipView → List Said → CoreScene
 scene_of core chip said = record { memory = memory_in chip; lines = core.lines; out = core.out; said = said }
 
--- the setup of a lab: 48 ranks, rank r on core r
+-- the setup of a lab: 48 ranks with line flags, rank r on core r, and no communicator but the world
 pub record IsLabSetup (s : SetupView) : Type 0 where
   pub valid : IsSetup s
   pub ranks : s.nue ≡ 48
+  pub layout : s.layout ≡ LineFlags
   pub hosts : (r : ℕ) → r < 48 → host_of s.hosts r ≡ r
+  pub comms : s.comms ≡ World ∷ replicate 15 Absent
 
 -- a core may go on: no call of its rank is open, and in its write-combining buffer stands a heap line or none
 pub record IsReady (core : Private) (chip : LabChipView) : Type 0 where

@@ -1,8 +1,9 @@
 //! The setup of a lab.
 
-ghost use Rattle.std.specs.Prelude.{◌≡◌, ◌<◌, ℕ};
+ghost use Rattle.std.specs.Prelude.{◌≡◌, ◌<◌, ◌∷◌, ℕ, replicate};
 ghost use Rattle.scc_base.specs.Communicators.{AreRules};
 ghost use Rattle.scc_base.specs.Setups.{host_of};
+ghost use Rattle.scc_base.specs.declared.communicators.CommRule.TheVariants.{Absent, World};
 ghost use Rattle.lab_run.specs.Turns.{IsLabSetup};
 
 use scc_base::{CommRule, CoreId, Layout, Setup};
@@ -20,14 +21,15 @@ fn hosts() -> [CoreId; 48]
 
 // The world alone.
 fn rules() -> [CommRule; 16]
-    ensures { AreRules result }
+    ensures world { result ≡ World ∷ replicate 15 Absent }
+    ensures valid { AreRules result }
 {
     let mut rules = [CommRule::Absent; 16];
     rules[0] = CommRule::World;
     rules
 }
 
-/// 48 ranks with line flags, rank r on core r.
+/// 48 ranks with line flags and the world alone, rank r on core r.
 pub(crate) fn lab_setup() -> Setup
     ensures { IsLabSetup result }
 {

@@ -3,4 +3,4 @@ use Rattle.scc_base.proofs.WorldRules.{world_alone}
 use Rattle.lab_run.proofs.setup.rules.Goals as goal
 
 pub returns : goal.returns
-returns c = world_alone _ refl
+returns c = record { world = refl; valid = world_alone _ refl }

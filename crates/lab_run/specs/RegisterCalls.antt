@@ -1,0 +1,32 @@
+-- What the calls of tas_lock are to a lab's registers (RCCE specification 2.0: locks over the test-and-set registers).
+use Rattle.std.specs.Prelude.{◌≡◌, ℕ, Bool, true, false, List, [], ◌∷◌, Option, None, is_some}
+use Rattle.scc_base.specs.Events.{take_of, free_of}
+use Rattle.scc_base.specs.declared.events.Event.{Event}
+use Rattle.scc_proto.specs.Ports.{Sight, Did}
+use Rattle.scc_proto.specs.Words.{IsStep}
+use Rattle.lab_chip.specs.Chips.{of_rank_all}
+use Rattle.lab_plain.specs.declared.said.Said.{Said}
+use Rattle.lab_plain.specs.declared.said.Said.TheVariants as said
+use Rattle.lab_plain.specs.Meaning.{Done, Stand, free_made, holder_of, is_holder, register_freed, register_read, take_made, unmet_take}
+use Rattle.lab_run.specs.Accesses.{accesses_told}
+use Rattle.lab_run.specs.Stands.{held_word}
+
+-- What a port made meanwhile is the access that a lab prints, and its step comes to this.
+pub record IsRegisterCall (me : ℕ) (said : Said) (old new : Sight) (done comes : Done) : Type 0 where
+  pub events : List Event
+  pub did : Did old events new
+  pub access : accesses_told said ≡ of_rank_all me events
+  pub same : done ≡ comes
+
+-- Each call of tas_lock, by its relation and over any port, is that of a lab's core. `try_acquire` makes one take, which was a step of
+-- the shared words (`takes`, `step`): where the register's word tells whether some core has it, a lab's take has the same answer.
+-- `release` makes one free (`frees`).
+pub record RegisterCallsLaw : Type 0 where
+  pub take : (line me k : ℕ) (expect : Option Bool) (t : Stand) (old new : Sight) (held : Option ℕ)
+      → is_holder me (holder_of t.holders k) ≡ false → t.memory.register k ≡ held_word (holder_of t.holders k)
+      → Did old (take_of k (is_some held) ∷ []) new → IsStep t.memory (take_of k (is_some held))
+      → IsRegisterCall me (said.Takes me k (is_some held)) old new (take_made line me k expect t (holder_of t.holders k))
+        (record { stand = register_read me k (is_some held) t; stop = unmet_take line (is_some held) expect })
+  pub free : (line me k : ℕ) (t : Stand) (old new : Sight) → is_holder me (holder_of t.holders k) ≡ true → Did old (free_of k ∷ []) new
+      → IsRegisterCall me (said.Frees me k) old new (free_made line me k t (holder_of t.holders k))
+        (record { stand = register_freed me k t; stop = None })
