@@ -111,7 +111,7 @@ def _played(browser: Browser, url: str, name: str, text: str) -> list[str]:
     for key, step in (("ArrowLeft", count - 1), ("Home", 0), ("ArrowRight", 1), ("End", count)):
         browser.press(key)
         wrong += [] if browser.run("now") == step else [f"{key} at the slider does not lead to step {step}"]
-    for button, step in (("back", count - 1), ("first", 0), ("forward", 1), ("last", count)):
+    for button, step in (("back", count - 1), ("to-first", 0), ("forward", 1), ("to-last", count)):
         browser.run(f"find('{button}').click()")
         wrong += [] if browser.run("now") == step else [f"the button {button} does not lead to step {step}"]
     says = str(browser.run("find('says').textContent"))
