@@ -1,4 +1,5 @@
-//! Tests over a chip: of UEs and of collective calls on one with one seat, and of whole runs, in threads and on one. There is no other code.
+//! Tests over a chip: of UEs and of collective calls on one with one seat, and of whole runs, in threads and on one. There is no other code but
+//! a worker of a user's own (`rings`), whose ranks pass a number round a ring.
 #![tactic(auto)]
 
 #[cfg(test)]
@@ -20,6 +21,7 @@ mod meetings;
 #[cfg(test)]
 mod open_sends;
 #[cfg(test)]
+mod ring_runs;
 mod rings;
 #[cfg(test)]
 mod runs;
