@@ -1,0 +1,120 @@
+-- A run whose trace is written, by what its engine and its writer leave.
+use Rattle.std.proofs.Common.{◌≡◌, ℕ, ◌<◌, ◌≤◌, List, [], length, slice_index_or, unwrap_or, Result, Ok, Err, inl, inr, refl, sym, ◌∙◌, ap, subst}
+use Rattle.rcce_io.specs.Sending.{Sends, SinkView, with_text}
+use Rattle.rcce_io.specs.declared.writing.WriteFault.{WriteFault}
+use Rattle.scc_base.specs.Setups.{SetupView}
+use Rattle.scc_proto.specs.Agreement.{Agrees}
+use Rattle.scc_proto.specs.Words.{Memory, RankEvent}
+use Rattle.scc_mesh.specs.Scenes.{ChipView, IsNew, about_in, records_in}
+use Rattle.chip_run.specs.declared.ends.RunEnd.{RunEnd}
+use Rattle.chip_run.specs.declared.members.Member.{Member}
+use Rattle.chip_run.specs.Crews.{AllRest, CrewStands}
+use Rattle.chip_run.proofs.ServedLaws.{some_worker}
+use Rattle.rcce_ue.specs.Ues.{UeView}
+use Rattle.rcce_run.specs.UeRuns.{AreFresh, IsFreshCrew, ue_members, ue_of}
+use Rattle.rcce_run.proofs.FreshCrews.{crew_fresh}
+use Rattle.rcce_run.proofs.RunEnds.{ends_as, still_run}
+use Rattle.rcce_run.proofs.SentLaws.{counts_sends}
+use Rattle.rcce_run.proofs.UeEnds.{fresh_run, fresh_some, has_calls, members_run, shows_ends, waits_open}
+use Rattle.run_program.specs.Evictors.{HaveEvictors}
+use Rattle.run_program.specs.History.{Asked}
+use Rattle.run_program.specs.Runs.{IsOver}
+use Rattle.run_program.proofs.RunLemmas.{run_over}
+use Rattle.trace_run.specs.Runs.{RunsToEnd}
+use Rattle.trace_writer.specs.declared.desks.TraceFault.{TraceFault}
+use Rattle.trace_writer.specs.declared.desks.TraceFault.TheVariants as fault
+use Rattle.trace_writer.specs.Desks.{IsLegalRun, WasCutShort, WasRefused}
+use Rattle.trace_writer.specs.Lines.{trace_text}
+use Rattle.trace_writer.specs.Writing.{RunsTraced, TraceOf}
+use Rattle.outcomes.specs.Delivery.{Delivers, sinks}
+use Rattle.outcomes.specs.Outcomes.{run_outcome}
+use Rattle.outcomes.specs.declared.status.Status.{Status}
+use Rattle.outcomes.specs.declared.status.Status.TheVariants as status
+use Rattle.trace_judge.specs.declared.judge.Refusal.{Refusal}
+use Rattle.trace_script.specs.declared.endings.TraceEnd.TheVariants as end_of
+use Rattle.trace_script.specs.Tracing.{AreChipEvents, IsTracedOver, StandsTraced, TellsEnd, TracesRun, one_thread, refused_line, traced_ran}
+
+module _ (asked : Asked) (first now : ChipView) (crew later : List (Member UeView)) (ranks : asked.setup.nue ≡ asked.script.nue) (new : IsNew asked.setup first)
+    (fresh : AreFresh asked.script asked.setup asked.setup.nue crew) (evictors : HaveEvictors asked.job.evict crew) (some_ranks : 1 ≤ asked.setup.nue)
+    (memory : Memory) (agrees : Agrees (about_in now) memory (records_in now)) (stands : CrewStands ue_members first crew now later) where
+  abbrev of_chip : IsFreshCrew asked.script first crew
+  of_chip = crew_fresh asked.script asked.setup crew fresh first new
+
+  some : 0 < length later
+  some = subst (λ (n : ℕ). 0 < n) (sym stands.goes.count) (fresh_some asked.script first crew asked.setup of_chip (sym new.about) some_ranks)
+
+  pub stands_traced : StandsTraced asked now
+  stands_traced = record { setup = stands.goes.about ∙ new.about; whole = stands.is_crew.whole }
+
+  -- a run that went to its end is over
+  over_at : (end : RunEnd) → RunsToEnd ue_members (unwrap_or asked.job.serial 0) end first crew now later → IsOver (one_thread asked) now later end
+  over_at end ran =
+      let all = still_run ue_members ue_of members_run asked.script first now crew later stands.goes (fresh_run asked.script first crew of_chip) in
+      let d = some_worker later some in
+      let rests = subst (λ (n : ℕ). AllRest ue_members now later n) stands.is_crew.each ran.rests in
+      run_over (one_thread asked) first now crew later end ranks new fresh.count
+      (record { about = stands.goes.about; table = stands.goes.table; whole = stands.is_crew.whole })
+      (record { count = stands.goes.count; empty = λ k e low. (stands.is_crew.ties k e low).empty })
+      (ends_as ue_members ue_of members_run asked.script now later memory agrees stands.is_crew all some d rests end ran.answer)
+      (λ k e low. shows_ends asked.script now later memory agrees stands.is_crew all some e rests k low)
+      (λ k low. has_calls asked.script now later memory agrees stands.is_crew all some d rests k low)
+      (λ k e low. counts_sends asked.script now later stands.is_crew all some e k low)
+      (λ k call low is_open. waits_open asked.script now later memory agrees stands.is_crew all some d rests k call low is_open)
+      ran.no_draft
+      (record { first = first; crew = crew; later = later; new = new; fresh = fresh; evictors = evictors; order = ran.order })
+
+  pub traced_over : (seed : ℕ) (answer : Result RunEnd TraceFault) → seed ≡ unwrap_or asked.job.serial 0 → RunsTraced ue_members seed first crew now later answer
+      → IsTracedOver asked now later answer
+  traced_over seed (Ok end) named ran = over_at end (subst (λ (n : ℕ). RunsToEnd ue_members n end first crew now later) named ran)
+  traced_over seed (Err why) named ran = tt
+
+-- ---- what is answered
+
+module _ (asked : Asked) (chip : ChipView) (stands : StandsTraced asked chip) where
+  events_at : (out_before out_after : SinkView) (answer : Result RunEnd TraceFault) (trace : TraceOf chip out_before out_after answer) → AreChipEvents asked chip trace.run
+  events_at out_before out_after answer trace = record { stands = stands; each = trace.each }
+
+  delivered : (out_before out_after err_before err_after : SinkView) (run : List RankEvent) (s : Status) → out_after ≡ with_text (trace_text asked.setup run) out_before
+      → TellsEnd asked err_before err_after s → Delivers (run_outcome (traced_ran asked run)) (sinks out_before err_before) (sinks out_after err_after) s
+  delivered out_before out_after err_before err_after run s out (inl (status_is, err)) =
+      inl (status_is, λ i. sinks (out i) (err i))
+  delivered out_before out_after err_before err_after run s out (inr (status_is, cut)) = inr (status_is, inr (out, cut))
+
+  -- the whole trace was written
+  pub ended_run : (out_before out_after err_before err_after : SinkView) (end : RunEnd) (later : List (Member UeView)) (s : Status) → TraceOf chip out_before out_after (Ok end)
+      → IsOver (one_thread asked) chip later end → TellsEnd asked err_before err_after s
+      → TracesRun asked chip (sinks out_before err_before) (sinks out_after err_after) (end_of.Ended s)
+  ended_run out_before out_after err_before err_after end later s trace over tells =
+      let sent = subst (λ (x : SetupView). IsLegalRun x trace.run × (out_after ≡ with_text (trace_text x trace.run) out_before)) stands.setup trace.sent in
+      inl (record {
+        run = trace.run;
+        events = events_at out_before out_after (Ok end) trace;
+        legal = sent.0;
+        history = over.history;
+        delivers = delivered out_before out_after err_before err_after trace.run s sent.1 tells;
+      })
+
+  -- out did not take it whole
+  pub cut_run : (out_before out_after err : SinkView) → TraceOf chip out_before out_after (Err fault.Write)
+      → TracesRun asked chip (sinks out_before err) (sinks out_after err) (end_of.Ended status.Write)
+  cut_run out_before out_after err trace =
+      inr (refl, record {
+        run = trace.run;
+        events = events_at out_before out_after (Err fault.Write) trace;
+        cut = subst (λ (x : SetupView). WasCutShort x out_before out_after trace.run) stands.setup trace.sent;
+        none = refl;
+      })
+
+  -- the judge refused an event
+  pub broken_run : (out_before out_after err_before err_after : SinkView) (rank : ℕ) (why : Refusal) (answer : Result (Unit {0}) WriteFault)
+      → TraceOf chip out_before out_after (Err (fault.Refused rank why)) → Sends (refused_line rank) err_before err_after answer
+      → TracesRun asked chip (sinks out_before err_before) (sinks out_after err_after) end_of.Refused
+  broken_run out_before out_after err_before err_after rank why answer trace said = record {
+    run = trace.run;
+    events = events_at out_before out_after (Err (fault.Refused rank why)) trace;
+    rank = rank;
+    why = why;
+    refused = subst (λ (x : SetupView). WasRefused x rank why out_before [] out_after trace.run) stands.setup trace.sent;
+    answer = answer;
+    said = said;
+  }

@@ -1,0 +1,4 @@
+pub mod RunLaws
+pub mod DeskLaws
+pub mod RangeLaws
+pub mod WritingLaws

@@ -1,0 +1,76 @@
+//! A run whose trace is written while it goes.
+
+ghost use Rattle.std.specs.Prelude.{◌≡◌, ◌<◌, ℕ, [], length};
+ghost use Rattle.chip_run.specs.Crews.{CrewStands, IsCrew};
+ghost use Rattle.scc_mesh.specs.Scenes.{about_in, events_in};
+ghost use Rattle.trace_writer.specs.Writing.{HasTrace, RunsTraced};
+
+use crate::desks::{Desk, Origin, TraceFault, begin, close};
+use chip_run::{RunEnd, Worker};
+use rcce_io::{Buffer, Sink};
+use scc_mesh::Chip;
+use std::marker::{Brand, PhantomData};
+use trace_judge::Judge;
+use trace_run::{SeenRun, run_seen};
+
+/// Runs the workers of a chip on one thread, in the order that a seed names, and writes the trace of the run while it goes: how
+/// the run ended, or why no more was written. A sink that fails ends the run with the round. No memory is taken.
+pub fn write_run<W: Worker, S: Sink>(
+    chip: &mut Chip,
+    crew: &mut [W],
+    seed: u64,
+    out: &mut S,
+    judge: Judge,
+) -> Result<RunEnd, TraceFault>
+    requires crew { IsCrew W.conduct chip.old crew.old }
+    requires some { 0 < length crew.old }
+    requires empty { (rank : ℕ) → events_in chip.old rank ≡ [] }
+    requires judge { (judge.setup ≡ about_in chip.old) × (judge.run ≡ []) }
+    // It is the same chip, whole, with the same workers, each as it is after some turns and tied to its rank's events.
+    ensures stands { CrewStands W.conduct chip.old crew.old chip.new crew.new }
+    // What was written is the trace of the chip's events: by rank they are the rank's own, in order, and all are legal.
+    ensures trace { HasTrace chip.new (S.seen out.old) (S.seen out.new) result }
+    // Where the trace is whole each worker rests, as in any run on one thread.
+    ensures ends { RunsTraced W.conduct seed chip.old crew.old chip.new crew.new result }
+{
+    write_as::<W, S, Brand>(chip, crew, seed, out, judge)
+}
+
+fn write_as<W: Worker, S: Sink, B: Origin>(
+    chip: &mut Chip,
+    crew: &mut [W],
+    seed: u64,
+    out: &mut S,
+    judge: Judge,
+) -> Result<RunEnd, TraceFault>
+    requires origin { (B.before ≡ S.seen out.old) × (B.name ≡ out.ghost_name) }
+    requires crew { IsCrew W.conduct chip.old crew.old }
+    requires some { 0 < length crew.old }
+    requires empty { (rank : ℕ) → events_in chip.old rank ≡ [] }
+    requires judge { (judge.setup ≡ about_in chip.old) × (judge.run ≡ []) }
+    ensures stands { CrewStands W.conduct chip.old crew.old chip.new crew.new }
+    ensures trace { HasTrace chip.new (S.seen out.old) (S.seen out.new) result }
+    ensures ends { RunsTraced W.conduct seed chip.old crew.old chip.new crew.new result }
+{
+    let mut buffer = Buffer::new();
+    let fault = begin(out, &mut buffer, &judge);
+    let desk: Desk<'_, S, B> = Desk {
+        sink: out,
+        buffer,
+        judge,
+        fault,
+        origin: PhantomData,
+    };
+    let SeenRun { witness, end } = run_seen(chip, crew, seed, desk);
+    let Desk {
+        sink,
+        buffer,
+        fault,
+        ..
+    } = witness;
+    close(sink, buffer, fault)?;
+    match end {
+        Some(end) => Ok(end),
+        None => unreachable!(),
+    }
+}
