@@ -41,7 +41,7 @@ _rcce() {
     rccemesh:) options='-nue -at' ;;
     rcceaudit:) options='-log -nue' ;;
     rccelab:) options= ;;
-    rccetrace:) options='-calls' ;;
+    rccetrace:) options='-calls -nue -f -evict -serial -bits -gen' ;;
     rccecoll:)
       [ "$COMP_CWORD" -ne 2 ] || _rcce_words 'gather scatter allgather alltoall' "$word"
       return

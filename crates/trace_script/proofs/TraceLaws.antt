@@ -26,13 +26,14 @@ use Rattle.trace_writer.specs.declared.desks.TraceFault.TheVariants as fault
 use Rattle.trace_writer.specs.Desks.{IsLegalRun, WasCutShort, WasRefused}
 use Rattle.trace_writer.specs.Lines.{trace_text}
 use Rattle.trace_writer.specs.Writing.{RunsTraced, TraceOf}
-use Rattle.outcomes.specs.Delivery.{Delivers, sinks}
+use Rattle.outcomes.specs.Delivery.{Delivers, Sinks, sinks}
 use Rattle.outcomes.specs.Outcomes.{run_outcome}
 use Rattle.outcomes.specs.declared.status.Status.{Status}
 use Rattle.outcomes.specs.declared.status.Status.TheVariants as status
 use Rattle.trace_judge.specs.declared.judge.Refusal.{Refusal}
+use Rattle.trace_script.specs.declared.endings.TraceEnd.{TraceEnd}
 use Rattle.trace_script.specs.declared.endings.TraceEnd.TheVariants as end_of
-use Rattle.trace_script.specs.Tracing.{AreChipEvents, IsTracedOver, StandsTraced, TellsEnd, TracesRun, one_thread, refused_line, traced_ran}
+use Rattle.trace_script.specs.Tracing.{AreChipEvents, IsTracedOver, StandsTraced, TellsEnd, TracesLoaded, TracesRun, one_thread, refused_line, traced_ran}
 
 module _ (asked : Asked) (first now : ChipView) (crew later : List (Member UeView)) (ranks : asked.setup.nue ≡ asked.script.nue) (new : IsNew asked.setup first)
     (fresh : AreFresh asked.script asked.setup asked.setup.nue crew) (evictors : HaveEvictors asked.job.evict crew) (some_ranks : 1 ≤ asked.setup.nue)
@@ -118,3 +119,8 @@ module _ (asked : Asked) (chip : ChipView) (stands : StandsTraced asked chip) wh
     answer = answer;
     said = said;
   }
+
+-- a loaded run that was traced
+pub traced_loaded : (asked : Asked) (chip : ChipView) (before after : Sinks) (answer : TraceEnd) → TracesRun asked chip before after answer → TracesLoaded asked chip before after answer
+traced_loaded asked chip before after (end_of.Ended s) traced = inr traced
+traced_loaded asked chip before after end_of.Refused traced = traced

@@ -169,3 +169,9 @@ pub closed_by : (before mid after : SinkView) (chip : JudgeView) (waited : List 
 closed_by before mid after chip waited run (Ok _) writing sent = closed before mid after chip waited run writing sent
 closed_by before mid after chip waited run (Err fault.Write) writing cut = closed_short before mid after chip waited run writing cut
 closed_by before mid after chip waited run (Err (fault.Refused rank why)) writing none = absurd none
+
+-- a front whose text was cut short by the sink
+pub refused_by : (s : SetupView) (rank : ℕ) (why : Refusal) (before mid after : SinkView) (waited : List ℕ) (run : List RankEvent) (answer : TraceFault)
+    → WasRefused s rank why before waited mid run → SendsWaiting waited mid after (Err answer) → TraceSent s before after run (Err answer)
+refused_by s rank why before mid after waited run fault.Write was cut = refused_short s rank why before mid after waited run was cut
+refused_by s rank why before mid after waited run (fault.Refused other reason) was none = absurd none

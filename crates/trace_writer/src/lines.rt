@@ -68,6 +68,7 @@ fn write_host<S: Sink>(sink: &mut S, setup: &Setup, number: u8) -> Result<(), Wr
     requires { number < setup.now.nue }
     ensures { Sends (host_words setup.now number) (S.seen sink.old) (S.seen sink.new) result }
 {
+    let _ = setup.nue();
     let core = setup.core_of(Rank::of(number));
     let comma = comma_before(number);
     write_texts(sink, &[Text(comma), Number(u32::from(core.number()))])

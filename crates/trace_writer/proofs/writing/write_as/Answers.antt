@@ -8,8 +8,10 @@ pub begin-fault-requires : goal.begin-fault-requires
 begin-fault-requires g c = record { new = c.requires.judge.1; none = c.new-buffer.ensures }
 
 pub run_seen-witness-requires-clause-seen : goal.run_seen-witness-requires-clause-seen
-run_seen-witness-requires-clause-seen g c =
-    told_none _ _ c.args.chip.now c.requires.judge.0 c.requires.empty (
-      sym c.requires.origin.1,
-      subst (λ (v : SinkView). HasWritten v c.args.judge c.begin-fault.new.buffer (g.S.Sink.seen c.begin-fault.new.sink) c.begin-fault.result []) (sym c.requires.origin.0) c.begin-fault.ensures.begun,
-    )
+run_seen-witness-requires-clause-seen g c = ?
+
+pub returns-in_err-close-clause-trace : goal.returns-in_err-close-clause-trace
+returns-in_err-close-clause-trace g c = ?
+
+pub returns-clause-trace : goal.returns-clause-trace
+returns-clause-trace g c = ?

@@ -1,4 +1,5 @@
 use Rattle.std.proofs.Common.{List, [], ◌∷◌, ◌++◌, Option, sym, subst}
+use Rattle.scc_proto.specs.Words.{RankEvent}
 use Rattle.trace_writer.specs.declared.desks.TraceFault.{TraceFault}
 use Rattle.trace_writer.specs.Desks.{HasWritten}
 use Rattle.trace_writer.proofs.DeskLaws.{fault_stays}
@@ -8,14 +9,14 @@ pub returns-in-None-clause-noted : goal.returns-in-None-clause-noted
 returns-in-None-clause-noted g c = λ run has.
     let d = c.args.self.now in (
       has.0,
-      c.tell.ensures.told g.B.Origin.before run
+      c.tell-self.ensures.told g.B.Origin.before run
           (subst (λ (f : Option TraceFault). HasWritten g.B.Origin.before d.judge d.buffer (g.S.Sink.seen d.sink.now) f run) c.in-None.is has.1),
     )
 
 pub returns-in-Some-clause-noted : goal.returns-in-Some-clause-noted
 returns-in-Some-clause-noted g c = λ run has.
     let d = c.args.self.now in
-    let e = record { rank = c.args.rank; event = c.args.event } in (
+    let e : RankEvent = record { rank = c.args.rank; event = c.args.event } in (
       has.0,
       subst (λ (f : Option TraceFault). HasWritten g.B.Origin.before d.judge d.buffer (g.S.Sink.seen d.sink.now) f (run ++ e ∷ [])) (sym c.in-Some.is)
           (fault_stays g.B.Origin.before d.judge d.buffer (g.S.Sink.seen d.sink.now) _ run e
