@@ -2,3 +2,4 @@ pub mod RunLaws
 pub mod DeskLaws
 pub mod RangeLaws
 pub mod WritingLaws
+pub mod LineLaws

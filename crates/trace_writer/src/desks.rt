@@ -120,10 +120,10 @@ fn send_front<S: Sink>(sink: &mut S, buffer: Buffer, fault: TraceFault) -> Resul
 {
     match fault {
         TraceFault::Write => Err(TraceFault::Write),
-        TraceFault::Refused { rank, why } => {
-            send(sink, buffer)?;
-            Err(TraceFault::Refused { rank, why })
-        }
+        TraceFault::Refused { rank, why } => match send(sink, buffer) {
+            Ok(()) => Err(TraceFault::Refused { rank, why }),
+            Err(fault) => Err(fault),
+        },
     }
 }
 
@@ -156,13 +156,7 @@ impl<'o, S: Sink, B: Origin> Witness for Desk<'o, S, B> {
     fn note(&mut self, rank: Rank, event: Event) {
         match self.fault {
             None => {
-                self.fault = tell(
-                    self.sink,
-                    &mut self.buffer,
-                    &mut self.judge,
-                    rank,
-                    &event,
-                );
+                self.fault = tell(self.sink, &mut self.buffer, &mut self.judge, rank, &event);
             }
             Some(_) => {}
         }

@@ -201,17 +201,11 @@ fn write_use<S: Sink>(sink: &mut S, of: Use) -> Result<(), WriteFault>
         ),
         Use::SentBits { owner } => write_texts(
             sink,
-            &[
-                Text("sent flags of "),
-                Number(u32::from(owner.number())),
-            ],
+            &[Text("sent flags of "), Number(u32::from(owner.number()))],
         ),
         Use::ReadyBits { owner } => write_texts(
             sink,
-            &[
-                Text("ready flags of "),
-                Number(u32::from(owner.number())),
-            ],
+            &[Text("ready flags of "), Number(u32::from(owner.number()))],
         ),
         Use::Gather { comm, owner } => write_numbered(
             sink,

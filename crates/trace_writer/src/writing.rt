@@ -1,8 +1,11 @@
 //! A run whose trace is written while it goes.
 
-ghost use Rattle.std.specs.Prelude.{◌≡◌, ◌<◌, ℕ, [], length};
+ghost use Rattle.std.specs.Prelude.{◌≡◌, ◌<◌, ℕ, [], is_none, length};
 ghost use Rattle.chip_run.specs.Crews.{CrewStands, IsCrew};
 ghost use Rattle.scc_mesh.specs.Scenes.{about_in, events_in};
+ghost use Rattle.trace_run.specs.Runs.{RunsBy};
+ghost use Rattle.trace_run.specs.Seen.{HasSeenAll};
+ghost use Rattle.trace_writer.specs.Desks.{HasWritten};
 ghost use Rattle.trace_writer.specs.Writing.{HasTrace, RunsTraced};
 
 use crate::desks::{Desk, Origin, TraceFault, begin, close};
@@ -33,44 +36,52 @@ pub fn write_run<W: Worker, S: Sink>(
     // Where the trace is whole each worker rests, as in any run on one thread.
     ensures ends { RunsTraced W.conduct seed chip.old crew.old chip.new crew.new result }
 {
-    write_as::<W, S, Brand>(chip, crew, seed, out, judge)
+    let SeenRun { witness, end } = write_as::<W, S, Brand>(chip, crew, seed, out, judge);
+    let Desk {
+        sink,
+        buffer,
+        judge,
+        fault,
+        origin: _,
+    } = witness;
+    // What the desk owns goes first: the sink is its borrower's again once nothing else of the desk is left.
+    drop(judge);
+    match close(sink, buffer, fault) {
+        Ok(()) => match end {
+            Some(end) => Ok(end),
+            None => unreachable!(),
+        },
+        Err(fault) => Err(fault),
+    }
 }
 
-fn write_as<W: Worker, S: Sink, B: Origin>(
+/// Runs the workers with a desk as their witness, and gives the desk back, on which the last lines may wait.
+fn write_as<'o, W: Worker, S: Sink, B: Origin>(
     chip: &mut Chip,
     crew: &mut [W],
     seed: u64,
-    out: &mut S,
+    out: &'o mut S,
     judge: Judge,
-) -> Result<RunEnd, TraceFault>
+) -> SeenRun<Desk<'o, S, B>>
     requires origin { (B.before ≡ S.seen out.old) × (B.name ≡ out.ghost_name) }
     requires crew { IsCrew W.conduct chip.old crew.old }
     requires some { 0 < length crew.old }
     requires empty { (rank : ℕ) → events_in chip.old rank ≡ [] }
     requires judge { (judge.setup ≡ about_in chip.old) × (judge.run ≡ []) }
     ensures stands { CrewStands W.conduct chip.old crew.old chip.new crew.new }
-    ensures trace { HasTrace chip.new (S.seen out.old) (S.seen out.new) result }
-    ensures ends { RunsTraced W.conduct seed chip.old crew.old chip.new crew.new result }
+    ensures same { result.witness.sink.ghost_name ≡ B.name }
+    ensures seen { HasSeenAll result.witness.judge.setup (λ run. (result.witness.sink.ghost_name ≡ B.name)
+        × HasWritten B.before result.witness.judge result.witness.buffer (S.seen result.witness.sink.now) result.witness.fault run) chip.new }
+    ensures ends { RunsBy W.conduct (is_none result.witness.fault) seed result.end chip.old crew.old chip.new crew.new }
 {
     let mut buffer = Buffer::new();
     let fault = begin(out, &mut buffer, &judge);
-    let desk: Desk<'_, S, B> = Desk {
+    let desk: Desk<'o, S, B> = Desk {
         sink: out,
         buffer,
         judge,
         fault,
         origin: PhantomData,
     };
-    let SeenRun { witness, end } = run_seen(chip, crew, seed, desk);
-    let Desk {
-        sink,
-        buffer,
-        fault,
-        ..
-    } = witness;
-    close(sink, buffer, fault)?;
-    match end {
-        Some(end) => Ok(end),
-        None => unreachable!(),
-    }
+    run_seen(chip, crew, seed, desk)
 }

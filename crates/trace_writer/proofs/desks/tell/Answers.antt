@@ -1,6 +1,8 @@
-use Rattle.std.proofs.Common.{refl, sym}
+use Rattle.std.proofs.Common.{[], ◌∷◌, ◌++◌, refl, subst, sym}
+use Rattle.scc_base.specs.Setups.{SetupView}
 use Rattle.scc_proto.specs.Words.{RankEvent}
 use Rattle.trace_judge.specs.Judged.{chip_of}
+use Rattle.trace_writer.specs.Desks.{WasRefused}
 use Rattle.trace_writer.proofs.DeskLaws.{refused, wrote_by}
 use Rattle.trace_writer.proofs.desks.tell.Goals as goal
 
@@ -14,5 +16,6 @@ returns-in-Ok-clause-told g c = λ before run writing.
 pub returns-in-Err-clause-told : goal.returns-in-Err-clause-told
 returns-in-Err-clause-told g c = λ before run writing.
     let e : RankEvent = record { rank = c.args.rank; event = c.args.event.now } in
-    refused before (g.S.Sink.seen c.args.sink.now) (g.S.Sink.seen c.args.sink.now) c.args.judge.now c.args.judge.now c.args.buffer.now c.args.buffer.now run e writing
-    c.args.rank c.in-Err.why refl (sym c.in-Err.ensures.refused)
+    subst (λ (s : SetupView). WasRefused s c.args.rank c.in-Err.why before c.args.buffer.now (g.S.Sink.seen c.args.sink.now) (run ++ e ∷ [])) (sym c.in-Err.ensures.setup)
+    (refused before (g.S.Sink.seen c.args.sink.now) (g.S.Sink.seen c.args.sink.now) c.args.judge.now c.args.judge.now c.args.buffer.now c.args.buffer.now run e writing
+    c.args.rank c.in-Err.why refl (sym c.in-Err.ensures.refused))

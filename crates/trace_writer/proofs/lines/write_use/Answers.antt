@@ -1,10 +1,26 @@
+use Rattle.std.proofs.Common.{ap, subst, sym, ◌∙◌}
+use Rattle.rcce_io.specs.Sending.{Sends, joined}
+use Rattle.record_machine.specs.Uses.{role_meant}
+use Rattle.record_machine.specs.declared.uses.Use.{Use}
+use Rattle.trace_writer.specs.Lines.{role_words}
 use Rattle.trace_writer.proofs.lines.write_use.Goals as goal
 
 pub returns-in-Chunk : goal.returns-in-Chunk
-returns-in-Chunk g c = ?
+returns-in-Chunk g c =
+    let told = rw c.number-in-Chunk.ensures.gives at c.write_numbered.ensures in
+    subst (λ (u : Use). Sends (joined (role_words (role_meant u))) (g.S.Sink.seen c.args.sink.now) (g.S.Sink.seen c.write_numbered.new.sink) c.write_numbered.result)
+    (sym c.in-Chunk.is) told
 
 pub returns-in-ReadyBits : goal.returns-in-ReadyBits
-returns-in-ReadyBits g c = ?
+returns-in-ReadyBits g c =
+    let owner = c.from-in-ReadyBits.ensures ∙ c.number-in-ReadyBits.ensures.gives in
+    let told = rw owner at c.write_texts-in-ReadyBits.ensures in
+    subst (λ (u : Use). Sends (joined (role_words (role_meant u))) (g.S.Sink.seen c.args.sink.now) (g.S.Sink.seen c.write_texts-in-ReadyBits.new.sink) c.write_texts-in-ReadyBits.result)
+    (sym c.in-ReadyBits.is) told
 
 pub returns-in-Release : goal.returns-in-Release
-returns-in-Release g c = ?
+returns-in-Release g c =
+    let owner = c.from-in-Release.ensures ∙ c.number-in-Release.ensures.gives in
+    let told = rw owner at c.write_numbered-in-Release.ensures in
+    subst (λ (u : Use). Sends (joined (role_words (role_meant u))) (g.S.Sink.seen c.args.sink.now) (g.S.Sink.seen c.write_numbered-in-Release.new.sink) c.write_numbered-in-Release.result)
+    (sym c.in-Release.is) told
