@@ -1,6 +1,6 @@
 -- A run whose trace is written, by what its engine and its writer leave.
-use Rattle.std.proofs.Common.{◌≡◌, ℕ, ◌<◌, ◌≤◌, List, [], length, slice_index_or, unwrap_or, Result, Ok, Err, inl, inr, refl, sym, ◌∙◌, ap, subst}
-use Rattle.rcce_io.specs.Sending.{Sends, SinkView, with_text}
+use Rattle.std.proofs.Common.{◌≡◌, ℕ, ◌<◌, ◌≤◌, Bool, if◌then◌else◌, List, [], length, slice_index_or, unwrap_or, Result, Ok, Err, inl, inr, refl, sym, ◌∙◌, ap, subst}
+use Rattle.rcce_io.specs.Sending.{CutShort, Sends, SinkView, with_text}
 use Rattle.rcce_io.specs.declared.writing.WriteFault.{WriteFault}
 use Rattle.scc_base.specs.Setups.{SetupView}
 use Rattle.scc_proto.specs.Agreement.{Agrees}
@@ -18,6 +18,8 @@ use Rattle.rcce_run.proofs.SentLaws.{counts_sends}
 use Rattle.rcce_run.proofs.UeEnds.{fresh_run, fresh_some, has_calls, members_run, shows_ends, waits_open}
 use Rattle.run_program.specs.Evictors.{HaveEvictors}
 use Rattle.run_program.specs.History.{Asked}
+use Rattle.run_program.specs.Loading.{shown_by}
+use Rattle.run_program.specs.Reports.{Shown, shown_ran}
 use Rattle.run_program.specs.Runs.{IsOver}
 use Rattle.run_program.proofs.RunLemmas.{run_over}
 use Rattle.trace_run.specs.Runs.{RunsToEnd}
@@ -33,7 +35,7 @@ use Rattle.outcomes.specs.declared.status.Status.TheVariants as status
 use Rattle.trace_judge.specs.declared.judge.Refusal.{Refusal}
 use Rattle.trace_script.specs.declared.endings.TraceEnd.{TraceEnd}
 use Rattle.trace_script.specs.declared.endings.TraceEnd.TheVariants as end_of
-use Rattle.trace_script.specs.Tracing.{AreChipEvents, IsTracedOver, StandsTraced, TellsEnd, TracesLoaded, TracesRun, one_thread, refused_line, traced_ran}
+use Rattle.trace_script.specs.Tracing.{AreChipEvents, IsTracedOver, StandsTraced, TellsEnd, TellsFault, TracesLoaded, TracesRun, one_thread, refused_line, traced_ran}
 
 module _ (asked : Asked) (first now : ChipView) (crew later : List (Member UeView)) (ranks : asked.setup.nue ≡ asked.script.nue) (new : IsNew asked.setup first)
     (fresh : AreFresh asked.script asked.setup asked.setup.nue crew) (evictors : HaveEvictors asked.job.evict crew) (some_ranks : 1 ≤ asked.setup.nue)
@@ -96,18 +98,18 @@ module _ (asked : Asked) (chip : ChipView) (stands : StandsTraced asked chip) wh
       })
 
   -- out did not take it whole
-  pub cut_run : (out_before out_after err : SinkView) → TraceOf chip out_before out_after (Err fault.Write)
-      → TracesRun asked chip (sinks out_before err) (sinks out_after err) (end_of.Ended status.Write)
-  cut_run out_before out_after err trace =
-      inr (refl, record {
+  cut_run : (out_before out_after err_before err_after : SinkView) (s : Status) → TraceOf chip out_before out_after (Err fault.Write) → s ≡ status.Write → err_after ≡ err_before
+      → TracesRun asked chip (sinks out_before err_before) (sinks out_after err_after) (end_of.Ended s)
+  cut_run out_before out_after err_before err_after s trace is none =
+      inr (is, record {
         run = trace.run;
         events = events_at out_before out_after (Err fault.Write) trace;
         cut = subst (λ (x : SetupView). WasCutShort x out_before out_after trace.run) stands.setup trace.sent;
-        none = refl;
+        none = none;
       })
 
   -- the judge refused an event
-  pub broken_run : (out_before out_after err_before err_after : SinkView) (rank : ℕ) (why : Refusal) (answer : Result (Unit {0}) WriteFault)
+  broken_run : (out_before out_after err_before err_after : SinkView) (rank : ℕ) (why : Refusal) (answer : Result (Unit {0}) WriteFault)
       → TraceOf chip out_before out_after (Err (fault.Refused rank why)) → Sends (refused_line rank) err_before err_after answer
       → TracesRun asked chip (sinks out_before err_before) (sinks out_after err_after) end_of.Refused
   broken_run out_before out_after err_before err_after rank why answer trace said = record {
@@ -120,7 +122,33 @@ module _ (asked : Asked) (chip : ChipView) (stands : StandsTraced asked chip) wh
     said = said;
   }
 
+  -- however it was not written whole
+  pub fault_run : (out_before out_after err_before err_after : SinkView) (why : TraceFault) (answer : TraceEnd) → TraceOf chip out_before out_after (Err why)
+      → TellsFault why err_before err_after answer → TracesRun asked chip (sinks out_before err_before) (sinks out_after err_after) answer
+  fault_run out_before out_after err_before err_after fault.Write (end_of.Ended s) trace told = cut_run out_before out_after err_before err_after s trace told.0 told.1
+  fault_run out_before out_after err_before err_after fault.Write end_of.Refused trace told = absurd told
+  fault_run out_before out_after err_before err_after (fault.Refused rank why) (end_of.Ended s) trace told = absurd told
+  fault_run out_before out_after err_before err_after (fault.Refused rank why) end_of.Refused trace told =
+      broken_run out_before out_after err_before err_after rank why told.0 trace told.1
+
 -- a loaded run that was traced
 pub traced_loaded : (asked : Asked) (chip : ChipView) (before after : Sinks) (answer : TraceEnd) → TracesRun asked chip before after answer → TracesLoaded asked chip before after answer
 traced_loaded asked chip before after (end_of.Ended s) traced = inr traced
 traced_loaded asked chip before after end_of.Refused traced = traced
+
+-- ---- what err takes behind a trace
+
+abbrev status_by : Bool → Status
+status_by finished = if finished then status.Finished else status.Stuck
+
+-- err took its text whole
+pub told_end : (asked : Asked) (before after : SinkView) (shown : Shown) (finished : Bool) (s : Status) → shown ≡ shown_by asked → after ≡ with_text (shown_ran shown).err before
+    → finished ≡ (shown_ran shown).finished → s ≡ status_by finished → TellsEnd asked before after s
+told_end asked before after shown finished s is text tests named = inl (
+  named ∙ ap status_by (tests ∙ ap (λ (x : Shown). (shown_ran x).finished) is),
+  text ∙ ap (λ (x : Shown). with_text (shown_ran x).err before) is,
+)
+
+-- or not
+pub told_short : (asked : Asked) (before after : SinkView) (shown : Shown) → shown ≡ shown_by asked → CutShort (shown_ran shown).err before after → TellsEnd asked before after status.Write
+told_short asked before after shown is cut = inr (refl, subst (λ (x : Shown). CutShort (shown_ran x).err before after) is cut)

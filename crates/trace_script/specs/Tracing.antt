@@ -1,5 +1,5 @@
 -- What a call leaves that runs a script and writes its trace (this project's profile).
-use Rattle.std.specs.Prelude.{◌≡◌, ◌⊎◌, ℕ, List, [], ◌∷◌, codes, decimal, Some, unwrap_or, Result, Ok, Err}
+use Rattle.std.specs.Prelude.{◌≡◌, ◌⊎◌, ℕ, List, [], ◌∷◌, codes, decimal, None, Some, unwrap_or, Result, Ok, Err}
 use Rattle.rcce_io.specs.Files.{FilesView}
 use Rattle.rcce_io.specs.Sending.{CutShort, Sends, SinkView, joined, with_text}
 use Rattle.rcce_io.specs.declared.writing.WriteFault.{WriteFault}
@@ -25,6 +25,7 @@ use Rattle.trace_judge.specs.declared.judge.Refusal.{Refusal}
 use Rattle.trace_writer.specs.Desks.{IsLegalRun, WasCutShort, WasRefused}
 use Rattle.trace_writer.specs.Lines.{trace_text}
 use Rattle.trace_writer.specs.declared.desks.TraceFault.{TraceFault}
+use Rattle.trace_writer.specs.declared.desks.TraceFault.TheVariants as fault
 use Rattle.trace_script.specs.declared.endings.TraceEnd.{TraceEnd}
 use Rattle.trace_script.specs.declared.endings.TraceEnd.TheVariants as end
 
@@ -116,3 +117,10 @@ TellsEnd asked before after s =
 abbrev pub IsTracedOver : Asked → ChipView → List (Member UeView) → Result RunEnd TraceFault → Type 0
 IsTracedOver asked chip crew (Ok end) = IsOver (one_thread asked) chip crew end
 IsTracedOver asked chip crew (Err why) = Unit {0}
+
+-- what is told where the trace is not whole: nothing behind a failed write; or the line of the event that the judge refused
+abbrev pub TellsFault : TraceFault → SinkView → SinkView → TraceEnd → Type 0
+TellsFault fault.Write before after (end.Ended s) = (s ≡ status.Write) × (after ≡ before)
+TellsFault fault.Write before after end.Refused = ⊥
+TellsFault (fault.Refused rank why) before after (end.Ended s) = ⊥
+TellsFault (fault.Refused rank why) before after end.Refused = (answer : Result (Unit {0}) WriteFault) × Sends (refused_line rank) before after answer

@@ -11,7 +11,7 @@ ghost use Rattle.run_program.specs.Evictors.{HaveEvictors};
 ghost use Rattle.run_program.specs.Loading.{asked_by};
 ghost use Rattle.run_program.specs.Runs.{HaveEnded, HaveSent, IsMadeOf};
 ghost use Rattle.trace_writer.specs.Writing.{HasTrace};
-ghost use Rattle.trace_script.specs.Tracing.{IsTracedOver, StandsTraced, TellsEnd, TracesLoaded, TracesRun, TracesWords, refused_line};
+ghost use Rattle.trace_script.specs.Tracing.{IsTracedOver, StandsTraced, TellsEnd, TellsFault, TracesLoaded, TracesRun, TracesWords, refused_line};
 
 use crate::endings::TraceEnd;
 use chip_run::RunEnd;
@@ -57,7 +57,7 @@ pub fn trace_script<F: Files, O: Sink, E: Sink>(
 
 /// Says why nothing was run.
 fn complain<'a, O: Sink, E: Sink>(why: Complaint<'a>, out: &mut O, err: &mut E) -> Status
-    ensures { Delivers (complaint_outcome (codes "rccetrace") why) (sinks (O.seen out.old) (E.seen err.old))
+    ensures { Delivers (complaint_outcome (codes "rccetrace") why.entry) (sinks (O.seen out.old) (E.seen err.old))
         (sinks (O.seen out.new) (E.seen err.new)) result }
 {
     deliver::<Run<'_>, O, E>("rccetrace", &Err(why), out, err)
@@ -110,11 +110,7 @@ fn trace_crew<'s, O: Sink, E: Sink>(
     let mut crew = crew;
     match run_traced(loaded, crew.as_mut_slice(), judge, out, chip) {
         Ok(end) => TraceEnd::Ended(tell_end(loaded, crew, end, err)),
-        Err(TraceFault::Write) => TraceEnd::Ended(Status::Write),
-        Err(TraceFault::Refused { rank, why: _ }) => {
-            let _ = write_refused(err, rank);
-            TraceEnd::Refused
-        }
+        Err(fault) => tell_fault(fault, err),
     }
 }
 
@@ -174,6 +170,19 @@ fn tell_end<'s, E: Sink>(
             }
         }
         Err(WriteFault) => Status::Write,
+    }
+}
+
+/// Tells why the trace is not whole: nothing behind a failed write.
+fn tell_fault<E: Sink>(fault: TraceFault, err: &mut E) -> TraceEnd
+    ensures tells { TellsFault fault (E.seen err.old) (E.seen err.new) result }
+{
+    match fault {
+        TraceFault::Write => TraceEnd::Ended(Status::Write),
+        TraceFault::Refused { rank, why: _ } => {
+            let _ = write_refused(err, rank);
+            TraceEnd::Refused
+        }
     }
 }
 

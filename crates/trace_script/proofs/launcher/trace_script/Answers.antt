@@ -8,7 +8,7 @@ use Rattle.trace_script.proofs.WordLaws.{traces_loaded, traces_refused}
 use Rattle.trace_script.proofs.launcher.trace_script.Goals as goal
 
 pub trace_loaded-requires-clause-made : goal.trace_loaded-requires-clause-made
-trace_loaded-requires-clause-made g c = λ lifetimes outlive.
+trace_loaded-requires-clause-made g c =
     let words = map string_bytes c.args.words.now in
     made_words words (parse_command words) _ _ c.in-Ok.loaded c.in-Ok.ensures
 

@@ -1,0 +1,11 @@
+use Rattle.std.proofs.Common.{◌≡◌, None, inl, rules}
+use Rattle.std.proofs.Math.Logic.{∥∥₁_map}
+use Rattle.run_program.specs.Loading.{asked_by}
+use Rattle.trace_script.proofs.TraceLaws.{traced_loaded}
+use Rattle.trace_script.proofs.launcher.trace_loaded.Goals as goal
+
+pub returns-then-is_err-clause-traces : goal.returns-then-is_err-clause-traces
+returns-then-is_err-clause-traces g c = let blank : c.open.new.self ≡ None = search rules in ∣ inl (c.complain-then-is_err.ensures, blank) ∣₁
+
+pub returns-clause-traces : goal.returns-clause-traces
+returns-clause-traces g c = ∥∥₁_map c.trace_crew.ensures.traces (traced_loaded (asked_by c.args.loaded.now) _ _ _ c.trace_crew.result)
