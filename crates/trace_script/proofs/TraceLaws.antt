@@ -101,12 +101,15 @@ module _ (asked : Asked) (chip : ChipView) (stands : StandsTraced asked chip) wh
   cut_run : (out_before out_after err_before err_after : SinkView) (s : Status) → TraceOf chip out_before out_after (Err fault.Write) → s ≡ status.Write → err_after ≡ err_before
       → TracesRun asked chip (sinks out_before err_before) (sinks out_after err_after) (end_of.Ended s)
   cut_run out_before out_after err_before err_after s trace is none =
-      inr (is, record {
-        run = trace.run;
-        events = events_at out_before out_after (Err fault.Write) trace;
-        cut = subst (λ (x : SetupView). WasCutShort x out_before out_after trace.run) stands.setup trace.sent;
-        none = none;
-      })
+      inr (
+        is,
+        record {
+          run = trace.run;
+          events = events_at out_before out_after (Err fault.Write) trace;
+          cut = subst (λ (x : SetupView). WasCutShort x out_before out_after trace.run) stands.setup trace.sent;
+          none = none;
+        },
+      )
 
   -- the judge refused an event
   broken_run : (out_before out_after err_before err_after : SinkView) (rank : ℕ) (why : Refusal) (answer : Result (Unit {0}) WriteFault)

@@ -7,12 +7,12 @@ use Rattle.trace_script.proofs.TraceLaws.{stands_traced, traced_over}
 use Rattle.trace_script.proofs.launcher.run_traced.Goals as goal
 
 pub write_run-end-requires-clause-crew : goal.write_run-end-requires-clause-crew
-write_run-end-requires-clause-crew g c = 
+write_run-end-requires-clause-crew g c =
     let loaded = c.args.loaded.now in
     fresh_crew loaded.script c.args.chip.now c.args.crew.now (crew_fresh loaded.script loaded.setup c.args.crew.now c.requires.fresh c.args.chip.now c.requires.chip)
 
 pub write_run-end-requires-clause-some : goal.write_run-end-requires-clause-some
-write_run-end-requires-clause-some g c = 
+write_run-end-requires-clause-some g c =
     let loaded = c.args.loaded.now in
     fresh_some loaded.script c.args.chip.now c.args.crew.now c.setup.result.now (crew_fresh loaded.script loaded.setup c.args.crew.now c.requires.fresh c.args.chip.now c.requires.chip)
     c.setup.ensures.gives c.nue.ensures.valid.some_ranks
