@@ -1,5 +1,5 @@
 -- A run whose trace is written, by what its engine and its writer leave.
-use Rattle.std.proofs.Common.{◌≡◌, ℕ, ◌<◌, ◌≤◌, Bool, if◌then◌else◌, List, [], length, slice_index_or, unwrap_or, Result, Ok, Err, inl, inr, refl, sym, ◌∙◌, ap, subst}
+use Rattle.std.proofs.Common.{◌≡◌, ℕ, ◌<◌, ◌≤◌, Bool, if◌then◌else◌, List, [], length, unwrap_or, Result, Ok, Err, inl, inr, refl, sym, ◌∙◌, ap, subst}
 use Rattle.rcce_io.specs.Sending.{CutShort, Sends, SinkView, with_text}
 use Rattle.rcce_io.specs.declared.writing.WriteFault.{WriteFault}
 use Rattle.scc_base.specs.Setups.{SetupView}

@@ -1,7 +1,6 @@
 -- What a desk has written, with one event more, and at the end.
 use Rattle.std.proofs.Common.{◌≡◌, ℕ, ◌<◌, List, [], ◌∷◌, ◌++◌, append-nil, append_assoc, Option, Some, None, Result, Ok, Err, refl, sym, ◌∙◌, ap, subst}
-use Rattle.rcce_io.specs.Sending.{CutShort, Sends, SinkView, Waits, with_text}
-use Rattle.rcce_io.specs.declared.writing.WriteFault.{WriteFault}
+use Rattle.rcce_io.specs.Sending.{CutShort, SinkView, Waits, with_text}
 use Rattle.rcce_io.proofs.SendingLemmas.{cut_after, cut_waiting, text_after, waits_after}
 use Rattle.scc_base.specs.Events.{IsEvent}
 use Rattle.scc_base.specs.Setups.{SetupView}

@@ -4,7 +4,6 @@ use Rattle.std.proofs.lemmas.List.{map-append}
 use Rattle.rcce_io.specs.Sending.{joined}
 use Rattle.scc_base.specs.Events.{IsEvent}
 use Rattle.scc_base.specs.Setups.{SetupView}
-use Rattle.scc_base.specs.declared.events.Event.{Event}
 use Rattle.scc_proto.specs.Histories.{IsPermittedRun, memory_from, records_from}
 use Rattle.scc_proto.specs.Records.{IsPermitted, record_after}
 use Rattle.scc_proto.specs.Stages.{Record, blank}

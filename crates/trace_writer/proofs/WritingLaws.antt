@@ -1,18 +1,16 @@
 -- Where a run whose trace is written begins, and what it leaves.
 use base.Stored.{Coded-set, coded_ℕ}
-use Rattle.std.proofs.Common.{◌≡◌, ℕ, Bool, false, List, [], Option, Some, None, Result, Ok, Err, is_none, refl, sym, ◌∙◌, ap, subst}
-use Rattle.std.specs.Result.{IsErr}
+use Rattle.std.proofs.Common.{◌≡◌, ℕ, List, [], Result, sym, subst}
 use Rattle.std.proofs.Math.Logic.{∥∥₁_elim, ∥∥₁_map}
 use Rattle.rcce_io.specs.Sending.{SinkView}
 use Rattle.scc_base.specs.Setups.{SetupView}
-use Rattle.scc_proto.specs.Histories.{events_of}
 use Rattle.scc_proto.specs.Words.{RankEvent}
 use Rattle.scc_mesh.specs.Scenes.{ChipView, about_in, events_in}
 use Rattle.chip_run.specs.declared.ends.RunEnd.{RunEnd}
-use Rattle.trace_run.specs.Seen.{HasSeenAll, ToldAll}
+use Rattle.trace_run.specs.Seen.{HasSeenAll}
 use Rattle.trace_writer.specs.declared.desks.TraceFault.{TraceFault}
 use Rattle.trace_writer.specs.Desks.{TraceSent}
-use Rattle.trace_writer.specs.Writing.{HasTrace, TraceOf, trace_answer}
+use Rattle.trace_writer.specs.Writing.{HasTrace, trace_answer}
 
 -- a witness that was told nothing of a chip without events
 pub told_none : (s : SetupView) (told : List RankEvent → Type 0) (chip : ChipView) → s ≡ about_in chip → ((rank : ℕ) → events_in chip rank ≡ []) → told [] → HasSeenAll s told chip

@@ -1,4 +1,4 @@
-use Rattle.std.proofs.Common.{Option, Some, subst}
+use Rattle.std.proofs.Common.{Some, subst}
 use Rattle.trace_writer.specs.declared.desks.TraceFault.{TraceFault}
 use Rattle.trace_writer.specs.Desks.{HasWritten}
 use Rattle.trace_writer.proofs.DeskLaws.{closed_refused, refused_by}

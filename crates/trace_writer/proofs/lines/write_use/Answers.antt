@@ -1,4 +1,4 @@
-use Rattle.std.proofs.Common.{ap, subst, sym, ◌∙◌}
+use Rattle.std.proofs.Common.{subst, sym, ◌∙◌}
 use Rattle.rcce_io.specs.Sending.{Sends, joined}
 use Rattle.record_machine.specs.Uses.{role_meant}
 use Rattle.record_machine.specs.declared.uses.Use.{Use}

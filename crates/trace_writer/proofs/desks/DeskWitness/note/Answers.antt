@@ -1,4 +1,4 @@
-use Rattle.std.proofs.Common.{List, [], ◌∷◌, ◌++◌, Option, sym, subst}
+use Rattle.std.proofs.Common.{[], ◌∷◌, ◌++◌, Option, sym, subst}
 use Rattle.scc_proto.specs.Words.{RankEvent}
 use Rattle.trace_writer.specs.declared.desks.TraceFault.{TraceFault}
 use Rattle.trace_writer.specs.Desks.{HasWritten}

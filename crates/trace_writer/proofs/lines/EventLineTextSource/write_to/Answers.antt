@@ -1,5 +1,4 @@
-use Rattle.std.proofs.Common.{◌≡◌, ℕ, ◌∙◌}
-use Rattle.rcce_io.specs.Sending.{CutShort, with_text}
+use Rattle.std.proofs.Common.{◌∙◌}
 use Rattle.rcce_io.proofs.SendingLemmas.{sends_err}
 use Rattle.scc_proto.specs.Words.{RankEvent}
 use Rattle.trace_writer.specs.Lines.{event_line}
