@@ -26,7 +26,7 @@ pub record RegisterCallsLaw : Type 0 where
       → is_holder me (holder_of t.holders k) ≡ false → t.memory.register k ≡ held_word (holder_of t.holders k)
       → Did old (take_of k (is_some held) ∷ []) new → IsStep t.memory (take_of k (is_some held))
       → IsRegisterCall me (said.Takes me k (is_some held)) old new (take_made line me k expect t (holder_of t.holders k))
-        (record { stand = register_read me k (is_some held) t; stop = unmet_take line (is_some held) expect })
+      (record { stand = register_read me k (is_some held) t; stop = unmet_take line (is_some held) expect })
   pub free : (line me k : ℕ) (t : Stand) (old new : Sight) → is_holder me (holder_of t.holders k) ≡ true → Did old (free_of k ∷ []) new
       → IsRegisterCall me (said.Frees me k) old new (free_made line me k t (holder_of t.holders k))
-        (record { stand = register_freed me k t; stop = None })
+      (record { stand = register_freed me k t; stop = None })
