@@ -2,7 +2,7 @@
 
 ghost use Rattle.std.specs.Prelude.{◌≡◌};
 ghost use Rattle.scc_base.specs.Heads.{plain_head};
-ghost use Rattle.run_rows.specs.Rings.{IsSeated, receive_if, send_if};
+ghost use Rattle.run_rows.specs.Rings.{IsSeated, begun};
 
 use chip_run::{Member, Mode, Open, RunEnd, Worker, run};
 use chip_teams::opened;
@@ -12,9 +12,16 @@ use scc_base::{CommRule, Head, Layout, Rank, Turn};
 use scc_proto::Port;
 use send_recv::{RecvOp, RecvTurn, SendOp, Slot};
 use std::alloc::Global;
-use std::marker::Model;
 use std::test::Fail;
 use std::thread::Threads;
+
+/// The message under way at a rank of the ring.
+#[derive(Drop)]
+enum Message {
+    Sending(SendOp),
+    Receiving(RecvOp),
+    Over,
+}
 
 /// A rank of the ring. The first one sends its number on, and at last gets it back; each other one gets it, and sends it on.
 /// Whoever gets it raises it by one.
@@ -22,164 +29,14 @@ use std::thread::Threads;
 struct Passer {
     core: Core<Never>,
     slot: Slot,
+    head: Head,
     from: Rank,
     to: Rank,
     is_first: bool,
     number: [u8; 1],
-    // The message under way, if there is one.
-    sending: Option<SendOp>,
-    receiving: Option<RecvOp>,
+    message: Message,
     // Whether it has met a message with another head.
     stopped: bool,
-}
-
-impl Model for Passer {
-    ghost use Rattle.run_rows.specs.Rings.{PasserView};
-
-    ghost Value = { PasserView };
-
-    ghost view = { λ p. record {
-      core = p.core;
-      slot = p.slot;
-      from = p.from;
-      to = p.to;
-      is_first = p.is_first;
-      number = p.number;
-      sending = p.sending;
-      receiving = p.receiving;
-      stopped = p.stopped;
-    } };
-}
-
-/// The head of a message of one byte.
-fn one_byte() -> Head
-    ensures gives { result ≡ plain_head 1 }
-{
-    match Head::plain(1) {
-        Some(head) => head,
-        None => unreachable!(),
-    }
-}
-
-/// A send to a rank, or none.
-fn send_if(sends: bool, to: Rank) -> Option<SendOp>
-    ensures gives { result ≡ send_if sends to }
-{
-    if sends {
-        Some(SendOp::new(to, one_byte()))
-    } else {
-        None
-    }
-}
-
-/// A receive from a rank, or none.
-fn receive_if(receives: bool, from: Rank) -> Option<RecvOp>
-    ensures gives { result ≡ receive_if receives from }
-{
-    if receives {
-        Some(RecvOp::new(from, one_byte()))
-    } else {
-        None
-    }
-}
-
-impl Passer {
-    ghost use Rattle.std.specs.Prelude.{◌≡◌, true, ℕ, [], None, Some};
-    ghost use Rattle.scc_base.specs.Setups.{SetupView};
-    ghost use Rattle.scc_proto.specs.Words.{are_peers};
-    ghost use Rattle.chip_run.specs.Turns.{Turned};
-    ghost use Rattle.run_rows.specs.Rings.{IsPassing, passer_conduct};
-
-    /// A rank before its first turn, between these two.
-    fn new(from: Rank, to: Rank, is_first: bool, number: u8) -> Passer
-        ensures ready { (s : SetupView) (rank : ℕ) → are_peers s rank from ≡ true → are_peers s rank to ≡ true → IsPassing result s rank [] }
-    {
-        Passer {
-            core: Core::new(Never),
-            slot: Slot::new(),
-            from,
-            to,
-            is_first,
-            number: [number],
-            sending: send_if(is_first, to),
-            receiving: receive_if(!is_first, from),
-            stopped: false,
-        }
-    }
-
-    /// One turn of its send.
-    fn send_turn<P: Port>(&mut self, port: &mut P, mut op: SendOp) -> Turn
-        requires taken { self.old.sending ≡ None }
-        requires ties { IsPassing (record self.old { sending = Some op })
-            (P.sight port.old).seat.setup (P.sight port.old).seat.rank (P.sight port.old).events }
-        ensures ties { IsPassing self.new (P.sight port.new).seat.setup (P.sight port.new).seat.rank (P.sight port.new).events }
-        ensures turned { Turned passer_conduct (P.stepped (P.sight port.old).seat)
-            (record self.old { sending = Some op }) (P.sight port.old) self.new (P.sight port.new) result }
-    {
-        match op.turn(&mut self.core, port, &mut self.slot, &self.number) {
-            Turn::Done => {
-                self.receiving = receive_if(self.is_first, self.from);
-                Turn::Moved
-            }
-            Turn::Moved => {
-                self.sending = Some(op);
-                Turn::Moved
-            }
-            Turn::Waiting(spot) => {
-                self.sending = Some(op);
-                Turn::Waiting(spot)
-            }
-        }
-    }
-
-    /// One turn of its receive.
-    fn receive_turn<P: Port>(&mut self, port: &mut P, mut op: RecvOp) -> Turn
-        requires no_send { self.old.sending ≡ None }
-        requires taken { self.old.receiving ≡ None }
-        requires ties { IsPassing (record self.old { receiving = Some op })
-            (P.sight port.old).seat.setup (P.sight port.old).seat.rank (P.sight port.old).events }
-        ensures ties { IsPassing self.new (P.sight port.new).seat.setup (P.sight port.new).seat.rank (P.sight port.new).events }
-        ensures turned { Turned passer_conduct (P.stepped (P.sight port.old).seat)
-            (record self.old { receiving = Some op }) (P.sight port.old) self.new (P.sight port.new) result }
-    {
-        match op.turn(&mut self.core, port, &mut self.number) {
-            RecvTurn::Done => {
-                self.number[0] = self.number[0].wrapping_add(1);
-                self.sending = send_if(!self.is_first, self.to);
-                Turn::Moved
-            }
-            RecvTurn::Mismatch(_) => {
-                self.stopped = true;
-                Turn::Moved
-            }
-            RecvTurn::Moved => {
-                self.receiving = Some(op);
-                Turn::Moved
-            }
-            RecvTurn::Waiting(spot) => {
-                self.receiving = Some(op);
-                Turn::Waiting(spot)
-            }
-        }
-    }
-
-    /// One turn of whichever is under way.
-    fn turn_on<P: Port>(&mut self, port: &mut P) -> Turn
-        requires ties { IsPassing self.old (P.sight port.old).seat.setup (P.sight port.old).seat.rank (P.sight port.old).events }
-        ensures ties { IsPassing self.new (P.sight port.new).seat.setup (P.sight port.new).seat.rank (P.sight port.new).events }
-        ensures turned { Turned passer_conduct (P.stepped (P.sight port.old).seat)
-            self.old (P.sight port.old) self.new (P.sight port.new) result }
-    {
-        let sending = self.sending.take();
-        if let Some(op) = sending {
-            return self.send_turn(port, op);
-        }
-        let receiving = self.receiving.take();
-        if let Some(op) = receiving {
-            return self.receive_turn(port, op);
-        }
-        Turn::Done
-    }
 }
 
 impl Worker for Passer {
@@ -189,8 +46,33 @@ impl Worker for Passer {
 
     fn turn<P: Port>(&mut self, port: P) -> (Turn, P) {
         let mut port = port;
-        let answer = self.turn_on(&mut port);
-        (answer, port)
+        match &mut self.message {
+            Message::Sending(op) => {
+                match op.turn(&mut self.core, &mut port, &mut self.slot, &self.number) {
+                    Turn::Moved => (Turn::Moved, port),
+                    Turn::Waiting(spot) => (Turn::Waiting(spot), port),
+                    Turn::Done => {
+                        self.message = begun(false, self.is_first, self.head, self.from, self.to);
+                        (Turn::Moved, port)
+                    }
+                }
+            }
+            Message::Receiving(op) => match op.turn(&mut self.core, &mut port, &mut self.number) {
+                RecvTurn::Moved => (Turn::Moved, port),
+                RecvTurn::Waiting(spot) => (Turn::Waiting(spot), port),
+                RecvTurn::Done => {
+                    self.number[0] = self.number[0].wrapping_add(1);
+                    self.message = begun(!self.is_first, false, self.head, self.from, self.to);
+                    (Turn::Moved, port)
+                }
+                RecvTurn::Mismatch(_) => {
+                    self.message = Message::Over;
+                    self.stopped = true;
+                    (Turn::Moved, port)
+                }
+            },
+            Message::Over => (Turn::Done, port),
+        }
     }
 
     fn stretch<P: Port>(&mut self, port: P) -> (Turn, P) {
@@ -204,11 +86,45 @@ impl Worker for Passer {
     ghost hands = { λ p s rank events ties. ties.hands };
 }
 
+/// The message that a rank begins: a send to the next one, a receive from the one before, or none.
+fn begun(sends: bool, gets: bool, head: Head, from: Rank, to: Rank) -> Message
+    ensures { result ≡ begun sends gets head from to }
+{
+    if sends {
+        return Message::Sending(SendOp::new(to, head));
+    }
+    if gets {
+        return Message::Receiving(RecvOp::new(from, head));
+    }
+    Message::Over
+}
+
+/// The head of a message of one byte.
+fn one_byte() -> Head
+    ensures gives { result ≡ plain_head 1 }
+{
+    match Head::plain(1) {
+        Some(head) => head,
+        None => unreachable!(),
+    }
+}
+
 /// A rank of the ring before its first turn, at home.
 fn seated(from: Rank, to: Rank, is_first: bool, number: u8) -> Member<Passer>
     ensures seated { IsSeated result from to }
 {
-    Member::new(Passer::new(from, to, is_first, number))
+    let head = one_byte();
+    Member::new(Passer {
+        core: Core::new(Never),
+        slot: Slot::new(),
+        head,
+        from,
+        to,
+        is_first,
+        number: [number],
+        message: begun(is_first, !is_first, head, from, to),
+        stopped: false,
+    })
 }
 
 /// Whether a number that four ranks pass round comes back raised by each of them, and all ranks finish.

@@ -1,0 +1,4 @@
+pub mod VainSteps
+pub mod Looks
+pub mod Messages
+pub mod Waited

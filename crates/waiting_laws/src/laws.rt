@@ -1,0 +1,24 @@
+//! What vain looks tell, as laws: a function that does nothing and ensures them.
+
+ghost use Rattle.std.specs.Prelude.{◌≡◌, ℕ, List, Some};
+ghost use Rattle.scc_proto.specs.Ports.{Seat};
+ghost use Rattle.scc_proto.specs.Stages.{Record};
+ghost use Rattle.scc_proto.specs.Words.{Memory};
+ghost use Rattle.put_get.specs.Cores.{Private};
+ghost use Rattle.sync_flags.specs.Tries.{Aim};
+ghost use Rattle.send_recv.specs.Ops.{RecvAt, SendAt, SlotAt};
+ghost use Rattle.send_recv.specs.Receiving.{IsReceiving, recv_spot};
+ghost use Rattle.send_recv.specs.Sending.{IsSending, send_spot};
+ghost use Rattle.send_recv.specs.Tries.{aim_at};
+ghost use Rattle.chip_run.specs.Wants.{Want};
+ghost use Rattle.waiting_laws.specs.Looks.{LookedInVain, SeatWaits};
+
+/// A look that a send or a receive made in vain shows that its rank waits for the other rank.
+pub fn vain_looks()
+    ensures sends { (seat : Seat) (memory : Memory) (records : ℕ → Record) (rec : Record) (aim : Aim) (c : Private) (op : SendAt) (slot : SlotAt) (bytes : List ℕ)
+        → LookedInVain seat memory records rec aim → IsSending seat rec c op slot bytes → aim_at seat.setup.layout (send_spot seat op slot) ≡ Some aim
+        → SeatWaits seat memory records (Want.Send op.to op.head) }
+    ensures receives { (seat : Seat) (memory : Memory) (records : ℕ → Record) (rec : Record) (aim : Aim) (c : Private) (op : RecvAt) (bytes : List ℕ)
+        → LookedInVain seat memory records rec aim → IsReceiving seat rec c op bytes → aim_at seat.setup.layout (recv_spot seat op) ≡ Some aim
+        → SeatWaits seat memory records (Want.Recv op.from) }
+{}
