@@ -1,13 +1,15 @@
-//! The workers of a run on one thread: one turn of one of them, rounds and sweeps.
+//! The workers of a run on one thread: rounds and sweeps.
+//!
+//! Each loop takes the turns itself, so that a turn passes few hands on its way to the words.
 
 ghost use Rattle.std.specs.Prelude.{◌≡◌, ◌<◌, ◌*◌, length};
 ghost use Rattle.std.specs.List.{range_with_len};
 ghost use Rattle.rand_pcg.specs.Pcg.{pcg32};
-ghost use Rattle.chip_run.specs.Crews.{CrewStands, IsCrew, OneTurn, SweepStands};
+ghost use Rattle.chip_run.specs.Crews.{CrewStands, IsCrew, SweepStands};
 ghost use Rattle.chip_run.specs.Orders.{TurnsOf, drawn, named};
 
 use crate::rests::Rest;
-use crate::workers::{Worker, turn_at_home};
+use crate::workers::Worker;
 use rand_core::utils::NextWord;
 use rand_pcg::Pcg32;
 use scc_base::Rank;
@@ -16,25 +18,20 @@ use scc_mesh::Chip;
 /// How many turns for each rank a round on one thread has.
 const TURNS: usize = 1000;
 
-/// A turn of one of the workers.
-fn turn_at<W: Worker>(chip: &mut Chip, crew: &mut [W], at: usize) -> Rest
-    requires crew { IsCrew W.conduct chip.old crew.old }
-    requires within { at < length crew.old }
-    ensures turned { OneTurn W.conduct chip.old crew.old at chip.new crew.new result }
-{
-    let _ = chip.setup().nue();
-    turn_at_home(chip, Rank::of(at as u8), &mut crew[at])
-}
-
 /// A turn of each worker, in rank order.
 pub(crate) fn sweep<W: Worker>(chip: &mut Chip, crew: &mut [W]) -> Rest
     requires crew { IsCrew W.conduct chip.old crew.old }
     ensures swept { SweepStands W.conduct result (length crew.old) chip.old crew.old chip.new crew.new }
     ensures order { TurnsOf W.conduct (range_with_len 0 (length crew.old)) chip.old crew.old chip.new crew.new }
 {
+    let _ = chip.setup().nue();
     let mut so_far = Rest::Finished;
     for at in 0..crew.len() {
-        let came = turn_at(chip, crew, at);
+        let (answer, port) = crew[at].turn(chip.port(Rank::of(at as u8)));
+        // The chip goes back here.
+        let _chip = port.chip;
+        chip.agrees();
+        let came = Rest::of(&answer, crew[at].is_stopped());
         so_far = so_far.and(came);
     }
     so_far
@@ -51,6 +48,9 @@ pub(crate) fn round<W: Worker>(chip: &mut Chip, crew: &mut [W], picks: &mut Pcg3
     let ranks = chip.setup().nue() as usize;
     for turn in 0..TURNS * ranks {
         let at = picks.next_word() as usize % crew.len();
-        turn_at(chip, crew, at);
+        let (_, port) = crew[at].turn(chip.port(Rank::of(at as u8)));
+        // The chip goes back here.
+        let _chip = port.chip;
+        chip.agrees();
     }
 }
