@@ -1,5 +1,5 @@
 -- A turn through the port of a rank at home, and what it leaves on the chip.
-use Rattle.std.proofs.Common.{◌≡◌, ◌≢◌, inl, inr, ⊎_elim, ℕ, ◌<◌, ◌≤◌, Bool, true, false, List, [], ◌∷◌, ◌++◌, length, slice_index_or, slice_set, sym, ◌∙◌, ap, subst, append-nil, ◌&&◌}
+use Rattle.std.proofs.Common.{◌≡◌, ◌≢◌, inl, inr, ⊎_elim, ℕ, ◌<◌, ◌≤◌, Bool, true, false, List, [], ◌∷◌, ◌++◌, sym, ◌∙◌, ap, subst, append-nil, ◌&&◌}
 use Rattle.std.specs.List.{list_all}
 use Rattle.std.proofs.lemmas.Bool.{cases_lt}
 use Rattle.std.proofs.lemmas.List.Folds.{list_all-append}
@@ -23,11 +23,9 @@ use Rattle.scc_mesh.proofs.LookLaws.{saw_later}
 use Rattle.scc_mesh.proofs.PortEnds.{chip_ends}
 use Rattle.scc_mesh.proofs.TurnLaws.{turn_leaves}
 use Rattle.chip_run.specs.Conducts.{Conduct, WorkerView}
-use Rattle.chip_run.specs.Turns.{HasStayed, HasWaited, HoldsNone, IsDone, IsOver, LookedAt, NoneElseHolds, OwnTurn, Turned, TurnedAtHome, TurnMeans, WaitsThen, rest_by}
+use Rattle.chip_run.specs.Turns.{HasStayed, HasWaited, IsDone, IsOver, LookedAt, NoneElseHolds, OwnTurn, Turned, TurnedAtHome, TurnMeans, WaitsThen, rest_by}
 use Rattle.chip_run.specs.Wants.{Want}
-use Rattle.chip_run.specs.Crews.{IsCrew, OneTurn}
 use Rattle.chip_run.specs.declared.rests.Rest.{Rest}
-use Rattle.chip_run.proofs.CrewHands.{crew_free}
 
 -- the record of more events, by the record of the first of them
 pub record_split : (s : SetupView) (r : ℕ) (own events : List Event) → record_of s r (own ++ events) ≡ record_from s r (record_of s r own) events
@@ -158,17 +156,12 @@ module _ {A : Type 0} (c : Conduct A) where
       (subst (λ (y : ChipView). Turned c (WasSeatStep (sight_in y before hold).seat) w (sight_in y before hold) x (sight_in now later name) answer) same turned)) ties
 
   -- the chip at the end of the borrow is the port's
-  own_turn_at : (chip : ChipView) (r : ℕ) (w x : A) (answer : Turn) (end now : ChipView) → end ≡ now → OwnTurn c chip r w now x answer → OwnTurn c chip r w end x answer
+  pub own_turn_at : (chip : ChipView) (r : ℕ) (w x : A) (answer : Turn) (end now : ChipView) → end ≡ now → OwnTurn c chip r w now x answer → OwnTurn c chip r w end x answer
   own_turn_at chip r w x answer end now same turned = subst (λ (y : ChipView). OwnTurn c chip r w y x answer) (sym same) turned
 
   -- it is whole
   pub own_turn_whole : (chip : ChipView) (r : ℕ) (w x : A) (answer : Turn) (end now : ChipView) → end ≡ now → OwnTurn c chip r w now x answer → IsWhole end
   own_turn_whole chip r w x answer end now same turned = subst IsWhole (sym same) turned.turned.whole
-
-  -- a worker is tied to its rank's events at the port that was lent the chip
-  pub tied_lent : (chip lent : ChipView) (r before : ℕ) (w : A) → lent ≡ chip → before ≡ r → c.tied w (about_in chip) r (events_in chip r) → c.tied w (about_in lent) before (events_in lent before)
-  tied_lent chip lent r before w same from ties =
-      subst (λ (k : ℕ). c.tied w (about_in lent) k (events_in lent k)) (sym from) (subst (λ (y : ChipView). c.tied w (about_in y) r (events_in y r)) (sym same) ties)
 
   module _ (chip now : ChipView) (r : ℕ) (w x : A) (is : IsTurned chip r now) (events : List Event) (longer : events_in now r ≡ events_in chip r ++ events)
       (beyond : (q : ℕ) → (about_in now).nue ≤ q → events_in now q ≡ []) where
@@ -235,18 +228,9 @@ module _ {A : Type 0} (c : Conduct A) where
   turned_at_home chip now r w x turn.Done false free turned beyond tells =
       record { turned = turned.turned; ties = turned.ties; comes = stayed_finished chip now r w x turned.turned turned.events turned.longer beyond turned.means (sym tells) }
 
-  -- so one of a crew took a turn
-  pub crew_turned_by : ((x : A) (s : SetupView) (r : ℕ) (events : List Event) → c.tied x s r events → HoldsNone s r events)
-      → (chip : ChipView) (crew : List A) (at : ℕ) (w x : A) (answer : Turn) (end now : ChipView) (later : List A) (came : Rest) (stopped : Bool)
-      → IsCrew c chip crew → at < length crew → w ≡ slice_index_or crew at w → later ≡ slice_set crew at x → end ≡ now → OwnTurn c chip at w now x answer
-      → ((q : ℕ) → (about_in end).nue ≤ q → events_in end q ≡ []) → stopped ≡ (c.seen (about_in chip) at x).is_stopped → came ≡ rest_by answer stopped
-      → OneTurn c chip crew at end later came
-  crew_turned_by hands chip crew at w x answer end now later came stopped is_crew within here is same turned beyond tells so = record {
-    within = within;
-    old = w;
-    new = x;
-    here = here;
-    is = is;
-    turned = subst (λ (y : Rest). TurnedAtHome c chip at w end x y) (sym so)
-        (turned_at_home chip end at w x answer stopped (crew_free c hands chip crew w at is_crew) (own_turn_at chip at w x answer end now same turned) beyond tells);
-  }
+  -- the chip at the end of the borrow is the port's, and the answer is told with the worker's standing
+  pub home_turned : (chip : ChipView) (r : ℕ) (w x : A) (answer : Turn) (end now : ChipView) (stopped : Bool) (came : Rest) → NoneElseHolds (about_in chip) (records_in chip) r → end ≡ now
+      → OwnTurn c chip r w now x answer → ((q : ℕ) → (about_in end).nue ≤ q → events_in end q ≡ []) → stopped ≡ (c.seen (about_in chip) r x).is_stopped → came ≡ rest_by answer stopped
+      → TurnedAtHome c chip r w end x came
+  home_turned chip r w x answer end now stopped came free same turned beyond tells so =
+      subst (λ (y : Rest). TurnedAtHome c chip r w end x y) (sym so) (turned_at_home chip end r w x answer stopped free (own_turn_at chip r w x answer end now same turned) beyond tells)

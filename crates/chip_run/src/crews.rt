@@ -5,11 +5,13 @@
 ghost use Rattle.std.specs.Prelude.{◌≡◌, ◌<◌, ◌*◌, length};
 ghost use Rattle.std.specs.List.{range_with_len};
 ghost use Rattle.rand_pcg.specs.Pcg.{pcg32};
+ghost use Rattle.chip_run.specs.Away.{members_of};
 ghost use Rattle.chip_run.specs.Crews.{CrewStands, IsCrew, SweepStands};
 ghost use Rattle.chip_run.specs.Orders.{TurnsOf, drawn, named};
 
+use crate::members::Member;
 use crate::rests::Rest;
-use crate::workers::Worker;
+use crate::workers::{Worker, turn_at_home};
 use rand_core::utils::NextWord;
 use rand_pcg::Pcg32;
 use scc_base::Rank;
@@ -19,38 +21,35 @@ use scc_mesh::Chip;
 const TURNS: usize = 1000;
 
 /// A turn of each worker, in rank order.
-pub(crate) fn sweep<W: Worker>(chip: &mut Chip, crew: &mut [W]) -> Rest
-    requires crew { IsCrew W.conduct chip.old crew.old }
-    ensures swept { SweepStands W.conduct result (length crew.old) chip.old crew.old chip.new crew.new }
-    ensures order { TurnsOf W.conduct (range_with_len 0 (length crew.old)) chip.old crew.old chip.new crew.new }
+pub(crate) fn sweep<W: Worker + Drop>(chip: &mut Chip, crew: &mut [Member<W>]) -> Rest
+    requires crew { IsCrew (members_of W.conduct) chip.old crew.old }
+    ensures swept { SweepStands (members_of W.conduct) result (length crew.old) chip.old crew.old chip.new crew.new }
+    ensures order { TurnsOf (members_of W.conduct) (range_with_len 0 (length crew.old)) chip.old crew.old chip.new crew.new }
 {
     let _ = chip.setup().nue();
     let mut so_far = Rest::Finished;
     for at in 0..crew.len() {
-        let (answer, port) = crew[at].turn(chip.port(Rank::of(at as u8)));
-        // The chip goes back here.
-        let _chip = port.chip;
-        chip.agrees();
-        let came = Rest::of(&answer, crew[at].is_stopped());
+        let came = turn_at_home(chip, Rank::of(at as u8), &mut crew[at].worker);
         so_far = so_far.and(came);
     }
     so_far
 }
 
 /// A thousand turns for each rank, each of the rank that the generator's next word names.
-pub(crate) fn round<W: Worker>(chip: &mut Chip, crew: &mut [W], picks: &mut Pcg32)
-    requires crew { IsCrew W.conduct chip.old crew.old }
+pub(crate) fn round<W: Worker + Drop>(
+    chip: &mut Chip,
+    crew: &mut [Member<W>],
+    picks: &mut Pcg32,
+)
+    requires crew { IsCrew (members_of W.conduct) chip.old crew.old }
     requires some { 0 < length crew.old }
     ensures picks { picks.new ≡ drawn pcg32 (1000 * length crew.old) picks.old }
-    ensures order { TurnsOf W.conduct (named pcg32 (length crew.old) (1000 * length crew.old) picks.old) chip.old crew.old chip.new crew.new }
-    ensures stands { CrewStands W.conduct chip.old crew.old chip.new crew.new }
+    ensures order { TurnsOf (members_of W.conduct) (named pcg32 (length crew.old) (1000 * length crew.old) picks.old) chip.old crew.old chip.new crew.new }
+    ensures stands { CrewStands (members_of W.conduct) chip.old crew.old chip.new crew.new }
 {
     let ranks = chip.setup().nue() as usize;
     for turn in 0..TURNS * ranks {
         let at = picks.next_word() as usize % crew.len();
-        let (_, port) = crew[at].turn(chip.port(Rank::of(at as u8)));
-        // The chip goes back here.
-        let _chip = port.chip;
-        chip.agrees();
+        turn_at_home(chip, Rank::of(at as u8), &mut crew[at].worker);
     }
 }

@@ -1,6 +1,12 @@
 //! What one rank does in a run, a turn at a time.
 
-use scc_base::Turn;
+ghost use Rattle.std.specs.Prelude.{◌<◌};
+ghost use Rattle.chip_run.specs.Turns.{NoneElseHolds, TurnedAtHome};
+ghost use Rattle.scc_mesh.specs.Scenes.{IsWhole, about_in, events_in, records_in};
+
+use crate::rests::Rest;
+use scc_base::{Rank, Turn};
+use scc_mesh::Chip;
 use scc_proto::Port;
 
 /// What one rank does, a turn at a time.
@@ -33,4 +39,19 @@ pub trait Worker {
 
     // Its rank holds no register between turns.
     ghost hands: { (x : Self) (s : SetupView) (rank : ℕ) (events : List Event) → conduct.tied x s rank events → HoldsNone s rank events };
+}
+
+/// One turn of a rank at home.
+pub(crate) fn turn_at_home<W: Worker>(chip: &mut Chip, rank: Rank, worker: &mut W) -> Rest
+    requires whole { IsWhole chip.old }
+    requires below { rank < (about_in chip.old).nue }
+    requires free { NoneElseHolds (about_in chip.old) (records_in chip.old) rank }
+    requires ties { W.conduct.tied worker.old (about_in chip.old) rank (events_in chip.old rank) }
+    ensures turned { TurnedAtHome W.conduct chip.old rank worker.old chip.new worker.new result }
+{
+    let (answer, port) = worker.turn(chip.port(rank));
+    // The chip goes back here.
+    let _chip = port.chip;
+    chip.agrees();
+    Rest::of(&answer, worker.is_stopped())
 }
