@@ -4,16 +4,16 @@ use Rattle.scc_base.specs.Setups.{SetupView}
 use Rattle.scc_base.specs.declared.events.Event.{Event}
 use Rattle.scc_base.specs.declared.events.Turn.{Turn}
 use Rattle.scc_base.specs.declared.events.Turn.TheVariants as turn
-use Rattle.scc_mesh.specs.Scenes.{ChipView, about_in, events_in, records_in}
+use Rattle.scc_mesh.specs.Scenes.{ChipView, about_in, records_in}
 use Rattle.scc_proto.specs.Ports.{Sight}
 use Rattle.chip_run.specs.declared.members.Member.{Member}
-use Rattle.chip_run.specs.Away.{IsAtHome, IsRow, TookRow, TookTurns, members_of}
+use Rattle.chip_run.specs.Away.{IsRow, TookRow, TookTurns, members_of}
 use Rattle.chip_run.specs.Conducts.{Conduct, Later, NoTurn}
 use Rattle.chip_run.specs.Crews.{IsCrew, OneTurn}
 use Rattle.chip_run.specs.Turns.{CameTo, HoldsNone, NoneElseHolds, TurnMeans, Turned, TurnedAtHome}
 use Rattle.chip_run.specs.declared.rests.Rest.{Rest}
 use Rattle.chip_run.specs.declared.rests.Rest.TheVariants as rest
-use Rattle.chip_run.proofs.CrewHands.{crew_free}
+use Rattle.chip_run.proofs.CrewHands.{crew_free, one_turned, ties_here}
 use Rattle.chip_run.proofs.RowLaws.{later_on, none_yet}
 
 module _ {A : Type 0} (c : Conduct A) where
@@ -75,21 +75,20 @@ module _ {A : Type 0} (c : Conduct A) where
   came_member rest.Finished chip r now old new comes = record { stays = comes.stays; seen = comes.seen; alike = comes.alike; rests = comes.rests }
   came_member rest.Unfinished chip r now old new comes = record { stays = comes.stays; seen = comes.seen; alike = comes.alike; rests = comes.rests }
 
-  -- a member at home took the turn that its worker took
-  pub one_member : (chip : ChipView) (crew : List (Member A)) (at : ℕ) (m : Member A) (w : A) (now : ChipView) (later : List (Member A)) (came : Rest) → IsCrew (members_of c) chip crew → at < length crew
-      → m ≡ slice_index_or crew at m → later ≡ slice_set crew at (record m { worker = w }) → TurnedAtHome c chip at m.worker now w came → OneTurn (members_of c) chip crew at now later came
-  one_member chip crew at m w now later came is_crew within here is turned =
-      let home = subst (λ (x : Member A). IsAtHome (c.tied x.worker) x.token (about_in chip) at (events_in chip at)) (sym here) (is_crew.ties at m within) in
-      record {
-        within = within;
-        old = m;
-        new = record m { worker = w };
-        here = here;
-        is = is;
-        turned = record { turned = turned.turned; ties = record { ties = turned.ties; empty = home.empty }; comes = came_member came chip at now m (record m { worker = w }) turned.comes };
-      }
-
   -- between turns no rank of its crew holds a register
   pub members_free : ((x : A) (s : SetupView) (r : ℕ) (events : List Event) → c.tied x s r events → HoldsNone s r events)
       → (chip : ChipView) (crew : List (Member A)) (d : Member A) (me : ℕ) → IsCrew (members_of c) chip crew → NoneElseHolds (about_in chip) (records_in chip) me
   members_free hands = crew_free (members_of c) (λ m s r events home. hands m.worker s r events home.ties)
+
+  -- a member took the turn that its worker took
+  pub one_member : (chip : ChipView) (crew : List (Member A)) (at rank : ℕ) (d : Member A) (w : A) (now : ChipView) (came : Rest) → IsCrew (members_of c) chip crew → at < length crew → rank ≡ at
+      → TurnedAtHome c chip rank (slice_index_or crew at d).worker now w came → OneTurn (members_of c) chip crew at now (slice_set crew at (record (slice_index_or crew at d) { worker = w })) came
+  one_member chip crew at rank d w now came is_crew within is took =
+      let m : Member A = slice_index_or crew at d in
+      let new : Member A = record m { worker = w } in
+      one_turned (members_of c) chip crew at rank d is_crew within is new now came
+      (record {
+        turned = took.turned;
+        ties = record { ties = took.ties; empty = (ties_here (members_of c) chip crew at rank d is_crew within is).empty };
+        comes = came_member came chip rank now m new took.comes;
+      })

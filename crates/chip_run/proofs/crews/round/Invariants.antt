@@ -1,5 +1,6 @@
 use Rattle.std.specs.Prelude.{◌≡◌, length}
 use Rattle.rand_pcg.specs.Pcg.{pcg32}
+use Rattle.chip_run.specs.Away.{members_of}
 use Rattle.chip_run.specs.Orders.{TurnsOf, drawn, named}
 use Rattle.chip_run.proofs.crews.round.Given as goal
 

@@ -1,4 +1,5 @@
 use Rattle.std.specs.List.{range_with_len}
+use Rattle.chip_run.specs.Away.{members_of}
 use Rattle.chip_run.specs.Crews.{SweepStands}
 use Rattle.chip_run.specs.Orders.{TurnsOf}
 use Rattle.chip_run.proofs.crews.sweep.Given as goal
