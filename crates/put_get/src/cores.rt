@@ -150,7 +150,7 @@ impl<V: Evict> Core<V> {
     }
 
     /// Drops all cached lines and reads a word. Its line is loaded, with no search for it.
-    #[inline(always)]
+    #[inline]
     pub fn fresh_word<P: Port>(&mut self, port: &mut P, place: Place) -> u64
         requires empty { self.old.out ≡ None }
         ensures reads { ReadsWord (P.sight port.old) (record self.old { lines = [] }) place result (P.sight port.new) self.new }
