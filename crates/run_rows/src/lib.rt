@@ -1,4 +1,5 @@
-//! Tests over a chip: of UEs and of collective calls on one with one seat, and of whole runs, in threads and on one. There is no other code.
+//! Tests over a chip: of UEs and of collective calls on one with one seat, and of whole runs, in threads and on one. The one worker of a
+//! user's own that they run is the only other code.
 #![tactic(auto)]
 
 #[cfg(test)]
@@ -20,6 +21,7 @@ mod meetings;
 #[cfg(test)]
 mod open_sends;
 #[cfg(test)]
+mod ring_runs;
 mod rings;
 #[cfg(test)]
 mod runs;

@@ -4,16 +4,12 @@ ghost use Rattle.std.specs.Prelude.{◌≡◌};
 ghost use Rattle.scc_base.specs.Heads.{plain_head};
 ghost use Rattle.run_rows.specs.Rings.{IsSeated, begun};
 
-use chip_run::{Member, Mode, Open, RunEnd, Worker, run};
-use chip_teams::opened;
+use chip_run::{Member, Worker};
 use line_cache::Never;
 use put_get::Core;
-use scc_base::{CommRule, Head, Layout, Rank, Turn};
+use scc_base::{Head, Rank, Turn};
 use scc_proto::Port;
 use send_recv::{RecvOp, RecvTurn, SendOp, Slot};
-use std::alloc::Global;
-use std::test::Fail;
-use std::thread::Threads;
 
 /// The message under way at a rank of the ring.
 #[derive(Drop)]
@@ -26,14 +22,14 @@ enum Message {
 /// A rank of the ring. The first one sends its number on, and at last gets it back; each other one gets it, and sends it on.
 /// Whoever gets it raises it by one.
 #[derive(Drop)]
-struct Passer {
+pub(crate) struct Passer {
     core: Core<Never>,
     slot: Slot,
     head: Head,
     from: Rank,
     to: Rank,
     is_first: bool,
-    number: [u8; 1],
+    pub(crate) number: [u8; 1],
     message: Message,
     // Whether it has met a message with another head.
     stopped: bool,
@@ -110,7 +106,7 @@ fn one_byte() -> Head
 }
 
 /// A rank of the ring before its first turn, at home.
-fn seated(from: Rank, to: Rank, is_first: bool, number: u8) -> Member<Passer>
+pub(crate) fn seated(from: Rank, to: Rank, is_first: bool, number: u8) -> Member<Passer>
     ensures seated { IsSeated result from to }
 {
     let head = one_byte();
@@ -125,33 +121,4 @@ fn seated(from: Rank, to: Rank, is_first: bool, number: u8) -> Member<Passer>
         message: begun(is_first, !is_first, head, from, to),
         stopped: false,
     })
-}
-
-/// Whether a number that four ranks pass round comes back raised by each of them, and all ranks finish.
-fn comes_round<R: Threads + Sync>(
-    rt: &R,
-    alloc: Global,
-    layout: Layout,
-    mode: Mode,
-) -> Result<bool, Fail> {
-    let mut chip = opened(alloc, 4, layout, CommRule::Absent)?;
-    let mut ring = [
-        seated(Rank::of(3), Rank::of(1), true, 7),
-        seated(Rank::of(0), Rank::of(2), false, 0),
-        seated(Rank::of(1), Rank::of(3), false, 0),
-        seated(Rank::of(2), Rank::of(0), false, 0),
-    ];
-    let end = run(rt, &mut chip, &mut ring, mode, &Open);
-    let first = &ring[0].worker;
-    Ok(end == RunEnd::Finished && first.number[0] == 11)
-}
-
-#[test]
-fn a_number_comes_round_a_ring(rt: HostRuntime) -> Result<(), Fail> {
-    for layout in &[Layout::LineFlags, Layout::BitFlags] {
-        for mode in &[Mode::Serial(1), Mode::Threads] {
-            assert!(rt; comes_round(&rt, rt.alloc(), *layout, *mode)?);
-        }
-    }
-    Ok(())
 }

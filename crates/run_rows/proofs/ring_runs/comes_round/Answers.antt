@@ -1,5 +1,5 @@
 use Rattle.run_rows.proofs.RingLemmas.{four_seated, seated_at}
-use Rattle.run_rows.proofs.rings.comes_round.Goals as goal
+use Rattle.run_rows.proofs.ring_runs.comes_round.Goals as goal
 
 pub run-end-requires-clause-crew : goal.run-end-requires-clause-crew
 run-end-requires-clause-crew g c κs within =
