@@ -36,11 +36,7 @@ pub(crate) fn sweep<W: Worker + Drop>(chip: &mut Chip, crew: &mut [Member<W>]) -
 }
 
 /// A thousand turns for each rank, each of the rank that the generator's next word names.
-pub(crate) fn round<W: Worker + Drop>(
-    chip: &mut Chip,
-    crew: &mut [Member<W>],
-    picks: &mut Pcg32,
-)
+pub(crate) fn round<W: Worker + Drop>(chip: &mut Chip, crew: &mut [Member<W>], picks: &mut Pcg32)
     requires crew { IsCrew (members_of W.conduct) chip.old crew.old }
     requires some { 0 < length crew.old }
     ensures picks { picks.new ≡ drawn pcg32 (1000 * length crew.old) picks.old }

@@ -1,6 +1,5 @@
-use Rattle.std.proofs.Common.{◌≡◌, ℕ, ◌<◌, length, refl, ◌∙◌, subst, arith}
+use Rattle.std.proofs.Common.{◌≡◌, ℕ, ◌<◌, length, refl, subst, arith}
 use Rattle.std.specs.List.{range_with_len}
-use Rattle.scc_mesh.specs.Scenes.{about_in}
 use Rattle.chip_run.specs.Away.{members_of}
 use Rattle.chip_run.specs.Crews.{SweepStands}
 use Rattle.chip_run.specs.Orders.{TurnsOf}
