@@ -1,4 +1,4 @@
-use Rattle.std.proofs.Common.{◌≡◌, ◌+◌, ◌%◌, length, slice_set, slice_index_or, refl, sym, ap, ◌∙◌, subst}
+use Rattle.std.proofs.Common.{◌+◌, ◌%◌, length, slice_set, slice_index_or, refl, sym, subst}
 use Rattle.std.proofs.lemmas.List.{length-set}
 use Rattle.scc_base.specs.declared.events.Turn.TheVariants as turn
 use Rattle.run_rows.specs.Rings.{IsAtMessage}
