@@ -1,5 +1,5 @@
 -- A turn through the port of a rank at home, and what it leaves on the chip.
-use Rattle.std.proofs.Common.{◌≡◌, ◌≢◌, inl, inr, ⊎_elim, ℕ, ◌<◌, ◌≤◌, Bool, true, false, List, [], ◌∷◌, ◌++◌, None, refl, sym, ◌∙◌, ap, subst, append-nil, ◌&&◌}
+use Rattle.std.proofs.Common.{◌≡◌, ◌≢◌, inl, inr, ⊎_elim, ℕ, ◌<◌, ◌≤◌, Bool, true, false, List, [], ◌∷◌, ◌++◌, sym, ◌∙◌, ap, subst, append-nil, ◌&&◌}
 use Rattle.std.specs.List.{list_all}
 use Rattle.std.proofs.lemmas.Bool.{cases_lt}
 use Rattle.std.proofs.lemmas.List.Folds.{list_all-append}
@@ -25,6 +25,7 @@ use Rattle.scc_mesh.proofs.TurnLaws.{turn_leaves}
 use Rattle.chip_run.specs.Conducts.{Conduct, WorkerView}
 use Rattle.chip_run.specs.Turns.{HasStayed, HasWaited, IsDone, IsOver, LookedAt, NoneElseHolds, OwnTurn, Turned, TurnedAtHome, TurnMeans, WaitsThen, rest_by}
 use Rattle.chip_run.specs.Wants.{Want}
+use Rattle.chip_run.specs.declared.rests.Rest.{Rest}
 
 -- the record of more events, by the record of the first of them
 pub record_split : (s : SetupView) (r : ℕ) (own events : List Event) → record_of s r (own ++ events) ≡ record_from s r (record_of s r own) events
@@ -158,6 +159,10 @@ module _ {A : Type 0} (c : Conduct A) where
   pub own_turn_at : (chip : ChipView) (r : ℕ) (w x : A) (answer : Turn) (end now : ChipView) → end ≡ now → OwnTurn c chip r w now x answer → OwnTurn c chip r w end x answer
   own_turn_at chip r w x answer end now same turned = subst (λ (y : ChipView). OwnTurn c chip r w y x answer) (sym same) turned
 
+  -- it is whole
+  pub own_turn_whole : (chip : ChipView) (r : ℕ) (w x : A) (answer : Turn) (end now : ChipView) → end ≡ now → OwnTurn c chip r w now x answer → IsWhole end
+  own_turn_whole chip r w x answer end now same turned = subst IsWhole (sym same) turned.turned.whole
+
   module _ (chip now : ChipView) (r : ℕ) (w x : A) (is : IsTurned chip r now) (events : List Event) (longer : events_in now r ≡ events_in chip r ++ events)
       (beyond : (q : ℕ) → (about_in now).nue ≤ q → events_in now q ≡ []) where
     abbrev s : SetupView
@@ -222,3 +227,10 @@ module _ {A : Type 0} (c : Conduct A) where
       record { turned = turned.turned; ties = turned.ties; comes = stayed_stopped chip now r w x turned.turned turned.events turned.longer beyond turned.means (sym tells) }
   turned_at_home chip now r w x turn.Done false free turned beyond tells =
       record { turned = turned.turned; ties = turned.ties; comes = stayed_finished chip now r w x turned.turned turned.events turned.longer beyond turned.means (sym tells) }
+
+  -- the chip at the end of the borrow is the port's, and the answer is told with the worker's standing
+  pub home_turned : (chip : ChipView) (r : ℕ) (w x : A) (answer : Turn) (end now : ChipView) (stopped : Bool) (came : Rest) → NoneElseHolds (about_in chip) (records_in chip) r → end ≡ now
+      → OwnTurn c chip r w now x answer → ((q : ℕ) → (about_in end).nue ≤ q → events_in end q ≡ []) → stopped ≡ (c.seen (about_in chip) r x).is_stopped → came ≡ rest_by answer stopped
+      → TurnedAtHome c chip r w end x came
+  home_turned chip r w x answer end now stopped came free same turned beyond tells so =
+      subst (λ (y : Rest). TurnedAtHome c chip r w end x y) (sym so) (turned_at_home chip end r w x answer stopped free (own_turn_at chip r w x answer end now same turned) beyond tells)

@@ -1,14 +1,19 @@
 -- What a worker went through, its member went through, whatever stands beside the worker.
-use Rattle.std.proofs.Common.{ℕ, List, [], ◌∷◌, ap, subst, sym}
+use Rattle.std.proofs.Common.{◌≡◌, ℕ, ◌<◌, List, [], ◌∷◌, length, slice_index_or, slice_set, ap, subst, sym}
 use Rattle.scc_base.specs.Setups.{SetupView}
 use Rattle.scc_base.specs.declared.events.Event.{Event}
 use Rattle.scc_base.specs.declared.events.Turn.{Turn}
 use Rattle.scc_base.specs.declared.events.Turn.TheVariants as turn
+use Rattle.scc_mesh.specs.Scenes.{ChipView, about_in, records_in}
 use Rattle.scc_proto.specs.Ports.{Sight}
 use Rattle.chip_run.specs.declared.members.Member.{Member}
 use Rattle.chip_run.specs.Away.{IsRow, TookRow, TookTurns, members_of}
 use Rattle.chip_run.specs.Conducts.{Conduct, Later, NoTurn}
-use Rattle.chip_run.specs.Turns.{TurnMeans, Turned, TurnsMoved, OneMoved, MoreMoved, Stretched, OneTurn, InARow}
+use Rattle.chip_run.specs.Crews.{IsCrew, OneTurn}
+use Rattle.chip_run.specs.Turns.{CameTo, HoldsNone, NoneElseHolds, TurnMeans, Turned, TurnedAtHome}
+use Rattle.chip_run.specs.declared.rests.Rest.{Rest}
+use Rattle.chip_run.specs.declared.rests.Rest.TheVariants as rest
+use Rattle.chip_run.proofs.CrewHands.{crew_free, one_turned, ties_here}
 use Rattle.chip_run.proofs.RowLaws.{later_on, none_yet}
 
 module _ {A : Type 0} (c : Conduct A) where
@@ -34,16 +39,6 @@ module _ {A : Type 0} (c : Conduct A) (like : Member A) where
   -- this member with another worker
   abbrev of : A → Member A
   of w = record like { worker = w }
-
-  moved_member : (stepped : List Event → Event → Type 0) (old : A) (s : Sight) (new : A) (t : Sight) → TurnsMoved c stepped old s new t → TurnsMoved (members_of c) stepped (of old) s (of new) t
-  moved_member stepped old s _ _ (OneMoved new t turned) = OneMoved (of new) t (turned_member c stepped (of old) s (of new) t turn.Moved turned)
-  moved_member stepped old s _ _ (MoreMoved mid new m t before turned) =
-      MoreMoved (of mid) (of new) m t (moved_member stepped old s mid m before) (turned_member c stepped (of mid) m (of new) t turn.Moved turned)
-
-  pub stretched_member : (stepped : List Event → Event → Type 0) (old : A) (s : Sight) (new : A) (t : Sight) (answer : Turn) → Stretched c stepped old s new t answer
-      → Stretched (members_of c) stepped (of old) s (of new) t answer
-  stretched_member stepped old s new t answer (OneTurn turned) = OneTurn (turned_member c stepped (of old) s (of new) t answer turned)
-  stretched_member stepped old s new t answer (InARow moved is) = InARow (moved_member stepped old s new t moved) is
 
   took_member : (stepped : List Event → Event → Type 0) (answers : List Turn) (old : A) (s : Sight) (new : A) (t : Sight) → TookTurns c stepped answers old s new t
       → TookTurns (members_of c) stepped answers (of old) s (of new) t
@@ -74,3 +69,26 @@ module _ {A : Type 0} (c : Conduct A) where
           turns = record { events = turns.events; did = turns.did; later = later_member c _ took.row.answers old took.first new took.last all; left = turns.left; took = all };
         };
       }
+
+  came_member : (came : Rest) (chip : ChipView) (r : ℕ) (now : ChipView) (old new : Member A) → CameTo c came chip r now old.worker new.worker → CameTo (members_of c) came chip r now old new
+  came_member rest.Moved chip r now old new comes = record { moves = comes.moves; less = comes.less }
+  came_member rest.Finished chip r now old new comes = record { stays = comes.stays; seen = comes.seen; alike = comes.alike; rests = comes.rests }
+  came_member rest.Unfinished chip r now old new comes = record { stays = comes.stays; seen = comes.seen; alike = comes.alike; rests = comes.rests }
+
+  -- between turns no rank of its crew holds a register
+  pub members_free : ((x : A) (s : SetupView) (r : ℕ) (events : List Event) → c.tied x s r events → HoldsNone s r events)
+      → (chip : ChipView) (crew : List (Member A)) (d : Member A) (me : ℕ) → IsCrew (members_of c) chip crew → NoneElseHolds (about_in chip) (records_in chip) me
+  members_free hands = crew_free (members_of c) (λ m s r events home. hands m.worker s r events home.ties)
+
+  -- a member took the turn that its worker took
+  pub one_member : (chip : ChipView) (crew : List (Member A)) (at rank : ℕ) (d : Member A) (w : A) (now : ChipView) (came : Rest) → IsCrew (members_of c) chip crew → at < length crew → rank ≡ at
+      → TurnedAtHome c chip rank (slice_index_or crew at d).worker now w came → OneTurn (members_of c) chip crew at now (slice_set crew at (record (slice_index_or crew at d) { worker = w })) came
+  one_member chip crew at rank d w now came is_crew within is took =
+      let m : Member A = slice_index_or crew at d in
+      let new : Member A = record m { worker = w } in
+      one_turned (members_of c) chip crew at rank d is_crew within is new now came
+      (record {
+        turned = took.turned;
+        ties = record { ties = took.ties; empty = (ties_here (members_of c) chip crew at rank d is_crew within is).empty };
+        comes = came_member came chip rank now m new took.comes;
+      })

@@ -68,6 +68,13 @@ range_more a (suc n) j is =
     let e : suc n + 1 ≡ suc (n + 1) = omega arith in
     ap (λ (k : ℕ). range_with_len a k) e ∙ ap (λ (l : List ℕ). a ∷ l) (range_more (a + 1) n j (omega (arith, is)))
 
+-- one turn more, in rank order
+pub turns_next : {A : Type 0} (c : Conduct A) (at : ℕ) (chip mid now : ChipView) (crew some later : List A) (came : Rest) → TurnsOf c (range_with_len 0 at) chip crew mid some
+    → OneTurn c mid some at now later came → TurnsOf c (range_with_len 0 (at + 1)) chip crew now later
+turns_next c at chip mid now crew some later came turns turn =
+    subst (λ (l : List ℕ). TurnsOf c l chip crew now later) (sym (range_more 0 at at (omega arith)))
+    (turns_then c (range_with_len 0 at) (at ∷ []) chip mid now crew some later turns (one_turn c at mid now some later came turn))
+
 module _ {A G : Type 0} (c : Conduct A) (step : G → ℕ × G) (nue : ℕ) where
   pub none_picked : (g : G) (chip : ChipView) (crew : List A) → TurnsOf c (named step nue 0 g) chip crew chip crew
   unfolding named

@@ -1,8 +1,6 @@
 -- A run whose last sweep moved nobody: all rest, and nothing is in draft.
-use Rattle.std.proofs.Common.{◌≡◌, inl, inr, ℕ, ◌<◌, Bool, true, false, List, length, slice_index_or, Option, Some, None, refl, sym, ap, ◌∙◌, subst, arith}
-use Rattle.scc_base.specs.Calls.{DataCall}
+use Rattle.std.proofs.Common.{◌≡◌, inl, inr, ℕ, ◌<◌, Bool, true, false, List, length, slice_index_or, Some, None, refl, sym, ap, ◌∙◌, subst, arith}
 use Rattle.scc_base.specs.Setups.{SetupView}
-use Rattle.scc_proto.specs.Like.{Like}
 use Rattle.scc_proto.specs.Passed.{open_of, open_call}
 use Rattle.scc_proto.specs.Records.{chunk_of}
 use Rattle.scc_proto.specs.Stages.{Raised, Stage, Idle, Drafting, Sending, Between, Taking, Barrier, Record}
@@ -15,7 +13,7 @@ use Rattle.chip_run.specs.declared.ends.RunEnd.TheVariants as run_end
 use Rattle.chip_run.specs.Conducts.{Conduct, WorkerView}
 use Rattle.chip_run.specs.Crews.{AllRest, EndsWith, SweptTo, end_by}
 use Rattle.chip_run.specs.Turns.{RestsAt}
-use Rattle.chip_run.specs.Waiting.{TakeWaits, IsLooking, BarWaits, AtRoot, AtMember, NoneDrafts, Waits}
+use Rattle.chip_run.specs.Waiting.{IsLooking, BarWaits, AtRoot, AtMember, NoneDrafts, Waits}
 use Rattle.chip_run.specs.Wants.{Want}
 use Rattle.chip_run.proofs.ServedLaws.{some_worker}
 

@@ -1,11 +1,15 @@
-//! The workers of a run on one thread: one turn of one of them, rounds and sweeps.
+//! The workers of a run on one thread: rounds and sweeps.
+//!
+//! Each loop takes the turns itself, so that a turn passes few hands on its way to the words.
 
 ghost use Rattle.std.specs.Prelude.{◌≡◌, ◌<◌, ◌*◌, length};
 ghost use Rattle.std.specs.List.{range_with_len};
 ghost use Rattle.rand_pcg.specs.Pcg.{pcg32};
-ghost use Rattle.chip_run.specs.Crews.{CrewStands, IsCrew, OneTurn, SweepStands};
+ghost use Rattle.chip_run.specs.Away.{members_of};
+ghost use Rattle.chip_run.specs.Crews.{CrewStands, IsCrew, SweepStands};
 ghost use Rattle.chip_run.specs.Orders.{TurnsOf, drawn, named};
 
+use crate::members::Member;
 use crate::rests::Rest;
 use crate::workers::{Worker, turn_at_home};
 use rand_core::utils::NextWord;
@@ -16,41 +20,32 @@ use scc_mesh::Chip;
 /// How many turns for each rank a round on one thread has.
 const TURNS: usize = 1000;
 
-/// A turn of one of the workers.
-fn turn_at<W: Worker>(chip: &mut Chip, crew: &mut [W], at: usize) -> Rest
-    requires crew { IsCrew W.conduct chip.old crew.old }
-    requires within { at < length crew.old }
-    ensures turned { OneTurn W.conduct chip.old crew.old at chip.new crew.new result }
+/// A turn of each worker, in rank order.
+pub(crate) fn sweep<W: Worker + Drop>(chip: &mut Chip, crew: &mut [Member<W>]) -> Rest
+    requires crew { IsCrew (members_of W.conduct) chip.old crew.old }
+    ensures swept { SweepStands (members_of W.conduct) result (length crew.old) chip.old crew.old chip.new crew.new }
+    ensures order { TurnsOf (members_of W.conduct) (range_with_len 0 (length crew.old)) chip.old crew.old chip.new crew.new }
 {
     let _ = chip.setup().nue();
-    turn_at_home(chip, Rank::of(at as u8), &mut crew[at])
-}
-
-/// A turn of each worker, in rank order.
-pub(crate) fn sweep<W: Worker>(chip: &mut Chip, crew: &mut [W]) -> Rest
-    requires crew { IsCrew W.conduct chip.old crew.old }
-    ensures swept { SweepStands W.conduct result (length crew.old) chip.old crew.old chip.new crew.new }
-    ensures order { TurnsOf W.conduct (range_with_len 0 (length crew.old)) chip.old crew.old chip.new crew.new }
-{
     let mut so_far = Rest::Finished;
     for at in 0..crew.len() {
-        let came = turn_at(chip, crew, at);
+        let came = turn_at_home(chip, Rank::of(at as u8), &mut crew[at].worker);
         so_far = so_far.and(came);
     }
     so_far
 }
 
 /// A thousand turns for each rank, each of the rank that the generator's next word names.
-pub(crate) fn round<W: Worker>(chip: &mut Chip, crew: &mut [W], picks: &mut Pcg32)
-    requires crew { IsCrew W.conduct chip.old crew.old }
+pub(crate) fn round<W: Worker + Drop>(chip: &mut Chip, crew: &mut [Member<W>], picks: &mut Pcg32)
+    requires crew { IsCrew (members_of W.conduct) chip.old crew.old }
     requires some { 0 < length crew.old }
     ensures picks { picks.new ≡ drawn pcg32 (1000 * length crew.old) picks.old }
-    ensures order { TurnsOf W.conduct (named pcg32 (length crew.old) (1000 * length crew.old) picks.old) chip.old crew.old chip.new crew.new }
-    ensures stands { CrewStands W.conduct chip.old crew.old chip.new crew.new }
+    ensures order { TurnsOf (members_of W.conduct) (named pcg32 (length crew.old) (1000 * length crew.old) picks.old) chip.old crew.old chip.new crew.new }
+    ensures stands { CrewStands (members_of W.conduct) chip.old crew.old chip.new crew.new }
 {
     let ranks = chip.setup().nue() as usize;
     for turn in 0..TURNS * ranks {
         let at = picks.next_word() as usize % crew.len();
-        turn_at(chip, crew, at);
+        turn_at_home(chip, Rank::of(at as u8), &mut crew[at].worker);
     }
 }

@@ -1,15 +1,32 @@
 //! A run by sweeps alone, on one thread.
 
 ghost use Rattle.std.specs.Prelude.{ℕ, length};
-ghost use Rattle.chip_run.specs.Crews.{AllRest, CrewStands, EndsWith, IsCrew};
+ghost use Rattle.std.specs.List.{range_with_len};
+ghost use Rattle.chip_run.specs.Crews.{AllRest, CrewStands, EndsWith, IsCrew, SweepStands};
 ghost use Rattle.chip_run.specs.Orders.{TurnsOf, sweeps_of};
 ghost use Rattle.chip_run.specs.Waiting.{NoneDrafts};
 ghost use Rattle.scc_mesh.specs.Scenes.{about_in, records_in};
 
-use crate::crews::sweep;
 use crate::ends::RunEnd;
-use crate::workers::Worker;
+use crate::rests::Rest;
+use crate::workers::{Worker, turn_at_home};
+use scc_base::Rank;
 use scc_mesh::Chip;
+
+/// A turn of each worker, in rank order.
+fn sweep<W: Worker>(chip: &mut Chip, crew: &mut [W]) -> Rest
+    requires crew { IsCrew W.conduct chip.old crew.old }
+    ensures swept { SweepStands W.conduct result (length crew.old) chip.old crew.old chip.new crew.new }
+    ensures order { TurnsOf W.conduct (range_with_len 0 (length crew.old)) chip.old crew.old chip.new crew.new }
+{
+    let _ = chip.setup().nue();
+    let mut so_far = Rest::Finished;
+    for at in 0..crew.len() {
+        let came = turn_at_home(chip, Rank::of(at as u8), &mut crew[at]);
+        so_far = so_far.and(came);
+    }
+    so_far
+}
 
 /// Runs the workers of a chip by sweeps in rank order alone, until one in which none moves. No memory is taken.
 pub fn run_by_sweeps<W: Worker>(chip: &mut Chip, crew: &mut [W]) -> RunEnd

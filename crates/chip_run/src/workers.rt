@@ -1,7 +1,7 @@
 //! What one rank does in a run, a turn at a time.
 
 ghost use Rattle.std.specs.Prelude.{◌<◌};
-ghost use Rattle.chip_run.specs.Turns.{NoneElseHolds, OwnTurn, TurnedAtHome};
+ghost use Rattle.chip_run.specs.Turns.{NoneElseHolds, TurnedAtHome};
 ghost use Rattle.scc_mesh.specs.Scenes.{IsWhole, about_in, events_in, records_in};
 
 use crate::rests::Rest;
@@ -49,20 +49,9 @@ pub(crate) fn turn_at_home<W: Worker>(chip: &mut Chip, rank: Rank, worker: &mut 
     requires ties { W.conduct.tied worker.old (about_in chip.old) rank (events_in chip.old rank) }
     ensures turned { TurnedAtHome W.conduct chip.old rank worker.old chip.new worker.new result }
 {
-    let answer = own_turn(chip, rank, worker);
-    chip.agrees();
-    Rest::of(&answer, worker.is_stopped())
-}
-
-/// The same, as its port sees it.
-fn own_turn<W: Worker>(chip: &mut Chip, rank: Rank, worker: &mut W) -> Turn
-    requires whole { IsWhole chip.old }
-    requires below { rank < (about_in chip.old).nue }
-    requires ties { W.conduct.tied worker.old (about_in chip.old) rank (events_in chip.old rank) }
-    ensures turned { OwnTurn W.conduct chip.old rank worker.old chip.new worker.new result }
-{
     let (answer, port) = worker.turn(chip.port(rank));
     // The chip goes back here.
     let _chip = port.chip;
-    answer
+    chip.agrees();
+    Rest::of(&answer, worker.is_stopped())
 }

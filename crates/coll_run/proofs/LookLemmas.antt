@@ -1,25 +1,19 @@
 -- What each answer of a collective call's turn means to a run.
-use Rattle.std.proofs.Common.{◌≡◌, ◌⊎◌, inl, inr, ℕ, ◌+◌, ◌||◌, if◌then◌else◌, Bool, true, false, List, [], ◌∷◌, ◌++◌, length, Some, refl, sym, ap, ◌∙◌, subst, arith, length-append}
-use Rattle.std.specs.List.{list_all}
+use Rattle.std.proofs.Common.{◌≡◌, ℕ, ◌+◌, ◌||◌, if◌then◌else◌, Bool, true, false, List, [], ◌∷◌, ◌++◌, length, Some, refl, sym, ap, ◌∙◌, arith, length-append}
 use Rattle.scc_base.specs.declared.events.Event.{Event}
 use Rattle.scc_base.specs.declared.events.Spot.{Spot}
-use Rattle.scc_proto.specs.Agreement.{Agrees}
-use Rattle.scc_proto.specs.Like.{Like}
-use Rattle.scc_proto.specs.Ports.{Seat, Sight, and_then, record_in}
-use Rattle.scc_proto.specs.Resting.{is_resting}
+use Rattle.scc_proto.specs.Ports.{Seat, Sight, record_in}
 use Rattle.scc_proto.specs.Stages.{Idle, Record}
-use Rattle.scc_proto.specs.Views.{view_of}
-use Rattle.scc_proto.specs.Words.{IsStep, Memory}
+use Rattle.scc_proto.specs.Words.{Memory}
 use Rattle.put_get.specs.Accesses.{WereSteps}
-use Rattle.send_recv.specs.Ops.{SendAt, SlotAt}
+use Rattle.sync_flags.specs.Tries.{Aim}
+use Rattle.send_recv.specs.Ops.{SlotAt}
 use Rattle.send_recv.specs.declared.answers.RecvTurn.TheVariants as turn
-use Rattle.chip_run.specs.Turns.{HasMoved, HasWaited, IsDone, NoneElseHolds}
-use Rattle.chip_run.specs.Waiting.{RaiseWaits, SlotWaits, Waits}
+use Rattle.chip_run.specs.Turns.{HasMoved, HasWaited, IsDone}
 use Rattle.chip_run.specs.Wants.{Want}
-use Rattle.chip_run.proofs.Looks.{waits_same}
-use Rattle.rcce_ue.proofs.UeLooks as looks
-use Rattle.rcce_ue.proofs.UeLooks.{Tells}
-use Rattle.rcce_ue.proofs.WorkerTurns.{Sought, rest_alike, sought_by, sought_like, sought_tells}
+use Rattle.waiting_laws.specs.Looks.{LookedInVain, SeatWaits}
+use Rattle.waiting_laws.proofs.Messages.{receives_here, sends_here}
+use Rattle.waiting_laws.proofs.Waited.{turn_waited}
 use Rattle.coll_more.specs.Ops.{MoreAt, bytes_of, table_of, window, taking_part}
 use Rattle.coll_more.specs.Standing.{MoreStands, StandsAt}
 use Rattle.coll_more.specs.Turns.{IsStill, MoreTurned, aim_by, is_over_by, left_by, more_left}
@@ -28,7 +22,7 @@ use Rattle.coll_more.specs.declared.ops.Stage.{Stage}
 use Rattle.coll_more.specs.declared.ops.Stage.TheVariants.{Own, Between, Sending, Receiving}
 use Rattle.coll_run.specs.Resting.{want_at}
 use Rattle.coll_run.specs.Teams.{MemberView, seat_of}
-use Rattle.coll_run.specs.Workers.{Stays, member_conduct, member_seen, member_want}
+use Rattle.coll_run.specs.Workers.{Stays, member_conduct, member_seen}
 
 -- nothing more is nothing
 none_more : (xs ys : List Event) → xs ≡ xs ++ ys → ys ≡ []
@@ -62,66 +56,20 @@ module _ (s t : Sight) (old new : MemberView) where
 module _ (stepped : List Event → Event → Type 0) (s t : Sight) (old new : MemberView) where
   module _ (spot : Spot) (stands : MoreStands [] (taking_part s old.core old.op old.slot old.src old.dst))
       (turned : MoreTurned (taking_part s old.core old.op old.slot old.src old.dst) (taking_part t new.core new.op new.slot old.src new.dst) (turn.Waiting spot)) (steps : WereSteps stepped s.events turned.events) where
-    sought : Sought stepped (aim_by s.seat old.slot old.op.stage) s.events turned.events
-    sought = sought_by stepped (aim_by s.seat old.slot old.op.stage) s.events turned.events (Some spot) spot refl steps turned.tried
-
-    alike : Like (record_in s) (record_in t)
-    alike = let still = turned.means.0 in rest_alike (record_in s) (record_in t) still.rest
-
-    rests : list_all is_resting turned.events ≡ true
-    rests = turned.rests spot refl
-
-    module _ (memory : Memory) (records : ℕ → Record) (agrees : Agrees s.seat.setup memory records) (mine : records s.seat.rank ≡ record_in (and_then s sought.look.before))
-        (others : NoneElseHolds s.seat.setup records s.seat.rank) (step : IsStep memory sought.look.event) where
-      like : Like (record_in s) (records s.seat.rank)
-      like = sought_like stepped (aim_by s.seat old.slot old.op.stage) s t turned.events sought turned.did memory records agrees mine others step rests alike
-
-      tells : Tells memory sought.aim
-      tells = sought_tells stepped (aim_by s.seat old.slot old.op.stage) s t turned.events sought turned.did memory records agrees mine others step
-
-      abbrev Here : Record → Stage → Type 0
-      Here rec st = Waits s.seat.setup (view_of s.seat.setup memory) s.seat.rank rec (want_at st)
-
-      sending_waits : (op : SendAt) (call : PieceCall) → SlotWaits (view_of s.seat.setup memory) s.seat.rank (record_in s)
-          ⊎ ((op.posted ≡ false) × RaiseWaits s.seat.setup (view_of s.seat.setup memory) s.seat.rank op.to op.head (records s.seat.rank)) → Here (records s.seat.rank) (Sending call op)
-      sending_waits op call (inl slot) =
-          waits_same s.seat.setup (view_of s.seat.setup memory) s.seat.rank (record_in s) (records s.seat.rank) like (want_at (Sending call op)) (inl slot)
-      sending_waits op call (inr (own, raise)) = inr raise
-
-      waits_by : (st : Stage) → StandsAt s old.core old.slot (table_of s.seat old.op) old.op.ended old.src old.dst st → aim_by s.seat old.slot st ≡ Some sought.aim → Here (records s.seat.rank) st
+    module _ (memory : Memory) (records : ℕ → Record) (aim : Aim) (look : LookedInVain s.seat memory records (record_in s) aim) where
+      waits_by : (st : Stage) → StandsAt s old.core old.slot (table_of s.seat old.op) old.op.ended old.src old.dst st → aim_by s.seat old.slot st ≡ Some aim → SeatWaits s.seat memory records (want_at st)
       waits_by Own st is = absurd (cc (is))
       waits_by Between st is = absurd (cc (is))
-      waits_by (Sending call op) st is =
-          sending_waits op call (looks.send_waits s.seat memory records agrees (record_in s) like old.core op old.slot (bytes_of call old.src old.dst) sought.aim tells st.2 is)
-      waits_by (Receiving call op) st is = looks.recv_waits s.seat memory records agrees (record_in s) like old.core op (window call.first call.len old.dst) sought.aim tells st.3 is
+      waits_by (Sending call op) st is = sends_here s.seat memory records (record_in s) aim look old.core op old.slot (bytes_of call old.src old.dst) st.2 is
+      waits_by (Receiving call op) st is = receives_here s.seat memory records (record_in s) aim look old.core op (window call.first call.len old.dst) st.3 is
 
-      waits_old : Here (records s.seat.rank) old.op.stage
-      waits_old = waits_by old.op.stage stands.at sought.aim_is
-
-      -- so it waits for what it wants
-      waits_here : old.met ≡ false → Waits s.seat.setup (view_of s.seat.setup memory) s.seat.rank (records s.seat.rank) (member_want s.seat.setup s.seat.rank old)
-      waits_here running =
-          let still = turned.means in
-          let is : want_at old.op.stage ≡ member_want s.seat.setup s.seat.rank old =
-          λ i. if sym running i || sym still.1 i then Want.Nothing else want_at old.op.stage in
-          subst (λ (w : Want). Waits s.seat.setup (view_of s.seat.setup memory) s.seat.rank (records s.seat.rank) w) is waits_old
-
+    -- so it waits for what it wants
     pub has_waited : old.met ≡ false → new.met ≡ old.met → new.src ≡ old.src → HasWaited member_conduct stepped s.seat.setup s.seat.rank s.events turned.events old new
-    unfolding record_in
-    has_waited running met src = record {
-      stays = stays_still s t old new turned.means.0 src;
-      seen = seen_still s t old new turned.means.0 met;
-      rests = rests;
-      alike = subst (λ (r : Record). Like (record_in s) r) (ap record_in turned.did.continues) alike;
-      look = record {
-        before = sought.look.before;
-        look = sought.look.event;
-        behind = sought.look.behind;
-        is = sought.look.is;
-        step = sought.look.step;
-        waits = λ memory records agrees mine others step. waits_here memory records agrees mine others step running;
-      };
-    }
+    has_waited running met src =
+        let still = turned.means in
+        turn_waited stepped (aim_by s.seat old.slot old.op.stage) s t turned.events spot turned.did steps turned.tried (turned.rests spot refl) still.0.rest member_conduct old new (want_at old.op.stage)
+        (λ i. if sym running i || sym still.1 i then Want.Nothing else want_at old.op.stage) (stays_still s t old new still.0 src) (seen_still s t old new still.0 met)
+        (λ memory records aim look is. waits_by memory records aim look old.op.stage stands.at is)
 
 -- ---- the other answers
 

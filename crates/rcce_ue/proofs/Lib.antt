@@ -13,7 +13,6 @@ pub mod StartLemmas
 pub mod Carry
 pub mod OpAnswers
 pub mod StretchTurns
-pub mod WaitLemmas
 pub mod OtherPort
-pub mod UeLooks
+pub mod BarLooks
 pub mod WorkerTurns

@@ -20,9 +20,8 @@ use Rattle.script_plain.specs.Moves.{bytes_out, is_receiving, is_stopped, length
 use Rattle.script_plain.specs.Next.{Next, is_going}
 use Rattle.script_plain.specs.Next.Next.{Ends, Goes, Posts, Sends, Recvs, Bars}
 use Rattle.rcce_ue.specs.Standing.{IsRecvOf, Tied}
-use Rattle.rcce_ue.specs.Turns.{Turns, is_open_none}
+use Rattle.rcce_ue.specs.Turns.{Turns}
 use Rattle.rcce_ue.specs.Ues.{UeView, counted, entered, posted_by}
-use Rattle.rcce_ue.specs.declared.calls.Open.{Open}
 use Rattle.rcce_ue.specs.declared.calls.Open.TheVariants.{Nothing, Sending, Receiving, Meeting}
 use Rattle.rcce_ue.proofs.AloneTurns.{alone_goes, slot_turns, stopped_done}
 use Rattle.rcce_ue.proofs.BarTurns.{bar_done, bar_moved, bar_waited}
@@ -162,18 +161,6 @@ module _ (ue old now : UeView) (s t : Sight) where
         (λ there. bar_done ue s t op there d next values stands r)
 
 -- no call is open
-nothing_by : (op : Open) → IsTrue (is_open_none op) → op ≡ Nothing
-nothing_by Nothing is = refl
-nothing_by (Sending op) is = absurd (cc)
-nothing_by (Receiving op) is = absurd (cc)
-nothing_by (Meeting op) is = absurd (cc)
-
-pub none_open : (old b : UeView) → old ≡ b → IsTrue (is_open_none old.op) → b.op ≡ Nothing
-none_open old b same is = nothing_by b.op (subst (λ (x : UeView). IsTrue (is_open_none x.op)) same is)
-
-pub nothing_open : (old b : UeView) → old ≡ b → IsTrue (is_open_none old.op) → old ≡ record b { op = Nothing }
-nothing_open old b same is = same ∙ (λ i. record b { op = none_open old b same is i })
-
 module _ (ue old now : UeView) (s : Sight) (before : old ≡ record ue { op = Nothing }) (tied : Tied old s) where
   abbrev went_ue : UeView
   went_ue = entered (record ue { machine = record ue.machine { local = went (local_next ue.machine.local) ue.machine.local } })

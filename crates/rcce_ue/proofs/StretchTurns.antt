@@ -1,19 +1,19 @@
 -- Turns of a UE in a row that write or read the lines of a chunk.
-use Rattle.std.proofs.Common.{◌≡◌, ℕ, true, List, ◌++◌, length, take, drop, take_at, length-append, length-drop, refl, sym, ap, ◌∙◌, subst, arith}
+use Rattle.std.proofs.Common.{◌≡◌, ℕ, Bool, true, false, ◌||◌, List, ◌++◌, length, take, drop, take_at, length-append, length-drop, refl, sym, ap, ◌∙◌, subst, arith}
 use Rattle.scc_base.specs.Heads.{MessageHead}
-use Rattle.scc_base.specs.declared.events.Turn.TheVariants as turn
 use Rattle.scc_proto.specs.Ports.{Sight}
 use Rattle.put_get.specs.Cores.{Private}
 use Rattle.send_recv.specs.declared.answers.RecvTurn.TheVariants as receive
 use Rattle.send_recv.specs.Ops.{RecvAt, SendAt, SlotAt}
 use Rattle.send_recv.specs.Ranks.{Receiver, receiving, sending}
 use Rattle.send_recv.specs.Receiving.{RecvStands, RecvTurned}
-use Rattle.send_recv.specs.Sending.{SendStands, SendTurned}
+use Rattle.send_recv.specs.Sending.{SendStands}
+use Rattle.send_recv.specs.Stretches as line
 use Rattle.send_recv.specs.Stretches.{WroteLines, WroteOne, WroteMore, ReadLines, ReadOne, ReadMore}
 use Rattle.script_plain.specs.Local.{local_next}
 use Rattle.script_plain.specs.Moves.{bytes_out, length_in}
 use Rattle.rcce_ue.specs.Standing.{Tied}
-use Rattle.rcce_ue.specs.Stretches.{Moves, UeMoves, MovedOnce, MovedOn}
+use Rattle.rcce_ue.specs.Stretches.{Moves, MovedOnce, MovedOn, is_reading, is_writing}
 use Rattle.rcce_ue.specs.Ues.{UeView}
 use Rattle.rcce_ue.specs.declared.calls.Open.TheVariants.{Sending, Receiving}
 use Rattle.send_recv.proofs.StretchLoop.{read_same}
@@ -114,3 +114,22 @@ read_moves ue old now s t op next d inbox before tied room stands lines is =
     let same = len_is ue s op there in
     reads ue s op there (receiving t d next (take op.head.len inbox)) inbox (room ∙ there.room) (ap (λ (n : ℕ). take n inbox) (sym same))
     (subst (λ (n : ℕ). ReadLines (receiving s ue.core op (take n ue.inbox)) (receiving t d next (take op.head.len inbox))) same lines) stands)
+
+-- ---- whether the next turn writes or reads a line
+
+or_none : (r : Bool) → r ≡ (r || false)
+or_none true = refl
+or_none false = refl
+
+module _ (ue old : UeView) (r : Bool) where
+  abbrev Tells : Type 0
+  Tells = r ≡ (is_writing old.op || is_reading old.op)
+
+  told : (b : UeView) → old ≡ b → r ≡ (is_writing b.op || is_reading b.op) → Tells
+  told b before is = is ∙ sym (ap (λ (x : UeView). is_writing x.op || is_reading x.op) before)
+
+  pub writes_tell : (op : SendAt) → old ≡ record ue { op = Sending op } → r ≡ line.is_writing op.stage → Tells
+  writes_tell op before is = told (record ue { op = Sending op }) before (or_none r ∙ ap (λ (b : Bool). b || false) is)
+
+  pub reads_tell : (op : RecvAt) → old ≡ record ue { op = Receiving op } → r ≡ line.is_reading op.stage → Tells
+  reads_tell op before is = told (record ue { op = Receiving op }) before is

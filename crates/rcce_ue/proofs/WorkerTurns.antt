@@ -1,28 +1,21 @@
 -- A turn of a UE is a turn of a worker.
-use Rattle.std.proofs.Common.{◌≡◌, ◌⊎◌, inl, inr, ⊎_elim, ℕ, ◌%◌, ◌<◌, ◌&&◌, ◌||◌, not, if◌then◌else◌, Bool, true, false, List, [], ◌∷◌, ◌++◌, Option, Some, None, is_none, option_map, refl, sym, ap, ◌∙◌, subst, take, length, arith, length-append}
-use Rattle.std.specs.List.{list_all}
+use Rattle.std.proofs.Common.{◌≡◌, ◌⊎◌, inl, inr, ⊎_elim, ℕ, ◌%◌, ◌&&◌, ◌||◌, not, if◌then◌else◌, Bool, true, false, List, [], ◌∷◌, ◌++◌, Option, Some, None, is_none, option_map, refl, sym, ap, ◌∙◌, subst, take, length, arith, length-append}
 use base.Stored.{gnil}
 use Rattle.scc_base.specs.Heads.{MessageHead}
 use Rattle.scc_base.specs.Setups.{SetupView}
-use Rattle.scc_base.specs.declared.events.Access.{Access}
 use Rattle.scc_base.specs.declared.events.Event.{Event}
 use Rattle.scc_base.specs.declared.events.Spot.{Spot}
 use Rattle.scc_base.specs.declared.events.Turn.{Turn}
 use Rattle.scc_base.specs.declared.events.Turn.TheVariants as turn
-use Rattle.scc_proto.specs.Agreement.{Agrees}
-use Rattle.scc_proto.specs.Like.{Like, unanswered}
-use Rattle.scc_proto.specs.Ports.{Did, Seat, Sight, WereMade, and_then, record_in, record_on}
-use Rattle.scc_proto.specs.Records.{IsPermitted, permits_by, record_from, record_of}
-use Rattle.scc_proto.specs.Resting.{is_resting}
+use Rattle.scc_proto.specs.Like.{Like}
+use Rattle.scc_proto.specs.Ports.{Seat, Sight, record_in}
 use Rattle.scc_proto.specs.Stages.{Idle, OnItsWay, Record}
 use Rattle.scc_proto.specs.Views.{view_of}
-use Rattle.scc_proto.specs.Words.{IsStep, Memory}
-use Rattle.scc_proto.proofs.PortLaws.{made_left, record_in-and_then}
-use Rattle.scc_proto.proofs.RestLaw.{resting_part}
+use Rattle.scc_proto.specs.Words.{Memory}
 use Rattle.scc_proto.proofs.Tests.{both_first, both_second}
 use Rattle.put_get.specs.Accesses.{WereSteps}
 use Rattle.put_get.specs.Cores.{MadeSteps}
-use Rattle.sync_flags.specs.Tries.{Aim, Fruitful, NoTry, Tried, Vain, changing_after, is_take}
+use Rattle.sync_flags.specs.Tries.{Aim}
 use Rattle.send_recv.specs.Ops.{RecvAt, SendAt}
 use Rattle.send_recv.specs.Turns as sr
 use Rattle.barrier.specs.Flags.{IsParityOf}
@@ -32,37 +25,23 @@ use Rattle.script_plain.specs.Moves.{bytes_out, is_ended, is_stopped, length_in}
 use Rattle.script_plain.specs.Next.{Next}
 use Rattle.script_plain.specs.Next.Next.{Ends, Goes, Posts, Sends, Recvs, Bars}
 use Rattle.script_plain.proofs.StoppedLaws.{stopped_ends}
-use Rattle.rcce_ue.specs.Left.{left_of}
 use Rattle.rcce_ue.specs.Standing.{IsBarOf, IsRecvOf, IsSendOf, OpStands, Tied}
-use Rattle.rcce_ue.specs.Stretches.{MovedOn, MovedOnce, Once, UeInARow, UeMoves, UeStretched}
+use Rattle.rcce_ue.specs.Stretches.{MovedOn, MovedOnce, UeMoves}
 use Rattle.rcce_ue.specs.Turns.{UeTurned, aim_by, ue_aim}
 use Rattle.rcce_ue.specs.Ues.{UeView}
 use Rattle.rcce_ue.specs.declared.calls.Open.{Open}
 use Rattle.rcce_ue.specs.declared.calls.Open.TheVariants.{Nothing, Sending, Receiving, Meeting}
 use Rattle.rcce_ue.proofs.OtherPort.{tied_there}
-use Rattle.rcce_ue.proofs.WaitLemmas.{VainStep, found}
 use Rattle.chip_run.specs.Waiting.{BarWaits, RaiseWaits, SlotWaits, TakeWaits}
-use Rattle.chip_run.specs.Turns.{HasMoved, HasWaited, InARow, IsDone, MoreMoved, NoneElseHolds, OneMoved, OneTurn, Stretched, TurnMeans, Turned, TurnsMoved}
+use Rattle.chip_run.specs.Turns.{HasMoved, HasWaited, InARow, IsDone, MoreMoved, OneMoved, OneTurn, Stretched, TurnMeans, Turned, TurnsMoved}
 use Rattle.chip_run.specs.Waiting.{Waits}
 use Rattle.chip_run.specs.Wants.{Want}
-use Rattle.chip_run.proofs.HomeTurns.{both_pass, record_split}
 use Rattle.chip_run.proofs.Looks.{waits_same}
 use Rattle.rcce_ue.specs.Workers.{UeStands, slot_awaited, ue_conduct, ue_seen, ue_want, want_at_end, want_next}
-use Rattle.rcce_ue.proofs.UeLooks.{Tells, bar_waits, recv_waits, send_waits, slot_waits, take_is, told}
-
--- ---- events that rest, and records that are alike
-
-post_alike : (o new : Option OnItsWay) → sr.IsSamePost o new → option_map unanswered o ≡ option_map unanswered new
-post_alike None new same = ap (option_map unanswered) (sym same)
-post_alike (Some post) new (answered, is, kept) = ap (option_map unanswered) (sym is)
-
-pub rest_alike : (rec new : Record) → sr.IsAtRest rec new → Like rec new
-rest_alike rec new rest = record {
-  stage = sym rest.stage;
-  post = post_alike rec.post new.post rest.post;
-  flips = λ comm. ap (λ (flips : ℕ → ℕ). flips comm) (sym rest.rest.flips);
-  calls = sym rest.calls;
-}
+use Rattle.rcce_ue.proofs.BarLooks.{bar_waits}
+use Rattle.waiting_laws.specs.Looks.{LookedInVain}
+use Rattle.waiting_laws.proofs.Messages.{recv_waits, send_waits, slot_waits}
+use Rattle.waiting_laws.proofs.Waited.{rest_alike, turn_waited}
 
 -- ---- what a UE waits for
 
@@ -127,90 +106,30 @@ if_some false o aim is = absurd (cc (is))
 
 -- ---- a turn that waits
 
--- the record before a part of events that rest is alike
-like_before : (s t : Sight) (events before behind : List Event) → Did s events t → list_all is_resting events ≡ true → events ≡ before ++ behind → Like (record_in s) (record_in t)
-    → Like (record_in s) (record_in (and_then s before))
-unfolding record_in
-like_before s t events before behind did rests is alike =
-    let (front, rest) = both_pass before behind (subst (λ (es : List Event). list_all is_resting es ≡ true) is rests) in
-    let rec : Record = record_of s.seat.setup s.seat.rank s.events in
-    let whole : Like rec (record_from s.seat.setup s.seat.rank rec (before ++ behind)) =
-    subst (λ (x : Record). Like rec x)
-    (ap record_in did.continues ∙ ap (λ (es : List Event). record_of s.seat.setup s.seat.rank (s.events ++ es)) is ∙ record_split s.seat.setup s.seat.rank s.events (before ++ behind)) alike in
-    subst (λ (x : Record). Like rec x) (sym (record_split s.seat.setup s.seat.rank s.events before)) (resting_part s.seat.setup s.seat.rank rec before behind front rest whole)
-
--- a register is taken only where the rank does not hold it
-take_allowed : (s t : Sight) (events before behind : List Event) (e : Event) → Did s events t → events ≡ before ++ e ∷ behind → is_take e.access ≡ true
-    → is_none ((record_in (and_then s before)).held e.place.core) ≡ true
-take_allowed s t events before behind e did is takes =
-    let made : WereMade s.seat (record_in s) (before ++ e ∷ behind) = subst (WereMade s.seat (record_in s)) is did.made in
-    let may : IsPermitted s.seat.setup s.seat.rank (record_on s.seat (record_in s) before) e = (made_left s.seat (record_in s) before (e ∷ behind) made).0.permitted in
-    let here : IsPermitted s.seat.setup s.seat.rank (record_in (and_then s before)) e = subst (λ (r : Record). IsPermitted s.seat.setup s.seat.rank r e) (sym (record_in-and_then s before)) may in
-    subst (λ (a : Access). permits_by s.seat.setup s.seat.rank (record_in (and_then s before)) a e.place e.value ≡ true) (take_is e.access takes) here
-
--- the one try of the turn, which was vain
-pub record Sought (stepped : List Event → Event → Type 0) (tried : Option Aim) (past events : List Event) : Type 0 where
-  pub aim : Aim
-  pub aim_is : tried ≡ Some aim
-  pub look : VainStep stepped past aim false events
-
-pub sought_by : (stepped : List Event → Event → Type 0) (tried : Option Aim) (past events : List Event) (waits : Option Spot) (spot : Spot) → waits ≡ Some spot
-    → WereSteps stepped past events → Tried tried events waits → Sought stepped tried past events
-sought_by stepped tried past events waits spot is steps (NoTry none no_spot) = absurd (cc (is, no_spot))
-sought_by stepped tried past events waits spot is steps (Vain at aims one vain here) = record { aim = at; aim_is = aims; look = found stepped past at false 0 events one vain steps }
-sought_by stepped tried past events waits spot is steps (Fruitful at aims one vain no_spot) = absurd (cc (is, no_spot))
-
--- where the look is a step of words that agree with records, the rank's own being that before it: the record is alike to the one
--- before the turn, and the words tell what the look was for
-module _ (stepped : List Event → Event → Type 0) (tried : Option Aim) (s t : Sight) (events : List Event) (sought : Sought stepped tried s.events events) (did : Did s events t)
-    (memory : Memory) (records : ℕ → Record) (agrees : Agrees s.seat.setup memory records) (mine : records s.seat.rank ≡ record_in (and_then s sought.look.before))
-    (others : NoneElseHolds s.seat.setup records s.seat.rank) (step : IsStep memory sought.look.event) where
-  pub sought_like : list_all is_resting events ≡ true → Like (record_in s) (record_in t) → Like (record_in s) (records s.seat.rank)
-  sought_like rests alike = subst (λ (r : Record). Like (record_in s) r) (sym mine)
-      (like_before s t events sought.look.before (sought.look.event ∷ sought.look.behind) did rests sought.look.is alike)
-
-  pub sought_tells : Tells memory sought.aim
-  sought_tells = told s.seat.setup memory records s.seat.rank agrees others (changing_after false sought.look.before) sought.aim sought.look.event sought.look.try_is sought.look.vain
-      (λ takes. subst (λ (r : Record). is_none (r.held sought.look.event.place.core) ≡ true) (sym mine)
-      (take_allowed s t events sought.look.before sought.look.behind sought.look.event did sought.look.is takes)) step
-
 module _ (stepped : List Event → Event → Type 0) (x : UeView) (s t : Sight) (now : UeView) (spot : Spot) (tied : Tied x s) (later : Tied now t) (turned : UeTurned x s now t (turn.Waiting spot))
     (steps : WereSteps stepped s.events turned.events) where
-  sought : Sought stepped (ue_aim s.seat x now.parity) s.events turned.events
-  sought = sought_by stepped (ue_aim s.seat x now.parity) s.events turned.events (Some spot) spot refl steps turned.tried
-
   alike : Like (record_in s) (record_in t)
   alike = rest_alike (record_in s) (record_in t) turned.means.2
 
-  rests : list_all is_resting turned.events ≡ true
-  rests = turned.rests spot refl
+  parity : IsParityOf (record_in s) now.parity
+  parity comm low = later.parity_is comm low ∙ ap (λ (n : ℕ). n % 2) (sym (alike.flips comm))
 
-  module _ (memory : Memory) (records : ℕ → Record) (agrees : Agrees s.seat.setup memory records) (mine : records s.seat.rank ≡ record_in (and_then s sought.look.before))
-      (others : NoneElseHolds s.seat.setup records s.seat.rank) (step : IsStep memory sought.look.event) where
-    like : Like (record_in s) (records s.seat.rank)
-    like = sought_like stepped (ue_aim s.seat x now.parity) s t turned.events sought turned.did memory records agrees mine others step rests alike
-
-    tells : Tells memory sought.aim
-    tells = sought_tells stepped (ue_aim s.seat x now.parity) s t turned.events sought turned.did memory records agrees mine others step
-
-    parity : IsParityOf (record_in s) now.parity
-    parity comm low = later.parity_is comm low ∙ ap (λ (n : ℕ). n % 2) (sym (alike.flips comm))
-
+  module _ (memory : Memory) (records : ℕ → Record) (aim : Aim) (look : LookedInVain s.seat memory records (record_in s) aim) where
     abbrev Here : Record → Type 0
     Here rec = Waits s.seat.setup (view_of s.seat.setup memory) s.seat.rank rec (ue_want x)
 
     same : Here (record_in s) → Here (records s.seat.rank)
-    same waits = waits_same s.seat.setup (view_of s.seat.setup memory) s.seat.rank (record_in s) (records s.seat.rank) like (ue_want x) waits
+    same waits = waits_same s.seat.setup (view_of s.seat.setup memory) s.seat.rank (record_in s) (records s.seat.rank) look.like (ue_want x) waits
 
     abbrev at_end : Want
     at_end = want_at_end (slot_awaited x)
 
-    waits_by : (op : Open) → OpStands s x.core x.slot x.parity x.inbox op (local_next x.machine.local) → aim_by s.seat x.machine.local x.slot now.parity op ≡ Some sought.aim → Here (records s.seat.rank)
+    waits_by : (op : Open) → OpStands s x.core x.slot x.parity x.inbox op (local_next x.machine.local) → aim_by s.seat x.machine.local x.slot now.parity op ≡ Some aim → Here (records s.seat.rank)
     waits_by Nothing (between, none) is =
-        let (over, aims) = if_some (not (is_stopped x.machine.local) && is_ended (local_next x.machine.local)) _ sought.aim is in
+        let (over, aims) = if_some (not (is_stopped x.machine.local) && is_ended (local_next x.machine.local)) _ aim is in
         let ends : local_next x.machine.local ≡ Ends = ended_is (local_next x.machine.local) (both_second (not (is_stopped x.machine.local)) (is_ended (local_next x.machine.local)) over) in
         let running : is_stopped x.machine.local ≡ false = not_of (is_stopped x.machine.local) (both_first (not (is_stopped x.machine.local)) (is_ended (local_next x.machine.local)) over) in
-        let slot : SlotWaits (view_of s.seat.setup memory) s.seat.rank (record_in s) = slot_waits s.seat memory records agrees (record_in s) like x.slot sought.aim tied.slot_is between.stage aims tells in
+        let slot : SlotWaits (view_of s.seat.setup memory) s.seat.rank (record_in s) = slot_waits s.seat memory records look.agrees (record_in s) look.like x.slot aim tied.slot_is between.stage aims look.tells in
         same (ends_wait s.seat.setup memory s.seat.rank (record_in s) (is_stopped x.machine.local) x.slot.to slot.post.to (local_next x.machine.local) running
         (tied.slot_is.to ∙ ap (option_map (λ (post : OnItsWay). post.to)) slot.is_posted) ends slot)
     waits_by (Sending op) (stands, of_next) is =
@@ -219,37 +138,27 @@ module _ (stepped : List Event → Event → Type 0) (x : UeView) (s t : Sight) 
         same (sends_wait s.seat.setup memory s.seat.rank (record_in s) at_end op (local_next x.machine.local) of_next (inl slot)))
         (λ (raise : (op.posted ≡ false) × RaiseWaits s.seat.setup (view_of s.seat.setup memory) s.seat.rank op.to op.head (records s.seat.rank)).
         sends_wait s.seat.setup memory s.seat.rank (records s.seat.rank) at_end op (local_next x.machine.local) of_next (inr raise))
-        (send_waits s.seat memory records agrees (record_in s) like x.core op x.slot (bytes_out (local_next x.machine.local)) sought.aim tells stands is)
+        (send_waits s.seat memory records look.agrees (record_in s) look.like x.core op x.slot (bytes_out (local_next x.machine.local)) aim look.tells stands is)
     waits_by (Receiving op) (stands, of_next) is =
         receives_wait s.seat.setup memory s.seat.rank (records s.seat.rank) at_end op (local_next x.machine.local) of_next
-        (recv_waits s.seat memory records agrees (record_in s) like x.core op (take (length_in (local_next x.machine.local)) x.inbox) sought.aim tells stands is)
+        (recv_waits s.seat memory records look.agrees (record_in s) look.like x.core op (take (length_in (local_next x.machine.local)) x.inbox) aim look.tells stands is)
     waits_by (Meeting op) (stands, of_next) is =
         meets_wait s.seat.setup memory s.seat.rank (records s.seat.rank) at_end op (local_next x.machine.local) of_next
-        (bar_waits s.seat memory records agrees (record_in s) like op.comm now.parity sought.aim tells stands.below stands.present parity op.stage stands.at is)
+        (bar_waits s.seat memory records (record_in s) look.like op.comm now.parity aim look.tells stands.below stands.present parity op.stage stands.at is)
 
-    waits_here : Here (records s.seat.rank)
-    waits_here = waits_by x.op tied.stands sought.aim_is
+    waits_here : ue_aim s.seat x now.parity ≡ Some aim → Here (records s.seat.rank)
+    waits_here is = waits_by x.op tied.stands is
 
   pub has_waited : HasWaited ue_conduct stepped s.seat.setup s.seat.rank s.events turned.events x now
-  unfolding record_in
-  has_waited = record {
-    stays = record { script = turned.program.0; local = ap (λ (y : UeView). y.machine.local) turned.means.0 };
-    seen = λ i. record {
-      want = ap ue_want turned.means.0 i;
-      left = turned.means.1 i;
-      is_stopped = ap (λ (y : UeView). is_stopped y.machine.local) turned.means.0 i;
-    };
-    rests = rests;
-    alike = subst (λ (r : Record). Like (record_in s) r) (ap record_in turned.did.continues) alike;
-    look = record {
-      before = sought.look.before;
-      look = sought.look.event;
-      behind = sought.look.behind;
-      is = sought.look.is;
-      step = sought.look.step;
-      waits = λ memory records agrees mine others step. waits_here memory records agrees mine others step;
-    };
-  }
+  has_waited =
+      turn_waited stepped (ue_aim s.seat x now.parity) s t turned.events spot turned.did steps turned.tried (turned.rests spot refl) turned.means.2 ue_conduct x now (ue_want x) refl
+      (record { script = turned.program.0; local = ap (λ (y : UeView). y.machine.local) turned.means.0 })
+      (λ i. record {
+        want = ap ue_want turned.means.0 i;
+        left = turned.means.1 i;
+        is_stopped = ap (λ (y : UeView). is_stopped y.machine.local) turned.means.0 i;
+      })
+      (λ memory records aim look is. waits_here memory records aim look is)
 
 -- ---- a turn of a UE that is over
 
@@ -324,7 +233,7 @@ ue_turned stepped x s t now answer tied later turned steps = record {
   means = means_by (stepped s.seat) x s t now answer tied later turned (λ spot is. steps spot is turned.events turned.did);
 }
 
--- a stretch of a UE is one of a worker
+-- and so are turns in a row
 moved_on : (stepped : List Event → Event → Type 0) (x : UeView) (s t : Sight) (now : UeView) → UeTurned x s now t turn.Moved → Turned ue_conduct stepped x s now t turn.Moved
 moved_on stepped x s t now turned = record { events = turned.events; did = turned.did; means = has_moved x s t now turned }
 
@@ -333,10 +242,16 @@ ue_moves stepped x s t now (MovedOnce _ _ turned) = OneMoved now t (moved_on ste
 ue_moves stepped x s t now (MovedOn mid _ m _ before there turned) =
     MoreMoved mid now m t (ue_moves stepped x s m mid before) (moved_on stepped mid m t now turned)
 
-pub ue_stretched : (stepped : Seat → List Event → Event → Type 0) (x : UeView) (s t : Sight) (now : UeView) (answer : Turn) → Tied x s → Tied now t → UeStretched x s now t answer
-    → ((spot : Spot) → sr.waits_at answer ≡ Some spot → MadeSteps stepped s t) → Stretched ue_conduct (stepped s.seat) x s now t answer
-ue_stretched stepped x s t now answer tied later (Once turned) steps = OneTurn (ue_turned stepped x s t now answer tied later turned steps)
-ue_stretched stepped x s t now answer tied later (UeInARow moves is) steps = InARow (ue_moves (stepped s.seat) x s t now moves) is
+-- turns in a row that moved
+pub ue_in_a_row : (stepped : List Event → Event → Type 0) (x : UeView) (s t : Sight) (now : UeView) → UeMoves x s now t → Stretched ue_conduct stepped x s now t turn.Moved
+ue_in_a_row stepped x s t now moves = InARow (ue_moves stepped x s t now moves) refl
+
+-- one turn, of a UE that stands as it stood
+pub ue_once : (stepped : Seat → List Event → Event → Type 0) (x mid now : UeView) (s m t : Sight) (answer : Turn) → mid ≡ x → m ≡ s → Tied mid m → Tied now t → UeTurned mid m now t answer
+    → ((spot : Spot) → sr.waits_at answer ≡ Some spot → MadeSteps stepped m t) → Stretched ue_conduct (stepped s.seat) x s now t answer
+ue_once stepped x mid now s m t answer same there tied later turned steps =
+    subst (λ (y : Sight). Stretched ue_conduct (stepped y.seat) x y now t answer) there
+    (subst (λ (y : UeView). Stretched ue_conduct (stepped m.seat) y m now t answer) same (OneTurn (ue_turned stepped mid m t now answer tied later turned steps)))
 
 -- where a UE fits every port at which its rank has these events, it stands there
 pub ue_stands : (x : UeView) (s : SetupView) (rank : ℕ) (events : List Event) → ((sight : Sight) → sight.seat.setup ≡ s → sight.seat.rank ≡ rank → sight.events ≡ events → Tied x sight) → UeStands x s rank events

@@ -1,6 +1,5 @@
--- A stretch of turns of a UE (this project's profile).
-use Rattle.std.specs.Prelude.{◌≡◌, Bool, false}
-use Rattle.scc_base.specs.declared.events.Turn.{Turn}
+-- Turns of a UE that write or read the lines of a chunk (this project's profile).
+use Rattle.std.specs.Prelude.{Bool, false}
 use Rattle.scc_base.specs.declared.events.Turn.TheVariants as turn
 use Rattle.scc_proto.specs.Ports.{Sight}
 use Rattle.send_recv.specs.Stretches as line
@@ -33,8 +32,3 @@ pub data UeMoves (ue : UeView) (s : Sight) : UeView → Sight → Type 0 where
 pub record Moves (ue : UeView) (s : Sight) (now : UeView) (t : Sight) : Type 0 where
   pub tied : Tied now t
   pub moves : UeMoves ue s now t
-
--- a stretch: one turn, whatever it came to, or turns in a row, each of which moved
-pub data UeStretched (ue : UeView) (s : Sight) (now : UeView) (t : Sight) (answer : Turn) : Type 0 where
-  Once : UeTurned ue s now t answer → UeStretched ue s now t answer
-  UeInARow : UeMoves ue s now t → answer ≡ turn.Moved → UeStretched ue s now t answer

@@ -120,23 +120,3 @@ pub record UeTurned (ue : UeView) (s : Sight) (now : UeView) (t : Sight) (answer
 pub record Turns (ue : UeView) (s : Sight) (now : UeView) (t : Sight) (answer : Turn) : Type 0 where
   pub tied : Tied now t
   pub turned : UeTurned ue s now t answer
-
--- no call stands next
-abbrev pub is_open_none : Open → Bool
-is_open_none Nothing = true
-is_open_none op = false
-
--- a send or a post stands next
-abbrev pub is_open_send : Open → Bool
-is_open_send (Sending op) = true
-is_open_send other = false
-
--- a receive stands next
-abbrev pub is_open_receive : Open → Bool
-is_open_receive (Receiving op) = true
-is_open_receive other = false
-
--- a barrier stands next
-abbrev pub is_meeting : Open → Bool
-is_meeting (Meeting op) = true
-is_meeting other = false

@@ -3,8 +3,8 @@
 
 mod calls;
 mod laws;
+mod lines;
 mod receiving;
-mod stretches;
 mod ues;
 mod workers;
 

@@ -25,6 +25,7 @@ pub struct Ue<'s, V: Evict> {
     pub(crate) slot: Slot,
     parity: Parity,
     pub(crate) op: Open,
+    /// The bytes that a receive has so far stand in front.
     pub(crate) inbox: Vec<u8>,
     posted: Option<OnItsWay>,
     sent: u64,
@@ -75,7 +76,7 @@ impl<'s, V: Evict> Ue<'s, V> {
     ghost use Rattle.rcce_ue.specs.Bounds.{bounds_of, visits};
     ghost use Rattle.rcce_ue.specs.Left.{left_of};
     ghost use Rattle.rcce_ue.specs.Standing.{Tied};
-    ghost use Rattle.rcce_ue.specs.Turns.{Turns, UeTurned, is_meeting, is_open_receive, is_open_send, is_open_none};
+    ghost use Rattle.rcce_ue.specs.Turns.{UeTurned};
     ghost use Rattle.rcce_ue.specs.Ues.{IsBegun, counted, entered};
 
     // Comes to what stands next: the op of the next call is made.
@@ -130,14 +131,25 @@ impl<'s, V: Evict> Ue<'s, V> {
         self.enter();
     }
 
-    // One turn of the send or the post that stands next.
-    fn go_on_sending<P: Port>(&mut self, port: &mut P) -> Turn
+    /// Goes on by one turn: one statement of the rank's own, or one turn of the call that stands next, or of the slot.
+    pub fn turn<P: Port>(&mut self, port: &mut P) -> Turn
         requires tied { Tied self.old (P.sight port.old) }
-        requires sending { IsTrue (is_open_send self.old.op) }
-        ensures turns { Turns self.old (P.sight port.old) self.new (P.sight port.new) result }
+        ensures tied { Tied self.new (P.sight port.new) }
+        ensures turned { UeTurned self.old (P.sight port.old) self.new (P.sight port.new) result }
         ensures steps { (spot : Spot) → waits_at result ≡ Some spot → MadeSteps P.stepped (P.sight port.old) (P.sight port.new) }
     {
         match &mut self.op {
+            Open::Nothing => {
+                if self.machine.is_going() {
+                    self.machine.go();
+                    self.enter();
+                    return Turn::Moved;
+                }
+                if self.machine.is_stopped() {
+                    return Turn::Done;
+                }
+                self.slot.turn(&mut self.core, port)
+            }
             Open::Sending(op) => {
                 match op.turn(&mut self.core, port, &mut self.slot, self.machine.bytes()) {
                     Turn::Moved => Turn::Moved,
@@ -148,18 +160,6 @@ impl<'s, V: Evict> Ue<'s, V> {
                     }
                 }
             }
-            _ => unreachable!(),
-        }
-    }
-
-    // One turn of the receive that stands next.
-    fn go_on_receiving<P: Port>(&mut self, port: &mut P) -> Turn
-        requires tied { Tied self.old (P.sight port.old) }
-        requires receiving { IsTrue (is_open_receive self.old.op) }
-        ensures turns { Turns self.old (P.sight port.old) self.new (P.sight port.new) result }
-        ensures steps { (spot : Spot) → waits_at result ≡ Some spot → MadeSteps P.stepped (P.sight port.old) (P.sight port.new) }
-    {
-        match &mut self.op {
             Open::Receiving(op) => {
                 match op.turn(&mut self.core, port, self.inbox.as_mut_slice()) {
                     RecvTurn::Moved => Turn::Moved,
@@ -175,18 +175,6 @@ impl<'s, V: Evict> Ue<'s, V> {
                     }
                 }
             }
-            _ => unreachable!(),
-        }
-    }
-
-    // One turn of the barrier that stands next.
-    fn go_on_meeting<P: Port>(&mut self, port: &mut P) -> Turn
-        requires tied { Tied self.old (P.sight port.old) }
-        requires meeting { IsTrue (is_meeting self.old.op) }
-        ensures turns { Turns self.old (P.sight port.old) self.new (P.sight port.new) result }
-        ensures steps { (spot : Spot) → waits_at result ≡ Some spot → MadeSteps P.stepped (P.sight port.old) (P.sight port.new) }
-    {
-        match &mut self.op {
             Open::Meeting(op) => match op.turn(&mut self.core, port, &mut self.parity) {
                 Turn::Moved => Turn::Moved,
                 Turn::Waiting(spot) => Turn::Waiting(spot),
@@ -195,40 +183,6 @@ impl<'s, V: Evict> Ue<'s, V> {
                     Turn::Moved
                 }
             },
-            _ => unreachable!(),
-        }
-    }
-
-    // One statement of the rank's own, or a turn of the slot behind the end.
-    fn go_alone<P: Port>(&mut self, port: &mut P) -> Turn
-        requires tied { Tied self.old (P.sight port.old) }
-        requires alone { IsTrue (is_open_none self.old.op) }
-        ensures turns { Turns self.old (P.sight port.old) self.new (P.sight port.new) result }
-        ensures steps { (spot : Spot) → waits_at result ≡ Some spot → MadeSteps P.stepped (P.sight port.old) (P.sight port.new) }
-    {
-        if self.machine.is_going() {
-            self.machine.go();
-            self.enter();
-            return Turn::Moved;
-        }
-        if self.machine.is_stopped() {
-            return Turn::Done;
-        }
-        self.slot.turn(&mut self.core, port)
-    }
-
-    /// Goes on by one turn: one statement of the rank's own, or one turn of the call that stands next, or of the slot.
-    pub fn turn<P: Port>(&mut self, port: &mut P) -> Turn
-        requires tied { Tied self.old (P.sight port.old) }
-        ensures tied { Tied self.new (P.sight port.new) }
-        ensures turned { UeTurned self.old (P.sight port.old) self.new (P.sight port.new) result }
-        ensures steps { (spot : Spot) → waits_at result ≡ Some spot → MadeSteps P.stepped (P.sight port.old) (P.sight port.new) }
-    {
-        match &self.op {
-            Open::Nothing => self.go_alone(port),
-            Open::Sending(_) => self.go_on_sending(port),
-            Open::Receiving(_) => self.go_on_receiving(port),
-            Open::Meeting(_) => self.go_on_meeting(port),
         }
     }
 }

@@ -19,8 +19,11 @@ impl<'s, V: Evict> Worker for Ue<'s, V> {
 
     fn stretch<P: Port>(&mut self, port: P) -> (Turn, P) {
         let mut port = port;
-        let answer = Ue::stretch(self, &mut port);
-        (answer, port)
+        if self.move_lines(&mut port) {
+            return (Turn::Moved, port);
+        }
+        let came = Ue::turn(self, &mut port);
+        (came, port)
     }
 
     fn is_stopped(&self) -> bool {

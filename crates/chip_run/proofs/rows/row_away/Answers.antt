@@ -1,5 +1,4 @@
-use Rattle.std.proofs.Common.{ap, refl, sym, ◌∙◌}
-use Rattle.scc_base.specs.Setups.{SetupView}
+use Rattle.std.proofs.Common.{ap}
 use Rattle.scc_mesh.specs.AwayRanks.{Ticket}
 use Rattle.scc_mesh.specs.Scenes.{sight_away}
 use Rattle.scc_mesh.specs.Turns.{AfterTurnAway}
