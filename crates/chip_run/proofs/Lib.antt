@@ -7,6 +7,7 @@ pub mod CrewHands
 pub mod RowLaws
 pub mod ServedLaws
 pub mod MemberLaws
+pub mod MemberStretches
 pub mod ThreadLaws
 pub mod TogetherLaws
 pub mod OrderLaws

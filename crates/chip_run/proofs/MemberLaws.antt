@@ -25,7 +25,7 @@ module _ {A : Type 0} (c : Conduct A) where
   means_member stepped s rank own events old new turn.Done means =
       record { stays = means.stays; seen = means.seen; nothing = means.nothing; over = means.over }
 
-  turned_member : (stepped : List Event → Event → Type 0) (old : Member A) (s : Sight) (new : Member A) (t : Sight) (answer : Turn) → Turned c stepped old.worker s new.worker t answer
+  pub turned_member : (stepped : List Event → Event → Type 0) (old : Member A) (s : Sight) (new : Member A) (t : Sight) (answer : Turn) → Turned c stepped old.worker s new.worker t answer
       → Turned (members_of c) stepped old s new t answer
   turned_member stepped old s new t answer turned =
       record { events = turned.events; did = turned.did; means = means_member stepped s.seat.setup s.seat.rank s.events turned.events old new answer turned.means }

@@ -1,7 +1,9 @@
 //! The members of a run.
 
 use crate::workers::Worker;
+use scc_base::Turn;
 use scc_mesh::Token;
+use scc_proto::Port;
 
 /// A worker with a place for its rank's token, which is empty before and after a run.
 #[derive(Drop)]
@@ -26,4 +28,24 @@ impl<W: Worker + Drop> Member<W> {
             vain: 0,
         }
     }
+}
+
+impl<W: Worker + Drop> Worker for Member<W> {
+    ghost use Rattle.chip_run.specs.Away.{members_of};
+
+    ghost conduct = { members_of W.conduct };
+
+    fn turn<P: Port>(&mut self, port: P) -> (Turn, P) {
+        self.worker.turn(port)
+    }
+
+    fn stretch<P: Port>(&mut self, port: P) -> (Turn, P) {
+        self.worker.stretch(port)
+    }
+
+    fn is_stopped(&self) -> bool {
+        self.worker.is_stopped()
+    }
+
+    ghost hands = { λ m s rank events home. W.hands m.worker s rank events home.ties };
 }
