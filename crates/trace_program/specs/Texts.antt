@@ -7,6 +7,7 @@ use Rattle.rcce_io.specs.Sending.{joined}
 use Rattle.scc_base.specs.Calls.{DataCall}
 use Rattle.trace_judge.specs.declared.judge.Refusal.{Refusal}
 use Rattle.trace_judge.specs.declared.judge.Refusal.TheVariants.{OtherValue, NotPermitted}
+use Rattle.trace_program.specs.NextTexts.{next_text}
 
 -- the line of a rank of the run: how many calls it has finished
 abbrev pub finished_line : ℕ → List DataCall → List ℕ
@@ -27,5 +28,5 @@ legal_text nue asked lists = codes "legal\n" ++ (text_of (table_lines (finished_
 abbrev pub refused_text : (line rank : ℕ) → Refusal → List ℕ
 refused_text line rank (OtherValue found) =
     joined (codes "not legal: line " ∷ decimal line ∷ codes ": the value there is " ∷ hex_text (to_be_bytes w64 found) ∷ codes "\n" ∷ [])
-refused_text line rank NotPermitted =
-    joined (codes "not legal: line " ∷ decimal line ∷ codes ": the record of rank " ∷ decimal rank ∷ codes " does not permit it\n" ∷ [])
+refused_text line rank (NotPermitted next) =
+    joined (codes "not legal: line " ∷ decimal line ∷ codes ": the record of rank " ∷ decimal rank ∷ codes " does not permit it; " ∷ next_text next ∷ codes "\n" ∷ [])

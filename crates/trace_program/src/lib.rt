@@ -4,6 +4,7 @@
 mod command;
 mod judging;
 mod launcher;
+mod next_texts;
 mod report;
 
 pub use command::TraceJob;

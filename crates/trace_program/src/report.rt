@@ -6,9 +6,11 @@ ghost use Rattle.rcce_audit.specs.Texts.{table_lines, text_of};
 ghost use Rattle.rcce_audit.specs.Views.{data_lists, data_list};
 ghost use Rattle.trace_program.specs.Texts.{asked_text, finished_lines, legal_text, refused_text};
 
+use crate::next_texts::write_next;
 use outcomes::Report;
 use rcce_audit::{LogCall, write_lists};
 use rcce_io::{Sink, TextSource, WriteFault, write_all, write_hex, write_texts};
+use record_machine::NextEvent;
 use scc_base::Rank;
 use trace_judge::Refusal;
 
@@ -40,6 +42,8 @@ enum Part<'a> {
     Count(usize),
     /// A value of 64 bits in 16 hex digits.
     Value(u64),
+    /// What a record allows next.
+    Next(NextEvent),
 }
 
 impl TextSource for Part<'_> {
@@ -55,6 +59,7 @@ impl TextSource for Part<'_> {
                 write_all(sink, buffer.format(*count).as_bytes())
             }
             Part::Value(value) => write_hex(sink, &value.to_be_bytes()),
+            Part::Next(next) => write_next(sink, next),
         }
     }
 }
@@ -133,14 +138,16 @@ fn write_refused<S: Sink>(
                 Part::Text("\n"),
             ],
         ),
-        Refusal::NotPermitted => write_texts(
+        Refusal::NotPermitted { next } => write_texts(
             sink,
             &[
                 Part::Text("not legal: line "),
                 Part::Count(line),
                 Part::Text(": the record of rank "),
                 Part::Count(rank.number() as usize),
-                Part::Text(" does not permit it\n"),
+                Part::Text(" does not permit it; "),
+                Part::Next(*next),
+                Part::Text("\n"),
             ],
         ),
     }
