@@ -1,4 +1,5 @@
 pub mod HeadLemmas
 pub mod RuleLemmas
+pub mod SaidLemmas
 pub mod StepLemmas
 pub mod TraceLemmas

@@ -4,6 +4,7 @@
 mod faults;
 mod heads;
 mod hosts;
+mod laws;
 mod lines;
 mod reader;
 mod reading;
@@ -11,5 +12,6 @@ mod traces;
 mod words;
 
 pub use faults::{TraceFault, TraceKind, TraceStop};
+pub use laws::said_law;
 pub use reading::{MOST_TRACE_BYTES, read_trace};
 pub use traces::{Trace, TraceEvent};
