@@ -1,4 +1,6 @@
+pub mod Hearings
 pub mod Jobs
+pub mod Legal
 pub mod Lists
 pub mod NextTexts
 pub mod Parts

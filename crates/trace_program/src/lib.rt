@@ -2,6 +2,8 @@
 #![tactic(auto)]
 
 mod command;
+mod finished;
+mod hearing;
 mod judging;
 mod launcher;
 mod next_texts;

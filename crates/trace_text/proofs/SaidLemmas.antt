@@ -23,7 +23,7 @@ use Rattle.rcce_audit.specs.Grammar.{begins_comm, comm_said, rank_said, world_al
 use Rattle.rcce_audit.specs.Words.{◌>>=◌, is_lower, only_if, parts_of, range_said, words_of}
 use Rattle.rcce_audit.proofs.ReadingLemmas.{no_rules, world_rules}
 use Rattle.rcce_audit.proofs.WordLemmas.{only_some, range_word, then_some}
-use Rattle.trace_text.specs.Grammar.{HostTable, TraceHead, TraceReading, access_said, all_hosts_said, all_taken, are_head_words, behind_head, event_added, event_by, event_said, event_taken, first_taken, free_event_said, head_of_words, head_values_said, host_said, hosts_said, last_taken, line_fault, line_taken, lines_taken, load_event_said, no_hosts, parts_taken, split_added, split_taken, store_event_said, take_event_said, trace_of, ◌>->◌}
+use Rattle.trace_text.specs.Grammar.{HostTable, TraceHead, TraceReading, access_said, all_hosts_said, all_taken, are_head_words, behind_head, event_added, event_by, event_said, event_taken, first_taken, free_event_said, head_of_words, head_said, head_values_said, host_said, hosts_said, last_taken, line_fault, line_taken, lines_taken, load_event_said, no_hosts, parts_taken, split_added, split_taken, store_event_said, take_event_said, trace_of, ◌>->◌}
 use Rattle.trace_text.specs.Traces.{TraceView, most_line_bytes, most_trace_bytes, most_trace_lines}
 use Rattle.trace_text.specs.Words.{comma_parts, dot_parts, hex_word_said, is_comment, layout_said, place_said, register_place_said}
 use Rattle.trace_text.specs.declared.faults.TraceFault.{TraceFault}
@@ -298,8 +298,14 @@ lines_read number r next (line ∷ lines) reads said =
 
 first_reads : (line : List ℕ) (r : TraceReading) → first_taken line ≡ Ok r → IsReadSoFar r
 first_reads line r said =
-    let (head, is, same) = mapped_some behind_head (head_of_words (words_of line)) r (or_some (option_map behind_head (head_of_words (words_of line))) _ r said) in
-    subst IsReadSoFar same (head_reads head (head_is (words_of line) head is))
+    let (head, is, same) = mapped_some behind_head (head_said line) r (or_some (option_map behind_head (head_said line)) _ r said) in
+    subst IsReadSoFar same (head_reads head (head_is (words_of line) head (if_none (nat_lt most_line_bytes (length line)) (head_of_words (words_of line)) head is)))
+
+-- behind the first line no event is read
+pub first_events : (line : List ℕ) (r : TraceReading) → first_taken line ≡ Ok r → r.trace.events ≡ []
+first_events line r said =
+    let (head, is, same) = mapped_some behind_head (head_said line) r (or_some (option_map behind_head (head_said line)) _ r said) in
+    ap (λ (x : TraceReading). x.trace.events) (sym same)
 
 -- a trace whose events are ones that its ranks may make
 pub record IsSaid (trace : TraceView) : Type 0 where
