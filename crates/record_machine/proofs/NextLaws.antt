@@ -240,9 +240,9 @@ module _ (size : ℕ) (notes : ℕ → Option Notes) (flips : ℕ → ℕ) (held
 
   pub store_offered : (st : Stage) (post : Option OnItsWay) (move : Move) → (post ≡ None) ⊎ (is_free st ≡ true) → Offered st post (store_allowed size st post notes) move
   store_offered Idle post move free t = idle_offered post move t
-  store_offered (Drafting h c) post move free t = alone (Drafting h c) post _ move free refl (drafting_offered h c (is_whole_header h && is_drafted size (begun (head_of h)) c) move refl) t
-  store_offered (Sending j Filling message []) post move free t = alone (Sending j Filling message []) post _ move free refl (fill_first_offered j message move) t
-  store_offered (Sending j Filling message (n ∷ ns)) post move free t = alone (Sending j Filling message (n ∷ ns)) post _ move free refl (fill_offered j message n ns (is_drafted size message (n ∷ ns)) move refl) t
+  store_offered (Drafting h c) post move free t = alone (Drafting h c) post (store_allowed size (Drafting h c) post notes) move free refl (drafting_offered h c (is_whole_header h && is_drafted size (begun (head_of h)) c) move refl) t
+  store_offered (Sending j Filling message []) post move free t = alone (Sending j Filling message []) post (may.FillFirst j) move free refl (fill_first_offered j message move) t
+  store_offered (Sending j Filling message (n ∷ ns)) post move free t = alone (Sending j Filling message (n ∷ ns)) post (store_allowed size (Sending j Filling message (n ∷ ns)) post notes) move free refl (fill_offered j message n ns (is_drafted size message (n ∷ ns)) move refl) t
   store_offered (Sending j Raised message c) post move free t = nothing_offered (may.SeeReady j) (Sending j Raised message c) post move (see_ready_none j) t
   store_offered (Sending j Answered message c) post move free t = answered_offered j message c post move t
   store_offered (Between i message) post move free t = between_offered i message post (is_some (notes i)) move refl t

@@ -1,34 +1,27 @@
 -- A walk over a text, with one byte more, and at its end.
 use Rattle.std.proofs.Common.{◌≡◌, ◌≢◌, ◌⊎◌, inl, inr, ℕ, zero, suc, ◌+◌, ◌<◌, ◌≤◌, Bool, true, false, not, ◌==◌, List, [], ◌∷◌, ◌++◌, length, length-append, map, take, Option, Some, None, is_some, Result, Ok, Err, refl, sym, ◌∙◌, ap, subst, arith}
 use Rattle.std.specs.Prelude.{nat_lt}
-use Rattle.std.specs.Option.{ok_or}
 use Rattle.std.proofs.lemmas.Bool.{cond-false, cond-true, le-ltb, lt-ltb}
-use Rattle.std.proofs.lemmas.List.{map-append}
+use Rattle.std.specs.Bool.{MatchBool}
+use Rattle.std.proofs.lemmas.Bool.Decides.{nat_tests}
+use Rattle.rcce_audit.specs.Grammar.{begins_comm, comm_said}
+use Rattle.rcce_audit.specs.Words.{words_of}
+use Rattle.rcce_audit.proofs.WordLemmas.{only_some, then_some}
 use Rattle.scc_proto.specs.Words.{RankEvent}
-use Rattle.trace_text.specs.Grammar.{TraceReading, event_added, first_taken, last_taken, line_fault, line_taken, trace_of, ◌>->◌}
+use Rattle.trace_text.specs.Grammar.{TraceReading, last_taken, line_fault, line_taken, split_added, split_taken, trace_of, ◌>->◌}
 use Rattle.trace_text.specs.Progress.{HasWalked, TakesTraceLine, progress_of, said_by, said_with, walk_said}
-use Rattle.trace_text.specs.Traces.{most_trace_bytes, most_trace_lines}
-use Rattle.trace_text.specs.Views.{rank_event, rank_events}
+use Rattle.trace_text.specs.Traces.{most_line_bytes, most_trace_bytes, most_trace_lines}
 use Rattle.trace_text.specs.Walks.{EndsText, GainsEvent, HasCome, last_line, trace_lines_said, next_said, text_reading, whole_lines}
 use Rattle.trace_text.specs.declared.faults.TraceFault.{TraceFault}
 use Rattle.trace_text.specs.declared.faults.TraceKind.TheVariants as kind
-use Rattle.trace_text.specs.declared.traces.TraceEvent.{TraceEvent}
+use Rattle.trace_text.specs.declared.reader.LineTaken.{LineTaken}
+use Rattle.trace_text.specs.declared.reader.LineTaken.TheVariants as taken
 use Rattle.trace_text.specs.declared.walks.LineWalk.{LineWalk}
-use Rattle.trace_text.proofs.SaidLemmas.{first_events}
 use Rattle.trace_text.proofs.WalkLemmas.{byte_more, ended, fault_cut, few_lines, line_more, next_cut, no_lines, said_more, text_ended}
-
--- ---- events that are read
-
-pub events_pushed : (made later : List TraceEvent) (e : TraceEvent) → later ≡ made ++ e ∷ [] → rank_events later ≡ rank_events made ++ rank_event e ∷ []
-events_pushed made later e is = ap rank_events is ∙ map-append rank_event made (e ∷ [])
-
-pub some_events : (made later : List TraceEvent) (e : TraceEvent) → later ≡ made ++ e ∷ [] → true ≡ not (length later == 0)
-some_events [] later e is = ap (λ (l : List TraceEvent). not (length l == 0)) (sym is)
-some_events (x ∷ made) later e is = ap (λ (l : List TraceEvent). not (length l == 0)) (sym is)
 
 -- ---- what one line more says
 
-said_some : (lines : ℕ) (fault : Option TraceFault) (reading : TraceReading) → lines ≢ 0 → said_by lines fault reading ≡ Some (said_with fault reading)
+pub said_some : (lines : ℕ) (fault : Option TraceFault) (reading : TraceReading) → lines ≢ 0 → said_by lines fault reading ≡ Some (said_with fault reading)
 said_some zero fault reading other = absurd (other refl)
 said_some (suc n) fault reading other = refl
 
@@ -36,56 +29,29 @@ said_none : (lines : ℕ) (fault : Option TraceFault) (reading : TraceReading) �
 said_none zero fault reading is = refl
 said_none (suc n) fault reading is = absurd (omega (arith, is))
 
--- the first line
-pub head_next : (lines : ℕ) (fault : Option TraceFault) (old new : TraceReading) (later : Option TraceFault) (line : List ℕ) → lines ≡ 0 → first_taken line ≡ said_with later new
-    → next_said (said_by lines fault old) lines line ≡ said_with later new
-head_next lines fault old new later line zero_is said = ap (λ (o : Option (Result TraceReading TraceFault)). next_said o lines line) (said_none lines fault old zero_is) ∙ said
+-- ---- a line of a communicator
 
-pub head_gains : (lines : ℕ) (fault : Option TraceFault) (old new : TraceReading) (later : Option TraceFault) (line : List ℕ) → lines ≡ 0 → first_taken line ≡ said_with later new
-    → GainsEvent (said_by lines fault old) (Some (said_with later new)) None
-head_gains lines fault old new later line zero_is said r is = inr (first_events line r (said ∙ some_is (said_with later new) (Ok r) is))
-  where
-    some_is : {A : Type 0} (x y : A) → Some x ≡ Some y → x ≡ y
-    some_is x y e = cc
+module _ (reading next : TraceReading) (line : List ℕ) (words : List (List ℕ)) (short : length line ≤ most_line_bytes) (same : words ≡ words_of line) (begins : begins_comm line ≡ true) where
+  split_line : line_taken reading line ≡ split_taken reading words
+  split_line = cond-false (nat_lt most_line_bytes (length line)) _ _ (le-ltb most_line_bytes (length line) short) ∙ cond-true (begins_comm line) _ _ begins ∙ ap (split_taken reading) (sym same)
 
--- a line behind a fault
-pub fault_next : (lines : ℕ) (fault : Option TraceFault) (old : TraceReading) (line : List ℕ) → lines ≢ 0 → is_some fault ≡ true → next_said (said_by lines fault old) lines line ≡ said_with fault old
-fault_next lines None old line some t = absurd (cc)
-fault_next lines (Some f) old line some t = ap (λ (o : Option (Result TraceReading TraceFault)). next_said o lines line) (said_some lines (Some f) old some)
+  no_events : split_taken reading words ≡ Some next → next.trace.events ≡ []
+  no_events taken =
+      let (split, is, gives) = then_some (comm_said reading.comm reading.trace.setup.comms words) (split_added reading) next taken in
+      let (test, same_next) = only_some (length reading.trace.events == 0) _ next gives in
+      ap (λ (r : TraceReading). r.trace.events) (sym same_next) ∙ none reading.trace.events test
+    where
+      none : (events : List RankEvent) → (length events == 0) ≡ true → events ≡ []
+      none [] t = refl
+      none (e ∷ events) t = absurd (grind (arith, nat_tests))
 
-pub fault_gains : (lines : ℕ) (fault : Option TraceFault) (old : TraceReading) → lines ≢ 0 → is_some fault ≡ true → GainsEvent (said_by lines fault old) (Some (said_with fault old)) None
-fault_gains lines None old some t = absurd (cc)
-fault_gains lines (Some f) old some t = λ r is. absurd (cc)
+  pub split_takes : (test : Bool) (answer : LineTaken) → MatchBool test (split_taken reading words ≡ Some next) (split_taken reading words ≡ None) → test ≡ true → answer ≡ taken.Split → TakesTraceLine reading line next answer
+  split_takes true answer is t said = subst (TakesTraceLine reading line next) (sym said) (split_line ∙ is, no_events is)
+  split_takes false answer is t said = absurd (cc)
 
--- a line that is read
-pub read_next : (lines : ℕ) (fault : Option TraceFault) (old : TraceReading) (line : List ℕ) (said : Result TraceReading TraceFault) → lines ≢ 0 → fault ≡ None → next_said (Some (Ok old)) lines line ≡ said
-    → next_said (said_by lines fault old) lines line ≡ said
-read_next lines fault old line said some none is = ap (λ (o : Option (Result TraceReading TraceFault)). next_said o lines line) (said_some lines fault old some ∙ ap (λ (f : Option TraceFault). Some (said_with f old)) none) ∙ is
-
-pub read_gains : (lines : ℕ) (fault : Option TraceFault) (old : TraceReading) (new : Option (Result TraceReading TraceFault)) (made : Option RankEvent) → lines ≢ 0 → fault ≡ None
-    → GainsEvent (Some (Ok old)) new made → GainsEvent (said_by lines fault old) new made
-read_gains lines fault old new made some none gains =
-    subst (λ (o : Option (Result TraceReading TraceFault)). GainsEvent o new made) (sym (said_some lines fault old some ∙ ap (λ (f : Option TraceFault). Some (said_with f old)) none)) gains
-
--- what a line that is read comes to
-pub refused_next : (lines : ℕ) (old new : TraceReading) (line : List ℕ) (fault : TraceFault) → line_taken old line ≡ None → fault ≡ record { line = lines + 1; kind = line_fault line }
-    → next_said (Some (Ok old)) lines line ≡ said_with (Some fault) new
-refused_next lines old new line fault none is = ap (λ (o : Option TraceReading). ok_or o (record { line = lines + 1; kind = line_fault line })) none ∙ ap (λ (f : TraceFault). Err f) (sym is)
-
-pub refused_gains : (old : Option (Result TraceReading TraceFault)) (new : TraceReading) (fault : TraceFault) → GainsEvent old (Some (said_with (Some fault) new)) None
-refused_gains old new fault r is = absurd (cc)
-
-pub taken_next : (lines : ℕ) (old new : TraceReading) (line : List ℕ) (fault : Option TraceFault) → line_taken old line ≡ Some new → fault ≡ None → next_said (Some (Ok old)) lines line ≡ said_with fault new
-taken_next lines old new line fault some none = ap (λ (o : Option TraceReading). ok_or o (record { line = lines + 1; kind = line_fault line })) some ∙ ap (λ (f : Option TraceFault). said_with f new) (sym none)
-
-pub split_gains : (old : Option (Result TraceReading TraceFault)) (new : TraceReading) (fault : Option TraceFault) → fault ≡ None → new.trace.events ≡ [] → GainsEvent old (Some (said_with fault new)) None
-split_gains old new fault none empty r is = inr (ap (λ (x : TraceReading). x.trace.events) (same new r (subst (λ (f : Option TraceFault). Some (said_with f new) ≡ Some (Ok r)) none is)) ∙ empty)
-  where
-    same : (x y : TraceReading) → Some (Ok x) ≡ Some (Ok y) → y ≡ x
-    same x y e = cc
-
-pub event_gains : (old new : TraceReading) (fault : Option TraceFault) (e : RankEvent) → fault ≡ None → new ≡ event_added old e → e.rank < old.trace.setup.nue → GainsEvent (Some (Ok old)) (Some (said_with fault new)) (Some e)
-event_gains old new fault e none is below = (old, refl, ap (λ (f : Option TraceFault). Some (said_with f new)) none ∙ ap (λ (r : TraceReading). Some (Ok r)) is, below)
+  pub split_refused : (test : Bool) (answer : LineTaken) → MatchBool test (split_taken reading words ≡ Some next) (split_taken reading words ≡ None) → test ≡ false → answer ≡ taken.Refused → TakesTraceLine reading line next answer
+  split_refused true answer is t said = absurd (cc)
+  split_refused false answer is t said = subst (TakesTraceLine reading line next) (sym said) (split_line ∙ is)
 
 -- ---- a walk over a text
 
@@ -135,14 +101,6 @@ line_gains text old new later made before after gains =
 
 pub walked_few : (text : List ℕ) (w : LineWalk) → length text ≤ most_trace_bytes → HasWalked text w → w.lines + 1 < 4294967296
 walked_few text w within walked = let few = few_lines text in let lines = walked.lines in omega (arith, few, lines, within)
-
-pub walked_reading : (text : List ℕ) (w : LineWalk) (r : TraceReading) → HasWalked text w → HasCome text r → progress_of w.reader ≡ r
-walked_reading text w r walked come = by w.lines w.fault (sym walked.said ∙ come)
-  where
-    by : (lines : ℕ) (fault : Option TraceFault) → said_by lines fault (progress_of w.reader) ≡ Some (Ok r) → progress_of w.reader ≡ r
-    by zero fault is = absurd (cc)
-    by (suc n) None is = cc
-    by (suc n) (Some f) is = absurd (cc)
 
 -- ---- the end of a text
 

@@ -177,7 +177,7 @@ all_hosts table next (word ∷ words) are said =
 
 no_hosts_are : AreHosts (record { count = 0; hosts = no_hosts })
 unfolding no_hosts
-no_hosts_are = record { apart = λ r q less below. absurd (omega (arith, below)); long = length-replicate 48 0 }
+no_hosts_are = record { apart = λ r q less below. absurd (omega (arith, below)); long = length-replicate {A = ℕ} 48 0 }
 
 record IsTraceHead (head : TraceHead) : Type 0 where
   pub some_ranks : 1 ≤ head.nue
@@ -300,12 +300,6 @@ first_reads : (line : List ℕ) (r : TraceReading) → first_taken line ≡ Ok r
 first_reads line r said =
     let (head, is, same) = mapped_some behind_head (head_said line) r (or_some (option_map behind_head (head_said line)) _ r said) in
     subst IsReadSoFar same (head_reads head (head_is (words_of line) head (if_none (nat_lt most_line_bytes (length line)) (head_of_words (words_of line)) head is)))
-
--- behind the first line no event is read
-pub first_events : (line : List ℕ) (r : TraceReading) → first_taken line ≡ Ok r → r.trace.events ≡ []
-first_events line r said =
-    let (head, is, same) = mapped_some behind_head (head_said line) r (or_some (option_map behind_head (head_said line)) _ r said) in
-    ap (λ (x : TraceReading). x.trace.events) (sym same)
 
 -- a trace whose events are ones that its ranks may make
 pub record IsSaid (trace : TraceView) : Type 0 where

@@ -30,19 +30,19 @@ module _ {X : Type 0} (p : X → Bool) where
 
   onto : (x y : X) (xs : List X) → p x ≡ false → (whole : List (List X)) (last : List X) → slice_split p xs ≡ whole ++ last ∷ []
       → (p y ≡ false → slice_split p (xs ++ y ∷ []) ≡ whole ++ (last ++ y ∷ []) ∷ []) → (p y ≡ true → slice_split p (xs ++ y ∷ []) ≡ (whole ++ last ∷ []) ++ [] ∷ []) → Pushes (x ∷ xs) y
-  onto x y xs not_so [] last old no yes = record {
+  onto x y xs not_so [] last old other passes = record {
     whole = [];
     last = x ∷ last;
     old = slice_split-cons_no p x xs not_so ∙ ap (onto_first x) old;
-    no = λ n. slice_split-cons_no p x (xs ++ y ∷ []) not_so ∙ ap (onto_first x) (no n);
-    yes = λ t. slice_split-cons_no p x (xs ++ y ∷ []) not_so ∙ ap (onto_first x) (yes t);
+    no = λ n. slice_split-cons_no p x (xs ++ y ∷ []) not_so ∙ ap (onto_first x) (other n);
+    yes = λ t. slice_split-cons_no p x (xs ++ y ∷ []) not_so ∙ ap (onto_first x) (passes t);
   }
-  onto x y xs not_so (w ∷ whole) last old no yes = record {
+  onto x y xs not_so (w ∷ whole) last old other passes = record {
     whole = (x ∷ w) ∷ whole;
     last = last;
     old = slice_split-cons_no p x xs not_so ∙ ap (onto_first x) old;
-    no = λ n. slice_split-cons_no p x (xs ++ y ∷ []) not_so ∙ ap (onto_first x) (no n);
-    yes = λ t. slice_split-cons_no p x (xs ++ y ∷ []) not_so ∙ ap (onto_first x) (yes t);
+    no = λ n. slice_split-cons_no p x (xs ++ y ∷ []) not_so ∙ ap (onto_first x) (other n);
+    yes = λ t. slice_split-cons_no p x (xs ++ y ∷ []) not_so ∙ ap (onto_first x) (passes t);
   }
 
   before : (x y : X) (xs : List X) → p x ≡ true → Pushes xs y → Pushes (x ∷ xs) y
@@ -62,14 +62,11 @@ module _ {X : Type 0} (p : X → Bool) where
     no = λ n. slice_split-cons_no p y [] n;
     yes = λ t. slice_split-cons_yes p y [] t;
   }
-  pushes (x ∷ xs) y = by (p x) refl
+  pushes (x ∷ xs) y = by (p x) refl (pushes xs y)
     where
-      r : Pushes xs y
-      r = pushes xs y
-
-      by : (b : Bool) → p x ≡ b → Pushes (x ∷ xs) y
-      by true is = before x y xs is r
-      by false is = onto x y xs is r.whole r.last r.old r.no r.yes
+      by : (b : Bool) → p x ≡ b → Pushes xs y → Pushes (x ∷ xs) y
+      by true is r = before x y xs is r
+      by false is r = onto x y xs is r.whole r.last r.old r.no r.yes
 
 -- ---- the lines of a text
 
