@@ -41,7 +41,7 @@ counts_more calls r done =
 
 pub none_counted : (counts : List ℕ) → counts ≡ counts_of no_calls → (k : ℕ) → slice_index counts k ≤ 0
 unfolding no_calls
-none_counted counts is k = omega (arith, ap (λ (l : List ℕ). slice_index l k) is, get_or-replicate_same 48 k 0)
+none_counted counts is k = omega (arith, ap (λ (l : List ℕ). slice_index l k) is, get_or-replicate_same {X = ℕ} 48 k 0)
 
 pub held_more : (asked : Bool) (old new : FinishedCalls) (number r : ℕ) (calls : List (List DataCall)) (done : DataCall) → r < length old.counts
     → new.counts ≡ slice_set old.counts r (slice_index old.counts r + 1)

@@ -37,22 +37,25 @@ ruling_after n m j now [] e is taken =
 
     start : n ≡ m
     start = omega (arith, is)
-ruling_after n m j now (x ∷ es) e is taken = by (refusal_of j x) taken
+ruling_after n m j now (x ∷ es) e is taken = by (refusal_of j x) (λ t. ruling_after (n + 1) m (judged_after j x) now es e (omega (arith, is)) t) taken
   where
-    by : (why : Option Refusal) → unless_refused n x.rank why (ruling_from (n + 1) (judged_after j x) es) ≡ Ok now
+    by : (why : Option Refusal)
+        → (ruling_from (n + 1) (judged_after j x) es ≡ Ok now → ruling_from (n + 1) (judged_after j x) (es ++ e ∷ []) ≡ unless_refused m e.rank (refusal_of now e) (Ok (judged_after now e)))
+        → unless_refused n x.rank why (ruling_from (n + 1) (judged_after j x) es) ≡ Ok now
         → unless_refused n x.rank why (ruling_from (n + 1) (judged_after j x) (es ++ e ∷ [])) ≡ unless_refused m e.rank (refusal_of now e) (Ok (judged_after now e))
-    by None t = ruling_after (n + 1) m (judged_after j x) now es e (omega (arith, is)) t
-    by (Some why) t = absurd (cc)
+    by None rest t = rest t
+    by (Some why) rest t = absurd (cc)
 
 -- behind one that is refused
 pub ruling_stays : (n : ℕ) (j : Judged) (es : List RankEvent) (e : RankEvent) (at : RefusedAt) → ruling_from n j es ≡ Err at → ruling_from n j (es ++ e ∷ []) ≡ Err at
 ruling_stays n j [] e at refused = absurd (cc)
-ruling_stays n j (x ∷ es) e at refused = by (refusal_of j x) refused
+ruling_stays n j (x ∷ es) e at refused = by (refusal_of j x) (λ t. ruling_stays (n + 1) (judged_after j x) es e at t) refused
   where
-    by : (why : Option Refusal) → unless_refused n x.rank why (ruling_from (n + 1) (judged_after j x) es) ≡ Err at
+    by : (why : Option Refusal) → (ruling_from (n + 1) (judged_after j x) es ≡ Err at → ruling_from (n + 1) (judged_after j x) (es ++ e ∷ []) ≡ Err at)
+        → unless_refused n x.rank why (ruling_from (n + 1) (judged_after j x) es) ≡ Err at
         → unless_refused n x.rank why (ruling_from (n + 1) (judged_after j x) (es ++ e ∷ [])) ≡ Err at
-    by None t = ruling_stays (n + 1) (judged_after j x) es e at t
-    by (Some why) t = t
+    by None rest t = rest t
+    by (Some why) rest t = t
 
 -- the calls of one rank, changed
 module _ (j : Judged) (e : RankEvent) where

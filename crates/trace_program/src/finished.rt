@@ -1,6 +1,6 @@
 //! The finished calls of the ranks, as they are kept while a trace is judged.
 
-ghost use Rattle.std.specs.Prelude.{◌≡◌, IfOk, IfSome, vec_len};
+ghost use Rattle.std.specs.Prelude.{◌≡◌, ForSome, IfOk, vec_len};
 ghost use Rattle.scc_base.specs.Calls.{DataCall, call_of};
 ghost use Rattle.rcce_audit.specs.Views.{data_of};
 ghost use Rattle.record_machine.specs.Following.{moved_by};
@@ -15,7 +15,7 @@ use std::alloc::{AllocError, Global};
 pub struct FinishedCalls {
     pub counts: [usize; 48],
     pub lists: Option<Vec<Vec<LogCall>>>,
-    ghost ranks: { IfSome lists (λ l. vec_len l ≡ 48) },
+    ghost ranks: { ForSome lists (λ l. vec_len l ≡ 48) },
 }
 
 /// A call with a copy of its bytes.

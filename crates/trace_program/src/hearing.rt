@@ -1,7 +1,5 @@
 //! The hearing of a trace: its events are judged while its bytes are read.
 
-ghost use Rattle.trace_program.specs.Hearings.{Hears};
-
 use crate::finished::FinishedCalls;
 use crate::judging::{RefusedEvent, Trial};
 use crate::report::{RankCalls, TraceVerdict};
@@ -33,10 +31,9 @@ pub(crate) struct Hearing {
 }
 
 impl Hearing {
-    ghost use Rattle.std.specs.Prelude.{◌≡◌, ◌≤◌, ◌<◌, ◌+◌, ◌++◌, ◌∷◌, [], Bool, ℕ, IfOk, IsTrue, OnOk, length};
+    ghost use Rattle.std.specs.Prelude.{◌≡◌, ◌≤◌, ◌<◌, ◌+◌, ◌++◌, ◌∷◌, [], Bool, false, true, ℕ, IfOk, IsTrue, OnOk, length};
     ghost use Rattle.rcce_io.specs.Reading.{ReadsAll, ReadsBlock, ReadsRest};
-    ghost use Rattle.trace_program.specs.Hearings.{ComesTo, HoldsStage, IsDue, bytes_heard, stage_number};
-    ghost use Rattle.trace_program.specs.Program.{said_plan, verdict_shown};
+    ghost use Rattle.trace_program.specs.Hearings.{ComesTo, Hears, HoldsStage, IsDue, bytes_heard, stage_number};
     ghost use Rattle.trace_text.specs.Grammar.{TraceReading, event_added};
     ghost use Rattle.trace_text.specs.Traces.{most_trace_bytes};
     ghost use Rattle.trace_text.specs.Views.{rank_event};
@@ -191,9 +188,10 @@ impl Hearing {
             finished,
             ..
         } = self;
-        Ok(match stage {
-            Stage::Waiting | Stage::Judging(_) => TraceVerdict::Legal(RankCalls { nue, finished }),
-            Stage::Refused(at) => TraceVerdict::NotLegal(at),
-        })
+        match stage {
+            Stage::Waiting => Ok(TraceVerdict::Legal(RankCalls { nue, finished })),
+            Stage::Judging(_) => Ok(TraceVerdict::Legal(RankCalls { nue, finished })),
+            Stage::Refused(at) => Ok(TraceVerdict::NotLegal(at)),
+        }
     }
 }

@@ -1,9 +1,7 @@
 //! The judging of the events of a trace, one after the other.
 
-ghost use Rattle.std.specs.Prelude.{◌≡◌, ◌≤◌, ◌<◌, ◌+◌, ◌^◌, ◌×◌, Bool, ℕ, IfOk};
+ghost use Rattle.std.specs.Prelude.{◌≡◌, ◌≤◌};
 ghost use Rattle.trace_program.specs.Lists.{first_event_line};
-ghost use Rattle.trace_text.specs.Grammar.{TraceReading, event_added};
-ghost use Rattle.trace_text.specs.Views.{rank_event};
 
 use crate::finished::FinishedCalls;
 use scc_base::{CommRule, Rank, Setup};
@@ -45,7 +43,7 @@ pub(crate) struct Trial {
 
 impl Trial {
     ghost use Rattle.std.specs.Prelude.{◌≡◌, ◌<◌, ◌+◌, ◌^◌, [], Bool, ℕ, IfOk};
-    ghost use Rattle.trace_program.specs.Hearings.{IsTried, TriedBy};
+    ghost use Rattle.trace_program.specs.Hearings.{IsNext, IsTried, TriedBy};
     ghost use Rattle.trace_text.specs.Grammar.{TraceReading, event_added};
     ghost use Rattle.trace_text.specs.Views.{rank_event};
 

@@ -32,11 +32,11 @@ impl TextSource for Piece<'_> {
 }
 
 /// Writes a text with a number in it.
-fn write_round<S: Sink>(
+fn write_round<'x, S: Sink>(
     sink: &mut S,
-    before: &str,
+    before: &'x str,
     number: u8,
-    after: &str,
+    after: &'x str,
 ) -> Result<(), WriteFault>
     ensures { Sends (text_round before.now number after.now) (S.seen sink.old) (S.seen sink.new) result }
 {
@@ -51,11 +51,11 @@ fn write_round<S: Sink>(
 }
 
 /// Writes a text with a rank in it.
-fn write_ranked<S: Sink>(
+fn write_ranked<'x, S: Sink>(
     sink: &mut S,
-    before: &str,
+    before: &'x str,
     rank: Rank,
-    after: &str,
+    after: &'x str,
 ) -> Result<(), WriteFault>
     ensures { Sends (text_round before.now rank after.now) (S.seen sink.old) (S.seen sink.new) result }
 {

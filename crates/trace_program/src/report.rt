@@ -1,6 +1,6 @@
 //! A verdict on a trace, and its lines on out.
 
-ghost use Rattle.std.specs.Prelude.{◌≡◌, IfSome, length, vec_len};
+ghost use Rattle.std.specs.Prelude.{◌≡◌, ForSome, length, vec_len};
 ghost use Rattle.rcce_io.specs.Sending.{Sends};
 ghost use Rattle.rcce_audit.specs.Texts.{table_lines, text_of};
 ghost use Rattle.trace_program.specs.Texts.{count_lines, kept_text, lists_text, refused_text};
@@ -90,7 +90,7 @@ fn write_ranks<S: Sink>(sink: &mut S, nue: u8, counts: &[usize]) -> Result<(), W
 }
 
 fn write_asked<S: Sink>(sink: &mut S, lists: &Option<Vec<Vec<LogCall>>>) -> Result<(), WriteFault>
-    requires { IfSome lists.now (λ l. vec_len l ≡ 48) }
+    requires { ForSome lists.now (λ l. vec_len l ≡ 48) }
     ensures { Sends (lists_text lists.now) (S.seen sink.old) (S.seen sink.new) result }
 {
     match lists {
