@@ -1,5 +1,5 @@
 -- What a tap has read after one access more.
-use Rattle.std.proofs.Common.{◌≡◌, ℕ, List, [], ◌∷◌, ◌++◌, Option, Some, None, Result, Ok, sym, ◌∙◌, subst}
+use Rattle.std.proofs.Common.{◌≡◌, ℕ, List, [], ◌∷◌, ◌++◌, Some, sym, ◌∙◌, subst}
 use Rattle.std.proofs.Math.Logic.{∥∥₁_map}
 use Rattle.scc_base.specs.Calls.{DataCall, call_of}
 use Rattle.scc_base.specs.Setups.{SetupView}
@@ -9,9 +9,7 @@ use Rattle.scc_proto.specs.Ports.{Sight, Did}
 use Rattle.scc_proto.specs.Records.{record_after, record_of}
 use Rattle.scc_proto.specs.Stages.{Record, blank}
 use Rattle.scc_proto.proofs.PortLaws.{record_of-nil, record_of-push}
-use Rattle.record_machine.specs.Following.{Adds, FinishesCall, FollowsRecord, moved_by}
-use Rattle.record_machine.specs.declared.machines.Machine.{Machine}
-use Rattle.record_machine.specs.declared.machines.Refused.{Refused}
+use Rattle.record_machine.specs.Following.{Adds, FollowsRecord, moved_by}
 use Rattle.call_tap.specs.declared.kept.Kept.{Kept}
 use Rattle.call_tap.specs.declared.taps.Tap.{Tap}
 use Rattle.call_tap.specs.Kept.{IsKept}

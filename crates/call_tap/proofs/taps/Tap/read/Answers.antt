@@ -1,4 +1,4 @@
-use Rattle.std.proofs.Common.{Option, Result, Ok, subst, sym, ◌∙◌}
+use Rattle.std.proofs.Common.{Option, subst, sym, ◌∙◌}
 use Rattle.scc_base.specs.declared.calls.Call.{Call}
 use Rattle.scc_proto.specs.Records.{record_after}
 use Rattle.record_machine.specs.Following.{Adds}
