@@ -1,5 +1,4 @@
-use Rattle.std.proofs.Common.{ℕ, ◌<◌, length, sym, subst, ap, ◌∙◌}
-use Rattle.scc_base.specs.Setups.{SetupView}
+use Rattle.std.proofs.Common.{ℕ, ◌<◌, length, sym, subst}
 use Rattle.chip_run.specs.Crews.{AllRest, CrewStands}
 use Rattle.chip_run.proofs.ServedLaws.{some_worker}
 use Rattle.rcce_run.proofs.RunEnds.{ends_as, still_run}
