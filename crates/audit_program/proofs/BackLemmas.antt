@@ -16,7 +16,7 @@ use Rattle.scc_mesh.specs.Scenes.{ChipView, about_in, events_in, records_in}
 use Rattle.script_reader.specs.Script.{Script, first_split, rules_of}
 use Rattle.script_reader.specs.Settled as settled
 use Rattle.call_tap.specs.Bytes.{HasBytes}
-use Rattle.call_tap.specs.Watching.{bytes_of}
+use Rattle.record_machine.specs.Following.{moved_by}
 use Rattle.call_tap.proofs.ByteLaws.{calls_have_bytes}
 use Rattle.log_run.specs.LogRuns.{AreOwnCalls, HasRun, IsOwnCall, plain_calls}
 use Rattle.rcce_audit.specs.declared.verdicts.Verdict.{Verdict}
@@ -59,18 +59,18 @@ own_calls script rank (call ∷ calls) own are =
     (own_calls script rank calls (All-tail (IsOwnCall script rank) call calls own) (All-tail HasBytes call calls are))
 
 -- the bytes that they move are their own
-moved_one : (script : Script) (rank : ℕ) (call : DataCall) → IsOwnCall script rank call → bytes_in (call_of call) ≡ length (bytes_of call)
+moved_one : (script : Script) (rank : ℕ) (call : DataCall) → IsOwnCall script rank call → bytes_in (call_of call) ≡ length (moved_by call)
 moved_one script rank (Send to head bytes) own = one_long (Send to head bytes) own.2
 moved_one script rank (Recv from head bytes) own = one_long (Recv from head bytes) own.2
 moved_one script rank (Post to head bytes) own = one_long (Post to head bytes) own.2
 moved_one script rank (Bar comm) own = refl
 
-moved_all : (script : Script) (rank : ℕ) (calls : List DataCall) → All (IsOwnCall script rank) calls → bytes_moved calls ≡ length (flat_map bytes_of calls)
+moved_all : (script : Script) (rank : ℕ) (calls : List DataCall) → All (IsOwnCall script rank) calls → bytes_moved calls ≡ length (flat_map moved_by calls)
 moved_all script rank [] own = refl
 moved_all script rank (call ∷ calls) own =
     let one = moved_one script rank call (All-head (IsOwnCall script rank) call calls own) in
     let rest = moved_all script rank calls (All-tail (IsOwnCall script rank) call calls own) in
-    omega (arith, one, rest) ∙ sym (length-append (bytes_of call) (flat_map bytes_of calls))
+    omega (arith, one, rest) ∙ sym (length-append (moved_by call) (flat_map moved_by calls))
 
 few_own : (script : Script) (rank : ℕ) (calls : List DataCall) → AreOwnCalls script rank calls → AreFew calls
 few_own script rank calls is =

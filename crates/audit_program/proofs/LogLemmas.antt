@@ -10,7 +10,7 @@ use Rattle.std.proofs.lemmas.Option.{slice_get_past}
 use Rattle.std.proofs.lemmas.List.Elements.{All-head, All-tail}
 use Rattle.std.proofs.lemmas.List.FromFn.{get_or-map-range_with_len, length-map-range_with_len}
 use Rattle.scc_base.specs.Calls.{DataCall, Send, Recv, Post, Bar, HasItsBytes, call_of}
-use Rattle.call_tap.specs.Watching.{bytes_of}
+use Rattle.record_machine.specs.Following.{moved_by}
 use Rattle.script_reader.specs.Script.{Script}
 use Rattle.script_plain.specs.Meaning.{State, plain_end}
 use Rattle.script_plain.proofs.PlainLaws.{length-plain_end}
@@ -21,26 +21,26 @@ use Rattle.log_run.specs.LogRuns.{done_at, plain_calls}
 
 -- ---- calls with their bytes
 
-pub one_long : (call : DataCall) → HasItsBytes call → bytes_in (call_of call) ≡ length (bytes_of call)
+pub one_long : (call : DataCall) → HasItsBytes call → bytes_in (call_of call) ≡ length (moved_by call)
 one_long (Send to head bytes) long = sym long
 one_long (Recv from head bytes) long = sym long
 one_long (Post to head bytes) long = sym long
 one_long (Bar comm) long = refl
 
-one_back : (call : DataCall) → data_by (call_of call) (bytes_of call) ≡ call
+one_back : (call : DataCall) → data_by (call_of call) (moved_by call) ≡ call
 one_back (Send to head bytes) = refl
 one_back (Recv from head bytes) = refl
 one_back (Post to head bytes) = refl
 one_back (Bar comm) = refl
 
-pub bytes_back : (calls : List DataCall) → All HasItsBytes calls → with_bytes (map call_of calls) (flat_map bytes_of calls) ≡ calls
+pub bytes_back : (calls : List DataCall) → All HasItsBytes calls → with_bytes (map call_of calls) (flat_map moved_by calls) ≡ calls
 bytes_back [] long = refl
 bytes_back (call ∷ calls) long =
-    let n : bytes_in (call_of call) ≡ length (bytes_of call) = one_long call (All-head HasItsBytes call calls long) in
-    let front : take (bytes_in (call_of call)) (bytes_of call ++ flat_map bytes_of calls) ≡ bytes_of call =
-    ap (λ (k : ℕ). take k (bytes_of call ++ flat_map bytes_of calls)) n ∙ take-append_seam (bytes_of call) (flat_map bytes_of calls) in
-    let behind : drop (bytes_in (call_of call)) (bytes_of call ++ flat_map bytes_of calls) ≡ flat_map bytes_of calls =
-    ap (λ (k : ℕ). drop k (bytes_of call ++ flat_map bytes_of calls)) n ∙ drop-append_seam (bytes_of call) (flat_map bytes_of calls) in
+    let n : bytes_in (call_of call) ≡ length (moved_by call) = one_long call (All-head HasItsBytes call calls long) in
+    let front : take (bytes_in (call_of call)) (moved_by call ++ flat_map moved_by calls) ≡ moved_by call =
+    ap (λ (k : ℕ). take k (moved_by call ++ flat_map moved_by calls)) n ∙ take-append_seam (moved_by call) (flat_map moved_by calls) in
+    let behind : drop (bytes_in (call_of call)) (moved_by call ++ flat_map moved_by calls) ≡ flat_map moved_by calls =
+    ap (λ (k : ℕ). drop k (moved_by call ++ flat_map moved_by calls)) n ∙ drop-append_seam (moved_by call) (flat_map moved_by calls) in
     λ i. (ap (data_by (call_of call)) front ∙ one_back call) i ∷ (ap (with_bytes (map call_of calls)) behind ∙ bytes_back calls (All-tail HasItsBytes call calls long)) i
 
 -- ---- the lists of the ranks

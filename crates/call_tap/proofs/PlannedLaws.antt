@@ -8,21 +8,21 @@ use Rattle.scc_base.specs.declared.calls.Call.{Call}
 use Rattle.scc_proto.proofs.Tests.{both_first, both_second}
 use Rattle.call_tap.specs.Kept.{HasRoom}
 use Rattle.call_tap.specs.Planned.{has_room_for, bytes_planned}
-use Rattle.call_tap.specs.Watching.{bytes_of}
+use Rattle.record_machine.specs.Following.{moved_by}
 
 -- a call's own bytes are as many as it moves
-pub one_long : (call : DataCall) → HasItsBytes call → length (bytes_of call) ≡ bytes_asked (call_of call)
+pub one_long : (call : DataCall) → HasItsBytes call → length (moved_by call) ≡ bytes_asked (call_of call)
 one_long (Send to head bytes) long = long
 one_long (Recv from head bytes) long = long
 one_long (Post to head bytes) long = long
 one_long (Bar comm) long = refl
 
-all_long : (calls : List DataCall) → All HasItsBytes calls → length (flat_map bytes_of calls) ≡ bytes_planned (map call_of calls)
+all_long : (calls : List DataCall) → All HasItsBytes calls → length (flat_map moved_by calls) ≡ bytes_planned (map call_of calls)
 all_long [] long = refl
 all_long (call ∷ calls) long =
     let a = one_long call (All-head HasItsBytes call calls long) in
     let b = all_long calls (All-tail HasItsBytes call calls long) in
-    length-append (bytes_of call) (flat_map bytes_of calls) ∙ omega (arith, a, b)
+    length-append (moved_by call) (flat_map moved_by calls) ∙ omega (arith, a, b)
 
 pub planned_append : (one other : List Call) → bytes_planned (one ++ other) ≡ bytes_planned one + bytes_planned other
 planned_append [] other = omega arith

@@ -1,7 +1,7 @@
 -- The bytes of calls.
 use Rattle.std.specs.Prelude.{ℕ, ◌<◌, List, slice_index}
 use Rattle.scc_base.specs.Calls.{DataCall}
-use Rattle.call_tap.specs.Watching.{bytes_of}
+use Rattle.record_machine.specs.Following.{moved_by}
 
 -- each of them is below 256
 abbrev pub AreBytes : List ℕ → Type 0
@@ -9,4 +9,4 @@ AreBytes bytes = (i : ℕ) → slice_index bytes i < 256
 
 -- each of the bytes that a call moves is below 256
 abbrev pub HasBytes : DataCall → Type 0
-HasBytes call = AreBytes (bytes_of call)
+HasBytes call = AreBytes (moved_by call)

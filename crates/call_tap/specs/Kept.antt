@@ -2,17 +2,17 @@
 use Rattle.std.specs.Prelude.{◌≡◌, ◌≤◌, List, length, map, flat_map}
 use Rattle.scc_base.specs.Calls.{DataCall, call_of}
 use Rattle.call_tap.specs.declared.kept.Kept.{Kept}
-use Rattle.call_tap.specs.Watching.{bytes_of}
+use Rattle.record_machine.specs.Following.{moved_by}
 
 -- there is room for these calls and for their bytes: a tap has room for as many as a log may have of a rank
 pub record HasRoom (calls : List DataCall) : Type 0 where
   pub calls_within : length calls ≤ 10000
-  pub bytes_within : length (flat_map bytes_of calls) ≤ 262144
+  pub bytes_within : length (flat_map moved_by calls) ≤ 262144
 
 -- these calls, without their bytes, and the bytes one after the other
 pub record AreKept (k : Kept) (calls : List DataCall) : Type 0 where
   pub calls_are : k.calls.items ≡ map call_of calls
-  pub bytes_are : k.bytes.items ≡ flat_map bytes_of calls
+  pub bytes_are : k.bytes.items ≡ flat_map moved_by calls
 
 -- these calls are kept, where there is room for them
 abbrev pub IsKept : Kept → List DataCall → Type 0

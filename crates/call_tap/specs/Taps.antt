@@ -2,20 +2,19 @@
 use Rattle.std.specs.Prelude.{◌≡◌, ℕ, List}
 use Rattle.scc_base.specs.Setups.{SetupView}
 use Rattle.scc_base.specs.declared.events.Event.{Event}
-use Rattle.scc_base.specs.declared.layouts.Layout.TheVariants.{LineFlags}
 use Rattle.scc_proto.specs.Records.{record_of}
 use Rattle.scc_proto.specs.Stages.{Record}
+use Rattle.record_machine.specs.Following.{FollowsRecord}
 use Rattle.call_tap.specs.declared.taps.Tap.{Tap}
 use Rattle.call_tap.specs.Kept.{IsKept}
-use Rattle.call_tap.specs.Watching.{Follows}
 
 -- a tap has come to this record
 pub record Reads (tap : Tap) (rec : Record) : Type 0 where
-  pub follows : Follows tap.watch rec
+  pub follows : FollowsRecord tap.machine rec
   pub kept : IsKept tap.kept rec.calls
 
--- a tap has read these events of a rank, where each flag has a line of its own
+-- a tap has read these events of a rank
 pub record HasRead (tap : Tap) (s : SetupView) (rank : ℕ) (events : List Event) : Type 0 where
-  pub setup_is : tap.setup ≡ s
-  pub rank_is : tap.rank ≡ rank
-  pub reads : s.layout ≡ LineFlags → ∥ Reads tap (record_of s rank events) ∥₁
+  pub setup_is : tap.machine.setup ≡ s
+  pub rank_is : tap.machine.rank ≡ rank
+  pub reads : ∥ Reads tap (record_of s rank events) ∥₁

@@ -24,7 +24,7 @@ impl Kept {
     ghost use Rattle.std.specs.Prelude.{◌≡◌, ◌∷◌, ◌++◌, List, [], IfOk};
     ghost use Rattle.scc_base.specs.Calls.{DataCall, call_of};
     ghost use Rattle.call_tap.specs.Kept.{IsKept};
-    ghost use Rattle.call_tap.specs.Watching.{bytes_of};
+    ghost use Rattle.record_machine.specs.Following.{moved_by};
 
     /// No calls, with room for them.
     pub fn new(alloc: Global) -> Result<Kept, AllocError>
@@ -37,7 +37,7 @@ impl Kept {
 
     /// One call more, as far as there is room.
     pub(crate) fn note(&mut self, call: Call, bytes: &[u8])
-        ensures notes { (calls : List DataCall) (done : DataCall) → call_of done ≡ call → bytes_of done ≡ bytes.now → IsKept self.old calls
+        ensures notes { (calls : List DataCall) (done : DataCall) → call_of done ≡ call → moved_by done ≡ bytes.now → IsKept self.old calls
             → IsKept self.new (calls ++ done ∷ []) }
     {
         let left = MOST_BYTES.saturating_sub(self.bytes.len());

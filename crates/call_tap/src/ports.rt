@@ -3,7 +3,7 @@
 ghost use Rattle.call_tap.specs.Taps.{HasRead};
 
 use crate::taps::Tap;
-use scc_base::{CoreId, Place, Rank, Setup};
+use scc_base::{CoreId, Event, Place, Rank, Setup};
 use scc_proto::Port;
 
 /// A port that is used as the one in it, with a tap that reads each access.
@@ -51,20 +51,23 @@ impl<P: Port> Port for Tapped<P> {
 
     fn load(&mut self, p: Place) -> u64 {
         let value = self.port.load(p);
-        self.tap.loaded(p, value);
+        self.tap.read(&Event::load(p, value));
         value
     }
 
     fn store(&mut self, p: Place, v: u64) {
         self.port.store(p, v);
-        self.tap.stored(p, v);
+        self.tap.read(&Event::store(p, v));
     }
 
     fn take(&mut self, c: CoreId) -> bool {
-        self.port.take(c)
+        let taken = self.port.take(c);
+        self.tap.read(&Event::take(c, taken));
+        taken
     }
 
     fn free(&mut self, c: CoreId) {
         self.port.free(c);
+        self.tap.read(&Event::free(c));
     }
 }

@@ -3,7 +3,6 @@ use Rattle.std.proofs.Common.{◌≡◌, ℕ, ◌+◌, ◌<◌, ◌≤◌, true,
 use Rattle.std.specs.Prelude.{All}
 use Rattle.scc_base.specs.Calls.{DataCall, HasItsBytes}
 use Rattle.scc_base.specs.Setups.{SetupView}
-use Rattle.scc_base.specs.declared.layouts.Layout.TheVariants.{LineFlags}
 use Rattle.scc_mesh.specs.Scenes.{ChipView, IsNew, about_in, events_in, records_in}
 use Rattle.scc_proto.specs.Passed.{open_call}
 use Rattle.script_reader.specs.Script.{Script}
@@ -88,16 +87,16 @@ pub kept_there : (place : Option Tap) (tap : Tap) (done : List DataCall) → pla
 kept_there place tap done is keeps = subst (λ (t : Option Tap). KeepsCalls t done) is keeps
 
 -- a run that is over
-pub over : (script : Script) (s : SetupView) (chip now : ChipView) (crew later : List (Logger UeView)) (end : RunEnd) → s.nue ≡ script.nue → s.layout ≡ LineFlags → has_room_for_all script ≡ true → IsNew s chip → length crew ≡ s.nue
+pub over : (script : Script) (s : SetupView) (chip now : ChipView) (crew later : List (Logger UeView)) (end : RunEnd) → s.nue ≡ script.nue → has_room_for_all script ≡ true → IsNew s chip → length crew ≡ s.nue
     → IsSameChip chip now → length later ≡ length crew → EndsAs end script → ((k : ℕ) → (records_in now k).calls ≡ plain_calls script k) → AreLegalCalls now
     → ((k : ℕ) (call : DataCall) → k < script.nue → open_call (about_in now) (records_in now k) ≡ Some call → WaitsOpen script k call) → NoneDrafts (about_in now) (records_in now)
-    → ((about_in chip).layout ≡ LineFlags → (k : ℕ) (d : Logger UeView) → k < script.nue → has_room_for (calls_of script k) ≡ true → KeepsCalls (slice_index_or later k d).tap (records_in now k).calls)
+    → ((k : ℕ) (d : Logger UeView) → k < script.nue → has_room_for (calls_of script k) ≡ true → KeepsCalls (slice_index_or later k d).tap (records_in now k).calls)
     → ((k : ℕ) → k < script.nue → All HasItsBytes (records_in now k).calls) → ((k : ℕ) → k < script.nue → All (IsOwnCall script k) (records_in now k).calls)
     → ((k : ℕ) → k < script.nue → has_room_for (calls_of script k) ≡ true → HasRoom (records_in now k).calls) → IsOver script s now later end
-over script s chip now crew later end ranks lines room new each stands count answer calls legal opened no_draft kept long own few = record {
+over script s chip now crew later end ranks room new each stands count answer calls legal opened no_draft kept long own few = record {
   kept = record {
     count = count ∙ each ∙ ranks;
-    each = λ k d low. subst (λ (done : List DataCall). KeepsCalls (slice_index_or later k d).tap done) (calls k) (kept (ap (λ (x : SetupView). x.layout) new.about ∙ lines) k d low (each_room script room k low));
+    each = λ k d low. subst (λ (done : List DataCall). KeepsCalls (slice_index_or later k d).tap done) (calls k) (kept k d low (each_room script room k low));
     long = λ k low. subst (λ (done : List DataCall). All HasItsBytes done) (calls k) (long k low);
   };
   answer = answer;

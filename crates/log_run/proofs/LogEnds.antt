@@ -7,7 +7,6 @@ use Rattle.scc_base.specs.Calls as calls
 use Rattle.scc_base.specs.Setups.{SetupView, setup_key}
 use Rattle.scc_base.specs.declared.calls.Call.{Call}
 use Rattle.scc_base.specs.declared.events.Event.{Event}
-use Rattle.scc_base.specs.declared.layouts.Layout.TheVariants.{LineFlags}
 use Rattle.scc_proto.specs.Agreement.{Agrees}
 use Rattle.scc_proto.specs.Legality.{IsLegal}
 use Rattle.scc_proto.specs.Passed.{open_call, passed_calls, passed_open, slot_of}
@@ -65,10 +64,10 @@ loggers_run = record {
 }
 
 -- a tap in its place keeps what it has read, where it has room
-tap_keeps : (kept : (tap : Tap) (s : SetupView) (rank : ℕ) (events : List Event) → HasRead tap s rank events → s.layout ≡ LineFlags → HasRoom (record_of s rank events).calls → AreKept tap.kept (record_of s rank events).calls)
-    → (tap : Option Tap) (s : SetupView) (rank : ℕ) (events : List Event) → IsTapped tap s rank events → s.layout ≡ LineFlags → HasRoom (record_of s rank events).calls → KeepsCalls tap (record_of s rank events).calls
-tap_keeps kept None s rank events tapped lines room = tapped
-tap_keeps kept (Some tap) s rank events tapped lines room = kept tap s rank events tapped lines room
+tap_keeps : (kept : (tap : Tap) (s : SetupView) (rank : ℕ) (events : List Event) → HasRead tap s rank events → HasRoom (record_of s rank events).calls → AreKept tap.kept (record_of s rank events).calls)
+    → (tap : Option Tap) (s : SetupView) (rank : ℕ) (events : List Event) → IsTapped tap s rank events → HasRoom (record_of s rank events).calls → KeepsCalls tap (record_of s rank events).calls
+tap_keeps kept None s rank events tapped room = tapped
+tap_keeps kept (Some tap) s rank events tapped room = kept tap s rank events tapped room
 
 module _ (script : Script) (chip : ChipView) (crew : List (Logger UeView)) (memory : Memory) (agrees : Agrees (about_in chip) memory (records_in chip)) (is_crew : IsCrew ue_loggers chip crew)
     (all_run : AllRun ue_of script crew) (some : 0 < length crew) (d : Logger UeView) where
@@ -106,12 +105,12 @@ module _ (script : Script) (chip : ChipView) (crew : List (Logger UeView)) (memo
         room (calls_of script k) first.rest (records k).calls planned first.planned first.long
 
     -- and its tap keeps them
-    pub kept_at : ((tap : Tap) (s : SetupView) (rank : ℕ) (events : List Event) → HasRead tap s rank events → s.layout ≡ LineFlags → HasRoom (record_of s rank events).calls → AreKept tap.kept (record_of s rank events).calls)
+    pub kept_at : ((tap : Tap) (s : SetupView) (rank : ℕ) (events : List Event) → HasRead tap s rank events → HasRoom (record_of s rank events).calls → AreKept tap.kept (record_of s rank events).calls)
         → ((planned rest : List Call) (done : List DataCall) → has_room_for planned ≡ true → planned ≡ map calls.call_of done ++ rest → All HasItsBytes done → HasRoom done)
-        → s.layout ≡ LineFlags → (k : ℕ) → k < script.nue → has_room_for (calls_of script k) ≡ true → KeepsCalls (slice_index_or crew k d).tap (records k).calls
-    kept_at kept room lines k low planned =
+        → (k : ℕ) → k < script.nue → has_room_for (calls_of script k) ≡ true → KeepsCalls (slice_index_or crew k d).tap (records k).calls
+    kept_at kept room k low planned =
         let below : k < s.nue = subst (λ (n : ℕ). k < n) (sym ranks) low in
-        tap_keeps kept (slice_index_or crew k d).tap s k (events_in chip k) (is_crew.ties k d (within k below)).tapped lines (room_at room k low planned)
+        tap_keeps kept (slice_index_or crew k d).tap s k (events_in chip k) (is_crew.ties k d (within k below)).tapped (room_at room k low planned)
 
   pub ranks_are : s.nue ≡ script.nue
   ranks_are =

@@ -1,7 +1,6 @@
 //! A run of a script on a blank chip, and the calls that it keeps.
 
 ghost use Rattle.std.specs.Prelude.{◌≡◌, None, IfErr, IfOk, true};
-ghost use Rattle.scc_base.specs.declared.layouts.Layout.TheVariants.{LineFlags};
 ghost use Rattle.script_reader.specs.Script.{rules_of};
 ghost use Rattle.scc_mesh.specs.Scenes.{IsNew};
 ghost use Rattle.log_run.specs.LogRuns.{AreFresh, HasRun, IsOver};
@@ -42,7 +41,7 @@ impl<'s> Model for LogRun<'s> {
 impl<'s> LogRun<'s> {
     ghost use Rattle.std.specs.Prelude.{◌≡◌, ◌<◌, ◌≤◌, All, flat_map, map};
     ghost use Rattle.scc_base.specs.Calls.{HasItsBytes, call_of};
-    ghost use Rattle.call_tap.specs.Watching.{bytes_of};
+    ghost use Rattle.record_machine.specs.Following.{moved_by};
     ghost use Rattle.script_reader.specs.Script.{rules_of};
     ghost use Rattle.rcce_run.specs.Crews.{EndsAs};
     ghost use Rattle.log_run.specs.LogRuns.{HaveKept, plain_calls};
@@ -97,7 +96,7 @@ impl<'s> LogRun<'s> {
     /// Their bytes, one after the other.
     pub fn bytes(&self, rank: Rank) -> &[u8]
         requires { rank < self.now.nue }
-        ensures gives { result.now ≡ flat_map bytes_of (plain_calls self.now rank) }
+        ensures gives { result.now ≡ flat_map moved_by (plain_calls self.now rank) }
     {
         match &self.crew[rank.number() as usize].tap {
             Some(tap) => tap.kept.bytes.as_slice(),
@@ -117,7 +116,6 @@ pub fn run_script<'s>(
     requires blank { chip.old ≡ None }
     requires ranks { setup.now.nue ≡ scripts.now.nue }
     requires communicators { setup.now.comms ≡ rules_of scripts.now.items }
-    requires lines { setup.now.layout ≡ LineFlags }
     requires room { has_room_for_all scripts.now ≡ true }
     ensures run { IfOk result (λ run. run ≡ scripts.now) }
     ensures history { IfOk result (λ run. HasRun scripts.now setup.now chip.new) }
@@ -139,7 +137,6 @@ fn run_crew(
     requires chip { IsNew setup.now chip.old }
     requires fresh { AreFresh scripts.now setup.now crew.old }
     requires ranks { setup.now.nue ≡ scripts.now.nue }
-    requires lines { setup.now.layout ≡ LineFlags }
     requires room { has_room_for_all scripts.now ≡ true }
     ensures { IsOver scripts.now setup.now chip.new crew.new result }
 {

@@ -8,7 +8,6 @@ ghost use Rattle.chip_run.specs.Waiting.{NoneDrafts};
 ghost use Rattle.rcce_run.specs.UeRuns.{IsSameChip, WaitsOpen};
 ghost use Rattle.rcce_ue.specs.Ues.{UeView};
 ghost use Rattle.scc_base.specs.Calls.{DataCall, HasItsBytes};
-ghost use Rattle.scc_base.specs.declared.layouts.Layout.TheVariants.{LineFlags};
 ghost use Rattle.scc_mesh.specs.Scenes.{about_in, records_in};
 ghost use Rattle.scc_proto.specs.Passed.{open_call};
 ghost use Rattle.script_plain.specs.CallLists.{calls_of};
@@ -43,8 +42,8 @@ pub fn log_run<V: Evict + Drop>(chip: &mut Chip, crew: &mut [Logger<Ue<'_, V>>])
         → open_call (about_in chip.new) (records_in chip.new k) ≡ Some call → WaitsOpen script k call }
     // A rank that has no call open is in the midst of nothing: it has no message in draft.
     ensures no_draft { NoneDrafts (about_in chip.new) (records_in chip.new) }
-    // With line flags, the tap of a rank keeps its finished calls, where it has room for all calls of the rank's program.
-    ensures kept { (script : Script) → IsFreshCrew script chip.old crew.old → (about_in chip.old).layout ≡ LineFlags
+    // The tap of a rank keeps its finished calls, where it has room for all calls of the rank's program.
+    ensures kept { (script : Script) → IsFreshCrew script chip.old crew.old
         → (k : ℕ) (d : Logger UeView) → k < script.nue → has_room_for (calls_of script k) ≡ true
         → KeepsCalls (slice_index_or crew.new k d).tap (records_in chip.new k).calls }
     // Each of them has the bytes that its head says.

@@ -1,5 +1,7 @@
 pub mod ChunkLaws
 pub mod MachineLaws
+pub mod NextKept
+pub mod NextLaws
 pub mod NotedLaws
 pub mod PartLaws
 pub mod ReceiveLaws

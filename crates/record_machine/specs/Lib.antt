@@ -1,5 +1,6 @@
 pub mod Following
 pub mod Held
+pub mod Next
 pub mod Noted
 pub mod Standing
 pub mod Steps

@@ -43,7 +43,8 @@ impl Work {
         free && ready
     }
 
-    fn is_ready_for(&self, to: Rank) -> bool
+    /// Whether a whole chunk is drafted for it.
+    pub(crate) fn is_ready_for(&self, to: Rank) -> bool
         ensures tells { (rec : Record) → StandsFor self.now rec → result ≡ may_raise self.now.size to rec.stage }
     {
         if let Standing::Filling { to: receiver, head } = self.standing {

@@ -29,10 +29,10 @@ fn keeps_two_calls(run: &LogRun<'_>) -> bool
 }
 
 /// Whether a run of a script for two ranks has room, finishes, and keeps one call of each rank.
-fn keeps_both(alloc: Global, scripts: &Scripts) -> Result<bool, AllocError>
+fn keeps_both(alloc: Global, scripts: &Scripts, layout: Layout) -> Result<bool, AllocError>
     requires two { scripts.now.nue ≡ 2 }
 {
-    let Some(setup) = setup_of(scripts, Layout::LineFlags, false) else {
+    let Some(setup) = setup_of(scripts, layout, false) else {
         return Ok(false);
     };
     if !has_room(alloc, scripts)? {
@@ -44,14 +44,15 @@ fn keeps_both(alloc: Global, scripts: &Scripts) -> Result<bool, AllocError>
 }
 
 /// Whether the run of this text does so.
-fn is_kept(alloc: Global, text: &[u8]) -> bool {
+fn is_kept(alloc: Global, text: &[u8], layout: Layout) -> bool {
     match read_script(alloc, text, 2) {
-        Ok(scripts) => matches!(keeps_both(alloc, &scripts), Ok(true)),
+        Ok(scripts) => matches!(keeps_both(alloc, &scripts, layout), Ok(true)),
         Err(_) => false,
     }
 }
 
 #[test]
-fn a_message_is_kept_by_both_ranks(rt: HostRuntime) {
-    assert!(rt; is_kept(rt.alloc(), FOUR_BYTES));
+fn a_message_is_kept_by_both_ranks_in_both_layouts(rt: HostRuntime) {
+    assert!(rt; is_kept(rt.alloc(), FOUR_BYTES, Layout::LineFlags));
+    assert!(rt; is_kept(rt.alloc(), FOUR_BYTES, Layout::BitFlags));
 }

@@ -13,7 +13,9 @@ use Rattle.scc_proto.specs.Tables.{put}
 use Rattle.scc_proto.specs.Words.{Memory, zeros, memory_after, RankEvent}
 use Rattle.scc_proto.proofs.Tests.{put_here, put_there, same_or_other}
 use Rattle.record_machine.specs.Following.{Adds, FinishesCall, FollowsRecord}
+use Rattle.record_machine.specs.Next.{allowed_for}
 use Rattle.record_machine.specs.declared.machines.Machine.{Machine}
+use Rattle.record_machine.specs.declared.next.NextEvent.{NextEvent}
 use Rattle.trace_judge.specs.Followed.{FollowsAt, IsFollowed, bytes_shown, run_made}
 use Rattle.trace_judge.specs.Judged.{judged_after, judged_by}
 use Rattle.trace_judge.specs.declared.judge.Made.{Made}
@@ -92,6 +94,10 @@ module _ (s : SetupView) (memory : Memory) (machines : List Machine) (run : List
   own_permits P told =
       subst (λ (k : ℕ). P ↔ IsPermitted s k own e) is_own.1
       (subst (λ (x : SetupView). P ↔ IsPermitted x m.rank own e) is_own.0 (told own is_own.2))
+
+  -- what the machine allows is what the record allows
+  pub own_allows : {A : Type 0} (x : A) (f : NextEvent → A) → ((rec : Record) → FollowsRecord m rec → x ≡ f (allowed_for m.setup rec e)) → x ≡ f (allowed_for s own e)
+  own_allows x f told = told own is_own.2 ∙ ap (λ (y : SetupView). f (allowed_for y own e)) is_own.0
 
   module _ (n : Machine) (same : (n.setup ≡ m.setup) × (n.rank ≡ m.rank))
       (follows : (rec : Record) → FollowsRecord m rec → FollowsRecord n (record_after m.setup m.rank rec e)) where

@@ -1,6 +1,8 @@
 -- Why an event is refused, by what the words and the machine of its rank say.
 use Rattle.std.proofs.Common.{◌≡◌, ℕ, Bool, true, false, if◌then◌else◌, List, Option, Some, None, refl, sym, ◌∙◌, ap}
 use Rattle.scc_base.specs.Setups.{SetupView}
+use Rattle.record_machine.specs.Next.{allowed_for}
+use Rattle.record_machine.specs.declared.next.NextEvent.{NextEvent}
 use Rattle.scc_proto.specs.Histories.{memory_from, records_from}
 use Rattle.scc_proto.specs.Records.{is_permitted, IsPermitted}
 use Rattle.scc_proto.specs.Stages.{blank}
@@ -10,8 +12,8 @@ use Rattle.trace_judge.specs.Rulings.{stands_at, is_step, refusal_of}
 use Rattle.trace_judge.specs.declared.judge.Refusal.{Refusal}
 use Rattle.trace_judge.specs.declared.judge.Refusal.TheVariants.{OtherValue, NotPermitted}
 
-abbrev choose : Bool → Bool → ℕ → Option Refusal
-choose step permitted found = if step then (if permitted then None else Some NotPermitted) else Some (OtherValue found)
+abbrev choose : Bool → Bool → NextEvent → ℕ → Option Refusal
+choose step permitted next found = if step then (if permitted then None else Some (NotPermitted next)) else Some (OtherValue found)
 
 not_true : (b : Bool) → (b ≡ true → ⊥) → b ≡ false
 not_true true never = absurd (never refl)
@@ -21,17 +23,21 @@ module _ (s : SetupView) (memory : Memory) (run : List RankEvent) (e : RankEvent
   abbrev permitted : Bool
   permitted = is_permitted s e.rank (records_from s (λ k. blank) run e.rank) e.event
 
-  same_words : choose (is_step memory e.event) permitted (stands_at memory e.event) ≡ refusal_of (judged_by s run) e
-  same_words = ap (λ (m : Memory). choose (is_step m e.event) permitted (stands_at m e.event)) words
+  abbrev allowed : NextEvent
+  allowed = allowed_for s (records_from s (λ k. blank) run e.rank) e.event
+
+  same_words : choose (is_step memory e.event) permitted allowed (stands_at memory e.event) ≡ refusal_of (judged_by s run) e
+  same_words = ap (λ (m : Memory). choose (is_step m e.event) permitted allowed (stands_at m e.event)) words
 
   pub refused_value : (step : Bool) (found : ℕ) → step ≡ is_step memory e.event → step ≡ false → found ≡ stands_at memory e.event → Some (OtherValue found) ≡ refusal_of (judged_by s run) e
   refused_value step found told is value =
-      ap (λ (n : ℕ). Some (OtherValue n)) value ∙ sym (ap (λ (b : Bool). choose b permitted (stands_at memory e.event)) (sym told ∙ is)) ∙ same_words
+      ap (λ (n : ℕ). Some (OtherValue n)) value ∙ sym (ap (λ (b : Bool). choose b permitted allowed (stands_at memory e.event)) (sym told ∙ is)) ∙ same_words
 
   pub refused_none : (step : Bool) → step ≡ is_step memory e.event → step ≡ true → IsPermitted s e.rank (records_from s (λ k. blank) run e.rank) e.event → None ≡ refusal_of (judged_by s run) e
   refused_none step told is may =
-      sym (ap (λ (b : Bool). choose b permitted (stands_at memory e.event)) (sym told ∙ is) ∙ ap (λ (b : Bool). choose true b (stands_at memory e.event)) may) ∙ same_words
+      sym (ap (λ (b : Bool). choose b permitted allowed (stands_at memory e.event)) (sym told ∙ is) ∙ ap (λ (b : Bool). choose true b allowed (stands_at memory e.event)) may) ∙ same_words
 
-  pub refused_permit : (step : Bool) → step ≡ is_step memory e.event → step ≡ true → (IsPermitted s e.rank (records_from s (λ k. blank) run e.rank) e.event → ⊥) → Some NotPermitted ≡ refusal_of (judged_by s run) e
-  refused_permit step told is never =
-      sym (ap (λ (b : Bool). choose b permitted (stands_at memory e.event)) (sym told ∙ is) ∙ ap (λ (b : Bool). choose true b (stands_at memory e.event)) (not_true permitted never)) ∙ same_words
+  pub refused_permit : (step : Bool) → step ≡ is_step memory e.event → step ≡ true → (IsPermitted s e.rank (records_from s (λ k. blank) run e.rank) e.event → ⊥)
+      → (why : Refusal) → why ≡ NotPermitted allowed → Some why ≡ refusal_of (judged_by s run) e
+  refused_permit step told is never why same =
+      ap (λ (w : Refusal). Some w) same ∙ sym (ap (λ (b : Bool). choose b permitted allowed (stands_at memory e.event)) (sym told ∙ is) ∙ ap (λ (b : Bool). choose true b allowed (stands_at memory e.event)) (not_true permitted never)) ∙ same_words

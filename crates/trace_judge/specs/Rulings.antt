@@ -8,6 +8,8 @@ use Rattle.scc_base.specs.declared.events.Access.TheVariants.{Load, Store, Take,
 use Rattle.scc_base.specs.declared.calls.Call.{Call}
 use Rattle.scc_base.specs.declared.events.Event.{Event}
 use Rattle.scc_proto.specs.Records.{is_permitted}
+use Rattle.record_machine.specs.Next.{allowed_for}
+use Rattle.scc_proto.specs.Stages.{Record}
 use Rattle.scc_proto.specs.Tables.{put}
 use Rattle.scc_proto.specs.Words.{Memory, word_at, RankEvent}
 use Rattle.trace_judge.specs.declared.judge.Refusal.{Refusal}
@@ -41,11 +43,13 @@ is_step_by Free value found = true
 abbrev pub is_step : Memory → Event → Bool
 is_step memory e = is_step_by e.access e.value (stands_at memory e)
 
+-- why an event is refused that is a step: the record of its rank does not permit it, and allows something else
+abbrev pub permit_refusal : SetupView → ℕ → Record → Event → Option Refusal
+permit_refusal s me rec e = if is_permitted s me rec e then None else Some (NotPermitted (allowed_for s rec e))
+
 -- why an event is refused: another value stands there, or else the record of its rank does not permit it
 abbrev pub refusal_of : Judged → RankEvent → Option Refusal
-refusal_of j e =
-    if is_step j.memory e.event then (if is_permitted j.setup e.rank (j.records e.rank) e.event then None else Some NotPermitted)
-    else Some (OtherValue (stands_at j.memory e.event))
+refusal_of j e = if is_step j.memory e.event then permit_refusal j.setup e.rank (j.records e.rank) e.event else Some (OtherValue (stands_at j.memory e.event))
 
 -- an event that was refused: its number in the list, from 0, its rank, and why
 pub record RefusedAt : Type 0 where

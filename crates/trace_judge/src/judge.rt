@@ -1,11 +1,13 @@
 //! The judge of events.
 
 ghost use Rattle.std.specs.Prelude.{◌≡◌, ◌<◌, ℕ, IfOk, length, slice_get};
-ghost use Rattle.scc_proto.specs.Stages.{blank};
+ghost use Rattle.record_machine.specs.Following.{FollowsRecord};
+ghost use Rattle.record_machine.specs.Next.{allowed_for};
+ghost use Rattle.scc_proto.specs.Stages.{Record, blank};
 ghost use Rattle.trace_judge.specs.Followed.{FollowsAt};
 
 use crate::memory::ChipWords;
-use record_machine::Machine;
+use record_machine::{Machine, NextEvent};
 use scc_base::{Call, Event, Rank, Setup};
 use scc_proto::History;
 use std::alloc::{AllocError, Global};
@@ -16,8 +18,8 @@ use std::marker::Model;
 pub enum Refusal {
     /// It is no step: this value stands at its word, or in its core's register.
     OtherValue { found: u64 },
-    /// It is a step, but the record of its rank does not permit it next.
-    NotPermitted,
+    /// It is a step, but the record of its rank does not permit it next, and allows this.
+    NotPermitted { next: NextEvent },
 }
 
 /// An event that was taken, and the rank that made it.
@@ -47,6 +49,15 @@ fn held(rank: Rank, event: &Event) -> Made
         value: event.value,
     };
     Made { rank, event }
+}
+
+// Why an event is refused that the machine of its rank does not permit.
+fn not_permitted(machine: &Machine, event: &Event) -> Refusal
+    ensures gives { (rec : Record) → FollowsRecord machine.now rec → result ≡ Refusal.NotPermitted (allowed_for machine.now.setup rec event.now) }
+{
+    Refusal::NotPermitted {
+        next: machine.allowed_for(event),
+    }
 }
 
 impl Model for Judge {
@@ -132,7 +143,7 @@ impl Judge {
                 self.history = self.history.and(&held(rank, event));
                 Ok(call)
             }
-            Err(_) => Err(Refusal::NotPermitted),
+            Err(_) => Err(not_permitted(machine, event)),
         }
     }
 }

@@ -1,2 +1,4 @@
+pub mod HearingLemmas
+pub mod LegalLemmas
 pub mod PlanLemmas
 pub mod RulingLemmas

@@ -1,5 +1,8 @@
 -- The pieces of the lines that `rccetrace` prints.
 use Rattle.std.specs.Prelude.{ℕ, List, decimal}
+use Rattle.trace_program.specs.NextTexts.{next_text}
+use Rattle.trace_program.specs.declared.next_texts.Piece.{Piece}
+use Rattle.trace_program.specs.declared.next_texts.Piece.TheVariants as piece
 use Rattle.std.specs.Int.{w64, to_be_bytes}
 use Rattle.rcce_io.specs.Digits.{hex_text}
 use Rattle.trace_program.specs.declared.report.Part.{Part}
@@ -9,3 +12,8 @@ abbrev pub trace_part_text : Part → List ℕ
 trace_part_text (part.Text text) = text.now
 trace_part_text (part.Count n) = decimal n
 trace_part_text (part.Value value) = hex_text (to_be_bytes w64 value)
+trace_part_text (part.Next next) = next_text next
+
+abbrev pub piece_text : Piece → List ℕ
+piece_text (piece.Text text) = text.now
+piece_text (piece.Count n) = decimal n

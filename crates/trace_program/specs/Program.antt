@@ -5,7 +5,6 @@ use Rattle.outcomes.specs.Numbers.{is_option}
 use Rattle.outcomes.specs.Outcomes.{Ran}
 use Rattle.outcomes.specs.Plans.{Plan, Program}
 use Rattle.outcomes.specs.Plans.Plan.{Runs, Refuses, Reads}
-use Rattle.rcce_audit.specs.Views.{data_lists}
 use Rattle.rcce_words.specs.ScriptWords.{plan_of}
 use Rattle.trace_judge.specs.Judged.{Judged, new_judged}
 use Rattle.trace_judge.specs.Rulings.{RefusedAt, ruling_from}
@@ -14,7 +13,7 @@ use Rattle.trace_text.specs.Kinds.{trace_fault_name}
 use Rattle.trace_text.specs.Traces.{TraceView, most_trace_bytes}
 use Rattle.trace_text.specs.declared.faults.TraceFault.{TraceFault}
 use Rattle.trace_program.specs.Lists.{finished_calls, first_event_line}
-use Rattle.trace_program.specs.Texts.{legal_text, refused_text}
+use Rattle.trace_program.specs.Texts.{kept_text, legal_text, refused_text}
 use Rattle.trace_program.specs.declared.report.TraceVerdict.{TraceVerdict}
 use Rattle.trace_program.specs.declared.report.TraceVerdict.TheVariants.{Legal, NotLegal}
 
@@ -34,8 +33,8 @@ trace_ran asked trace = ruling_ran asked trace (ruling_from 0 (new_judged trace.
 
 -- what a verdict comes to
 abbrev pub verdict_shown : TraceVerdict → Ran
-verdict_shown (Legal calls) = record { finished = true; out = legal_text calls.nue calls.asked (data_lists calls.lists.items); err = [] }
-verdict_shown (NotLegal line rank why) = record { finished = false; out = refused_text line rank why; err = [] }
+verdict_shown (Legal calls) = record { finished = true; out = kept_text calls.nue calls.finished; err = [] }
+verdict_shown (NotLegal at) = record { finished = false; out = refused_text at.line at.rank at.why; err = [] }
 
 -- a trace is judged, and its first fault refuses its file
 abbrev pub said_plan : TraceCommand → Result TraceView TraceFault → Plan

@@ -1,5 +1,9 @@
 -- The lines that `rccetrace` prints of a judged trace (this project's profile).
-use Rattle.std.specs.Prelude.{ℕ, nat_lt, Bool, if◌then◌else◌, List, [], ◌∷◌, ◌++◌, codes, decimal, length}
+use Rattle.std.specs.Prelude.{ℕ, nat_lt, Bool, if◌then◌else◌, List, [], ◌∷◌, ◌++◌, codes, decimal, length, Option, Some, None, Vec}
+use Rattle.std.specs.declared.alloc.Global.{Global}
+use Rattle.rcce_audit.specs.Views.{data_lists}
+use Rattle.rcce_audit.specs.declared.logs.LogCall.{LogCall}
+use Rattle.trace_program.specs.declared.finished.FinishedCalls.{FinishedCalls}
 use Rattle.std.specs.Int.{w64, to_be_bytes}
 use Rattle.rcce_audit.specs.Texts.{call_lines, table_lines, text_of}
 use Rattle.rcce_io.specs.Digits.{hex_text}
@@ -7,13 +11,17 @@ use Rattle.rcce_io.specs.Sending.{joined}
 use Rattle.scc_base.specs.Calls.{DataCall}
 use Rattle.trace_judge.specs.declared.judge.Refusal.{Refusal}
 use Rattle.trace_judge.specs.declared.judge.Refusal.TheVariants.{OtherValue, NotPermitted}
+use Rattle.trace_program.specs.NextTexts.{next_text}
 
 -- the line of a rank of the run: how many calls it has finished
-abbrev pub finished_line : ℕ → List DataCall → List ℕ
-finished_line r calls = joined (codes "rank " ∷ decimal r ∷ codes " finished " ∷ decimal (length calls) ∷ codes " calls" ∷ [])
+abbrev pub count_line : (r count : ℕ) → List ℕ
+count_line r count = joined (codes "rank " ∷ decimal r ∷ codes " finished " ∷ decimal count ∷ codes " calls" ∷ [])
+
+abbrev pub count_lines : (nue r count : ℕ) → List (List ℕ)
+count_lines nue r count = if nat_lt r nue then count_line r count ∷ [] else []
 
 abbrev pub finished_lines : ℕ → ℕ → List DataCall → List (List ℕ)
-finished_lines nue r calls = if nat_lt r nue then finished_line r calls ∷ [] else []
+finished_lines nue r calls = count_lines nue r (length calls)
 
 -- the calls of all ranks in the form of a log, where they are asked for
 abbrev pub asked_text : Bool → List (List DataCall) → List ℕ
@@ -23,9 +31,17 @@ asked_text asked lists = if asked then text_of (table_lines call_lines 0 lists) 
 abbrev pub legal_text : ℕ → Bool → List (List DataCall) → List ℕ
 legal_text nue asked lists = codes "legal\n" ++ (text_of (table_lines (finished_lines nue) 0 lists) ++ asked_text asked lists)
 
+-- the same of counts and lists as they are kept
+abbrev pub lists_text : Option (Vec (Vec LogCall Global) Global) → List ℕ
+lists_text None = []
+lists_text (Some lists) = text_of (table_lines call_lines 0 (data_lists lists.items))
+
+abbrev pub kept_text : ℕ → FinishedCalls → List ℕ
+kept_text nue f = codes "legal\n" ++ (text_of (table_lines (count_lines nue) 0 f.counts) ++ lists_text f.lists)
+
 -- what is printed of one that is not: the line of its first event that is refused, and why
 abbrev pub refused_text : (line rank : ℕ) → Refusal → List ℕ
 refused_text line rank (OtherValue found) =
     joined (codes "not legal: line " ∷ decimal line ∷ codes ": the value there is " ∷ hex_text (to_be_bytes w64 found) ∷ codes "\n" ∷ [])
-refused_text line rank NotPermitted =
-    joined (codes "not legal: line " ∷ decimal line ∷ codes ": the record of rank " ∷ decimal rank ∷ codes " does not permit it\n" ∷ [])
+refused_text line rank (NotPermitted next) =
+    joined (codes "not legal: line " ∷ decimal line ∷ codes ": the record of rank " ∷ decimal rank ∷ codes " does not permit it; " ∷ next_text next ∷ codes "\n" ∷ [])

@@ -1,22 +1,13 @@
-//! The judging of a trace.
+//! The judging of the events of a trace, one after the other.
 
-ghost use Rattle.std.specs.Prelude.{◌≡◌, ◌<◌, ◌≤◌, ◌∷◌, ◌++◌, [], IfOk, None, vec_len};
-ghost use Rattle.scc_base.specs.Calls.{DataCall, call_of};
-ghost use Rattle.rcce_audit.specs.Views.{data_lists, data_of};
-ghost use Rattle.record_machine.specs.Following.{moved_by};
-ghost use Rattle.trace_program.specs.Lists.{finished_calls, first_event_line};
-ghost use Rattle.trace_judge.specs.Judged.{chip_of};
-ghost use Rattle.trace_judge.specs.Rulings.{refusal_of};
-ghost use Rattle.trace_text.specs.Views.{rank_event};
-ghost use Rattle.trace_program.specs.Program.{trace_ran, verdict_shown};
+ghost use Rattle.std.specs.Prelude.{◌≡◌, ◌≤◌};
+ghost use Rattle.trace_program.specs.Lists.{first_event_line};
 
-use crate::report::{RankCalls, TraceVerdict};
-use rcce_audit::{LogCall, no_calls, push_call};
-use scc_base::{Call, CommRule, Setup};
-use script_reader::Bytes;
+use crate::finished::FinishedCalls;
+use scc_base::{CommRule, Rank, Setup};
 use std::alloc::{AllocError, Global};
 use trace_judge::{Judge, Refusal};
-use trace_text::{Trace, TraceEvent};
+use trace_text::TraceEvent;
 
 /// The line of the first event: behind the first line and the communicators that are splits.
 fn first_event_line(setup: &Setup) -> usize
@@ -33,70 +24,69 @@ fn first_event_line(setup: &Setup) -> usize
     line
 }
 
-/// A call with a copy of its bytes.
-fn with_bytes(alloc: Global, call: Call, bytes: &[u8]) -> Result<LogCall, AllocError>
-    ensures { IfOk result (λ made. (done : DataCall) → call_of done ≡ call → moved_by done ≡ bytes.now → data_of made ≡ done) }
-{
-    let bytes = Bytes::from_vec(Vec::from_slice(alloc, bytes)?);
-    Ok(match call {
-        Call::Send { to, head } => LogCall::Send { to, head, bytes },
-        Call::Recv { from, head } => LogCall::Recv { from, head, bytes },
-        Call::Post { to, head } => LogCall::Post { to, head, bytes },
-        Call::Bar { comm } => LogCall::Bar { comm },
-    })
+/// An event that was refused: its line, its rank, and why.
+#[derive(Drop)]
+pub struct RefusedEvent {
+    pub line: usize,
+    pub rank: Rank,
+    pub why: Refusal,
 }
 
-/// Takes the next event of a trace, and keeps the call that is finished by it: why it is refused, if it is.
-fn take_event(
-    alloc: Global,
-    judge: &mut Judge,
-    lists: &mut Vec<Vec<LogCall>>,
-    made: &TraceEvent,
-) -> Result<Option<Refusal>, AllocError>
-    requires below { made.now.rank < judge.old.setup.nue }
-    requires within { judge.old.setup.nue ≤ 48 }
-    requires ranks { vec_len lists.old ≡ 48 }
-    requires holds { data_lists lists.old.items ≡ finished_calls (chip_of judge.old) }
-    ensures refused { IfOk result (λ why. why ≡ refusal_of (chip_of judge.old) (rank_event made.now)) }
-    ensures takes { IfOk result (λ why. why ≡ None → judge.new.run ≡ judge.old.run ++ rank_event made.now ∷ []) }
-    ensures holds { IfOk result (λ why. why ≡ None → data_lists lists.new.items ≡ finished_calls (chip_of judge.new)) }
-    ensures setup { judge.new.setup ≡ judge.old.setup }
-    ensures ranks { vec_len lists.new ≡ 48 }
-{
-    match judge.take(made.rank, &made.event) {
-        Ok(Some(call)) => {
-            let call = with_bytes(alloc, call, judge.bytes(made.rank))?;
-            push_call(lists, made.rank.number() as usize, call)?;
-            Ok(None)
-        }
-        Ok(None) => Ok(None),
-        Err(why) => Ok(Some(why)),
+/// A judge, the line of the first event, and how many events it has taken.
+#[derive(Drop)]
+pub(crate) struct Trial {
+    judge: Judge,
+    first: usize,
+    number: usize,
+    ghost few: { first ≤ 18 },
+}
+
+impl Trial {
+    ghost use Rattle.std.specs.Prelude.{◌≡◌, ◌<◌, ◌+◌, ◌^◌, [], Bool, ℕ, IfOk};
+    ghost use Rattle.trace_program.specs.Hearings.{IsNext, IsTried, TriedBy};
+    ghost use Rattle.trace_text.specs.Grammar.{TraceReading, event_added};
+    ghost use Rattle.trace_text.specs.Views.{rank_event};
+
+    /// Of a chip on which no event was made.
+    pub(crate) fn new(alloc: Global, setup: Setup) -> Result<Trial, AllocError>
+        ensures tried { IfOk result (λ trial. (r : TraceReading) → setup ≡ r.trace.setup → r.trace.events ≡ [] → IsTried trial r) }
+        ensures number { IfOk result (λ trial. trial.number ≡ 0) }
+    {
+        let first = first_event_line(&setup);
+        let judge = Judge::new(alloc, setup)?;
+        Ok(Trial {
+            judge,
+            first,
+            number: 0,
+        })
     }
-}
 
-/// Judges a trace, event by event.
-pub(crate) fn judge_trace(
-    alloc: Global,
-    trace: &Trace,
-    asked: bool,
-) -> Result<TraceVerdict, AllocError>
-    ensures { IfOk result (λ verdict. verdict_shown verdict ≡ trace_ran asked trace.now) }
-{
-    let setup = trace.setup();
-    let nue = setup.nue();
-    let first = first_event_line(setup);
-    let mut judge = Judge::new(alloc, setup.copy())?;
-    let mut lists = no_calls(alloc)?;
-    let mut number = 0usize;
-    for made in trace.events() {
-        if let Some(why) = take_event(alloc, &mut judge, &mut lists, made)? {
-            return Ok(TraceVerdict::NotLegal {
-                line: first + number,
+    /// Takes the next event, and keeps the call that is finished by it; or it is refused.
+    pub(crate) fn take(
+        &mut self,
+        alloc: Global,
+        finished: &mut FinishedCalls,
+        made: &TraceEvent,
+    ) -> Result<Option<RefusedEvent>, AllocError>
+        requires next { (asked : Bool) × (r : TraceReading) × IsNext asked self.old finished.old r made.now }
+        requires few { self.old.number < 2 ^ 32 }
+        ensures tried { IfOk result (λ refused. (asked : Bool) (r : TraceReading) → IsNext asked self.old finished.old r made.now
+            → TriedBy asked self.new finished.new (event_added r (rank_event made.now)) refused) }
+        ensures number { IfOk result (λ _. self.new.number ≡ self.old.number + 1) }
+    {
+        let line = self.first + self.number;
+        self.number += 1;
+        match self.judge.take(made.rank, &made.event) {
+            Ok(Some(call)) => {
+                finished.keep(alloc, made.rank, call, self.judge.bytes(made.rank))?;
+                Ok(None)
+            }
+            Ok(None) => Ok(None),
+            Err(why) => Ok(Some(RefusedEvent {
+                line,
                 rank: made.rank,
                 why,
-            });
+            })),
         }
-        number += 1;
     }
-    Ok(TraceVerdict::Legal(RankCalls { nue, asked, lists }))
 }

@@ -2,8 +2,11 @@
 #![tactic(auto)]
 
 mod command;
+mod finished;
+mod hearing;
 mod judging;
 mod launcher;
+mod next_texts;
 mod report;
 
 pub use command::TraceJob;

@@ -1,36 +1,33 @@
 //! A verdict on a trace, and its lines on out.
 
-ghost use Rattle.std.specs.Prelude.{◌≡◌, length, vec_len};
+ghost use Rattle.std.specs.Prelude.{◌≡◌, ForSome, length, vec_len};
 ghost use Rattle.rcce_io.specs.Sending.{Sends};
 ghost use Rattle.rcce_audit.specs.Texts.{table_lines, text_of};
-ghost use Rattle.rcce_audit.specs.Views.{data_lists, data_list};
-ghost use Rattle.trace_program.specs.Texts.{asked_text, finished_lines, legal_text, refused_text};
+ghost use Rattle.trace_program.specs.Texts.{count_lines, kept_text, lists_text, refused_text};
 
+use crate::finished::FinishedCalls;
+use crate::judging::RefusedEvent;
+use crate::next_texts::write_next;
 use outcomes::Report;
 use rcce_audit::{LogCall, write_lists};
 use rcce_io::{Sink, TextSource, WriteFault, write_all, write_hex, write_texts};
+use record_machine::NextEvent;
 use scc_base::Rank;
 use trace_judge::Refusal;
 
-/// How many ranks a legal trace has, whether the calls are asked for, and the calls that the ranks 0 to 47 have finished.
+/// How many ranks a legal trace has, and what they have finished.
 #[derive(Drop)]
 pub struct RankCalls {
     pub nue: u8,
-    pub asked: bool,
-    pub lists: Vec<Vec<LogCall>>,
-    ghost ranks: { vec_len lists ≡ 48 },
+    pub finished: FinishedCalls,
 }
 
 /// What a trace came to.
 #[derive(Drop)]
 pub enum TraceVerdict {
     Legal(RankCalls),
-    /// The line of the first event that is refused, its rank, and why.
-    NotLegal {
-        line: usize,
-        rank: Rank,
-        why: Refusal,
-    },
+    /// The first event that is refused.
+    NotLegal(RefusedEvent),
 }
 
 /// A piece of a line.
@@ -40,6 +37,8 @@ enum Part<'a> {
     Count(usize),
     /// A value of 64 bits in 16 hex digits.
     Value(u64),
+    /// What a record allows next.
+    Next(NextEvent),
 }
 
 impl TextSource for Part<'_> {
@@ -55,13 +54,14 @@ impl TextSource for Part<'_> {
                 write_all(sink, buffer.format(*count).as_bytes())
             }
             Part::Value(value) => write_hex(sink, &value.to_be_bytes()),
+            Part::Next(next) => write_next(sink, next),
         }
     }
 }
 
 /// Writes the line of a rank, where it is one of the run.
-fn write_rank<S: Sink>(sink: &mut S, nue: u8, rank: u8, calls: &[LogCall]) -> Result<(), WriteFault>
-    ensures { Sends (text_of (finished_lines nue rank (data_list calls.now))) (S.seen sink.old) (S.seen sink.new) result }
+fn write_rank<S: Sink>(sink: &mut S, nue: u8, rank: u8, count: usize) -> Result<(), WriteFault>
+    ensures { Sends (text_of (count_lines nue rank count)) (S.seen sink.old) (S.seen sink.new) result }
 {
     if rank >= nue {
         return Ok(());
@@ -72,46 +72,39 @@ fn write_rank<S: Sink>(sink: &mut S, nue: u8, rank: u8, calls: &[LogCall]) -> Re
             Part::Text("rank "),
             Part::Count(rank as usize),
             Part::Text(" finished "),
-            Part::Count(calls.len()),
+            Part::Count(count),
             Part::Text(" calls\n"),
         ],
     )
 }
 
 /// Writes the lines of the ranks.
-fn write_ranks<S: Sink>(sink: &mut S, nue: u8, lists: &[Vec<LogCall>]) -> Result<(), WriteFault>
-    requires { length lists.now ≡ 48 }
-    ensures { Sends (text_of (table_lines (finished_lines nue) 0 (data_lists lists.now))) (S.seen sink.old) (S.seen sink.new) result }
+fn write_ranks<S: Sink>(sink: &mut S, nue: u8, counts: &[usize]) -> Result<(), WriteFault>
+    requires { length counts.now ≡ 48 }
+    ensures { Sends (text_of (table_lines (count_lines nue) 0 counts.now)) (S.seen sink.old) (S.seen sink.new) result }
 {
     for rank in 0..48u8 {
-        write_rank(sink, nue, rank, lists[rank as usize].as_slice())?;
+        write_rank(sink, nue, rank, counts[rank as usize])?;
     }
     Ok(())
 }
 
-fn write_asked<S: Sink>(sink: &mut S, asked: bool, lists: &[Vec<LogCall>]) -> Result<(), WriteFault>
-    requires { length lists.now ≡ 48 }
-    ensures { Sends (asked_text asked (data_lists lists.now)) (S.seen sink.old) (S.seen sink.new) result }
+fn write_asked<S: Sink>(sink: &mut S, lists: &Option<Vec<Vec<LogCall>>>) -> Result<(), WriteFault>
+    requires { ForSome lists.now (λ l. vec_len l ≡ 48) }
+    ensures { Sends (lists_text lists.now) (S.seen sink.old) (S.seen sink.new) result }
 {
-    if asked {
-        write_lists(sink, lists)
-    } else {
-        Ok(())
+    match lists {
+        Some(lists) => write_lists(sink, lists.as_slice()),
+        None => Ok(()),
     }
 }
 
-fn write_legal<S: Sink>(
-    sink: &mut S,
-    nue: u8,
-    asked: bool,
-    lists: &[Vec<LogCall>],
-) -> Result<(), WriteFault>
-    requires { length lists.now ≡ 48 }
-    ensures { Sends (legal_text nue asked (data_lists lists.now)) (S.seen sink.old) (S.seen sink.new) result }
+fn write_legal<S: Sink>(sink: &mut S, nue: u8, finished: &FinishedCalls) -> Result<(), WriteFault>
+    ensures { Sends (kept_text nue finished.now) (S.seen sink.old) (S.seen sink.new) result }
 {
     write_all(sink, b"legal\n")?;
-    write_ranks(sink, nue, lists)?;
-    write_asked(sink, asked, lists)
+    write_ranks(sink, nue, &finished.counts)?;
+    write_asked(sink, &finished.lists)
 }
 
 fn write_refused<S: Sink>(
@@ -133,14 +126,16 @@ fn write_refused<S: Sink>(
                 Part::Text("\n"),
             ],
         ),
-        Refusal::NotPermitted => write_texts(
+        Refusal::NotPermitted { next } => write_texts(
             sink,
             &[
                 Part::Text("not legal: line "),
                 Part::Count(line),
                 Part::Text(": the record of rank "),
                 Part::Count(rank.number() as usize),
-                Part::Text(" does not permit it\n"),
+                Part::Text(" does not permit it; "),
+                Part::Next(*next),
+                Part::Text("\n"),
             ],
         ),
     }
@@ -154,16 +149,14 @@ impl Report for TraceVerdict {
     fn is_finished(&self) -> bool {
         match self {
             TraceVerdict::Legal(_) => true,
-            TraceVerdict::NotLegal { .. } => false,
+            TraceVerdict::NotLegal(_) => false,
         }
     }
 
     fn write_out<S: Sink>(&self, sink: &mut S) -> Result<(), WriteFault> {
         match self {
-            TraceVerdict::Legal(calls) => {
-                write_legal(sink, calls.nue, calls.asked, calls.lists.as_slice())
-            }
-            TraceVerdict::NotLegal { line, rank, why } => write_refused(sink, *line, *rank, why),
+            TraceVerdict::Legal(calls) => write_legal(sink, calls.nue, &calls.finished),
+            TraceVerdict::NotLegal(at) => write_refused(sink, at.line, at.rank, &at.why),
         }
     }
 

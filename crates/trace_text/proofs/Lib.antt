@@ -1,4 +1,6 @@
 pub mod HeadLemmas
+pub mod ProgressLemmas
 pub mod RuleLemmas
+pub mod SaidLemmas
 pub mod StepLemmas
-pub mod TraceLemmas
+pub mod WalkLemmas

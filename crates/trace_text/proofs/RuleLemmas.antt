@@ -12,7 +12,7 @@ use Rattle.rcce_audit.proofs.ReadingLemmas.{no_rules, rules_more, split_rule_is,
 
 module _ (last : ℕ) (comms : List CommRule) (words : List (List ℕ)) (split : CommSplit) (sixteen : length comms ≡ 16) (rules : ∥ AreRules comms ∥₁)
     (later : (c : ℕ) → last < c → rule_of comms c ≡ Absent) (said : comm_said last comms words ≡ Some split) where
-  more : AreRules comms → AreRules (set comms split.comm split.rule)
+  pub more : AreRules comms → AreRules (set comms split.comm split.rule)
   more old =
       let is = comm_line last comms words split said in
       rules_more comms split.comm split.rule sixteen is.below (split_stands comms split.rule is.rule) (later split.comm is.above) old (split_rule_is last split.comm comms split.rule is.above later is.rule)

@@ -1,5 +1,5 @@
 -- The grammar of traces: what a text says, or its first fault in line order (this project's profile).
-use Rattle.std.specs.Prelude.{◌≡◌, ℕ, ◌+◌, ◌-◌, ◌==◌, ◌&&◌, nat_le, nat_lt, Bool, true, false, if◌then◌else◌, List, [], ◌∷◌, ◌++◌, codes, length, slice_index_or, slice_set, replicate, take, Option, Some, None, is_none, option_map, Result, Ok, Err}
+use Rattle.std.specs.Prelude.{ℕ, ◌+◌, ◌-◌, ◌==◌, ◌&&◌, nat_le, nat_lt, Bool, true, false, if◌then◌else◌, List, [], ◌∷◌, ◌++◌, codes, length, slice_index_or, slice_set, replicate, take, Option, Some, None, is_none, option_map, Result, Ok, Err}
 use Rattle.std.specs.Option.{ok_or}
 use Rattle.std.specs.Str.{bytes_eq}
 use Rattle.scc_base.specs.declared.events.Event.{Event}
@@ -12,8 +12,6 @@ use Rattle.rcce_audit.specs.Words.{◌>>=◌, only_if, parts_of, words_of, range
 use Rattle.trace_text.specs.declared.faults.TraceKind.{TraceKind}
 use Rattle.trace_text.specs.declared.faults.TraceKind.TheVariants as kind
 use Rattle.trace_text.specs.declared.faults.TraceFault.{TraceFault}
-use Rattle.trace_text.specs.declared.faults.TraceStop.{TraceStop}
-use Rattle.trace_text.specs.declared.faults.TraceStop.TheVariants as stop
 use Rattle.trace_text.specs.Traces.{TraceView, most_trace_bytes, most_trace_lines, most_line_bytes}
 use Rattle.trace_text.specs.Words.{dot_parts, comma_parts, hex_word_said, place_said, register_place_said, is_comment, layout_said}
 
@@ -146,8 +144,12 @@ abbrev pub last_taken : ℕ → List ℕ → TraceReading → Result TraceView T
 last_taken number [] reading = Ok reading.trace
 last_taken number (b ∷ line) reading = Err (record { line = number; kind = line_fault (b ∷ line) })
 
+-- what the first line says, if it is of its form
+abbrev pub head_said : List ℕ → Option TraceHead
+head_said line = if nat_lt most_line_bytes (length line) then None else head_of_words (words_of line)
+
 abbrev pub first_taken : List ℕ → Result TraceReading TraceFault
-first_taken line = ok_or (option_map behind_head (head_of_words (words_of line))) (record { line = 1; kind = kind.BadHead })
+first_taken line = ok_or (option_map behind_head (head_said line)) (record { line = 1; kind = kind.BadHead })
 
 -- what these lines say, each with its line feed, and what stands behind the last line feed
 abbrev pub all_taken : List (List ℕ) → List ℕ → Result TraceView TraceFault
@@ -165,14 +167,3 @@ abbrev pub trace_of : List ℕ → Result TraceView TraceFault
 trace_of bytes =
     if nat_lt most_trace_bytes (length bytes) then Err (record { line = 0; kind = kind.TooLong })
     else parts_taken (parts_of bytes)
-
--- a reading gives what the grammar says, seen through a view: its value or its fault. It may end for want of memory
-abbrev pub GivesTrace : {A X : Type 0} → (X → A) → Result X TraceStop → Result A TraceFault → Type 0
-GivesTrace view (Ok x) said = said ≡ Ok (view x)
-GivesTrace view (Err (stop.Fault fault)) said = said ≡ Err fault
-GivesTrace view (Err stop.Memory) said = Unit {0}
-
--- whether a line was taken, and the reading after it
-abbrev pub TakesTraceLine : TraceReading → List ℕ → TraceReading → Bool → Type 0
-TakesTraceLine reading line next true = line_taken reading line ≡ Some next
-TakesTraceLine reading line next false = line_taken reading line ≡ None

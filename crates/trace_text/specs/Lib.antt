@@ -4,4 +4,5 @@ pub mod Kinds
 pub mod Progress
 pub mod Traces
 pub mod Views
+pub mod Walks
 pub mod Words

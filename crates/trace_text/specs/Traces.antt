@@ -1,6 +1,6 @@
 -- Traces: the accesses to the shared words of a chip, in the order in which they were made (this project's profile).
-use Rattle.std.specs.Prelude.{ℕ, ◌<◌, List, All}
-use Rattle.scc_base.specs.Setups.{SetupView, IsSetup}
+use Rattle.std.specs.Prelude.{ℕ, List}
+use Rattle.scc_base.specs.Setups.{SetupView}
 use Rattle.scc_proto.specs.Words.{RankEvent}
 
 -- the most bytes of a trace's text, 1 GiB; the most lines; and the most bytes of a line
@@ -17,8 +17,3 @@ most_line_bytes = 255
 pub record TraceView : Type 0 where
   pub setup : SetupView
   pub events : List RankEvent
-
--- a trace whose events are those of ranks of its setup
-pub record IsTrace (trace : TraceView) : Type 0 where
-  pub setup : IsSetup trace.setup
-  pub ranks : All (λ (e : RankEvent). e.rank < trace.setup.nue) trace.events

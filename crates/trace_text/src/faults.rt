@@ -3,8 +3,6 @@
 ghost use Rattle.std.specs.Prelude.{◌≡◌, codes};
 ghost use Rattle.trace_text.specs.Kinds.{trace_fault_name};
 
-use std::alloc::{AllocError, AllocFailed};
-
 /// What is wrong in a line.
 #[derive(Clone, Copy, Debug)]
 pub enum TraceKind {
@@ -37,31 +35,4 @@ impl TraceKind {
 pub struct TraceFault {
     pub line: u32,
     pub kind: TraceKind,
-}
-
-/// Why a reading stops: the file has a fault, or no memory is left.
-#[derive(Clone, Copy, Debug)]
-pub enum TraceStop {
-    Fault(TraceFault),
-    Memory,
-}
-
-impl From<AllocError> for TraceStop {
-    ghost use Rattle.trace_text.specs.declared.faults.TraceStop.TheVariants.{Memory};
-
-    ghost from_gives = { λ _ stop. stop ≡ Memory };
-
-    fn from(_error: AllocError) -> TraceStop {
-        TraceStop::Memory
-    }
-}
-
-impl<T: Drop> From<AllocFailed<T>> for TraceStop {
-    ghost use Rattle.trace_text.specs.declared.faults.TraceStop.TheVariants.{Memory};
-
-    ghost from_gives = { λ _ stop. stop ≡ Memory };
-
-    fn from(_error: AllocFailed<T>) -> TraceStop {
-        TraceStop::Memory
-    }
 }

@@ -4,12 +4,14 @@
 mod faults;
 mod heads;
 mod hosts;
+mod laws;
 mod lines;
 mod reader;
-mod reading;
 mod traces;
+mod walks;
 mod words;
 
-pub use faults::{TraceFault, TraceKind, TraceStop};
-pub use reading::{MOST_TRACE_BYTES, read_trace};
-pub use traces::{Trace, TraceEvent};
+pub use faults::{TraceFault, TraceKind};
+pub use laws::said_law;
+pub use traces::TraceEvent;
+pub use walks::{MOST_TRACE_BYTES, TraceWalk};

@@ -1,5 +1,4 @@
-use Rattle.std.proofs.Common.{ℕ, ◌<◌, length, sym, subst, ap, ◌∙◌}
-use Rattle.scc_base.specs.Setups.{SetupView}
+use Rattle.std.proofs.Common.{ℕ, ◌<◌, length, sym, subst}
 use Rattle.chip_run.specs.Crews.{AllRest, CrewStands}
 use Rattle.chip_run.proofs.ServedLaws.{some_worker}
 use Rattle.rcce_run.proofs.RunEnds.{ends_as, still_run}
@@ -76,7 +75,7 @@ returns-clause-opened g c = λ script fresh k call low is_open.
     waits_open script chip crew memory agrees stands.is_crew all some first rests k call low is_open
 
 pub returns-clause-kept : goal.returns-clause-kept
-returns-clause-kept g c = λ script fresh lines k d low planned.
+returns-clause-kept g c = λ script fresh k d low planned.
     let chip = c.run_by_sweeps-end.new.chip in
     let crew = c.run_by_sweeps-end.new.crew in
     let (memory, agrees) = c.agrees.ensures.words in
@@ -89,7 +88,7 @@ returns-clause-kept g c = λ script fresh lines k d low planned.
     kept_at script chip crew memory agrees stands.is_crew all some d
     (λ rank. c.calls_are_known_before.ensures.law script rank) (λ rank less. c.calls_can_be_made.ensures.law script fresh.read rank less)
     (ranks_are script chip crew memory agrees stands.is_crew all some d)
-    c.kept_law.ensures.law c.room_law.ensures.law (ap (λ (x : SetupView). x.layout) stands.goes.about ∙ lines) k low planned
+    c.kept_law.ensures.law c.room_law.ensures.law k low planned
 
 pub returns-clause-long : goal.returns-clause-long
 returns-clause-long g c = λ script fresh k low.

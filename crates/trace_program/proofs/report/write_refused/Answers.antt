@@ -10,4 +10,4 @@ returns-in-NotPermitted g c =
     let before = g.S.Sink.seen c.args.sink.now in
     let after = g.S.Sink.seen c.write_texts-in-NotPermitted.new.sink in
     subst (λ (w : Refusal). Sends (refused_text c.args.line c.args.rank w) before after c.write_texts-in-NotPermitted.result) (sym c.in-NotPermitted.is)
-    (subst (λ (n : ℕ). Sends (refused_text c.args.line n NotPermitted) before after c.write_texts-in-NotPermitted.result) c.number.ensures.gives c.write_texts-in-NotPermitted.ensures)
+    (subst (λ (n : ℕ). Sends (refused_text c.args.line n (NotPermitted c.in-NotPermitted.next)) before after c.write_texts-in-NotPermitted.result) c.number.ensures.gives c.write_texts-in-NotPermitted.ensures)

@@ -1,13 +1,17 @@
+use Rattle.std.proofs.Common.{◌∷◌, ◌++◌, [], subst}
 use Rattle.scc_base.specs.Events.{free_of}
+use Rattle.scc_base.specs.declared.events.Event.{Event}
 use Rattle.scc_proto.specs.Ports.{Sight}
-use Rattle.call_tap.proofs.TapLaws.{freed_reads, read_there}
+use Rattle.call_tap.specs.Taps.{HasRead}
+use Rattle.call_tap.proofs.TapLaws.{read_there}
 use Rattle.call_tap.proofs.ports.TappedPort.free.Goals as goal
 
 pub invariant_of-self : goal.invariant_of-self
 invariant_of-self g c =
     let t = c.args.self.now in
     let sight : Sight = g.P.Port.sight t.port in
-    record {
-      read = read_there t.tap sight (g.P.Port.sight c.free.new.self) (free_of c.args.c) c.free.ensures.did
-          (freed_reads t.tap sight.seat.setup sight.seat.rank sight.events c.args.c t.read);
-    }
+    let s = sight.seat.setup in
+    let rank = sight.seat.rank in
+    let read = c.read.ensures.reads s rank sight.events (record { setup_is = t.read.setup_is; rank_is = t.read.rank_is; reads = t.read.reads }) in
+    let made = subst (λ (e : Event). HasRead c.read.new.self s rank (sight.events ++ e ∷ [])) c.free-2.ensures.gives read in
+    record { read = read_there c.read.new.self sight (g.P.Port.sight c.free.new.self) (free_of c.args.c) c.free.ensures.did made }

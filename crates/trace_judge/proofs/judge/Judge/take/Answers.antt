@@ -1,14 +1,17 @@
 use Rattle.std.proofs.Common.{◌≡◌, ◌<◌, [], ℕ, List, None, Some, refl, slice_index_or, slice_set, subst, sym}
 use Rattle.std.proofs.lemmas.Bool.{false≢true}
 use Rattle.scc_proto.specs.Histories.{records_from}
-use Rattle.scc_proto.specs.Stages.{blank}
+use Rattle.scc_proto.specs.Stages.{Record, blank}
 use Rattle.scc_proto.specs.Words.{RankEvent}
-use Rattle.record_machine.specs.Following.{Adds}
+use Rattle.record_machine.specs.Following.{Adds, FollowsRecord}
+use Rattle.record_machine.specs.Next.{allowed_for}
+use Rattle.record_machine.specs.declared.machines.Machine.{Machine}
+use Rattle.record_machine.specs.declared.next.NextEvent.{NextEvent}
 use Rattle.trace_judge.specs.Followed.{IsFollowed, bytes_shown, chip_memory, run_made}
 use Rattle.trace_judge.specs.Judged.{JudgeView, chip_of}
 use Rattle.trace_judge.specs.Rulings.{refusal_of}
 use Rattle.trace_judge.specs.declared.judge.Refusal.TheVariants.{NotPermitted}
-use Rattle.trace_judge.proofs.FollowFacts.{adds_own, followed_on, made_pushed, own_permits}
+use Rattle.trace_judge.proofs.FollowFacts.{adds_own, followed_on, made_pushed, own_allows, own_permits}
 use Rattle.trace_judge.proofs.RefusalFacts.{refused_none, refused_permit}
 use Rattle.trace_judge.proofs.judge.Judge.take.Goals as goal
 
@@ -65,5 +68,9 @@ returns-in-Err-clause-refused c =
     let below : c.args.rank < j.setup.nue = subst (λ (v : JudgeView). c.args.rank < v.setup.nue) (sym c.self.view_is) c.requires.below in
     let at : m ≡ slice_index_or j.machines.items c.args.rank m = subst (λ (k : ℕ). m ≡ slice_index_or j.machines.items k m) c.number.ensures.gives c.index_mut-machine.ensures.value in
     let may = own_permits j.setup (chip_memory j.words) j.machines.items run c.self.invariant c.args.rank below c.args.event.now m at _ c.in-Err.ensures.permitted in
-    subst (λ (v : JudgeView). Some NotPermitted ≡ refusal_of (chip_of v) made) c.self.view_is
-    (refused_permit j.setup (chip_memory j.words) run made c.self.invariant.words c.is_step.result c.is_step.ensures.tells c.if-not-is_step.false (λ is. false≢true (may.1 is)))
+    let why = c.not_permitted.result in
+    let told : (rec : Record) → FollowsRecord m rec → why ≡ NotPermitted (allowed_for m.setup rec c.args.event.now)
+    = subst (λ (x : Machine). (rec : Record) → FollowsRecord x rec → why ≡ NotPermitted (allowed_for x.setup rec c.args.event.now)) c.in-Err.ensures.unchanged c.not_permitted.ensures.gives in
+    let same = own_allows j.setup (chip_memory j.words) j.machines.items run c.self.invariant c.args.rank below c.args.event.now m at why (λ (next : NextEvent). NotPermitted next) told in
+    subst (λ (v : JudgeView). Some why ≡ refusal_of (chip_of v) made) c.self.view_is
+    (refused_permit j.setup (chip_memory j.words) run made c.self.invariant.words c.is_step.result c.is_step.ensures.tells c.if-not-is_step.false (λ is. false≢true (may.1 is)) why same)

@@ -1,8 +1,4 @@
-use Rattle.std.proofs.Common.{◌<◌, List, arith, refl, subst, sym}
-use Rattle.std.specs.Prelude.{All}
-use Rattle.std.proofs.lemmas.List.Elements.{All-nil}
-use Rattle.scc_proto.specs.Words.{RankEvent}
-use Rattle.trace_text.specs.Views.{rank_events}
+use Rattle.std.proofs.Common.{List, length, not, ◌==◌, refl, sym, ap, arith}
 use Rattle.trace_text.specs.declared.traces.TraceEvent.{TraceEvent}
 use Rattle.trace_text.proofs.RuleLemmas.{world_later, world_rules_are}
 use Rattle.trace_text.proofs.reader.TraceReader.new.Goals as goal
@@ -15,5 +11,5 @@ invariant_of-result c = record {
   comm_below = omega arith;
   rules = ∣ world_rules_are _ refl ∣₁;
   later = world_later _ refl;
-  made = subst (λ (l : List TraceEvent). All (λ (e : RankEvent). e.rank < c.args.head.nue) (rank_events l)) (sym c.new.ensures.items) (All-nil (λ (e : RankEvent). e.rank < c.args.head.nue));
+  begun_where = sym (ap (λ (l : List TraceEvent). not (length l == 0)) c.new.ensures);
 }

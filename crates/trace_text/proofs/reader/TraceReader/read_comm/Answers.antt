@@ -14,5 +14,5 @@ invariant_of-self c =
       comm_below = c.in-Some.ensures.below;
       rules = rules_grown r.comm r.comms words c.in-Some.split sixteen r.rules r.later (sym c.in-Some.ensures.gives);
       later = later_grown r.comm r.comms words c.in-Some.split sixteen r.rules r.later (sym c.in-Some.ensures.gives);
-      made = r.made;
+      begun_where = r.begun_where;
     }

@@ -1,0 +1,139 @@
+-- What is kept of a trace that is heard, with one event more, and at its end.
+use Rattle.std.proofs.Common.{◌≡◌, ◌≢◌, ℕ, zero, suc, ◌+◌, ◌<◌, ◌≤◌, Bool, true, false, if◌then◌else◌, List, [], ◌∷◌, ◌++◌, get_or, length, length-append, map, slice_index, slice_index_or, slice_set, Option, Some, None, Result, Ok, Err, Vec, codes, refl, sym, ◌∙◌, ap, subst, arith}
+use Rattle.std.specs.declared.alloc.Global.{Global}
+use Rattle.std.proofs.lemmas.List.{get_or-set_other, get_or-set_same}
+use Rattle.rcce_audit.specs.Grammar.{no_calls, with_call}
+use Rattle.rcce_audit.specs.Texts.{call_lines, table_lines, text_of}
+use Rattle.rcce_audit.specs.declared.logs.LogCall.{LogCall}
+use Rattle.rcce_audit.proofs.ListLemmas.{get_or-replicate_same, map-set_one}
+use Rattle.scc_base.specs.Calls.{DataCall}
+use Rattle.scc_base.specs.Setups.{SetupView}
+use Rattle.scc_proto.specs.Words.{RankEvent}
+use Rattle.scc_proto.proofs.Tests.{same_or_other}
+use Rattle.trace_judge.specs.Judged.{Judged, JudgeView, chip_of, judged_after, new_judged}
+use Rattle.trace_judge.specs.Rulings.{RefusedAt, refusal_of, ruling_from, unless_refused}
+use Rattle.trace_judge.specs.declared.judge.Refusal.{Refusal}
+use Rattle.trace_text.specs.Grammar.{TraceReading, event_added}
+use Rattle.trace_text.specs.Traces.{TraceView}
+use Rattle.trace_program.specs.Hearings.{HoldsFinished, HoldsLists, HoldsStage, IsRefusedAt, IsTried}
+use Rattle.trace_program.specs.Lists.{finished_calls, first_event_line}
+use Rattle.trace_program.specs.Program.{ruling_ran, trace_ran}
+use Rattle.trace_program.specs.Texts.{asked_text, count_lines, finished_lines, kept_text, legal_text, lists_text, refused_text}
+use Rattle.trace_program.specs.declared.finished.FinishedCalls.{FinishedCalls}
+use Rattle.trace_program.specs.declared.judging.RefusedEvent.{RefusedEvent}
+use Rattle.trace_program.specs.declared.judging.Trial.{Trial}
+use Rattle.trace_program.proofs.RulingLemmas.{chip_next, chip_start, ruling_after, ruling_stays, start_calls}
+
+-- ---- what is kept
+
+abbrev counts_of : List (List DataCall) → List ℕ
+counts_of calls = map (λ (list : List DataCall). length list) calls
+
+count_at : (calls : List (List DataCall)) (r : ℕ) → slice_index (counts_of calls) r ≡ length (slice_index_or calls r [])
+count_at [] r = refl
+count_at (list ∷ calls) zero = refl
+count_at (list ∷ calls) (suc r) = count_at calls r
+
+counts_more : (calls : List (List DataCall)) (r : ℕ) (done : DataCall) → counts_of (with_call calls (record { rank = r; call = done })) ≡ slice_set (counts_of calls) r (slice_index (counts_of calls) r + 1)
+counts_more calls r done =
+    map-set_one (λ (list : List DataCall). length list) calls r (slice_index_or calls r [] ++ done ∷ [])
+    ∙ ap (slice_set (counts_of calls) r) (length-append (slice_index_or calls r []) (done ∷ []) ∙ ap (λ (n : ℕ). n + 1) (sym (count_at calls r)))
+
+pub none_counted : (counts : List ℕ) → counts ≡ counts_of no_calls → (k : ℕ) → slice_index counts k ≤ 0
+unfolding no_calls
+none_counted counts is k = omega (arith, ap (λ (l : List ℕ). slice_index l k) is, get_or-replicate_same {X = ℕ} 48 k 0)
+
+pub held_more : (asked : Bool) (old new : FinishedCalls) (number r : ℕ) (calls : List (List DataCall)) (done : DataCall) → r < length old.counts
+    → new.counts ≡ slice_set old.counts r (slice_index old.counts r + 1)
+    → (HoldsLists asked old.lists calls → HoldsLists asked new.lists (with_call calls (record { rank = r; call = done })))
+    → HoldsFinished asked old number calls → HoldsFinished asked new (number + 1) (with_call calls (record { rank = r; call = done }))
+held_more asked old new number r calls done within counts lists held = record {
+  counts = counts ∙ (λ i. slice_set (held.counts i) r (slice_index (held.counts i) r + 1)) ∙ sym (counts_more calls r done);
+  few = λ k. same_or_other (slice_index new.counts k ≤ number + 1) k r
+      (λ t is. omega (arith, held.few r, ap (λ (l : List ℕ). slice_index l k) counts, ap (λ (i : ℕ). slice_index (slice_set old.counts r (slice_index old.counts r + 1)) i) is, get_or-set_same old.counts r (slice_index old.counts r + 1) 0 within))
+      (λ t other. omega (arith, held.few k, ap (λ (l : List ℕ). slice_index l k) counts, get_or-set_other old.counts r k (slice_index old.counts r + 1) 0 other));
+  lists = lists held.lists;
+}
+
+pub held_stays : (asked : Bool) (f : FinishedCalls) (number : ℕ) (calls now : List (List DataCall)) → now ≡ calls → HoldsFinished asked f number calls → HoldsFinished asked f (number + 1) now
+held_stays asked f number calls now same held =
+    subst (λ (c : List (List DataCall)). HoldsFinished asked f (number + 1) c) (sym same) (record { counts = held.counts; few = λ k. omega (arith, held.few k); lists = held.lists })
+
+pub held_as : (asked : Bool) (f : FinishedCalls) (number other : ℕ) (calls now : List (List DataCall)) → number ≡ other → calls ≡ now → HoldsFinished asked f number calls → HoldsFinished asked f other now
+held_as asked f number other calls now same is held =
+    subst (λ (n : ℕ). HoldsFinished asked f n now) same (subst (λ (c : List (List DataCall)). HoldsFinished asked f number c) is held)
+
+-- ---- a judge
+
+pub start_tried : (t : Trial) (s : SetupView) (r : TraceReading) → t.judge.setup ≡ s → t.judge.run ≡ [] → t.first ≡ first_event_line s → t.number ≡ 0 → s ≡ r.trace.setup → r.trace.events ≡ [] → IsTried t r
+start_tried t s r setup run first number same empty = record {
+  setup = setup ∙ same;
+  run = run ∙ sym empty;
+  first = first ∙ ap first_event_line same;
+  number = number ∙ sym (ap length empty);
+  ruled = ap (ruling_from 0 (new_judged r.trace.setup)) empty ∙ ap (λ (j : Judged). Ok j) (sym (chip_start t.judge r.trace.setup (setup ∙ same) run));
+}
+
+module _ (old : Trial) (r : TraceReading) (e : RankEvent) (tried : IsTried old r) where
+  ruled_next : ruling_from 0 (new_judged r.trace.setup) (r.trace.events ++ e ∷ []) ≡ unless_refused old.number e.rank (refusal_of (chip_of old.judge) e) (Ok (judged_after (chip_of old.judge) e))
+  ruled_next = ruling_after 0 old.number (new_judged r.trace.setup) (chip_of old.judge) r.trace.events e (omega (arith, tried.number)) tried.ruled
+
+  pub tried_on : (new : Trial) → new.first ≡ old.first → new.number ≡ old.number + 1 → new.judge.setup ≡ old.judge.setup → new.judge.run ≡ old.judge.run ++ e ∷ [] → None ≡ refusal_of (chip_of old.judge) e
+      → IsTried new (event_added r e)
+  tried_on new first number setup run none = record {
+    setup = setup ∙ tried.setup;
+    run = run ∙ ap (λ (l : List RankEvent). l ++ e ∷ []) tried.run;
+    first = first ∙ tried.first;
+    number = number ∙ omega (arith, tried.number, length-append r.trace.events (e ∷ []));
+    ruled = ruled_next ∙ ap (λ (o : Option Refusal). unless_refused old.number e.rank o (Ok (judged_after (chip_of old.judge) e))) (sym none)
+        ∙ ap (λ (j : Judged). Ok j) (sym (chip_next old.judge new.judge e setup run));
+  }
+
+  pub refused_on : (at : RefusedEvent) → at.line ≡ old.first + old.number → at.rank ≡ e.rank → Some at.why ≡ refusal_of (chip_of old.judge) e → IsRefusedAt at (event_added r e)
+  refused_on at line rank why = record {
+    number = old.number;
+    line = line ∙ ap (λ (n : ℕ). n + old.number) tried.first;
+    ruled = ruled_next ∙ ap (λ (o : Option Refusal). unless_refused old.number e.rank o (Ok (judged_after (chip_of old.judge) e))) (sym why)
+        ∙ ap (λ (k : ℕ). Err (record { number = old.number; rank = k; why = at.why })) (sym rank);
+  }
+
+pub stays_refused : (at : RefusedEvent) (r : TraceReading) (e : RankEvent) → IsRefusedAt at r → IsRefusedAt at (event_added r e)
+stays_refused at r e refused = record {
+  number = refused.number;
+  line = refused.line;
+  ruled = ruling_stays 0 (new_judged r.trace.setup) r.trace.events e (record { number = refused.number; rank = at.rank; why = at.why }) refused.ruled;
+}
+
+pub some_event : (events : List RankEvent) (e : RankEvent) → events ++ e ∷ [] ≢ []
+some_event [] e is = absurd (cc)
+some_event (x ∷ events) e is = absurd (cc)
+
+-- ---- what is shown of it
+
+table_counts : (nue n : ℕ) (calls : List (List DataCall)) → table_lines (count_lines nue) n (counts_of calls) ≡ table_lines (finished_lines nue) n calls
+table_counts nue n [] = refl
+table_counts nue n (list ∷ calls) = ap (λ (lines : List (List ℕ)). count_lines nue n (length list) ++ lines) (table_counts nue (n + 1) calls)
+
+lists_shown : (asked : Bool) (lists : Option (Vec (Vec LogCall Global) Global)) (calls : List (List DataCall)) → HoldsLists asked lists calls → lists_text lists ≡ asked_text asked calls
+lists_shown false None calls held = refl
+lists_shown true (Some lists) calls held = ap (λ (c : List (List DataCall)). text_of (table_lines call_lines 0 c)) held
+lists_shown false (Some lists) calls held = absurd held
+lists_shown true None calls held = absurd held
+
+kept_shown : (asked : Bool) (f : FinishedCalls) (nue number : ℕ) (calls : List (List DataCall)) → HoldsFinished asked f number calls → kept_text nue f ≡ legal_text nue asked calls
+kept_shown asked f nue number calls held = λ i. codes "legal\n" ++ (text_of ((ap (table_lines (count_lines nue) 0) held.counts ∙ table_counts nue 0 calls) i) ++ lists_shown asked f.lists calls held.lists i)
+
+pub legal_shown : (asked : Bool) (f : FinishedCalls) (nue number : ℕ) (trace : TraceView) (j : Judged) → HoldsFinished asked f number (finished_calls j) → nue ≡ trace.setup.nue → ruling_from 0 (new_judged trace.setup) trace.events ≡ Ok j
+    → record { finished = true; out = kept_text nue f; err = [] } ≡ trace_ran asked trace
+legal_shown asked f nue number trace j held same ruled =
+    (λ i. record { finished = true; out = (kept_shown asked f nue number (finished_calls j) held ∙ ap (λ (n : ℕ). legal_text n asked (finished_calls j)) same) i; err = [] })
+    ∙ ap (ruling_ran asked trace) (sym ruled)
+
+pub waiting_shown : (asked : Bool) (f : FinishedCalls) (nue : ℕ) (trace : TraceView) → trace.events ≡ [] → HoldsFinished asked f 0 no_calls → nue ≡ trace.setup.nue
+    → record { finished = true; out = kept_text nue f; err = [] } ≡ trace_ran asked trace
+waiting_shown asked f nue trace empty held same =
+    legal_shown asked f nue 0 trace (new_judged trace.setup) (subst (λ (c : List (List DataCall)). HoldsFinished asked f 0 c) (start_calls trace.setup) held) same (ap (ruling_from 0 (new_judged trace.setup)) empty)
+
+pub refused_shown : (asked : Bool) (at : RefusedEvent) (r : TraceReading) → IsRefusedAt at r → record { finished = false; out = refused_text at.line at.rank at.why; err = [] } ≡ trace_ran asked r.trace
+refused_shown asked at r refused =
+    (λ i. record { finished = false; out = refused_text (refused.line i) at.rank at.why; err = [] }) ∙ ap (ruling_ran asked r.trace) (sym refused.ruled)

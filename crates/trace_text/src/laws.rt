@@ -1,0 +1,15 @@
+//! The law of what a text says.
+
+ghost use Rattle.std.specs.Prelude.{◌≡◌, ◌<◌, ℕ, All, List, Ok};
+ghost use Rattle.scc_base.specs.Events.{IsEvent};
+ghost use Rattle.scc_base.specs.Setups.{IsSetup};
+ghost use Rattle.scc_proto.specs.Words.{RankEvent};
+ghost use Rattle.trace_text.specs.Grammar.{trace_of};
+ghost use Rattle.trace_text.specs.Traces.{TraceView};
+
+/// A text that says a trace says a setup that a run may have, and events that its ranks may make.
+pub fn said_law()
+    ensures setup { (bytes : List ℕ) (trace : TraceView) → trace_of bytes ≡ Ok trace → IsSetup trace.setup }
+    ensures made { (bytes : List ℕ) (trace : TraceView) → trace_of bytes ≡ Ok trace
+        → All (λ (e : RankEvent). (e.rank < trace.setup.nue) × IsEvent e.event) trace.events }
+{}
