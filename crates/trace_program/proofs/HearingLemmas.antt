@@ -1,5 +1,5 @@
 -- What is kept of a trace that is heard, with one event more, and at its end.
-use Rattle.std.proofs.Common.{◌≡◌, ◌≢◌, ℕ, zero, suc, ◌+◌, ◌<◌, ◌≤◌, Bool, true, false, if◌then◌else◌, List, [], ◌∷◌, ◌++◌, get_or, length, length-append, map, slice_index, slice_index_or, slice_set, Option, Some, None, Result, Ok, Err, Vec, codes, refl, sym, ◌∙◌, ap, subst, arith}
+use Rattle.std.proofs.Common.{◌≡◌, ◌≢◌, ◌⊎◌, inl, inr, ℕ, zero, suc, ◌+◌, ◌<◌, ◌≤◌, Bool, true, false, if◌then◌else◌, List, [], ◌∷◌, ◌++◌, get_or, length, length-append, map, slice_index, slice_index_or, slice_set, Option, Some, None, Result, Ok, Err, Vec, codes, refl, sym, ◌∙◌, ap, subst, arith}
 use Rattle.std.specs.declared.alloc.Global.{Global}
 use Rattle.std.proofs.lemmas.List.{get_or-set_other, get_or-set_same}
 use Rattle.rcce_audit.specs.Grammar.{no_calls, with_call}
@@ -14,12 +14,20 @@ use Rattle.trace_judge.specs.Judged.{Judged, JudgeView, chip_of, judged_after, n
 use Rattle.trace_judge.specs.Rulings.{RefusedAt, refusal_of, ruling_from, unless_refused}
 use Rattle.trace_judge.specs.declared.judge.Refusal.{Refusal}
 use Rattle.trace_text.specs.Grammar.{TraceReading, event_added}
-use Rattle.trace_text.specs.Traces.{TraceView}
-use Rattle.trace_program.specs.Hearings.{HoldsFinished, HoldsLists, HoldsStage, IsRefusedAt, IsTried}
+use Rattle.trace_text.specs.Traces.{TraceView, most_trace_bytes}
+use Rattle.trace_text.specs.Views.{rank_event}
+use Rattle.trace_text.specs.Walks.{GainsEvent, HasComeTo, text_reading}
+use Rattle.trace_text.specs.declared.faults.TraceFault.{TraceFault}
+use Rattle.trace_text.specs.declared.traces.TraceEvent.{TraceEvent}
+use Rattle.trace_text.proofs.GainLemmas.{GoesWithout, HasNoEvents, goes_without, nothing_read}
+use Rattle.trace_program.specs.Hearings.{HasTried, Hears, HoldsFinished, HoldsLists, HoldsSaid, HoldsStage, IsDue, IsNext, IsRefusedAt, IsTried, IsUntried, stage_number}
 use Rattle.trace_program.specs.Lists.{finished_calls, first_event_line}
 use Rattle.trace_program.specs.Program.{ruling_ran, trace_ran}
 use Rattle.trace_program.specs.Texts.{asked_text, count_lines, finished_lines, kept_text, legal_text, lists_text, refused_text}
 use Rattle.trace_program.specs.declared.finished.FinishedCalls.{FinishedCalls}
+use Rattle.trace_program.specs.declared.hearing.Hearing.{Hearing}
+use Rattle.trace_program.specs.declared.hearing.Stage.{Stage}
+use Rattle.trace_program.specs.declared.hearing.Stage.TheVariants as stage
 use Rattle.trace_program.specs.declared.judging.RefusedEvent.{RefusedEvent}
 use Rattle.trace_program.specs.declared.judging.Trial.{Trial}
 use Rattle.trace_program.proofs.RulingLemmas.{chip_next, chip_start, ruling_after, ruling_stays, start_calls}
@@ -107,6 +115,73 @@ stays_refused at r e refused = record {
 pub some_event : (events : List RankEvent) (e : RankEvent) → events ++ e ∷ [] ≢ []
 some_event [] e is = absurd (cc)
 some_event (x ∷ events) e is = absurd (cc)
+
+-- ---- the judging, while the text goes on
+
+untried_of : (asked : Bool) (s : Stage) (f : FinishedCalls) (said : Option (Result TraceReading TraceFault)) → HasNoEvents said → HoldsSaid asked s f said → IsUntried asked s f
+untried_of asked s f None none held = held
+untried_of asked stage.Waiting f (Some (Ok r)) none held = held.1
+untried_of asked (stage.Judging t) f (Some (Ok r)) none held = absurd (held.0 none)
+untried_of asked (stage.Refused at) f (Some (Ok r)) none held = absurd (held.0 none)
+untried_of asked s f (Some (Err fault)) none held = absurd none
+
+untried_holds : (asked : Bool) (s : Stage) (f : FinishedCalls) (r : TraceReading) → IsUntried asked s f → r.trace.events ≡ [] → HoldsStage asked s f r
+untried_holds asked stage.Waiting f r held empty = (empty, held)
+untried_holds asked (stage.Judging t) f r held empty = absurd held
+untried_holds asked (stage.Refused at) f r held empty = absurd held
+
+holds_without : (asked : Bool) (s : Stage) (f : FinishedCalls) (old new : Option (Result TraceReading TraceFault)) → GoesWithout old new → HoldsSaid asked s f old → HoldsSaid asked s f new
+holds_without asked s f old new (inl same) held = subst (λ (o : Option (Result TraceReading TraceFault)). HoldsSaid asked s f o) (sym same) held
+holds_without asked s f old new (inr (inl (fault, is))) held = subst (λ (o : Option (Result TraceReading TraceFault)). HoldsSaid asked s f o) (sym is) tt
+holds_without asked s f old new (inr (inr (none, r, is, empty))) held =
+    subst (λ (o : Option (Result TraceReading TraceFault)). HoldsSaid asked s f o) (sym is) (untried_holds asked s f r (untried_of asked s f old none held) empty)
+
+pub starts_hearing : (asked : Bool) (h : Hearing) → h.bytes ≡ 0 → h.walk ≡ [] → h.stage ≡ stage.Waiting → HoldsFinished asked h.finished 0 no_calls → Hears asked h
+starts_hearing asked h bytes walk waits held = record {
+  counted = bytes ∙ sym (ap length walk);
+  few = omega (arith, ap stage_number waits);
+  heard = subst (λ (o : Option (Result TraceReading TraceFault)). HoldsSaid asked h.stage h.finished o) (sym (ap text_reading walk ∙ nothing_read))
+      (subst (λ (s : Stage). IsUntried asked s h.finished) (sym waits) held);
+}
+
+-- an event that was just read
+pub due_now : (asked : Bool) (old at : Hearing) (made : TraceEvent) → Hears asked old → at.stage ≡ old.stage → at.finished ≡ old.finished → length old.walk ≤ most_trace_bytes
+    → GainsEvent (text_reading old.walk) (text_reading at.walk) (Some (rank_event made)) → (r : TraceReading) × IsDue asked at r made
+due_now asked old at made hears stage_same finished_same within (r, before, come, below) = (
+  r,
+  record {
+    holds = subst (λ (s : Stage). HoldsStage asked s at.finished r) (sym stage_same) (subst (λ (f : FinishedCalls). HoldsStage asked old.stage f r) (sym finished_same)
+        (subst (λ (o : Option (Result TraceReading TraceFault)). HoldsSaid asked old.stage old.finished o) before hears.heard));
+    come = come;
+    below = below;
+    few = omega (arith, ap stage_number stage_same, hears.few, hears.counted, within);
+  },
+)
+
+-- and was judged
+pub hears_event : (asked : Bool) (old new : Hearing) (r : TraceReading) (e : RankEvent) (b : ℕ) → Hears asked old → new.bytes ≡ old.bytes + 1 → new.walk ≡ old.walk ++ b ∷ [] → stage_number new.stage ≤ stage_number old.stage + 1
+    → HasComeTo new.walk (event_added r e) → HoldsStage asked new.stage new.finished (event_added r e) → Hears asked new
+hears_event asked old new r e b hears bytes walk number come holds = record {
+  counted = omega (arith, bytes, hears.counted, ap length walk, length-append old.walk (b ∷ []));
+  few = omega (arith, bytes, hears.few, number);
+  heard = subst (λ (o : Option (Result TraceReading TraceFault)). HoldsSaid asked new.stage new.finished o) (sym come) holds;
+}
+
+-- a byte that ends no line of an event
+pub hears_byte : (asked : Bool) (old new : Hearing) (b : ℕ) → Hears asked old → new.bytes ≡ old.bytes + 1 → new.walk ≡ old.walk ++ b ∷ [] → new.stage ≡ old.stage → new.finished ≡ old.finished
+    → GainsEvent (text_reading old.walk) (text_reading new.walk) None → Hears asked new
+hears_byte asked old new b hears bytes walk stage_same finished_same gains = record {
+  counted = omega (arith, bytes, hears.counted, ap length walk, length-append old.walk (b ∷ []));
+  few = omega (arith, bytes, hears.few, ap stage_number stage_same);
+  heard = subst (λ (s : Stage). HoldsSaid asked s new.finished (text_reading new.walk)) (sym stage_same) (subst (λ (f : FinishedCalls). HoldsSaid asked old.stage f (text_reading new.walk)) (sym finished_same) on);
+}
+  where
+    goes : GoesWithout (text_reading old.walk) (text_reading new.walk)
+    goes = subst (λ (l : List ℕ). GoesWithout (text_reading old.walk) (text_reading l)) (sym walk)
+        (goes_without old.walk b (subst (λ (l : List ℕ). GainsEvent (text_reading old.walk) (text_reading l) None) walk gains))
+
+    on : HoldsSaid asked old.stage old.finished (text_reading new.walk)
+    on = holds_without asked old.stage old.finished (text_reading old.walk) (text_reading new.walk) goes hears.heard
 
 -- ---- what is shown of it
 
