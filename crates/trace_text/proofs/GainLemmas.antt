@@ -53,6 +53,13 @@ module _ (reading next : TraceReading) (line : List ℕ) (none : next.trace.even
       by false true is = none_split is
       by false false is = none_event is
 
+abbrev said_ok : TraceReading → Option (Result TraceReading TraceFault)
+said_ok r = Some (Ok r)
+
+line_goes : (reading next : TraceReading) → (said_ok reading ≡ said_ok next) ⊎ (next.trace.events ≡ []) → (next.trace.events ≡ [] → reading.trace.events ≡ []) → GoesWithout (said_ok reading) (said_ok next)
+line_goes reading next (inl same) before = inl (sym same)
+line_goes reading next (inr none) before = inr (inr (before none, next, refl, none))
+
 said_goes : (old : Option (Result TraceReading TraceFault)) (before : ℕ) (line : List ℕ) → GainsEvent old (Some (next_said old before line)) None → GoesWithout old (Some (next_said old before line))
 said_goes None before line gains = by (head_said line)
   where
@@ -67,11 +74,7 @@ said_goes (Some (Ok reading)) before line gains = by (line_taken reading line) r
 
     by : (o : Option TraceReading) → line_taken reading line ≡ o → GainsEvent (Some (Ok reading)) (Some (ok_or o here)) None → GoesWithout (Some (Ok reading)) (Some (ok_or o here))
     by None is g = inr (inl (here, refl))
-    by (Some next) is g = which (g next refl)
-      where
-        which : (Some (Ok reading) ≡ Some (Ok next)) ⊎ (next.trace.events ≡ []) → GoesWithout (Some (Ok reading)) (Some (Ok next))
-        which (inl same) = inl (sym same)
-        which (inr none) = inr (inr (none_before reading next line none is, next, refl, none))
+    by (Some next) is g = line_goes reading next (g next refl) (λ none. none_before reading next line none is)
 
 -- a text with one byte more, where that gains no event
 pub goes_without : (text : List ℕ) (b : ℕ) → GainsEvent (text_reading text) (text_reading (text ++ b ∷ [])) None → GoesWithout (text_reading text) (text_reading (text ++ b ∷ []))
