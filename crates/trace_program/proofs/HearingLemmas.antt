@@ -1,5 +1,5 @@
 -- What is kept of a trace that is heard, with one event more, and at its end.
-use Rattle.std.proofs.Common.{◌≡◌, ◌≢◌, ◌⊎◌, inl, inr, ℕ, zero, suc, ◌+◌, ◌<◌, ◌≤◌, Bool, true, false, if◌then◌else◌, List, [], ◌∷◌, ◌++◌, get_or, length, length-append, map, replicate, slice_index, slice_index_or, slice_set, Option, Some, None, Result, Ok, Err, Vec, codes, refl, sym, ◌∙◌, ap, subst, arith}
+use Rattle.std.proofs.Common.{◌≡◌, ◌≢◌, inl, inr, ℕ, zero, suc, ◌+◌, ◌<◌, ◌≤◌, Bool, true, false, List, [], ◌∷◌, ◌++◌, length, length-append, map, replicate, slice_index, slice_index_or, slice_set, Option, Some, None, Result, Ok, Err, Vec, codes, refl, sym, ◌∙◌, ap, subst, arith}
 use Rattle.std.specs.declared.alloc.Global.{Global}
 use Rattle.std.proofs.lemmas.List.{get_or-set_other, get_or-set_same}
 use Rattle.rcce_audit.specs.Grammar.{no_calls, with_call}
@@ -14,7 +14,7 @@ use Rattle.scc_base.specs.declared.calls.Call.{Call}
 use Rattle.scc_proto.specs.Words.{RankEvent}
 use Rattle.scc_proto.proofs.Tests.{same_or_other}
 use Rattle.trace_judge.specs.Judged.{Judged, JudgeView, chip_of, judged_after, new_judged}
-use Rattle.trace_judge.specs.Rulings.{RefusedAt, refusal_of, ruling_from, unless_refused}
+use Rattle.trace_judge.specs.Rulings.{refusal_of, ruling_from, unless_refused}
 use Rattle.trace_judge.specs.declared.judge.Refusal.{Refusal}
 use Rattle.trace_text.specs.Grammar.{TraceReading, event_added}
 use Rattle.trace_text.specs.Traces.{TraceView, most_trace_bytes}
@@ -23,7 +23,7 @@ use Rattle.trace_text.specs.Walks.{GainsEvent, HasComeTo, text_reading}
 use Rattle.trace_text.specs.declared.faults.TraceFault.{TraceFault}
 use Rattle.trace_text.specs.declared.traces.TraceEvent.{TraceEvent}
 use Rattle.trace_text.proofs.GainLemmas.{GoesWithout, HasNoEvents, goes_without, nothing_read}
-use Rattle.trace_program.specs.Hearings.{HasTried, Hears, HoldsFinished, HoldsLists, HoldsSaid, HoldsStage, IsDue, IsNext, IsRefusedAt, IsTried, IsUntried, TriedBy, stage_number}
+use Rattle.trace_program.specs.Hearings.{Hears, HoldsFinished, HoldsLists, HoldsSaid, HoldsStage, IsDue, IsNext, IsRefusedAt, IsTried, IsUntried, TriedBy, stage_number}
 use Rattle.trace_program.specs.Lists.{finished_calls, first_event_line}
 use Rattle.trace_program.specs.Program.{ruling_ran, trace_ran}
 use Rattle.trace_program.specs.Texts.{asked_text, count_lines, finished_lines, kept_text, legal_text, lists_text, refused_text}
@@ -85,10 +85,10 @@ unfolding no_calls
 none_counts counts is = is
 
 pub lists_asked : (asked : Bool) (lists : Kept) (l : Vec (Vec LogCall Global) Global) → asked ≡ true → lists ≡ Some l → data_lists l.items ≡ no_calls → HoldsLists asked lists no_calls
-lists_asked asked lists l yes is gives = subst (λ (b : Bool). HoldsLists b lists no_calls) (sym yes) (subst (λ (o : Kept). HoldsLists true o no_calls) (sym is) gives)
+lists_asked asked lists l asks is gives = subst (λ (b : Bool). HoldsLists b lists no_calls) (sym asks) (subst (λ (o : Kept). HoldsLists true o no_calls) (sym is) gives)
 
 pub lists_unasked : (asked : Bool) (lists : Kept) → asked ≡ false → lists ≡ None → HoldsLists asked lists no_calls
-lists_unasked asked lists no is = subst (λ (b : Bool). HoldsLists b lists no_calls) (sym no) (subst (λ (o : Kept). HoldsLists false o no_calls) (sym is) tt)
+lists_unasked asked lists asks is = subst (λ (b : Bool). HoldsLists b lists no_calls) (sym asks) (subst (λ (o : Kept). HoldsLists false o no_calls) (sym is) tt)
 
 -- one call more, where the calls are not kept, and where they are
 pub lists_none : (asked : Bool) (old new : Kept) (calls now : List (List DataCall)) → old ≡ None → new ≡ None → HoldsLists asked old calls → HoldsLists asked new now

@@ -1,7 +1,5 @@
-use Rattle.std.proofs.Common.{◌≡◌, ◌<◌, ℕ, List, ap, sym, subst, get_or, length, arith}
-use Rattle.rcce_io.specs.Sending.{CutShort, with_text}
+use Rattle.std.proofs.Common.{◌<◌, length, arith}
 use Rattle.rcce_io.proofs.SendingLemmas.{cut_within, sends_err, whole_within}
-use Rattle.rcce_audit.specs.Texts.{text_of}
 use Rattle.rcce_audit.proofs.TextLemmas.{table-more, table-parts}
 use Rattle.trace_program.specs.Texts.{count_lines}
 use Rattle.trace_program.proofs.report.write_ranks.Goals as goal
@@ -11,18 +9,16 @@ returns-in_err-write_rank g c =
     let counts = c.args.counts.now in
     let rank = c.loop-rank.rank in
     let within : rank < length counts = omega (arith, c.requires, c.loop-rank-test.true) in
-    let text = ap (λ (n : ℕ). text_of (count_lines c.args.nue rank n)) c.index-counts-rank.is in
     sends_err _ _ _ _ c.from_residual.ensures.0 (
     cut_within (g.S.Sink.seen c.args.sink.now) (g.S.Sink.seen c.loop-rank.sink) (g.S.Sink.seen c.write_rank.new.sink) _ _ _ _
     (table-parts (count_lines c.args.nue) counts rank 0 within) c.loop-rank.invariant
-    (subst (λ (t : List ℕ). CutShort t (g.S.Sink.seen c.loop-rank.sink) (g.S.Sink.seen c.write_rank.new.sink)) text c.in_err-write_rank.ensures))
+    c.in_err-write_rank.ensures)
 
 pub loop-rank-preserved : goal.loop-rank-preserved
 loop-rank-preserved g c =
     let counts = c.args.counts.now in
     let rank = c.loop-rank.rank in
     let within : rank < length counts = omega (arith, c.requires, c.loop-rank-test.true) in
-    let text = ap (λ (n : ℕ). text_of (count_lines c.args.nue rank n)) c.index-counts-rank.is in
     whole_within (g.S.Sink.seen c.args.sink.now) (g.S.Sink.seen c.loop-rank.sink) (g.S.Sink.seen c.write_rank.new.sink) _ _ _
     (table-more (count_lines c.args.nue) counts rank 0 within) c.loop-rank.invariant
-    (subst (λ (t : List ℕ). g.S.Sink.seen c.write_rank.new.sink ≡ with_text t (g.S.Sink.seen c.loop-rank.sink)) text c.in_ok-write_rank.ensures)
+    c.in_ok-write_rank.ensures
