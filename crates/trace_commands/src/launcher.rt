@@ -2,9 +2,11 @@
 
 ghost use Rattle.std.specs.Prelude.{◌≡◌, ◌<◌, ◌≤◌, length, map, string_bytes, None};
 ghost use Rattle.outcomes.specs.Delivery.{sinks};
+ghost use Rattle.outcomes.specs.declared.status.Status.TheVariants.{Finished};
 ghost use Rattle.scc_mesh.specs.Scenes.{IsOpen};
 ghost use Rattle.rcce_run.specs.UeRuns.{AreLegal};
 ghost use Rattle.trace_script.specs.Tracing.{TracesWords};
+ghost use Rattle.trace_program.specs.Legal.{NamesLegal};
 ghost use Rattle.trace_commands.specs.Commands.{JudgesWords};
 
 use rcce_io::{Files, Sink};
@@ -32,6 +34,8 @@ pub fn rccetrace<F: Files, O: Sink, E: Sink>(
     ensures judges { length words.now ≤ 2 → JudgesWords (map string_bytes words.now) (F.seen files.old) (F.seen files.new)
         (sinks (O.seen out.old) (E.seen err.old)) (sinks (O.seen out.new) (E.seen err.new)) result }
     ensures none { length words.now ≤ 2 → chip.new ≡ None }
+    // And status 0: the file has the text of a legal trace. Each message that its chip delivered was whole, once and in order.
+    ensures whole { length words.now ≤ 2 → result ≡ TraceEnd.Ended Finished → NamesLegal (map string_bytes words.now) (F.seen files.old).told }
     // More words: by rank the events written are exactly those of the chip's record, in order; all together are a run from the
     // blank memory, each permitted when it is made; err and the status are those of the launcher's definition.
     ensures traces { 2 < length words.now → ∥ TracesWords (map string_bytes words.now) (F.seen files.old) (F.seen files.new) chip.new

@@ -1,10 +1,10 @@
 -- A trace that is called legal is one.
-use Rattle.std.proofs.Common.{◌≡◌, ◌⊎◌, inl, inr, ℕ, ◌<◌, ◌≤◌, Bool, true, false, if◌then◌else◌, List, codes, length, Option, Some, None, Result, Ok, Err, refl, sym, ◌∙◌, ap, subst}
+use Rattle.std.proofs.Common.{◌≡◌, inl, inr, ℕ, Bool, true, false, List, codes, length, Option, Some, None, Result, Ok, Err, refl, sym, ◌∙◌, ap}
 use Rattle.std.specs.Prelude.{IsOk, nat_lt}
 use Rattle.std.proofs.lemmas.Bool.{ltb-false}
 use Rattle.outcomes.specs.Coming.{ByTest, Comes, Holds, IsMeant, LeadsOn}
 use Rattle.outcomes.specs.Delivery.{Delivers, Sinks}
-use Rattle.outcomes.specs.Outcomes.{Outcome, Ran, absent, file_refused, no_memory, read_fault, run_outcome, too_long}
+use Rattle.outcomes.specs.Outcomes.{Outcome, run_outcome, too_long}
 use Rattle.outcomes.specs.declared.status.Status.{Status}
 use Rattle.outcomes.specs.declared.status.Status.TheVariants as status
 use Rattle.outcomes.proofs.ReadingLemmas.{holds_short}
@@ -26,7 +26,7 @@ use Rattle.trace_text.specs.Traces.{TraceView, most_trace_bytes}
 use Rattle.trace_text.specs.declared.faults.TraceFault.{TraceFault}
 use Rattle.trace_text.proofs.SaidLemmas.{trace_said}
 use Rattle.trace_program.specs.Legal.{IsLegalTrace, NamesLegal}
-use Rattle.trace_program.specs.Program.{TraceCommand, ruling_ran, said_plan, trace_command, trace_file_plan, trace_plan, trace_ran}
+use Rattle.trace_program.specs.Program.{TraceCommand, ruling_ran, said_plan, trace_command, trace_file_plan, trace_plan}
 
 -- a trace that is taken as a whole
 legal_trace : (text : List ℕ) (trace : TraceView) → trace_of text ≡ Ok trace → IsOk (ruling_from 0 (new_judged trace.setup) trace.events) → IsLegalTrace trace

@@ -1,3 +1,4 @@
+pub mod FileLemmas
 pub mod HearingLemmas
 pub mod LegalLemmas
 pub mod PlanLemmas

@@ -1,30 +1,21 @@
 -- What a trace comes to, event by event, and the calls that its events finish.
-use Rattle.std.proofs.Common.{◌≡◌, ◌≢◌, ℕ, zero, suc, ◌+◌, ◌<◌, ◌≤◌, Bool, true, false, List, [], ◌∷◌, ◌++◌, add-one, drop, get_or, length, map, slice_index_or, slice_set, Option, Some, None, Result, Ok, Err, refl, sym, ◌∙◌, ap, subst, arith}
-use Rattle.std.specs.Prelude.{All}
+use Rattle.std.proofs.Common.{◌≡◌, ◌≢◌, ℕ, ◌+◌, ◌<◌, List, [], ◌∷◌, ◌++◌, length, map, slice_index_or, slice_set, Option, Some, None, Ok, Err, refl, sym, ◌∙◌, ap, subst, arith}
 use Rattle.std.specs.List.{range_with_len}
-use Rattle.std.proofs.Math.Seq.{drop-cons}
-use Rattle.std.proofs.lemmas.List.{ext_get_or, get_or-set_other, get_or-set_same, length-map, length-set}
+use Rattle.std.proofs.lemmas.List.{ext_get_or, get_or-set_other, get_or-set_same, length-set}
 use Rattle.std.proofs.lemmas.List.FromFn.{get_or-map-range_with_len, length-map-range_with_len}
-use Rattle.record_machine.specs.Following.{Adds, moved_by}
-use Rattle.scc_base.specs.Calls.{DataCall, call_of}
-use Rattle.scc_base.specs.declared.calls.Call.{Call}
+use Rattle.record_machine.specs.Following.{Adds}
+use Rattle.scc_base.specs.Calls.{DataCall}
 use Rattle.scc_proto.specs.Stages.{Record}
 use Rattle.scc_proto.specs.Words.{RankEvent}
 use Rattle.scc_proto.proofs.Tests.{put_there, same_or_other}
 use Rattle.scc_proto.specs.Records.{record_after}
-use Rattle.rcce_audit.proofs.ListLemmas.{get_or-map_within}
 use Rattle.trace_judge.specs.Judged.{Judged, JudgeView, chip_of, judged_after, judged_by, new_judged}
 use Rattle.trace_judge.proofs.FollowFacts.{judged_pushed}
 use Rattle.trace_judge.specs.Rulings.{RefusedAt, refusal_of, ruling_from, unless_refused}
 use Rattle.trace_judge.specs.declared.judge.Refusal.{Refusal}
-use Rattle.trace_text.specs.Views.{rank_event, rank_events}
-use Rattle.trace_text.specs.declared.traces.TraceEvent.{TraceEvent}
 use Rattle.rcce_audit.specs.Grammar.{no_calls, with_call}
 use Rattle.scc_base.specs.Setups.{SetupView}
-use Rattle.trace_text.specs.Traces.{TraceView}
-use Rattle.trace_program.specs.Lists.{finished_calls, first_event_line}
-use Rattle.trace_program.specs.Program.{ruling_ran, trace_ran}
-use Rattle.trace_program.specs.Texts.{legal_text, refused_text}
+use Rattle.trace_program.specs.Lists.{finished_calls}
 
 -- one event more behind events that are taken
 pub ruling_after : (n m : ℕ) (j now : Judged) (es : List RankEvent) (e : RankEvent) → m ≡ n + length es → ruling_from n j es ≡ Ok now

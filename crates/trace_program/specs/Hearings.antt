@@ -11,7 +11,7 @@ use Rattle.trace_judge.specs.Rulings.{ruling_from}
 use Rattle.trace_text.specs.Grammar.{TraceReading, event_added, trace_of}
 use Rattle.trace_text.specs.Traces.{TraceView}
 use Rattle.trace_text.specs.Views.{rank_event}
-use Rattle.trace_text.specs.Walks.{HasCome}
+use Rattle.trace_text.specs.Walks.{HasComeTo, text_reading}
 use Rattle.trace_text.specs.declared.faults.TraceFault.{TraceFault}
 use Rattle.trace_text.specs.declared.traces.TraceEvent.{TraceEvent}
 use Rattle.trace_program.specs.Lists.{finished_calls, first_event_line}
@@ -71,6 +71,18 @@ HoldsStage asked stage.Waiting f r = (r.trace.events ≡ []) × HoldsFinished as
 HoldsStage asked (stage.Judging t) f r = (r.trace.events ≢ []) × HasTried asked t f r
 HoldsStage asked (stage.Refused at) f r = (r.trace.events ≢ []) × IsRefusedAt at r
 
+-- no event was made
+abbrev pub IsUntried : Bool → Stage → FinishedCalls → Type 0
+IsUntried asked stage.Waiting f = HoldsFinished asked f 0 no_calls
+IsUntried asked (stage.Judging t) f = ⊥
+IsUntried asked (stage.Refused at) f = ⊥
+
+-- the judging has come to what the lines so far say, as long as none of them has a fault
+abbrev pub HoldsSaid : Bool → Stage → FinishedCalls → Option (Result TraceReading TraceFault) → Type 0
+HoldsSaid asked s f None = IsUntried asked s f
+HoldsSaid asked s f (Some (Ok r)) = HoldsStage asked s f r
+HoldsSaid asked s f (Some (Err fault)) = Unit {0}
+
 -- how many events the judge has taken
 abbrev pub stage_number : Stage → ℕ
 stage_number stage.Waiting = 0
@@ -80,7 +92,7 @@ stage_number (stage.Refused at) = 0
 -- the event was just read, and is not judged yet
 pub record IsDue (asked : Bool) (h : Hearing) (r : TraceReading) (made : TraceEvent) : Type 0 where
   pub holds : HoldsStage asked h.stage h.finished r
-  pub come : HasCome h.walk (event_added r (rank_event made))
+  pub come : HasComeTo h.walk (event_added r (rank_event made))
   pub below : made.rank < r.trace.setup.nue
   pub few : stage_number h.stage < 2 ^ 32
 
@@ -88,7 +100,7 @@ pub record IsDue (asked : Bool) (h : Hearing) (r : TraceReading) (made : TraceEv
 pub record Hears (asked : Bool) (h : Hearing) : Type 0 where
   pub counted : h.bytes ≡ length h.walk
   pub few : stage_number h.stage ≤ h.bytes
-  pub heard : (r : TraceReading) → HasCome h.walk r → HoldsStage asked h.stage h.finished r
+  pub heard : HoldsSaid asked h.stage h.finished (text_reading h.walk)
 
 -- the bytes that a reading has heard
 abbrev pub bytes_heard : List ℕ → Result (Unit {0}) ReadEnd → Result (List ℕ) ReadEnd

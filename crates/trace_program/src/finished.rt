@@ -1,6 +1,7 @@
 //! The finished calls of the ranks, as they are kept while a trace is judged.
 
-ghost use Rattle.std.specs.Prelude.{◌≡◌, ForSome, IfOk, vec_len};
+ghost use Rattle.std.specs.Prelude.{◌≡◌, IfOk, vec_len};
+ghost use Rattle.std.specs.Option.{ForSome};
 ghost use Rattle.scc_base.specs.Calls.{DataCall, call_of};
 ghost use Rattle.rcce_audit.specs.Views.{data_of};
 ghost use Rattle.record_machine.specs.Following.{moved_by};

@@ -74,6 +74,7 @@ impl Trial {
             → TriedBy asked self.new finished.new (event_added r (rank_event made.now)) refused) }
         ensures number { IfOk result (λ _. self.new.number ≡ self.old.number + 1) }
     {
+        let _ = made.rank.number();
         let line = self.first + self.number;
         self.number += 1;
         match self.judge.take(made.rank, &made.event) {

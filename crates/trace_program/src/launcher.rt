@@ -79,7 +79,7 @@ fn hear_file<'a, F: Files>(
     mut hearing: Hearing,
 ) -> Result<TraceVerdict, Complaint<'a>>
     requires none { hearing.walk ≡ [] }
-    requires hears { Hears job.entry.asked hearing }
+    requires hears { Hears job.asked hearing }
     ensures { Comes (codes "rccetrace") (trace_file_plan (job_view job.entry))
         (F.seen files.old) (F.seen files.new) (outcome_of (codes "rccetrace") verdict_shown result) }
 {
@@ -93,7 +93,7 @@ fn hear_file<'a, F: Files>(
 
 // The whole file is read, or more of it than a trace may have.
 fn end_file<'a>(job: TraceJob<'a>, hearing: Hearing) -> Result<TraceVerdict, Complaint<'a>>
-    requires hears { Hears job.entry.asked hearing }
+    requires hears { Hears job.asked hearing }
     ensures { (before after : FilesView) → ReadsAll job.entry.file.now most_trace_bytes before after (Ok hearing.walk)
         → Comes (codes "rccetrace") (trace_file_plan (job_view job.entry)) before after (outcome_of (codes "rccetrace") verdict_shown result) }
 {

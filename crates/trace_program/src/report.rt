@@ -1,6 +1,7 @@
 //! A verdict on a trace, and its lines on out.
 
-ghost use Rattle.std.specs.Prelude.{◌≡◌, ForSome, length, vec_len};
+ghost use Rattle.std.specs.Prelude.{◌≡◌, length, vec_len};
+ghost use Rattle.std.specs.Option.{ForSome};
 ghost use Rattle.rcce_io.specs.Sending.{Sends};
 ghost use Rattle.rcce_audit.specs.Texts.{table_lines, text_of};
 ghost use Rattle.trace_program.specs.Texts.{count_lines, kept_text, lists_text, refused_text};

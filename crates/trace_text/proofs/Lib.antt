@@ -1,3 +1,4 @@
+pub mod GainLemmas
 pub mod HeadLemmas
 pub mod ProgressLemmas
 pub mod RuleLemmas

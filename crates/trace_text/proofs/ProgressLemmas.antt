@@ -11,7 +11,7 @@ use Rattle.scc_proto.specs.Words.{RankEvent}
 use Rattle.trace_text.specs.Grammar.{TraceReading, last_taken, line_fault, line_taken, split_added, split_taken, trace_of, ◌>->◌}
 use Rattle.trace_text.specs.Progress.{HasWalked, TakesTraceLine, progress_of, said_by, said_with, walk_said}
 use Rattle.trace_text.specs.Traces.{most_line_bytes, most_trace_bytes, most_trace_lines}
-use Rattle.trace_text.specs.Walks.{EndsText, GainsEvent, HasCome, last_line, trace_lines_said, next_said, text_reading, whole_lines}
+use Rattle.trace_text.specs.Walks.{EndsText, GainsEvent, HasComeTo, last_line, trace_lines_said, next_said, text_reading, whole_lines}
 use Rattle.trace_text.specs.declared.faults.TraceFault.{TraceFault}
 use Rattle.trace_text.specs.declared.faults.TraceKind.TheVariants as kind
 use Rattle.trace_text.specs.declared.reader.LineTaken.{LineTaken}
@@ -64,11 +64,11 @@ start_walked w lines line none = record {
   first = λ e. none;
 }
 
-reading_stays : (text : List ℕ) (b : ℕ) → (b == 10) ≡ false → text_reading (text ++ b ∷ []) ≡ text_reading text
+pub reading_stays : (text : List ℕ) (b : ℕ) → (b == 10) ≡ false → text_reading (text ++ b ∷ []) ≡ text_reading text
 unfolding text_reading
 reading_stays text b other = ap trace_lines_said (byte_more text b other).0
 
-reading_grows : (text : List ℕ) (b : ℕ) → (b == 10) ≡ true → text_reading (text ++ b ∷ []) ≡ Some (next_said (text_reading text) (length (whole_lines text)) (last_line text))
+pub reading_grows : (text : List ℕ) (b : ℕ) → (b == 10) ≡ true → text_reading (text ++ b ∷ []) ≡ Some (next_said (text_reading text) (length (whole_lines text)) (last_line text))
 unfolding text_reading
 reading_grows text b feed = ap trace_lines_said (line_more text b feed).0 ∙ said_more (whole_lines text) (last_line text)
 

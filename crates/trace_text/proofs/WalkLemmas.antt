@@ -13,7 +13,7 @@ use Rattle.rcce_audit.specs.Grammar.{begins_comm}
 use Rattle.rcce_audit.proofs.ReadingLemmas.{few_parts, some_part}
 use Rattle.trace_text.specs.Grammar.{TraceHead, TraceReading, all_taken, behind_head, first_taken, head_said, last_taken, line_fault, line_taken, lines_taken, parts_taken, trace_of, ◌>->◌}
 use Rattle.trace_text.specs.Traces.{TraceView, most_line_bytes, most_trace_bytes, most_trace_lines}
-use Rattle.trace_text.specs.Walks.{EndsText, GainsEvent, HasCome, last_line, trace_lines_said, next_said, text_reading, whole_lines}
+use Rattle.trace_text.specs.Walks.{EndsText, GainsEvent, HasComeTo, last_line, trace_lines_said, next_said, text_reading, whole_lines}
 use Rattle.trace_text.specs.declared.faults.TraceFault.{TraceFault}
 use Rattle.trace_text.specs.declared.faults.TraceKind.TheVariants as kind
 

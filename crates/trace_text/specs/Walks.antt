@@ -24,8 +24,8 @@ unfoldable pub text_reading : List ℕ → Option (Result TraceReading TraceFaul
 text_reading text = trace_lines_said (whole_lines text)
 
 -- the text has come to this reading, and no line of it has a fault
-abbrev pub HasCome : List ℕ → TraceReading → Type 0
-HasCome text r = text_reading text ≡ Some (Ok r)
+abbrev pub HasComeTo : List ℕ → TraceReading → Type 0
+HasComeTo text r = text_reading text ≡ Some (Ok r)
 
 -- what lines say with one line more, which stands behind so many
 abbrev pub next_said : Option (Result TraceReading TraceFault) → ℕ → List ℕ → Result TraceReading TraceFault
@@ -39,5 +39,5 @@ GainsEvent old new None = (r : TraceReading) → new ≡ Some (Ok r) → (old �
 
 -- the text ends here: it is a trace, to whose reading it has come, or its first fault is this
 abbrev pub EndsText : List ℕ → Result (Unit {0}) TraceFault → Type 0
-EndsText text (Ok _) = (r : TraceReading) × HasCome text r × (trace_of text ≡ Ok r.trace)
+EndsText text (Ok _) = (r : TraceReading) × HasComeTo text r × (trace_of text ≡ Ok r.trace)
 EndsText text (Err fault) = trace_of text ≡ Err fault

@@ -230,7 +230,7 @@ impl TraceWalk {
     ghost use Rattle.trace_text.specs.Grammar.{TraceReading};
     ghost use Rattle.trace_text.specs.Traces.{most_trace_bytes};
     ghost use Rattle.trace_text.specs.Views.{rank_event};
-    ghost use Rattle.trace_text.specs.Walks.{EndsText, GainsEvent, HasCome, text_reading};
+    ghost use Rattle.trace_text.specs.Walks.{EndsText, GainsEvent, HasComeTo, text_reading};
 
     /// Over nothing yet.
     pub fn new(alloc: Global) -> Result<TraceWalk, AllocError>
@@ -262,7 +262,7 @@ impl TraceWalk {
 
     /// The setup that the lines so far say.
     pub fn setup(&self) -> Setup
-        ensures gives { (r : TraceReading) → HasCome self.now r → result ≡ r.trace.setup }
+        ensures gives { (r : TraceReading) → HasComeTo self.now r → result ≡ r.trace.setup }
     {
         self.walk.reader.setup()
     }

@@ -1,10 +1,9 @@
 use Rattle.std.proofs.Common.{◌≡◌, take}
 use Rattle.rcce_io.specs.Sending.{with_text}
 use Rattle.rcce_audit.specs.Texts.{table_lines, text_of}
-use Rattle.trace_program.specs.Texts.{finished_lines}
-use Rattle.rcce_audit.specs.Views.{data_lists}
+use Rattle.trace_program.specs.Texts.{count_lines}
 use Rattle.trace_program.proofs.report.write_ranks.Given as goal
 
 abbrev pub invariant-loop-rank : goal.invariant-loop-rank
 invariant-loop-rank g l =
-    g.S.Sink.seen l.sink ≡ with_text (text_of (table_lines (finished_lines l.nue) 0 (take l.rank (data_lists l.lists)))) (g.S.Sink.seen l.initial.sink)
+    g.S.Sink.seen l.sink ≡ with_text (text_of (table_lines (count_lines l.nue) 0 (take l.rank l.counts))) (g.S.Sink.seen l.initial.sink)
