@@ -15,10 +15,11 @@ ghost use Rattle.trace_laws.specs.Told.{IsWritable, text_lines, told_setup};
 /// What is written is read back: the text of a trace says exactly its events, and its setup but for the cores of ranks that there
 /// are not. Of the three limits of a text a written one can pass only that of its lines, and then it is too long.
 pub fn inverse_law()
-    ensures read { (s : SetupView) (run : List RankEvent) → IsWritable s → AreRankEvents s run → text_lines (trace_text s run) ≤ most_trace_lines
+    ensures read { (s : SetupView) (run : List RankEvent) → IsWritable s → AreRankEvents s run
+        → text_lines (trace_text s run) ≤ most_trace_lines
         → trace_of (trace_text s run) ≡ Ok (record { setup = told_setup s; events = run }) }
-    ensures long { (s : SetupView) (run : List RankEvent) → IsWritable s → AreRankEvents s run → most_trace_lines < text_lines (trace_text s run)
-        → trace_of (trace_text s run) ≡ Err (record { line = 0; kind = TooLong }) }
+    ensures long { (s : SetupView) (run : List RankEvent) → IsWritable s → AreRankEvents s run
+        → most_trace_lines < text_lines (trace_text s run) → trace_of (trace_text s run) ≡ Err (record { line = 0; kind = TooLong }) }
     // A first line, at most fifteen of communicators, and one an event.
     ensures lines { (s : SetupView) (run : List RankEvent) → IsWritable s → AreRankEvents s run
         → (length run < text_lines (trace_text s run)) × (text_lines (trace_text s run) ≤ length run + 16) }
