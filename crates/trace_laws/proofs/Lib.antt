@@ -1,0 +1,13 @@
+pub mod ByteLemmas
+pub mod CommentLemmas
+pub mod EventLemmas
+pub mod FirstLemmas
+pub mod HeadLemmas
+pub mod InverseLemmas
+pub mod JudgedLemmas
+pub mod LegalLemmas
+pub mod LineLemmas
+pub mod SizeLemmas
+pub mod SplitLemmas
+pub mod ToldLemmas
+pub mod WordLemmas

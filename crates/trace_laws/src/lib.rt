@@ -1,0 +1,4 @@
+//! Laws of traces: what is written is read back.
+#![tactic(auto)]
+
+pub mod laws;
