@@ -9,9 +9,9 @@ use Rattle.scc_proto.specs.Moves.{is_posted, raise_sent, lower_sent, raise_ready
 use Rattle.scc_proto.specs.Permission.{is_whole_header, is_post_word, is_drafted, may_raise, may_take, has_taken, may_go_on, may_release, is_idle}
 use Rattle.scc_proto.specs.Stages.{Filling, Raised, Answered, Stage, Idle, Drafting, Sending, Between, Taking, Barrier, OnItsWay}
 use Rattle.scc_proto.specs.Tables.{put}
-use Rattle.scc_proto.proofs.NoteFacts.{has_all-at, none_stands}
+use Rattle.scc_proto.proofs.Words.NoteFacts.{has_all-at, none_stands}
 use Rattle.scc_proto.proofs.Tests.{same_by_eqb, eqb_same, eqb_other, both_first, both_second, put_here}
-use Rattle.scc_proto.proofs.WordFacts.{head_is, post_head_is}
+use Rattle.scc_proto.proofs.Words.WordFacts.{head_is, post_head_is}
 use Rattle.call_tap.specs.declared.watches.Midst.{Midst}
 use Rattle.call_tap.specs.declared.watches.Midst.TheVariants as midst
 use Rattle.call_tap.specs.Watching.{IsOpen, Holds, IsTaken, Gains}

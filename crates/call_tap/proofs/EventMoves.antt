@@ -11,7 +11,7 @@ use Rattle.scc_proto.specs.Stages.{FlagWords, Record}
 use Rattle.scc_proto.specs.Tables.{put}
 use Rattle.scc_proto.specs.Words.{Role, HeaderWord, ChunkWord, SentFlag, ReadyFlag, SentFlags, ReadyFlags, GatherFlag, ReleaseFlag, HeapWord, IdleWord, role_of}
 use Rattle.scc_proto.specs.Records.{act_by, act_of, after_act, chunk_of, leads, load_act, load_by, store_act, store_by, permits_act, record_after, IsPermitted}
-use Rattle.scc_proto.proofs.Roles.{Stands, role_stands}
+use Rattle.scc_proto.proofs.Layouts.Roles.{Stands, role_stands}
 
 pub no_bits : {P : Type 0} (s : SetupView) → s.layout ≡ LineFlags → s.layout ≡ BitFlags → P
 no_bits s lines bits = absurd (cc)

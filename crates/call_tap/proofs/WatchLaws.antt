@@ -10,8 +10,8 @@ use Rattle.scc_proto.specs.Moves.{draft_header, draft_chunk, raise_sent, read_ch
 use Rattle.scc_proto.specs.Permission.{drafts_header, drafts_chunk, is_drafted, may_raise}
 use Rattle.scc_proto.specs.Stages.{Filling, Raised, Answered, Stage, Sending, Taking, Barrier}
 use Rattle.scc_proto.specs.Tables.{put}
-use Rattle.scc_proto.proofs.NoteFacts.{note_stored, none_stands, noted_here, noted_there, has_all-at, chunk_within}
-use Rattle.scc_proto.proofs.Roles.{le_is, le_not}
+use Rattle.scc_proto.proofs.Words.NoteFacts.{note_stored, none_stands, noted_here, noted_there, has_all-at, chunk_within}
+use Rattle.scc_proto.proofs.Layouts.Roles.{le_is, le_not}
 use Rattle.scc_proto.proofs.Tests.{same_or_other, same_by_eqb, eqb_same, both_first, both_second, put_here, put_there}
 use Rattle.call_tap.specs.declared.watches.Midst.{Midst}
 use Rattle.call_tap.specs.declared.watches.Midst.TheVariants as midst
