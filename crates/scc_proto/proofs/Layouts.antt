@@ -3,4 +3,5 @@ pub mod Roles
 pub mod MoveFacts
 pub mod PlaceMoves
 pub mod ViewStores
+pub mod LayoutLoads
 pub mod LayoutLaw

@@ -2,6 +2,8 @@
 pub mod MessageLists
 pub mod Growth
 pub mod QuietMoves
+pub mod ReceiveCalls
 pub mod MessageCalls
 pub mod MessageLaw
+pub mod ChunkRecords
 pub mod TwoChunks

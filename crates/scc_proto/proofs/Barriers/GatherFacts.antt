@@ -2,7 +2,7 @@
 use Rattle.std.proofs.Common.{◌≡◌, ◌≢◌, ◌⊎◌, ℕ, suc, ◌-◌, ◌<◌, ◌≤◌, ◌==◌, Bool, true, false, true≢false, ◌&&◌, nat_lt, nat_le, if◌then◌else◌, List, [], ◌∷◌, ◌++◌, length, Option, Some, None, ⊎_elim, refl, sym, ◌∙◌, ap, ap₂, subst, append-nil, arith}
 use Rattle.std.proofs.lemmas.Bool.Decides.{nat_tests}
 use Rattle.scc_base.specs.Calls.{DataCall, Bar, Message}
-use Rattle.scc_base.specs.Setups.{SetupView, setup_key, root_of}
+use Rattle.scc_base.specs.Setups.{SetupView, setup_key, root_of, place_of}
 use Rattle.scc_base.proofs.Confluence.{equal_or_not}
 use Rattle.scc_base.proofs.ChangeLaws.{true_or_false}
 use Rattle.scc_proto.specs.Tables.{put}
@@ -12,10 +12,14 @@ use Rattle.scc_proto.specs.Moves.{finished_if, calls_released, calls_let_go, loo
 use Rattle.scc_proto.specs.Records.{chunk_of, last_of}
 use Rattle.scc_proto.specs.Groups.{is_open}
 use Rattle.scc_proto.specs.Passed.{in_hand, gathered, is_gathered, passed_open, passed_calls, slot_by, slot_of}
-use Rattle.scc_proto.specs.Legality.{Grows, ByNothing}
+use Rattle.scc_proto.specs.Legality.{Grows, ByNothing, in_group}
 use Rattle.scc_proto.proofs.Messages.MessageLaw.{sent_messages-append, received_messages-append}
 use Rattle.scc_proto.proofs.Barriers.BarrierFacts.{Counts, bar_at, gathered_in, releases_in, released_bar, Level}
-use Rattle.scc_proto.proofs.Barriers.GroupLaw.{put_here, put_there, put_same}
+use Rattle.scc_proto.proofs.Barriers.GroupRanks.{put_here, put_there, put_same, at_rank, last_same}
+use Rattle.scc_base.proofs.GroupFacts.{root_with, root_is}
+use Rattle.scc_proto.specs.Words.{is_present}
+use Rattle.scc_proto.specs.Views.{View}
+use Rattle.scc_proto.specs.Agreement.{RecordsAgree, GroupsAgree}
 
 -- an open call that is passed, where the lists of messages and what the roots have gathered are the same
 pub open_same : (s : SetupView) (k : ℕ) (st : Stage) (old new : ℕ → Record) → ((i j : ℕ) → received_messages i (new j).calls ≡ received_messages i (old j).calls) → ((i j : ℕ) → sent_messages i (new j).calls ≡ sent_messages i (old j).calls)
@@ -44,6 +48,36 @@ pub slot_same : (s : SetupView) (k : ℕ) (post : Option OnItsWay) (old new : �
 slot_same s k None old new received sent = refl
 slot_same s k (Some post) old new received sent =
     ap₂ (λ (a b : List Message). if length a == length b then None else Some (record { to = post.to; head = post.head; bytes = (with_chunk (chunk_of s) (begun post.head) post.chunk).bytes })) (received k post.to) (sent post.to k)
+
+-- a rank with an open barrier is a rank of the run
+pub open_low : (s : SetupView) (records : ℕ → Record) → RecordsAgree s records → (comm k : ℕ) → is_open comm (records k).stage ≡ true → k < s.nue
+open_low s records consistent comm k is =
+    ⊎_elim
+    (λ (below : k < s.nue). below)
+    (λ (above : s.nue ≤ k). absurd (true≢false (sym is ∙ ap (λ (rec : Record). is_open comm rec.stage) (consistent.1 k above))))
+    (low_or_not k s.nue)
+  where
+    low_or_not : (a b : ℕ) → (a < b) ⊎ (b ≤ a)
+    low_or_not a b = grind arith
+
+-- the ranks of a root's group have its last place, and a root is its own
+pub mine_last : (s : SetupView) (me comm k : ℕ) → root_of s comm k ≡ me → last_of s comm k ≡ last_of s comm me
+mine_last s me comm k mine = last_same s comm k me (sym (root_with (setup_key s comm) k) ∙ ap (setup_key s comm) mine)
+
+pub own_root : (s : SetupView) (me comm : ℕ) → place_of s comm me ≡ 0 → root_of s comm me ≡ me
+own_root s me comm zeroth = sym (root_is (setup_key s comm) me me refl zeroth)
+
+-- how a member and its root stand to each other
+pub at_member : (s : SetupView) (view : View) (records : ℕ → Record) → GroupsAgree s view records → (c r : ℕ) → is_present s c ≡ true → r < s.nue → place_of s c r ≢ 0
+    → Level (place_of s c r) (view.release c r) ((records (root_of s c r)).flips c) (bar_at c (records (root_of s c r)).stage) ((records r).flips c) (bar_at c (records r).stage)
+at_member s view records groups c r present low_r member = (at_rank s view c r records (groups c r present low_r)).member member
+
+-- a member of the group of a rank, by its key
+pub group_told : (s : SetupView) (c root k : ℕ) → in_group s.nue (setup_key s) c root k ≡ true → (k < s.nue) × (setup_key s c k ≡ setup_key s c root)
+group_told s c root k is = (grind (arith, nat_tests), grind (arith, nat_tests))
+
+pub group_test : (s : SetupView) (c root k : ℕ) → k < s.nue → setup_key s c k ≡ setup_key s c root → in_group s.nue (setup_key s) c root k ≡ true
+group_test s c root k below same = grind (arith, nat_tests)
 
 -- what a root has gathered, by its open barrier
 pub gathered_full : (last flips : ℕ) (x : Counts) → x.seen ≡ last → gathered_in last flips (Some x) ≡ flips

@@ -14,7 +14,7 @@ use Rattle.scc_proto.specs.Singles.{IsPosted, is_free}
 use Rattle.scc_proto.specs.Passed.{in_hand, gathered, is_gathered, passed_open, passed_calls, slot_by, slot_of}
 use Rattle.scc_proto.specs.Legality.{Grows, ByNothing}
 use Rattle.scc_proto.proofs.Barriers.BarrierFacts.{Counts, gathered-bar, bar_at, gathered_in}
-use Rattle.scc_proto.proofs.Barriers.GroupLaw.{put_here, put_there}
+use Rattle.scc_proto.proofs.Barriers.GroupRanks.{put_here, put_there}
 
 -- an open call that is passed, where what matters of the lists and of the roots is the same
 pub open_at : (s : SetupView) (k : ℕ) (st : Stage) (old new : ℕ → Record) → ((to : ℕ) → received_messages k (new to).calls ≡ received_messages k (old to).calls) → ((to : ℕ) → sent_messages to (new k).calls ≡ sent_messages to (old k).calls)
