@@ -43,7 +43,7 @@ pub data TriesBit (s : Sight) (c : Private) (core : ℕ) (flag : FlagPlace) (set
       → d ≡ record m { lines = noted m.lines (flag_word core flag) (with_bit flag.bit set (slice_index words flag.word)) }
       → TriesBit s c core flag set done t d
 
--- one turn's change of a flag
+-- one turn changes a flag: with line flags it is written, with bit flags its bit is tried
 abbrev pub ChangesBy : Layout → Sight → Private → ℕ → FlagPlace → Bool → Bool → Sight → Private → Type 0
 ChangesBy LineFlags s c core flag set done t d = (done ≡ true) × WritesFlag s c core flag set t d
 ChangesBy BitFlags s c core flag set done t d = TriesBit s c core flag set done t d

@@ -130,7 +130,7 @@ lines_left layout size op =
     lines_left_by (flag_lines layout) (chunk_count size op.head.len - op.chunk) (lines_from size op.head.len op.chunk) (lines_now size op)
     (op.chunk == 0) op.stage
 
--- the turn makes a look
+-- the stage's turn makes a look
 abbrev pub is_look : RecvStage → Bool
 is_look Look = true
 is_look _ = false

@@ -22,7 +22,7 @@ layout_at s = s.seat.setup.layout
 abbrev pub chunk_at : Sight → ℕ
 chunk_at s = chunk_of s.seat.setup
 
--- messages between this rank and the own one are allowed
+-- the own rank may have messages with this rank
 abbrev pub IsPeer : Sight → ℕ → Type 0
 IsPeer s j = are_peers s.seat.setup s.seat.rank j ≡ true
 
