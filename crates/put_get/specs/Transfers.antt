@@ -36,6 +36,7 @@ ReadsLines s c core line [] t d = (t ≡ s) × (d ≡ c)
 ReadsLines s c core line (words ∷ rest) t d =
     (s1 : Sight) × (c1 : Private) × ReadsLine s c (line_at core line) words s1 c1 × ReadsLines s1 c1 core (line + 1) rest t d
 
+-- the access is a load
 abbrev pub is_load : Access → Bool
 is_load Load = true
 is_load access = false
@@ -44,6 +45,7 @@ is_load access = false
 abbrev pub load_count : List Event → ℕ
 load_count events = count_by (λ (e : Event). is_load e.access) events
 
+-- whether two words are one
 abbrev pub same_word : WordAt → WordAt → Bool
 same_word a b = (a.core == b.core && a.line == b.line) && a.word == b.word
 
