@@ -65,11 +65,11 @@ module _ (s : SetupView) (me : ℕ) where
   begins other header peers head = record { peers = peers; head = head; bytes = sym (mul-zero (chunk_of s)); left = inl refl; each = All-nil (λ b. b < 256) }
 
   -- ---- what a move owes of the stage and the calls
-  record Goes (st : Stage) (calls : List DataCall) (new : Stage) (late : List DataCall) : Type 0 where
-    stage : IsStage s me new
-    count : (comm : ℕ) → barriers_of comm late + open_barriers comm new ≡ barriers_of comm calls + open_barriers comm st
-    bytes : All (IsMade s me) calls → All (IsMade s me) late
-    free : is_free st ≡ true → is_free new ≡ true
+  pub record Goes (st : Stage) (calls : List DataCall) (new : Stage) (late : List DataCall) : Type 0 where
+    pub stage : IsStage s me new
+    pub count : (comm : ℕ) → barriers_of comm late + open_barriers comm new ≡ barriers_of comm calls + open_barriers comm st
+    pub bytes : All (IsMade s me) calls → All (IsMade s me) late
+    pub free : is_free st ≡ true → is_free new ≡ true
 
   stays : (st : Stage) (calls : List DataCall) → IsStage s me st → Goes st calls st calls
   stays st calls stage = record { stage = stage; count = λ comm. refl; bytes = λ all. all; free = λ t. t }
@@ -155,10 +155,10 @@ module _ (s : SetupView) (me : ℕ) where
   ready_looked_at is_set (Barrier c seen released) calls stage = stays (Barrier c seen released) calls stage
 
   -- the sender's side goes on
-  record Lowers (st : Stage) (calls : List DataCall) (new : Stage) (late : List DataCall) : Type 0 where
-    stage : IsStage s me new
-    count : (comm : ℕ) → barriers_of comm late + open_barriers comm new ≡ barriers_of comm calls + open_barriers comm st
-    bytes : All (IsMade s me) calls → All (IsMade s me) late
+  pub record Lowers (st : Stage) (calls : List DataCall) (new : Stage) (late : List DataCall) : Type 0 where
+    pub stage : IsStage s me new
+    pub count : (comm : ℕ) → barriers_of comm late + open_barriers comm new ≡ barriers_of comm calls + open_barriers comm st
+    pub bytes : All (IsMade s me) calls → All (IsMade s me) late
 
   pub ready_lowered : (st : Stage) (calls : List DataCall) → IsStage s me st → Lowers st calls (lower_ready (chunk_of s) st) (calls_sent (chunk_of s) st calls)
   ready_lowered Idle calls stage = record { stage = stage; count = λ comm. refl; bytes = λ all. all }
@@ -257,11 +257,11 @@ module _ (s : SetupView) (me : ℕ) where
 
   -- ---- raising `sent`
 
-  record Raises (st : Stage) (calls : List DataCall) (new : Stage) (late : List DataCall) (post : Option OnItsWay) : Type 0 where
-    stage : IsStage s me new
-    count : (comm : ℕ) → barriers_of comm late + open_barriers comm new ≡ barriers_of comm calls + open_barriers comm st
-    bytes : All (IsMade s me) calls → All (IsMade s me) late
-    posted : IsPosted s me new post
+  pub record Raises (st : Stage) (calls : List DataCall) (new : Stage) (late : List DataCall) (post : Option OnItsWay) : Type 0 where
+    pub stage : IsStage s me new
+    pub count : (comm : ℕ) → barriers_of comm late + open_barriers comm new ≡ barriers_of comm calls + open_barriers comm st
+    pub bytes : All (IsMade s me) calls → All (IsMade s me) late
+    pub posted : IsPosted s me new post
 
   first_raised : (posted : Bool) (to : ℕ) (header chunk : Notes) (calls : List DataCall) → is_posted header ≡ posted → is_whole_header header ≡ true → is_drafted (chunk_of s) (begun (head_of header)) chunk ≡ true → are_peers s me to ≡ true
       → Raises (Drafting header chunk) calls (if posted then Idle else Sending to Raised (begun (head_of header)) chunk)
