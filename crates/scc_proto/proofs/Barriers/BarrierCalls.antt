@@ -22,10 +22,8 @@ use Rattle.scc_proto.proofs.Barriers.BarrierFacts.{Counts, bar_at, seen_in, gath
 use Rattle.scc_proto.proofs.Barriers.BarrierMoves.{is_barrier_move, saw_bar, look_gather-bar, look_gather-other}
 use Rattle.scc_proto.proofs.Barriers.GroupRanks.{put_here, put_there, at_rank, place_within, barrier_told, has_flipped}
 use Rattle.scc_proto.proofs.Barriers.GroupLaw.{groups_kept}
-use Rattle.scc_proto.proofs.Barriers.GatherFacts.{open_bar, gathered_full, gathered_more, le_test, positive, held_test, up_one, never, same_nat, passed_else, passed_here, gathered_here, slots_stay, unmoved, barrier_is, look_gather_none}
-use Rattle.scc_proto.proofs.Barriers.GatherFacts.{open_low, mine_last, own_root, at_member}
+use Rattle.scc_proto.proofs.Barriers.GatherFacts.{open_bar, gathered_full, gathered_more, le_test, positive, held_test, up_one, never, same_nat, passed_else, passed_here, gathered_here, slots_stay, unmoved, barrier_is, look_gather_none, open_low, mine_last, own_root, at_member, group_told, group_test}
 use Rattle.scc_proto.proofs.Barriers.ReleaseCalls.{write_release_grows, look_release_grows}
-use Rattle.scc_proto.proofs.Barriers.GatherFacts.{group_told, group_test}
 use Rattle.scc_proto.proofs.Barriers.EntryCalls.{flip_grows}
 
 module _ (s : SetupView) (me : ℕ) (view : View) (records : ℕ → Record) (low : me < s.nue) (consistent : RecordsAgree s records) (groups : GroupsAgree s view records) where

@@ -20,9 +20,7 @@ use Rattle.scc_proto.proofs.Layouts.MoveFacts.{IsViewStep}
 use Rattle.scc_proto.proofs.Barriers.BarrierFacts.{Counts, bar_at, gathered_in, gathered-bar}
 use Rattle.scc_proto.proofs.Barriers.BarrierMoves.{idle_told, flip_gather-bar, flip_gather-other}
 use Rattle.scc_proto.proofs.Barriers.GroupRanks.{put_here, put_there, place_within, last_same}
-use Rattle.scc_proto.proofs.Barriers.GatherFacts.{gathered_more, gathered_entered, passed_else, passed_here, gathered_here, slots_stay, no_message_received, no_message_sent}
-use Rattle.scc_proto.proofs.Barriers.GatherFacts.{open_low, mine_last, own_root, at_member}
-use Rattle.scc_proto.proofs.Barriers.GatherFacts.{group_told, group_test}
+use Rattle.scc_proto.proofs.Barriers.GatherFacts.{gathered_more, gathered_entered, passed_else, passed_here, gathered_here, slots_stay, no_message_received, no_message_sent, open_low, mine_last, own_root, at_member, group_told, group_test}
 
 module _ (s : SetupView) (me : ℕ) (view : View) (records : ℕ → Record) (low : me < s.nue) (consistent : RecordsAgree s records) (groups : GroupsAgree s view records) where
   -- the passed calls and the slots after a move of this rank
