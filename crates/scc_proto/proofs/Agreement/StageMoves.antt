@@ -6,7 +6,7 @@ use Rattle.scc_base.specs.Calls.{DataCall, Bar}
 use Rattle.scc_base.specs.Setups.{SetupView, place_of}
 use Rattle.scc_proto.specs.Messages.{Notes, noted, note_word, has_all, Progress, begun, chunk_bytes, is_last, is_whole, is_padded, with_chunk, byte_at, bytes_from, head_of, is_head, is_post_head, message_of, send_to, recv_from, post_to, barriers_of}
 use Rattle.scc_proto.specs.Stages.{Filling, Raised, Answered, Stage, Idle, Drafting, Sending, Between, Taking, Barrier, OnItsWay}
-use Rattle.scc_proto.specs.Moves.{after, draft_header, draft_chunk, raise_sent, read_chunk, lower_sent, raise_ready, look_ready, lower_ready, flip_gather, look_gather, write_release, look_release, post_raised, calls_raised, calls_received, calls_sent, calls_released, calls_let_go, finished_if, is_posted}
+use Rattle.scc_proto.specs.Moves.{draft_header, draft_chunk, raise_sent, read_chunk, lower_sent, raise_ready, look_ready, lower_ready, flip_gather, look_gather, write_release, look_release, post_raised, calls_raised, calls_received, calls_sent, calls_released, calls_let_go, finished_if, is_posted}
 use Rattle.scc_proto.specs.Permission.{drafts_header, drafts_chunk, may_raise, may_take, has_taken, may_release, is_idle, is_whole_header, is_post_word, is_drafted}
 use Rattle.scc_proto.specs.Words.{are_peers, is_present}
 use Rattle.scc_proto.specs.Records.{chunk_of, last_of}

@@ -21,7 +21,7 @@ use Rattle.scc_proto.proofs.Layouts.MoveFacts.{IsViewStep}
 use Rattle.scc_proto.proofs.Barriers.BarrierFacts.{Counts, bar_at, gathered_in, releases_in, released_bar, is_open-bar, gathered-bar}
 use Rattle.scc_proto.proofs.Barriers.BarrierMoves.{look_release-other, Releases, may_release_told}
 use Rattle.scc_proto.proofs.Barriers.GroupRanks.{put_here, last_same, barrier_told, root_zeroth}
-use Rattle.scc_proto.proofs.Barriers.GatherFacts.{open_bar, gathered_full, gathered_released, le_test, same_nat, released_gathered, passed_else, passed_here, gathered_here, slots_stay, unmoved, barrier_is, look_release_none, released_no_message, let_go_no_message, mine_last, own_root, at_member}
+use Rattle.scc_proto.proofs.Barriers.GatherFacts.{open_bar, gathered_full, gathered_released, same_nat, released_gathered, passed_else, passed_here, gathered_here, slots_stay, unmoved, barrier_is, look_release_none, released_no_message, let_go_no_message, mine_last, own_root, at_member}
 
 module _ (s : SetupView) (me : ℕ) (view : View) (records : ℕ → Record) (low : me < s.nue) (consistent : RecordsAgree s records) (groups : GroupsAgree s view records) where
   -- the passed calls and the slots after a move of this rank
