@@ -9,7 +9,7 @@ use Rattle.scc_base.specs.declared.events.Turn.TheVariants as turn
 use Rattle.scc_proto.specs.Stages.{Record}
 use Rattle.scc_proto.specs.Ports.{Seat, Sight, Did, record_in}
 use Rattle.scc_proto.proofs.PortLaws.{did_nothing, did_both, seat_kept}
-use Rattle.scc_proto.proofs.Roles.{if_no}
+use Rattle.scc_proto.proofs.Layouts.Roles.{if_no}
 use Rattle.put_get.specs.Accesses.{loads_of}
 use Rattle.put_get.specs.Cores.{Private}
 use Rattle.put_get.proofs.StepLemmas.{events_once}

@@ -15,8 +15,8 @@ use Rattle.scc_proto.specs.Words.{GatherFlag, ReleaseFlag, IdleWord, is_present,
 use Rattle.scc_proto.specs.Records.{chunk_of, leads, load_by}
 use Rattle.scc_proto.specs.Ports.{Seat, record_next, record_on}
 use Rattle.scc_proto.proofs.Tests.{eqb_same, eqb_other}
-use Rattle.scc_proto.proofs.Roles.{if_no, lt_yes, lt_is, lt_not, first_release-is, first_chunk-is, role_gather, role_release, role_gather_any, role_release_any, role_spare_barrier}
-use Rattle.scc_proto.proofs.PlaceMoves.{Makes, load_moves, idle_loaded, gather_loaded, release_loaded}
+use Rattle.scc_proto.proofs.Layouts.Roles.{if_no, lt_yes, lt_is, lt_not, first_release-is, first_chunk-is, role_gather, role_release, role_gather_any, role_release_any, role_spare_barrier}
+use Rattle.scc_proto.proofs.Layouts.PlaceMoves.{Makes, load_moves, idle_loaded, gather_loaded, release_loaded}
 use Rattle.put_get.specs.Accesses.{loads_of}
 use Rattle.barrier.specs.Flags.{gather_word, release_word}
 

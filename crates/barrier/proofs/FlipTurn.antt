@@ -15,8 +15,8 @@ use Rattle.scc_proto.specs.Records.{chunk_of, last_of}
 use Rattle.scc_proto.specs.Ports.{Seat, Sight, MayMake, record_in}
 use Rattle.scc_proto.proofs.PortLaws.{record_did_one, seat_kept}
 use Rattle.scc_proto.proofs.Tests.{eqb_other, same_or_other, put_here, put_there, same_by_eqb}
-use Rattle.scc_proto.proofs.Roles.{if_yes, if_no, eq_not, role_gather}
-use Rattle.scc_proto.proofs.PlaceMoves.{Makes, gather_stored}
+use Rattle.scc_proto.proofs.Layouts.Roles.{if_yes, if_no, eq_not, role_gather}
+use Rattle.scc_proto.proofs.Layouts.PlaceMoves.{Makes, gather_stored}
 use Rattle.put_get.specs.Cores.{Private}
 use Rattle.barrier.specs.declared.stages.BarStage.{BarStage}
 use Rattle.barrier.specs.declared.stages.BarStage.TheVariants.{Flip, Gather, Await, Finished}

@@ -13,8 +13,8 @@ use Rattle.scc_proto.specs.Records.{chunk_of, last_of}
 use Rattle.scc_proto.specs.Ports.{Sight, MayMake, record_in}
 use Rattle.scc_proto.proofs.PortLaws.{record_did_one, seat_kept}
 use Rattle.scc_proto.proofs.Tests.{eqb_same, eqb_other}
-use Rattle.scc_proto.proofs.Roles.{if_yes, if_no, role_release}
-use Rattle.scc_proto.proofs.PlaceMoves.{Makes, release_stored}
+use Rattle.scc_proto.proofs.Layouts.Roles.{if_yes, if_no, role_release}
+use Rattle.scc_proto.proofs.Layouts.PlaceMoves.{Makes, release_stored}
 use Rattle.put_get.specs.Cores.{Private}
 use Rattle.barrier.specs.declared.stages.BarStage.{BarStage}
 use Rattle.barrier.specs.declared.stages.BarStage.TheVariants.{Release, Finished}

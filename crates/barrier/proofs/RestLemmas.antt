@@ -4,7 +4,7 @@ use Rattle.scc_base.specs.Communicators.{rule_of}
 use Rattle.scc_base.specs.declared.communicators.CommRule.TheVariants.{Absent}
 use Rattle.scc_proto.specs.Stages.{Record}
 use Rattle.scc_proto.specs.Ports.{Seat, Sight, record_in}
-use Rattle.scc_proto.proofs.Roles.{if_yes, if_no}
+use Rattle.scc_proto.proofs.Layouts.Roles.{if_yes, if_no}
 use Rattle.scc_proto.proofs.Tests.{eqb_other}
 use Rattle.put_get.specs.Cores.{Private}
 use Rattle.sync_flags.specs.Tries.{Aim}

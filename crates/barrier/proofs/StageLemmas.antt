@@ -8,7 +8,7 @@ use Rattle.scc_proto.specs.Ports.{Seat, Sight, record_in}
 use Rattle.scc_proto.proofs.PortLaws.{did_nothing}
 use Rattle.scc_base.specs.declared.events.Turn.TheVariants as turn
 use Rattle.scc_proto.proofs.Tests.{eqb_same, eqb_other, same_by_eqb}
-use Rattle.scc_proto.proofs.Roles.{if_yes, if_no, eq_not}
+use Rattle.scc_proto.proofs.Layouts.Roles.{if_yes, if_no, eq_not}
 use Rattle.put_get.specs.Cores.{Private}
 use Rattle.barrier.specs.declared.stages.BarStage.{BarStage}
 use Rattle.barrier.specs.declared.stages.BarStage.TheVariants.{Gather, Release, Finished}

@@ -7,7 +7,7 @@ use Rattle.scc_base.specs.declared.events.Event.{Event}
 use Rattle.scc_proto.specs.Like.{Like}
 use Rattle.scc_proto.specs.Records.{record_of}
 use Rattle.scc_proto.specs.Stages.{Record}
-use Rattle.scc_proto.proofs.FlagsTold.{like_both, like_self}
+use Rattle.scc_proto.proofs.Words.FlagsTold.{like_both, like_self}
 use Rattle.scc_mesh.specs.Scenes.{ChipView, about_in, events_in, records_in}
 use Rattle.scc_mesh.specs.Turns.{IsTurned}
 use Rattle.chip_run.specs.declared.rests.Rest.{Rest}

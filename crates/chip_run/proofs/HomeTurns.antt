@@ -12,9 +12,9 @@ use Rattle.scc_proto.specs.Ports.{Sight, Did}
 use Rattle.scc_proto.specs.Records.{record_from, record_of}
 use Rattle.scc_proto.specs.Resting.{is_resting}
 use Rattle.scc_proto.specs.Stages.{Record, blank}
-use Rattle.scc_proto.proofs.FlagsTold.{like_both, like_self, like_sym}
+use Rattle.scc_proto.proofs.Words.FlagsTold.{like_both, like_self, like_sym}
 use Rattle.scc_proto.proofs.PortLaws.{record_from-append}
-use Rattle.scc_proto.proofs.RestLaw.{resting_part}
+use Rattle.scc_proto.proofs.Runs.RestLaw.{resting_part}
 use Rattle.scc_proto.proofs.Tests.{both_first, both_second, same_or_other}
 use Rattle.scc_mesh.specs.Keeping.{WasStep, records_by}
 use Rattle.scc_mesh.specs.Scenes.{ChipView, IsWhole, WasSeatStep, about_in, home_in, events_in, records_in, is_port_of, sight_in}

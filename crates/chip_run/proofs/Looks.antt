@@ -10,8 +10,8 @@ use Rattle.scc_proto.specs.Records.{chunk_of}
 use Rattle.scc_proto.specs.Stages.{Part, Raised, Answered, Stage, Sending, Record}
 use Rattle.scc_proto.specs.Views.{View, view_of}
 use Rattle.scc_proto.specs.Words.{Memory, are_peers}
-use Rattle.scc_proto.proofs.PhaseFacts.{sending_here, when_answered}
-use Rattle.scc_proto.proofs.StepLaws.{itself}
+use Rattle.scc_proto.proofs.Pairs.PhaseFacts.{sending_here, when_answered}
+use Rattle.scc_proto.proofs.Legality.StepLaws.{itself}
 use Rattle.chip_run.specs.Wants.{Want}
 use Rattle.chip_run.specs.Waiting.{SlotWaits, RaiseWaits, TakeWaits, IsLooking, BarWaits, AtRoot, AtMember, Waits}
 use Rattle.chip_run.proofs.WaitsLike.{post_like}

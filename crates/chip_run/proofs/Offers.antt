@@ -13,9 +13,9 @@ use Rattle.scc_proto.specs.Singles.{is_free, IsPosted, IsOnItsWay}
 use Rattle.scc_proto.specs.Stages.{Raised, Stage, Idle, Drafting, Sending, Between, Taking, Barrier, OnItsWay, Record}
 use Rattle.scc_proto.specs.Views.{view_of}
 use Rattle.scc_proto.specs.Words.{Memory}
-use Rattle.scc_proto.proofs.OfferFacts.{posted_last}
-use Rattle.scc_proto.proofs.PhaseFacts.{sending_here, post_here}
-use Rattle.scc_proto.proofs.StepLaws.{itself}
+use Rattle.scc_proto.proofs.Pairs.OfferFacts.{posted_last}
+use Rattle.scc_proto.proofs.Pairs.PhaseFacts.{sending_here, post_here}
+use Rattle.scc_proto.proofs.Legality.StepLaws.{itself}
 use Rattle.scc_proto.proofs.Tests.{eqb_same, eqb_other}
 use Rattle.chip_run.specs.Waiting.{SlotWaits, RaiseWaits, TakeWaits, IsLooking}
 

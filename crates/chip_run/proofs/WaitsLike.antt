@@ -12,8 +12,8 @@ use Rattle.scc_proto.specs.Singles.{IsPosted, IsOnItsWay}
 use Rattle.scc_proto.specs.Stages.{OnItsWay, Record}
 use Rattle.scc_proto.specs.Views.{view_of, SameFlagWords}
 use Rattle.scc_proto.specs.Words.{Memory}
-use Rattle.scc_proto.proofs.FlagsTold.{flags_like, like_both, like_sym}
-use Rattle.scc_proto.proofs.RestLaw.{resting_part}
+use Rattle.scc_proto.proofs.Words.FlagsTold.{flags_like, like_both, like_sym}
+use Rattle.scc_proto.proofs.Runs.RestLaw.{resting_part}
 use Rattle.scc_proto.proofs.Tests.{same_or_other}
 use Rattle.chip_run.specs.Wants.{Want}
 use Rattle.chip_run.specs.Waiting.{SlotWaits, RaiseWaits, TakeWaits, IsLooking, BarWaits, AtRoot, AtMember, Waits}

@@ -26,12 +26,12 @@ waited_in (turn.Moved ∷ before) = 0
 waited_in (turn.Waiting spot ∷ before) = suc (waited_in before)
 waited_in (turn.Done ∷ before) = 0
 
--- behind these answers, of which the latest stands first, a row is at its end: the rank is over, or has waited in so many turns
--- in a row
+-- behind these answers, of which the latest stands first, a row is at its end: the rank is over, or has waited in
+-- `most` turns in a row
 abbrev pub EndsRow : ℕ → List Turn → Type 0
 EndsRow most answers = (slice_get answers 0 ≡ Some turn.Done) ⊎ (waited_in answers ≡ most)
 
--- it is so behind all these answers, and was so behind no fewer
+-- a row is at its end behind all these answers, and was so behind no fewer
 pub record IsRow (most : ℕ) (answers : List Turn) : Type 0 where
   pub ends : EndsRow most answers
   pub first : (n : ℕ) → EndsRow most (drop (suc n) answers) → ⊥
@@ -59,17 +59,20 @@ pub record TookRow {A : Type 0} (c : Conduct A) (s : SetupView) (rank : ℕ) (ol
   pub rank_is : first.seat.rank ≡ rank
   pub row : RowOfTurns c (WasSeatStep first.seat) old first new last
 
--- how many turns in a row were vain after one more, where at the most so many end the row
+-- the vain turns in a row after one more answer: a turn that moved sets them to 0, and one that is over counts as
+-- `most`, which ends the row
 abbrev pub vain_by : ℕ → Turn → ℕ → ℕ
 vain_by most turn.Moved vain = 0
 vain_by most (turn.Waiting spot) vain = vain + 1
 vain_by most turn.Done vain = most
 
--- how many turns of a row are left at most, where so many that do not wait are left to its worker
+-- how many turns of a row are left at most, where `left` that do not wait are left to its worker and its last `vain`
+-- were vain
 abbrev pub row_left : ℕ → ℕ → ℕ → ℕ
 row_left most left vain = most * left + (most - vain)
 
--- the next stretch of a row of a rank that is away, in which so many turns in a row were vain before it, and are behind it
+-- the next stretch of a row of a rank that is away, with the number of its last turns that were vain, before the
+-- stretch and behind it
 pub record NextStretch {A : Type 0} (c : Conduct A) (s : SetupView) (old : A) (token : Option Ticket) (vain : ℕ) (new : A) (later : Option Ticket) (now : ℕ) : Type 0 where
   pub going : vain < 1000
   pub first : Ticket

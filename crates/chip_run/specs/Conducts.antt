@@ -19,7 +19,7 @@ pub record Conduct (A : Type 0) : Type 1 where
   pub tied : A → SetupView → ℕ → List Event → Type 0
   -- a turn that moves may lead from the one to the other
   pub moves : A → A → Type 0
-  -- and so may a turn that does not move
+  -- a turn that does not move may lead from the one to the other
   pub stays : A → A → Type 0
 
 -- A worker after some turns.

@@ -20,7 +20,7 @@ abbrev pub sum_from : {A : Type 0} → (ℕ → A → ℕ) → ℕ → List A �
 sum_from f from [] = 0
 sum_from f from (x ∷ xs) = f from x + sum_from f (from + 1) xs
 
--- how many turns that do not wait are left to all of them
+-- how many turns that do not wait are left to all workers of a crew
 abbrev pub all_left : {A : Type 0} → Conduct A → SetupView → List A → ℕ
 all_left c s crew = sum_from (λ k x. (c.seen s k x).left) 0 crew
 
@@ -41,7 +41,7 @@ pub record OneTurn {A : Type 0} (c : Conduct A) (chip : ChipView) (crew : List A
   pub is : later ≡ slice_set crew at new
   pub turned : TurnedAtHome c chip at old now new came
 
--- this worker rests
+-- a worker rests: it has finished, or it was stopped or waits
 abbrev pub WorkerRests : {A : Type 0} → Conduct A → Bool → ChipView → List A → ℕ → A → Type 0
 WorkerRests c finished chip crew k d = RestsAt finished (about_in chip) (records_in chip) k (c.seen (about_in chip) k (slice_index_or crew k d))
 
@@ -53,7 +53,7 @@ AllFinished {A} c chip crew n = (k : ℕ) (d : A) → k < n → WorkerRests c tr
 abbrev pub AllRest : {A : Type 0} → Conduct A → ChipView → List A → ℕ → Type 0
 AllRest {A} c chip crew n = (k : ℕ) (d : A) → k < n → (finished : Bool) × WorkerRests c finished chip crew k d
 
--- one of them has not finished
+-- one of the first n workers has not finished
 pub record OneUnfinished {A : Type 0} (c : Conduct A) (chip : ChipView) (crew : List A) (n : ℕ) : Type 0 where
   pub one : ℕ
   pub below : one < n

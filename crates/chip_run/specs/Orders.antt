@@ -6,12 +6,12 @@ use Rattle.chip_run.specs.declared.rests.Rest.{Rest}
 use Rattle.chip_run.specs.Crews.{OneTurn}
 use Rattle.chip_run.specs.Conducts.{Conduct}
 
--- a generator after so many words; a step gives its next word and what it is then
+-- a generator after n words; a step gives its next word and what it is then
 unfoldable pub drawn : {G : Type 0} → (G → ℕ × G) → ℕ → G → G
 drawn step zero g = g
 drawn step (suc n) g = drawn step n (step g).1
 
--- the ranks that so many of its next words name, the first word first
+-- the ranks that the next n words of a generator name, the first word first
 unfoldable pub named : {G : Type 0} → (G → ℕ × G) → ℕ → ℕ → G → List ℕ
 named step nue zero g = []
 named step nue (suc n) g = (step g).0 % nue ∷ named step nue n (step g).1
@@ -22,17 +22,17 @@ TurnsOf c [] chip crew now later = (now ≡ chip) × (later ≡ crew)
 TurnsOf {A} c (at ∷ rest) chip crew now later =
     (mid : ChipView) × (some : List A) × (came : Rest) × OneTurn c chip crew at mid some came × TurnsOf c rest mid some now later
 
--- a generator after so many rounds of a thousand turns a rank
+-- a generator after n rounds of a thousand turns a rank
 unfoldable pub drawn_in : {G : Type 0} → (G → ℕ × G) → ℕ → ℕ → G → G
 drawn_in step nue zero g = g
 drawn_in step nue (suc n) g = drawn step (1000 * nue) (drawn_in step nue n g)
 
--- the ranks of so many rounds, each with a sweep of all ranks in their order behind it
+-- the ranks that take turns in n rounds: in each round those that the generator names, and after it ranks 0 to nue - 1
 unfoldable pub ranks_by : {G : Type 0} → (G → ℕ × G) → ℕ → ℕ → G → List ℕ
 ranks_by step nue zero g = []
 ranks_by step nue (suc n) g = ranks_by step nue n g ++ (named step nue (1000 * nue) (drawn_in step nue n g) ++ range_with_len 0 nue)
 
--- the ranks of so many sweeps, each of all ranks in their order
+-- the ranks that take turns in n sweeps: ranks 0 to nue - 1, n times
 abbrev pub sweeps_of : ℕ → ℕ → List ℕ
 sweeps_of zero nue = []
 sweeps_of (suc n) nue = sweeps_of n nue ++ range_with_len 0 nue

@@ -24,7 +24,7 @@ pub record TookRows {A : Type 0} (c : Conduct A)
   pub stands : CrewStands c chip crew now later
   pub rows : (k : ℕ) (d : A) → k < length crew → TookRow c (about_in chip) k (slice_index_or crew k d) (slice_index_or later k d)
 
--- so many rounds in threads, each with a sweep of all ranks in their order behind it
+-- n rounds in threads, with a sweep of all ranks in their order behind each one
 abbrev pub RowsTo : {A : Type 0} → Conduct A → ℕ → ChipView → List A → ChipView → List A → Type 0
 RowsTo c zero chip crew now later = (now ≡ chip) × (later ≡ crew)
 RowsTo {A} c (suc n) chip crew now later =
@@ -40,7 +40,7 @@ NextRound c (rounds.Picked picks) new chip crew now later =
     (new ≡ rounds.Picked (drawn pcg32 (1000 * length crew) picks))
     × TurnsOf c (named pcg32 (length crew) (1000 * length crew) picks) chip crew now later
 
--- so many rounds with a sweep behind each one
+-- n rounds, with a sweep of all ranks in their order behind each one
 abbrev pub RoundsTo : {A : Type 0} → Conduct A
     → Rounds → ℕ → Rounds → ChipView → List A → ChipView → List A → Type 0
 RoundsTo c rounds.InThreads n new chip crew now later = (new ≡ rounds.InThreads) × RowsTo c n chip crew now later

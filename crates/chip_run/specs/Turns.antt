@@ -67,7 +67,7 @@ pub record IsDone {A : Type 0} (c : Conduct A) (s : SetupView) (rank : ℕ) (own
   pub nothing : events ≡ []
   pub over : IsOver (record_of s rank own) (c.seen s rank old)
 
--- what each answer means
+-- what each answer of a turn means
 abbrev pub TurnMeans : {A : Type 0} → Conduct A → (List Event → Event → Type 0) → SetupView → ℕ → List Event → List Event → A → A → Turn → Type 0
 TurnMeans c stepped s rank own events old new turn.Moved = HasMoved c s rank old new
 TurnMeans c stepped s rank own events old new (turn.Waiting spot) = HasWaited c stepped s rank own events old new

@@ -22,7 +22,7 @@ pub(crate) struct Roll {
 }
 
 impl Roll {
-    /// The roll of a round that asks for so many threads.
+    /// The roll of a round that asks for this number of threads.
     pub(crate) fn new(asked: usize) -> Roll {
         Roll {
             asked,

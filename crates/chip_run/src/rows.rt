@@ -41,7 +41,8 @@ pub(crate) fn row<W: Worker, P: Port>(worker: &mut W, port: P, roll: &Roll) -> P
     port
 }
 
-/// The same for a rank that is away, by a port of its own.
+/// Turns of a member whose rank is away, through a port of its own, until it is over or has waited in a thousand turns
+/// in a row.
 pub(crate) fn row_away<W: Worker>(
     words: Words<'_>,
     token: Token,

@@ -46,7 +46,7 @@ impl Rounds {
     }
 }
 
-/// The next round, which asks for so many threads if it is in threads, and then tells how many the one behind it asks for.
+/// The next round. In threads it asks for `threads` of them, and tells how many the round behind it asks for.
 fn next_round<W: Worker + Drop + Send, G: Gate + Sync, R: Threads + Sync>(
     rt: &R,
     chip: &mut Chip,

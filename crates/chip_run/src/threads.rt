@@ -1,4 +1,4 @@
-//! A round in threads: each worker takes a row of turns, in a thread of its own where the system grants so many.
+//! A round in threads: each worker takes a row of turns, in a thread of its own where the system grants one for each.
 
 ghost use Rattle.std.specs.Prelude.{◌≡◌, ◌≢◌, ℕ, ◌+◌, ◌^◌, ◌<◌, length, slice_index_or};
 ghost use Rattle.chip_run.specs.Away.{IsAtHome, IsAway, Served, TookRow, members_of};
@@ -107,7 +107,7 @@ fn in_threads<W: Worker + Drop + Send, G: Gate + Sync, R: Threads + Sync>(
     );
 }
 
-/// All members' rows of turns, where so many share a thread.
+/// All members' rows of turns, where `each` of them share a thread.
 fn in_few_threads<W: Worker + Drop + Send, G: Gate + Sync, R: Threads + Sync>(
     rt: &R,
     words: Words<'_>,
@@ -133,7 +133,7 @@ fn in_few_threads<W: Worker + Drop + Send, G: Gate + Sync, R: Threads + Sync>(
     );
 }
 
-/// All members' rows of turns, so many in a thread at the most.
+/// All members' rows of turns, at most `each` of them in a thread.
 fn all_rows<W: Worker + Drop + Send, G: Gate + Sync, R: Threads + Sync>(
     rt: &R,
     words: Words<'_>,
@@ -170,8 +170,8 @@ fn take_home<W: Worker + Drop>(chip: &mut Chip, crew: &mut [Member<W>])
     }
 }
 
-/// A round in threads: every rank is away while its worker takes turns, and at home again afterwards. It asks for so many
-/// threads, one for each rank at the most, and tells how many the next round asks for.
+/// A round in threads: every rank is away while its worker takes turns, and at home again afterwards. It asks for
+/// `threads` threads, one for each rank at the most, and tells how many the next round asks for.
 pub(crate) fn round_in_threads<W: Worker + Drop + Send, G: Gate + Sync, R: Threads + Sync>(
     rt: &R,
     chip: &mut Chip,

@@ -6,8 +6,8 @@ use Rattle.scc_base.specs.Calls.{DataCall}
 use Rattle.scc_base.specs.Heads.{plain_head}
 use Rattle.scc_proto.specs.Legality.{IsLegal, Outgoing, slot_message}
 use Rattle.scc_proto.specs.Messages.{Message, received_messages, sent_messages}
-use Rattle.scc_proto.proofs.LegalMessages.{legal_messages}
-use Rattle.scc_proto.proofs.MessageLists.{received_messages-append, sent_messages-append}
+use Rattle.scc_proto.proofs.Legality.LegalMessages.{legal_messages}
+use Rattle.scc_proto.proofs.Messages.MessageLists.{received_messages-append, sent_messages-append}
 use Rattle.scc_proto.proofs.Tests.{eqb_other, eqb_same, same_or_other}
 use Rattle.coll_more.specs.Ops.{data_of, window}
 use Rattle.coll_more.specs.Pieces.{HaveMade, all_of, pieces_for}

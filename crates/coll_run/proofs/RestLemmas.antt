@@ -17,12 +17,12 @@ use Rattle.scc_proto.specs.Stages as stage
 use Rattle.scc_proto.specs.Stages.{Idle, Raised, Record}
 use Rattle.scc_proto.specs.Views.{View, view_of}
 use Rattle.scc_proto.specs.Words.{Memory, are_peers}
-use Rattle.scc_proto.proofs.LegalLaws.{legal_in_some_order}
-use Rattle.scc_proto.proofs.LegalMessages.{legal_messages}
-use Rattle.scc_proto.proofs.NoteFacts.{head_is}
-use Rattle.scc_proto.proofs.OfferFacts.{offers}
-use Rattle.scc_proto.proofs.PhaseFacts.{sending_here, when_seen}
-use Rattle.scc_proto.proofs.StepLaws.{itself}
+use Rattle.scc_proto.proofs.Legality.LegalLaws.{legal_in_some_order}
+use Rattle.scc_proto.proofs.Legality.LegalMessages.{legal_messages}
+use Rattle.scc_proto.proofs.Words.NoteFacts.{head_is}
+use Rattle.scc_proto.proofs.Pairs.OfferFacts.{offers}
+use Rattle.scc_proto.proofs.Pairs.PhaseFacts.{sending_here, when_seen}
+use Rattle.scc_proto.proofs.Legality.StepLaws.{itself}
 use Rattle.scc_proto.proofs.Tests.{both_first, eqb_other, peers_are, peers_swap}
 use Rattle.scc_mesh.specs.Keeping.{records_by}
 use Rattle.put_get.specs.Cores.{Private}

@@ -17,6 +17,7 @@ delay more nue = 0
 abbrev pub number_of : More → (nue from to : ℕ) → ℕ
 number_of more nue from to = 2 * (from + to) + (if nat_lt from to then delay more nue else 1)
 
+-- the number of a message with a peer, by which of the two ranks sends it
 abbrev pub number_by : More → (nue rank : ℕ) → Way → (peer : ℕ) → ℕ
 number_by more nue rank Takes peer = number_of more nue peer rank
 number_by more nue rank way peer = number_of more nue rank peer

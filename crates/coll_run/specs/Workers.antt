@@ -34,13 +34,13 @@ pub record IsTied (m : MemberView) (s : SetupView) (rank : ℕ) (events : List E
   pub stands : MemberStands m.op.more m.op.len m s rank events
   pub met : m.met ≡ true → (sent : MessageHead) × MetOther (record_of s rank events) sent m.op.stage
 
--- a turn that moved: it is the same call of the same bytes
+-- a turn that moved: it is the same call, with the same bytes to hand in
 pub record Moves (old new : MemberView) : Type 0 where
   pub more : new.op.more ≡ old.op.more
   pub len : new.op.len ≡ old.op.len
   pub src : new.src ≡ old.src
 
--- a turn that did not: it has come no further
+-- a turn that did not move: it has come no further
 pub record Stays (old new : MemberView) : Type 0 where
   pub op : new.op ≡ old.op
   pub slot : new.slot ≡ old.slot

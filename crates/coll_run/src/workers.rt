@@ -28,7 +28,7 @@ impl<V: Evict + Drop> Member<V> {
         )
     }
 
-    // The same as a turn of a worker: one that meets another head moves a last time.
+    // One turn of its call, as a turn of a worker: one that meets another head moves a last time.
     fn turn_on<P: Port>(&mut self, port: &mut P) -> Turn
         requires ties { IsTied self.old (P.sight port.old).seat.setup (P.sight port.old).seat.rank (P.sight port.old).events }
         ensures ties { IsTied self.new (P.sight port.new).seat.setup (P.sight port.new).seat.rank (P.sight port.new).events }

@@ -8,6 +8,8 @@ mod cases;
 #[cfg(test)]
 mod ends;
 #[cfg(test)]
+mod fault_rows;
+#[cfg(test)]
 mod faults;
 #[cfg(test)]
 mod generated;

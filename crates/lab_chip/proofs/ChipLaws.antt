@@ -18,12 +18,12 @@ use Rattle.scc_proto.specs.Soundness.{IsSound}
 use Rattle.scc_proto.specs.Agreement.{Agrees}
 use Rattle.scc_proto.proofs.Tests.{eqb_same, eqb_other}
 use Rattle.scc_proto.proofs.PortLaws.{record_of-nil}
-use Rattle.scc_proto.proofs.ListLaw.{records_from_start}
-use Rattle.scc_proto.proofs.StartLaw.{agrees_at_start}
-use Rattle.scc_proto.proofs.AgreementLaw.{OneMore, lists_kept}
-use Rattle.scc_proto.proofs.SoundLaw.{sound_law}
-use Rattle.scc_proto.proofs.HonestLaw.{told_law}
-use Rattle.scc_proto.proofs.MemoryLemmas.{words_at_start, word_is, register_is, same_words, word_stored, register_freed, register_taken}
+use Rattle.scc_proto.proofs.Agreement.ListLaw.{records_from_start}
+use Rattle.scc_proto.proofs.Agreement.StartLaw.{agrees_at_start}
+use Rattle.scc_proto.proofs.Agreement.AgreementLaw.{OneMore, lists_kept}
+use Rattle.scc_proto.proofs.Agreement.SoundLaw.{sound_law}
+use Rattle.scc_proto.proofs.Agreement.HonestLaw.{told_law}
+use Rattle.scc_proto.proofs.Words.MemoryLemmas.{words_at_start, word_is, register_is, same_words, word_stored, register_freed, register_taken}
 use Rattle.lab_chip.specs.declared.chip.Made.{Made}
 use Rattle.lab_chip.specs.Chips.{LabChipView, of_rank, of_rank_all, all_events, with_turn, run_of, before_of, chip_view, IsChip, run_coded, lab_sight, WasStepHere}
 

@@ -13,7 +13,7 @@ use Rattle.scc_proto.specs.Words.{Memory, zeros, IsRun, RankEvent, memory_by}
 use Rattle.scc_proto.specs.Histories.{memory_from}
 use Rattle.scc_proto.specs.Ports.{Seat, Did, MayMake, MayMakeAll, record_in, record_next, record_on}
 use Rattle.scc_proto.proofs.PortLaws.{record_did}
-use Rattle.scc_proto.proofs.PlaceMoves.{heap_loaded, heap_stored}
+use Rattle.scc_proto.proofs.Layouts.PlaceMoves.{heap_loaded, heap_stored}
 use Rattle.write_combine.specs.declared.combiner.Out.{Out}
 use Rattle.put_get.specs.Accesses.{loads_of, store_of_word, stores_of_line, stores_of}
 use Rattle.put_get.specs.HeapStores.{IsHeapLine, AwaitsHeap}

@@ -9,7 +9,7 @@ use Rattle.scc_proto.specs.Stages.{Record}
 use Rattle.scc_proto.specs.Permission.{leaves_heap}
 use Rattle.scc_proto.specs.Ports.{Seat, record_on}
 use Rattle.scc_proto.proofs.PortLaws.{may-append, record_on-append}
-use Rattle.scc_proto.proofs.PlaceMoves.{heap_stored}
+use Rattle.scc_proto.proofs.Layouts.PlaceMoves.{heap_stored}
 use Rattle.write_combine.specs.declared.combiner.Out.{Out}
 use Rattle.write_combine.specs.Combining.{handed_out, held_after, with_word, one_word}
 use Rattle.put_get.specs.Accesses.{store_of_word, stores_of_line, stores_of, whole_line}

@@ -44,7 +44,7 @@ writes_of line words =
     store_of (word_of_line line 0) (slice_index words 0) ∷ store_of (word_of_line line 1) (slice_index words 1)
     ∷ store_of (word_of_line line 2) (slice_index words 2) ∷ store_of (word_of_line line 3) (slice_index words 3) ∷ []
 
--- and those of lines from one on
+-- the words of lines from a line on as they were written, in order
 abbrev pub writes_from : ℕ → ℕ → List (List ℕ) → List Event
 writes_from core line [] = []
 writes_from core line (words ∷ rest) = writes_of (line_at core line) words ++ writes_from core (line + 1) rest
@@ -53,9 +53,9 @@ writes_from core line (words ∷ rest) = writes_of (line_at core line) words ++ 
 abbrev pub IsLineTold : List Event → LineAt → List ℕ → Type 0
 IsLineTold known line words = (k : ℕ) → k < 4 → IsKnown known (word_of_line line k) (slice_index words k)
 
--- the same of the calls for whole lines: what a core did goes on with the loads of a line that it reads, and each
--- word that it answers is known by then; with the words of a line, and of a put, that it writes, and with a word
--- that it stores at once; and it begins anew with the loads of a get
+-- the calls of whole lines keep `Since`, each field one call: what a core did goes on with the loads of a line that it
+-- reads, the words of a line or a put that it writes, and a word that it stores at once, and begins anew with the loads
+-- of a get; each word that a read or a get answers is known by then
 pub record LinesLaw : Type 0 where
   pub line_read : (known es : List Event) (c d : Private) (s t : Sight) (line : LineAt) (words : List ℕ) → Since known c
       → ReadsLine s c line words t d → Did s es t → Since (known ++ es) d × IsLineTold (known ++ es) line words

@@ -28,8 +28,8 @@ pub record IsCore (lines : List Entry) (out : Option Out) : Type 0 where
   pub cache : IsCache lines
   pub buffer : HoldsWord out
 
--- a line came in, and the evictor was asked once, with so many lines held: it named none, and the line stands last,
--- or the one that it named left; nothing is said of what it answers afterwards
+-- a line came in, and the evictor was asked once, with the number of lines held: it named none, and the line stands
+-- last, or the one that it named left; nothing is said of what it answers afterwards
 pub data Fills (c : Private) (line : LineAt) (words : List ℕ) (d : Private) : Type 0 where
   Kept : MayAnswer c.answers (length (filled c.lines line words)) None
       → d ≡ record c { lines = filled c.lines line words; asked = asked_after c.asked; answers = d.answers } → Fills c line words d

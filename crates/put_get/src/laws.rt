@@ -8,7 +8,8 @@ pub fn answers_law()
     ensures { AnswersLaw }
 {}
 
-/// So it is of the calls that read and write whole lines, and of put and get.
+/// Each answer of the calls that read and write whole lines, and of put and get, is such a value too: of a load since
+/// the last `cl1invmb`, or of a word that the core wrote since.
 pub fn lines_law()
     ensures { LinesLaw }
 {}

@@ -1,3 +1,4 @@
+pub mod CallTexts
 pub mod HeldLemmas
 pub mod HexTextLemmas
 pub mod LineLemmas

@@ -15,10 +15,10 @@ use Rattle.scc_base.proofs.ChangeLaws.{true_or_false}
 use Rattle.scc_base.proofs.Confluence.{last_or_below, other_end, joined_runs, one_end}
 use Rattle.scc_base.proofs.GroupFacts.{root_is, root_once, same_root}
 use Rattle.scc_proto.specs.Legality.{Outgoing, Standing, CallStep, Posting, Taking, Pairing, Meeting, owner_of, IsProper, callers, call_at, slot_at, slot_before, slot_after, Makes, OwnStep}
-use Rattle.scc_proto.proofs.CallTests.{BeginsWith}
-use Rattle.scc_proto.proofs.LegalLaws.{legal_from_end, end_of_legal}
-use Rattle.scc_proto.proofs.StepDecided.{IsReady, standing_after, ready_makes}
-use Rattle.scc_proto.proofs.StepLaws.{own_step, step_told, first_call, only_one, either_order}
+use Rattle.scc_proto.proofs.Legality.CallTests.{BeginsWith}
+use Rattle.scc_proto.proofs.Legality.LegalLaws.{legal_from_end, end_of_legal}
+use Rattle.scc_proto.proofs.Legality.StepDecided.{IsReady, standing_after, ready_makes}
+use Rattle.scc_proto.proofs.Legality.StepLaws.{own_step, step_told, first_call, only_one, either_order}
 use Rattle.rcce_audit.specs.declared.progress.Progress.{Progress}
 use Rattle.rcce_audit.specs.declared.verdicts.Verdict.{Verdict}
 use Rattle.rcce_audit.specs.declared.verdicts.Verdict.TheVariants as verdict

@@ -9,7 +9,7 @@ use Rattle.scc_base.specs.Changes.{Change, only, both}
 use Rattle.scc_base.specs.Groups.{place_in}
 use Rattle.scc_base.specs.Setups.{SetupView, setup_key}
 use Rattle.scc_proto.specs.Legality.{Outgoing, Standing, Posting, Taking, Pairing, Meeting, in_group, call_at, Makes, OwnStep}
-use Rattle.scc_proto.proofs.StepLaws.{itself, own_step, owner_of-own_step}
+use Rattle.scc_proto.proofs.Legality.StepLaws.{itself, own_step, owner_of-own_step}
 use Rattle.rcce_audit.specs.declared.progress.Progress.{Progress}
 use Rattle.rcce_audit.specs.Standings.{AreLists, Tries, TriesFirst, IsQuiet, list_at, outgoing_at, outgoing_of, left_of, slot_of, standing_of, Sleeps, partner_of, Advances, Acts, Meets, Leads, Visits, Sweeps, count_left}
 use Rattle.rcce_audit.proofs.StandingLemmas.{drop-at, drop-none, left_same, no_other_step, no_step, quiet_after, leads_none, leads_step, own_fewer}

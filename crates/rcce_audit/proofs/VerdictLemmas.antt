@@ -8,7 +8,7 @@ use Rattle.scc_base.specs.Runs.{Runs, EndsAt}
 use Rattle.scc_base.proofs.ChangeLaws.{true_or_false}
 use Rattle.scc_base.proofs.Confluence.{last_or_below}
 use Rattle.scc_proto.specs.Legality.{Standing, callers, call_at, OwnStep}
-use Rattle.scc_proto.proofs.StepDecided.{decide}
+use Rattle.scc_proto.proofs.Legality.StepDecided.{decide}
 use Rattle.rcce_audit.specs.declared.verdicts.Verdict.{Verdict}
 use Rattle.rcce_audit.specs.declared.verdicts.Verdict.TheVariants as verdict
 use Rattle.rcce_audit.specs.Logs.{LogView, calls_of}

@@ -12,9 +12,9 @@ use Rattle.scc_proto.specs.Records.{chunk_of}
 use Rattle.scc_proto.specs.Stages.{Part, Filling, Raised, Answered, Stage, Idle, Drafting, Sending, Between, Taking, Barrier, OnItsWay, Record}
 use Rattle.scc_proto.specs.Views.{view_of}
 use Rattle.scc_proto.specs.Words.{Memory}
-use Rattle.scc_proto.proofs.OfferFacts.{posted_last}
-use Rattle.scc_proto.proofs.PhaseFacts.{sending_here, sending_there, post_here, post_there}
-use Rattle.scc_proto.proofs.StepLaws.{itself}
+use Rattle.scc_proto.proofs.Pairs.OfferFacts.{posted_last}
+use Rattle.scc_proto.proofs.Pairs.PhaseFacts.{sending_here, sending_there, post_here, post_there}
+use Rattle.scc_proto.proofs.Legality.StepLaws.{itself}
 use Rattle.scc_proto.proofs.Tests.{same_or_other, peers_are}
 use Rattle.script_plain.specs.declared.posts.Posted.{Posted}
 use Rattle.script_plain.specs.Next.{Next, call_of}

@@ -12,7 +12,7 @@ use Rattle.scc_base.specs.Runs.{Runs}
 use Rattle.scc_base.proofs.GroupFacts.{root_is, with_self}
 use Rattle.scc_proto.specs.Legality.{Outgoing, Standing, CallStep, Posting, Taking, Pairing, Meeting, owner_of, in_group, callers, Makes, OwnStep, IsUsedUp}
 use Rattle.scc_proto.specs.Tables.{put}
-use Rattle.scc_proto.proofs.StepLaws.{itself}
+use Rattle.scc_proto.proofs.Legality.StepLaws.{itself}
 use Rattle.scc_proto.proofs.Tests.{eqb_other, put_here, put_there, same_or_other}
 use Rattle.script_plain.specs.declared.posts.Posted.{Posted}
 use Rattle.script_plain.specs.Next.{Next, is_at_barrier, past_barrier}

@@ -17,9 +17,9 @@ use Rattle.scc_proto.specs.Stages.{Part, Filling, Raised, Answered, Stage, Idle,
 use Rattle.scc_proto.specs.Tables.{put}
 use Rattle.scc_proto.specs.Views.{view_of}
 use Rattle.scc_proto.specs.Words.{Memory}
-use Rattle.scc_proto.proofs.NoteFacts.{head_is}
-use Rattle.scc_proto.proofs.OfferFacts.{offers}
-use Rattle.scc_proto.proofs.PhaseFacts.{Raise, when_seen, sending_here, sending_there, post_here, post_there}
+use Rattle.scc_proto.proofs.Words.NoteFacts.{head_is}
+use Rattle.scc_proto.proofs.Pairs.OfferFacts.{offers}
+use Rattle.scc_proto.proofs.Pairs.PhaseFacts.{Raise, when_seen, sending_here, sending_there, post_here, post_there}
 use Rattle.scc_proto.proofs.Tests.{same_or_other, peers_are}
 use Rattle.script_plain.specs.declared.posts.Posted.{Posted}
 use Rattle.script_plain.specs.Next.{Next}

@@ -17,9 +17,9 @@ use Rattle.scc_proto.specs.Singles.{is_free, IsPosted, IsOnItsWay, open_barriers
 use Rattle.scc_proto.specs.Stages.{Raised, Stage, Idle, Drafting, Sending, Between, Taking, Barrier, OnItsWay, Record}
 use Rattle.scc_proto.specs.Views.{View, view_of}
 use Rattle.scc_proto.specs.Words.{Memory, is_present}
-use Rattle.scc_proto.proofs.OfferFacts.{posted_last}
-use Rattle.scc_proto.proofs.PhaseFacts.{sending_here, post_here}
-use Rattle.scc_proto.proofs.StepLaws.{itself}
+use Rattle.scc_proto.proofs.Pairs.OfferFacts.{posted_last}
+use Rattle.scc_proto.proofs.Pairs.PhaseFacts.{sending_here, post_here}
+use Rattle.scc_proto.proofs.Legality.StepLaws.{itself}
 use Rattle.scc_proto.proofs.Tests.{eqb_same, eqb_other}
 use Rattle.script_plain.specs.declared.posts.Posted.{Posted}
 use Rattle.script_plain.specs.Next.{Next}

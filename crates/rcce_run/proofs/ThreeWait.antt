@@ -16,7 +16,7 @@ use Rattle.scc_proto.specs.Records.{act_of, record_of}
 use Rattle.scc_proto.specs.Stages.{Idle, Barrier, blank}
 use Rattle.scc_proto.specs.Views.{view_of}
 use Rattle.scc_proto.specs.Words.{IsRun, zeros}
-use Rattle.scc_proto.proofs.AgreementLaw.{agreement_of_lists}
+use Rattle.scc_proto.proofs.Agreement.AgreementLaw.{agreement_of_lists}
 use Rattle.script_reader.specs.Script.{first_split, rules_of}
 use Rattle.script_plain.specs.Collectives.{started}
 use Rattle.script_plain.specs.Local.{gone_on, gone_on_with, local_next, local_start, stopped_at}

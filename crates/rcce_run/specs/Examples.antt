@@ -42,7 +42,7 @@ three_events = stores 0 0 0 3 1 ∷ stores 0 0 0 2 0 ∷ stores 0 0 0 1 0 ∷ st
 abbrev pub three_words : Memory
 three_words = memory_from zeros three_events
 
--- the records of the ranks after them
+-- the records of the ranks after these events
 abbrev pub three_records : ℕ → Record
 three_records = records_of three_setup three_events
 

@@ -73,7 +73,7 @@ outgoing message = record { to = message.to; head = message.head; bytes = messag
 abbrev pub at_rank : {A : Type 0} → ℕ → ℕ → A → Option A
 at_rank nue k x = if nat_lt k nue then Some x else None
 
--- a configuration of so many ranks, with these states and slots
+-- a configuration of nue ranks has these states and slots
 pub record Holds {U : Type 0} (nue : ℕ) (c : Configuration U) (cells : ℕ → U) (slots : ℕ → Option Posted) : Type 0 where
   pub cells_at : (k : ℕ) → slice_get c.cells k ≡ at_rank nue k (cells k)
   pub slots_at : (k : ℕ) → slice_get c.slots k ≡ at_rank nue k (slots k)

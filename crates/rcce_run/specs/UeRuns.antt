@@ -42,7 +42,7 @@ pub record IsFreshMember (script : Script) (s : SetupView) (rank : ℕ) (member 
   pub fresh : IsFreshUe script s rank member.worker
   pub home : member.token ≡ None
 
--- such members for the first n ranks
+-- the first n ranks have each a member before its first turn, with no token
 pub record AreFresh (script : Script) (s : SetupView) (n : ℕ) (crew : List (Member UeView)) : Type 0 where
   pub count : length crew ≡ n
   pub each : (rank : ℕ) (d : Member UeView) → rank < n → IsFreshMember script s rank (slice_index_or crew rank d)
@@ -62,13 +62,13 @@ ue_of m = m.worker
 abbrev pub ue_members : Conduct (Member UeView)
 ue_members = members_of ue_conduct
 
--- it is the same chip with the same setup, and all its ranks are at home
+-- a chip is the same as before, with the same setup, and all its ranks are at home
 pub record IsSameChip (old now : ChipView) : Type 0 where
   pub about : about_in now ≡ about_in old
   pub table : table_in now ≡ table_in old
   pub whole : IsWhole now
 
--- there are as many members, each with an empty place for its rank's token
+-- there are as many members as before, each with an empty place for its rank's token
 pub record AreHome (old now : List (Member UeView)) : Type 0 where
   pub count : length now ≡ length old
   pub empty : (k : ℕ) (d : Member UeView) → k < length now → (slice_index_or now k d).token ≡ None

@@ -16,7 +16,7 @@ use Rattle.rcce_ue.specs.Standing.{Tied}
 use Rattle.rcce_ue.specs.Stretches.{Moves, MovedOnce, MovedOn, is_reading, is_writing}
 use Rattle.rcce_ue.specs.Ues.{UeView}
 use Rattle.rcce_ue.specs.declared.calls.Open.TheVariants.{Sending, Receiving}
-use Rattle.send_recv.proofs.StretchLoop.{read_same}
+use Rattle.send_recv.proofs.Loops.StretchLoop.{read_same}
 use Rattle.rcce_ue.proofs.OpAnswers.{asked}
 use Rattle.rcce_ue.proofs.RecvTurns.{recv_moved}
 use Rattle.rcce_ue.proofs.SendTurns.{send_moved}

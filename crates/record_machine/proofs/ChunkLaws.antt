@@ -2,7 +2,7 @@
 use Rattle.std.proofs.Common.{◌≡◌, ◌≢◌, ℕ, suc, ◌+◌, ◌/◌, ◌%◌, ◌<◌, Bool, true, false, ◌&&◌, ◌==◌, List, [], ◌∷◌, ◌++◌, length, Option, None, unwrap_or, slice_index_or, append_assoc, append-nil, length-append, sym, ◌∙◌, ap, arith}
 use Rattle.scc_base.specs.Bytes.{byte_of_word}
 use Rattle.scc_proto.specs.Messages.{Notes, byte_at, bytes_from, is_zero_from}
-use Rattle.scc_proto.proofs.NoteFacts.{length-bytes_from}
+use Rattle.scc_proto.proofs.Words.NoteFacts.{length-bytes_from}
 use Rattle.scc_proto.proofs.Tests.{eqb_other}
 use Rattle.record_machine.specs.Noted.{IsChunkOf}
 use Rattle.record_machine.specs.declared.chunks.NotedChunk.{NotedChunk}

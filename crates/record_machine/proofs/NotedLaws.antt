@@ -5,9 +5,9 @@ use Rattle.scc_base.specs.Heads.{MessageHead, IsHead, IsPostHead}
 use Rattle.scc_proto.specs.Messages.{Notes, noted, note_word, has_all, head_of, is_head, is_post_head}
 use Rattle.scc_proto.specs.Moves.{is_posted}
 use Rattle.scc_proto.specs.Permission.{is_post_word, is_whole_header, says_head}
-use Rattle.scc_proto.proofs.NoteFacts.{noted_here, noted_there}
+use Rattle.scc_proto.proofs.Words.NoteFacts.{noted_here, noted_there}
 use Rattle.scc_proto.proofs.Tests.{same_or_other, both_second, true_not_false}
-use Rattle.scc_proto.proofs.WordFacts.{head_is, is_head_of, post_head_is, is_post_head_of}
+use Rattle.scc_proto.proofs.Words.WordFacts.{head_is, is_head_of, post_head_is, is_post_head_of}
 use Rattle.record_machine.specs.Noted.{AreSlotsOf, TellsHead}
 
 -- ---- slots

@@ -5,10 +5,10 @@ use Rattle.scc_base.specs.Heads.{MessageHead, IsHead}
 use Rattle.scc_proto.specs.Messages.{Notes, bytes_from, head_of, has_all, is_head, Progress, begun, chunk_bytes, is_last, is_whole, with_chunk}
 use Rattle.scc_proto.specs.Permission.{drafts_header, drafts_chunk, is_answered_by, is_drafted, is_empty, is_idle, is_whole_header, leaves_heap, has_taken, may_go_on, may_raise, may_release, may_take, says_head}
 use Rattle.scc_proto.specs.Stages.{Stage, OnItsWay}
-use Rattle.scc_proto.proofs.NoteFacts.{length-bytes_from}
-use Rattle.scc_proto.proofs.Roles.{le_is, le_not}
+use Rattle.scc_proto.proofs.Words.NoteFacts.{length-bytes_from}
+use Rattle.scc_proto.proofs.Layouts.Roles.{le_is, le_not}
 use Rattle.scc_proto.proofs.Tests.{both_second}
-use Rattle.scc_proto.proofs.WordFacts.{head_is}
+use Rattle.scc_proto.proofs.Words.WordFacts.{head_is}
 use Rattle.record_machine.specs.Noted.{IsChunkOf, IsLineOf, TellsHead}
 use Rattle.record_machine.specs.Standing.{IsInHand, KeepsStage, is_at_rest, is_sending, leaves_words, opens_chunk, opens_header}
 use Rattle.record_machine.specs.Standing.KeepsStage.{AtIdle, AtDraft, AtFill, AtRaised, AtAnswered, AtPause, AtTake, AtMeet}

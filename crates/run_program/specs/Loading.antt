@@ -31,7 +31,7 @@ pub record Leads (plan : Plan) (asks : Asked → Type 0) (before after : FilesVi
   pub goes : (o : Outcome) → Comes (codes "rccerun") (Runs (asked_ran (asked_by loaded))) after after o → Comes (codes "rccerun") plan before after o
   pub asked : asks (asked_by loaded)
 
--- what loading says to a plan that asks for such a run
+-- what `load` ensures for this plan: Ok has a run that the plan asks for, Err is an outcome of the plan
 abbrev pub LoadsPlan : Plan → (Asked → Type 0) → FilesView → FilesView → Result Loaded Complaint → Type 0
 LoadsPlan plan asks before after (Ok loaded) = Leads plan asks before after loaded
 LoadsPlan plan asks before after (Err why) = Comes (codes "rccerun") plan before after (complaint_outcome (codes "rccerun") why)

@@ -16,7 +16,7 @@ pub record Message : Type 0 where
   pub head : MessageHead
   pub bytes : List ℕ
 
--- the call without its bytes
+-- a call without its bytes
 abbrev pub call_of : DataCall → Call
 call_of (Send to head bytes) = call.Send to head
 call_of (Recv from head bytes) = call.Recv from head
@@ -30,7 +30,7 @@ bytes_asked (call.Recv from head) = head.len
 bytes_asked (call.Post to head) = head.len
 bytes_asked (call.Bar comm) = 0
 
--- the bytes have the head's length
+-- the bytes of a call have its head's length
 abbrev pub HasItsBytes : DataCall → Type 0
 HasItsBytes (Send to head bytes) = length bytes ≡ head.len
 HasItsBytes (Recv from head bytes) = length bytes ≡ head.len

@@ -6,7 +6,7 @@ pub record Change {U : Type 0} (set : ℕ → Bool) (R : ℕ → U → U → Typ
   pub changed : (k : ℕ) → set k ≡ true → R k (old k) (new k)
   pub others : (k : ℕ) → set k ≡ false → old k ≡ new k
 
--- the set of one rank
+-- the set of one rank alone
 abbrev pub only : ℕ → ℕ → Bool
 only i k = k == i
 

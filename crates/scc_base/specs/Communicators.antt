@@ -18,7 +18,7 @@ key_under World keys r = 0
 key_under (Mod parent k) keys r = 48 * keys parent r + place_in (keys parent) r % k
 key_under (Div parent k) keys r = 48 * keys parent r + place_in (keys parent) r / k
 
--- the key of a rank in a communicator that at most so many splits lead to
+-- the key of rank r in a communicator, by at most n rules; sixteen are enough, since a parent has a lower number
 abbrev pub key_within : ℕ → List CommRule → ℕ → ℕ → ℕ
 key_within zero comms comm r = 0
 key_within (suc n) comms comm r = key_under (rule_of comms comm) (key_within n comms) r

@@ -16,7 +16,7 @@ pub record SetupView : Type 0 where
 abbrev pub host_of : List ℕ → ℕ → ℕ
 host_of hosts r = slice_index hosts r
 
--- the first ranks have cores of their own
+-- the first n ranks have cores of their own
 abbrev pub AreApart : ℕ → List ℕ → Type 0
 AreApart nue hosts = (r q : ℕ) → r < q → q < nue → host_of hosts r ≡ host_of hosts q → ⊥
 

@@ -14,7 +14,7 @@ pub record Shows (key : ℕ → ℕ) (table : Grouping) : Type 0 where
 abbrev pub no_table : Grouping
 no_table = record { roots = []; places = [] }
 
--- the tables of the first communicators are those of their keys
+-- the tables of the first n communicators are those of their keys
 abbrev pub ShowAll : List CommRule → ℕ → List Grouping → Type 0
 ShowAll comms n tables = (comm : ℕ) → comm < n → Shows (key_of comms comm) (slice_index_or tables comm no_table)
 

@@ -14,7 +14,7 @@ use Rattle.scc_proto.specs.Registers.{Holder, Nobody, HeldBy}
 use Rattle.scc_proto.specs.Memories.{word_number, register_number, memory_of}
 use Rattle.scc_mesh.specs.SeatViews.{View, list_at, IsKnown, with_event}
 use Rattle.scc_mesh.specs.Keeping.{records_by, Together, Kept, Holds, Made, Looked, MayAccess, event_found}
-use Rattle.scc_proto.proofs.MemoryLemmas.{word_is, register_is, words_kept, word_stored, register_freed, register_taken}
+use Rattle.scc_proto.proofs.Words.MemoryLemmas.{word_is, register_is, words_kept, word_stored, register_freed, register_taken}
 use Rattle.scc_mesh.proofs.TableLaws.{step_keeps, step_tells, look_tells, look_keeps}
 
 -- the words after a change of one are those of a permitted event

@@ -13,7 +13,7 @@ use Rattle.scc_mesh.specs.Keeping.{Knows, Made}
 use Rattle.scc_mesh.specs.AwayRanks.{Ticket, Away, IsSoundAway, MadeAway}
 use Rattle.scc_mesh.specs.Scenes.{WasSeatStep, sight_away}
 use Rattle.scc_mesh.proofs.ViewLemmas.{alone_here, alone_set, joined_alone, joined_here}
-use Rattle.scc_proto.proofs.SoundLaw.{sound_law}
+use Rattle.scc_proto.proofs.Agreement.SoundLaw.{sound_law}
 use Rattle.scc_mesh.specs.Keeping.{records_by}
 
 module _ {S : Type 0} where

@@ -7,7 +7,7 @@ use Rattle.scc_proto.specs.Records.{record_of}
 use Rattle.scc_proto.specs.Soundness.{IsSound}
 use Rattle.scc_proto.specs.Ports.{IsSoundPort, record_in}
 use Rattle.scc_proto.proofs.Tests.{both_first, both_second}
-use Rattle.scc_proto.proofs.SoundLaw.{sound_law}
+use Rattle.scc_proto.proofs.Agreement.SoundLaw.{sound_law}
 use Rattle.scc_mesh.specs.SeatViews.{View, known, list_or_none, list_at, IsKnown, newcomer}
 use Rattle.scc_mesh.specs.Keeping.{records_by, Together}
 use Rattle.scc_mesh.specs.Scenes.{ChipView, Scene, about_in, events_in, IsWhole, IsNew, KnowsHome, AgreesAtHome, is_port_of, sight_in}

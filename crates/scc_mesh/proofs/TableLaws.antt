@@ -15,16 +15,16 @@ use Rattle.scc_proto.specs.Soundness.{IsSound}
 use Rattle.scc_proto.specs.Agreement.{WordAgrees, Agrees}
 use Rattle.scc_proto.proofs.Tests.{same_or_other, put_here, put_there}
 use Rattle.scc_proto.proofs.PortLaws.{record_of-nil}
-use Rattle.scc_proto.proofs.StartLaw.{agrees_at_start}
-use Rattle.scc_proto.proofs.EventLaw.{agrees_same}
-use Rattle.scc_proto.proofs.AgreementLaw.{OneMore, lists_kept}
-use Rattle.scc_proto.proofs.SoundLaw.{sound_law}
-use Rattle.scc_proto.proofs.HeapLaw.{heap_listed}
-use Rattle.scc_proto.proofs.HonestLaw.{told_law}
+use Rattle.scc_proto.proofs.Agreement.StartLaw.{agrees_at_start}
+use Rattle.scc_proto.proofs.Agreement.EventLaw.{agrees_same}
+use Rattle.scc_proto.proofs.Agreement.AgreementLaw.{OneMore, lists_kept}
+use Rattle.scc_proto.proofs.Agreement.SoundLaw.{sound_law}
+use Rattle.scc_proto.proofs.Words.HeapLaw.{heap_listed}
+use Rattle.scc_proto.proofs.Agreement.HonestLaw.{told_law}
 use Rattle.scc_proto.specs.Memories.{memory_of}
 use Rattle.scc_mesh.specs.SeatViews.{View, known, list_or_none, list_at, IsKnown, with_event, newcomer}
 use Rattle.scc_mesh.specs.Keeping.{records_by, IsStoredAt, HeapIsTold, Together, IsSeatOf, Kept, Knows, Made}
-use Rattle.scc_proto.proofs.MemoryLemmas.{words_at_start, same_words}
+use Rattle.scc_proto.proofs.Words.MemoryLemmas.{words_at_start, same_words}
 use Rattle.scc_mesh.proofs.ViewLemmas.{known_within, known_here, known_there, is_known, newcomer_known, elem_set}
 
 -- ---- making the table

@@ -26,17 +26,17 @@ PairsAgree s view records = (from to : ℕ) → are_peers s from to ≡ true →
 abbrev pub SendersAgree : SetupView → View → (ℕ → Record) → Type 0
 SendersAgree s view records = (r : ℕ) → r < s.nue → BufferStands (records r) (view.header r) (view.chunk r)
 
--- the barriers' flags of one rank in one communicator
+-- the barriers' flags of one rank in one communicator agree with its record and that of its root
 pub record GroupAgrees (s : SetupView) (view : View) (comm r : ℕ) (records : ℕ → Record) : Type 0 where
   pub gather_flag : GatherShows view comm r (records r)
   pub root : place_of s comm r ≡ 0 → view.release comm r ≡ 0
   pub member : place_of s comm r ≢ 0 → InStep view comm (place_of s comm r) r (records (root_of s comm r)) (records r)
 
--- the barriers' flags of each rank in each communicator of the run
+-- the barriers' flags of each rank in each communicator of the run agree with the records
 abbrev pub GroupsAgree : SetupView → View → (ℕ → Record) → Type 0
 GroupsAgree s view records = (comm r : ℕ) → is_present s comm ≡ true → r < s.nue → GroupAgrees s view comm r records
 
--- each core's test-and-set register
+-- each core's test-and-set register agrees with what the ranks hold
 abbrev pub RegistersAgree : SetupView → Memory → (ℕ → Record) → Type 0
 RegistersAgree s memory records = (core : ℕ) → RegisterAgrees s memory core records
 
@@ -54,7 +54,7 @@ WordAgrees s place word records (SentFlags owner) = (b : ℕ) → are_peers s ow
 WordAgrees s place word records (ReadyFlags owner) = (b : ℕ) → are_peers s owner b ≡ false → bit_at word b ≡ 0
 WordAgrees s place word records role = Unit {0}
 
--- each word of the chip, by its role
+-- each word of the chip agrees with the records, by its role
 abbrev pub WordsAgree : SetupView → Memory → (ℕ → Record) → Type 0
 WordsAgree s memory records = (place : WordAt) → IsPlace place → WordAgrees s place (word_at memory place) records (role_of s place)
 

@@ -13,7 +13,7 @@ is_message_word (HeaderWord owner k) = true
 is_message_word (ChunkWord owner k) = true
 is_message_word role = false
 
--- a store of such a word
+-- the access is a store of a word of a header line or of a chunk buffer
 abbrev pub is_draft_by : SetupView → Access → WordAt → Bool
 is_draft_by s Store place = is_message_word (role_of s place)
 is_draft_by s access place = false

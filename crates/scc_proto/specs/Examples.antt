@@ -12,19 +12,19 @@ use Rattle.scc_proto.specs.Stages.{Record}
 use Rattle.scc_proto.specs.Moves.{Move, after}
 use Rattle.scc_proto.specs.Words.{RankEvent}
 
--- an event that a rank makes at a word of a core, or at a core's register
+-- a rank loads a value from a word of a core's buffer
 abbrev pub loads : ℕ → ℕ → ℕ → ℕ → ℕ → RankEvent
 loads rank core line word value = record { rank = rank; event = load_of (record { core = core; line = line; word = word }) value }
 
--- a rank stores a value in a word
+-- a rank stores a value in a word of a core's buffer
 abbrev pub stores : ℕ → ℕ → ℕ → ℕ → ℕ → RankEvent
 stores rank core line word value = record { rank = rank; event = store_of (record { core = core; line = line; word = word }) value }
 
--- a rank takes a free register
+-- a rank takes a core's register, which is free
 abbrev pub takes : ℕ → ℕ → RankEvent
 takes rank core = record { rank = rank; event = take_of core true }
 
--- a rank frees a register
+-- a rank frees a core's register
 abbrev pub frees : ℕ → ℕ → RankEvent
 frees rank core = record { rank = rank; event = free_of core }
 
@@ -42,7 +42,7 @@ sends_four = stores 0 0 0 3 0 ∷ stores 0 0 0 2 4 ∷ stores 0 0 0 1 0 ∷ stor
     ∷ stores 0 0 113 3 0 ∷ stores 0 0 113 2 0 ∷ stores 0 0 113 1 0 ∷ stores 0 0 113 0 67305985
     ∷ stores 0 1 1 0 1 ∷ []
 
--- rank 1 sees it, loads the head, lowers `sent`, loads the chunk and raises `ready`
+-- rank 1 sees `sent` of rank 0, loads the head, lowers `sent`, loads the chunk of four bytes and raises `ready`
 abbrev pub takes_four : List RankEvent
 takes_four = loads 1 1 1 0 1 ∷ loads 1 0 0 0 0 ∷ loads 1 0 0 1 0 ∷ loads 1 0 0 2 4
     ∷ stores 1 1 1 0 0
@@ -53,7 +53,7 @@ takes_four = loads 1 1 1 0 1 ∷ loads 1 0 0 0 0 ∷ loads 1 0 0 1 0 ∷ loads 1
 abbrev pub four_bytes : List RankEvent
 four_bytes = sends_four ++ takes_four
 
--- rank 1 sees it, loads the head and lowers `sent`: the chunk is being taken
+-- rank 1 sees `sent` of rank 0, loads the head and lowers `sent`: the chunk of four bytes is being taken
 abbrev pub begins_four : List RankEvent
 begins_four = loads 1 1 1 0 1 ∷ loads 1 0 0 0 0 ∷ loads 1 0 0 1 0 ∷ loads 1 0 0 2 4 ∷ stores 1 1 1 0 0 ∷ []
 
@@ -170,7 +170,7 @@ lowers_ready BitFlags = loads 0 0 1 1 2 ∷ changes 0 0 0 2 1 0
 abbrev pub drafts_head : Layout → List RankEvent
 drafts_head layout = stores 0 0 0 3 0 ∷ stores 0 0 0 2 (chunk_size layout + 1) ∷ stores 0 0 0 1 0 ∷ stores 0 0 0 0 0 ∷ []
 
--- rank 0 raises that message at rank 1, which sees it, loads its head and lowers `sent`
+-- rank 0 raises the first chunk of two at rank 1, which sees `sent`, loads the head and lowers `sent`
 abbrev pub begins_first : Layout → List RankEvent
 begins_first layout = raises_sent layout ++ loads 1 1 1 0 1 ∷ loads 1 0 0 0 0 ∷ loads 1 0 0 1 0 ∷ loads 1 0 0 2 (chunk_size layout + 1) ∷ lowers_sent layout
 

@@ -8,16 +8,16 @@ use Rattle.scc_proto.specs.Stages.{Record}
 use Rattle.scc_proto.specs.Words.{Memory, memory_after, RankEvent}
 use Rattle.scc_proto.specs.Records.{IsPermitted, record_after, record_of}
 
--- the events of one rank among them
+-- the events of one rank among those of all ranks
 abbrev pub events_of : ℕ → List RankEvent → List Event
 events_of r [] = []
 events_of r (e ∷ es) = if e.rank == r then e.event ∷ events_of r es else events_of r es
 
--- the record of each rank's own events
+-- the record of each rank after a list of events of all ranks: that of its own events among them
 abbrev pub records_of : SetupView → List RankEvent → ℕ → Record
 records_of s run = λ r. record_of s r (events_of r run)
 
--- the records of all ranks after all of them
+-- the records of all ranks after more events of all ranks, from these records on
 abbrev pub records_from : SetupView → (ℕ → Record) → List RankEvent → ℕ → Record
 records_from s records [] = records
 records_from s records (e ∷ es) = records_from s (put records e.rank (record_after s e.rank (records e.rank) e.event)) es

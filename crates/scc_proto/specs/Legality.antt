@@ -60,7 +60,7 @@ callers nue keys (Taking from message) = only message.to
 callers nue keys (Pairing from message) = both from message.to
 callers nue keys (Meeting comm root) = in_group nue keys comm root
 
--- the call of each of them
+-- the call of a rank that is one of a step's callers
 abbrev pub call_at : CallStep → ℕ → DataCall
 call_at (Posting from message) k = Post message.to message.head message.bytes
 call_at (Taking from message) k = Recv from message.head message.bytes
@@ -74,14 +74,14 @@ slot_at (Taking from message) = only from
 slot_at (Pairing from message) = only from
 slot_at (Meeting comm root) = λ k. false
 
--- what stands in that slot before the step: a post and a send wait for an empty slot
+-- what stands in a step's slot before it: a post and a send wait for an empty slot
 abbrev pub slot_before : CallStep → Option Outgoing
 slot_before (Posting from message) = None
 slot_before (Taking from message) = Some message
 slot_before (Pairing from message) = None
 slot_before (Meeting comm root) = None
 
--- what stands in it after the step
+-- what stands in a step's slot after it
 abbrev pub slot_after : CallStep → Option Outgoing
 slot_after (Posting from message) = Some message
 slot_after (Taking from message) = None
@@ -94,7 +94,7 @@ pub record Makes (nue : ℕ) (keys : ℕ → ℕ → ℕ) (step : CallStep) (old
   pub calls : Change (callers nue keys step) (λ k before after. before ≡ call_at step k ∷ after) old.calls new.calls
   pub slots : Change (slot_at step) (λ k before after. (before ≡ slot_before step) × (after ≡ slot_after step)) old.slots new.slots
 
--- some step of this owner
+-- a step of this owner leads from one standing to another
 abbrev pub OwnStep : ℕ → (ℕ → ℕ → ℕ) → ℕ → Standing → Standing → Type 0
 OwnStep nue keys owner old new = (step : CallStep) × (owner_of step ≡ owner) × Makes nue keys step old new
 

@@ -32,6 +32,6 @@ pub record IsLone (s : SetupView) (me : ℕ) (words : List ℕ) (events : List E
   pub holds : SameWords (memory_since me events) (memory_of words)
   pub agree : Agrees s (memory_since me events) (records_alone s me events)
 
--- the port of that rank
+-- what is seen of the port of a rank that alone makes events
 abbrev pub lone_sight : SetupView → ℕ → List Event → Sight
 lone_sight s me events = record { seat = record { setup = s; rank = me; mark = gnil; rest = gnil; hold = 0 }; events = events }

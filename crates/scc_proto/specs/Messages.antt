@@ -80,7 +80,7 @@ begun head = record { head = head; chunks = 0; bytes = [] }
 abbrev pub chunk_bytes : ℕ → Progress → ℕ
 chunk_bytes size message = min size (message.head.len - size * message.chunks)
 
--- the words of the lines that it takes, four in a line of 32 bytes
+-- the words of the lines that the chunk in hand takes, four in a line of 32 bytes
 abbrev pub chunk_words : ℕ → Progress → ℕ
 chunk_words size message = 4 * ((chunk_bytes size message + 31) / 32)
 

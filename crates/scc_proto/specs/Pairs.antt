@@ -18,13 +18,13 @@ pub data TakingSide : Type 0 where
   Awaiting : (through : Option Progress) → TakingSide
   Receiving : Progress → (chunk : Notes) → TakingSide
 
--- the sender's side, by where its chunk in hand stands
+-- the sender's side of a pair, by how far its chunk in hand is
 abbrev pub side_of_part : Part → Progress → Notes → SendingSide
 side_of_part Filling message chunk = Resting (Some message)
 side_of_part Raised message chunk = Offering false false message chunk
 side_of_part Answered message chunk = Offering true false message chunk
 
--- the sender's side, by the message that it posted
+-- the sender's side of a pair, by the message that it posted
 abbrev pub side_of_post : ℕ → Option OnItsWay → SendingSide
 side_of_post r None = Resting None
 side_of_post r (Some post) = if post.to == r then Offering post.is_answered true (begun post.head) post.chunk else Resting None
@@ -40,7 +40,7 @@ taking_side s (Between from message) = Awaiting (if from == s then Some message 
 taking_side s (Taking from message chunk) = if from == s then Receiving message chunk else Awaiting None
 taking_side s stage = Awaiting None
 
--- what the messages from s to r show
+-- what flags, buffer and records show of the messages from one rank to another
 pub record Pair : Type 0 where
   pub sent_flag : ℕ
   pub ready_flag : ℕ

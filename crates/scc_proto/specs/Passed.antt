@@ -59,7 +59,7 @@ passed_calls s records me = (records me).calls ++ passed_open s me (records me).
 abbrev pub IsPassed : List DataCall → Option DataCall → List DataCall → Type 0
 IsPassed finished current passed = (passed ≡ finished) ⊎ ((call : DataCall) × (current ≡ Some call) × (passed ≡ finished ++ call ∷ []))
 
--- the message that a rank has posted and that is not received
+-- the message in a rank's slot, by its post on its way: none once the receiver has received as many messages as it was sent
 abbrev pub slot_by : ℕ → ℕ → Option OnItsWay → (ℕ → Record) → Option Outgoing
 slot_by size me None records = None
 slot_by size me (Some post) records = if length (received_messages me (records post.to).calls) == length (sent_messages post.to (records me).calls)

@@ -5,7 +5,7 @@ use Rattle.scc_proto.specs.Moves.{Move, RaiseSent, after}
 use Rattle.scc_proto.specs.Permission.{permits}
 use Rattle.scc_proto.specs.Refusals.{drafts_line, drafts_words}
 
--- each of these moves is permitted in turn, where a whole chunk has `size` bytes
+-- a record permits each of these moves in turn, where a whole chunk has `size` bytes
 abbrev pub are_permitted : ℕ → Record → List Move → Bool
 are_permitted size rec [] = true
 are_permitted size rec (move ∷ moves) = permits size move rec && are_permitted size (after size move rec) moves

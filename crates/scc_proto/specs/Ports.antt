@@ -7,11 +7,11 @@ use Rattle.scc_proto.specs.Stages.{Record}
 use Rattle.scc_proto.specs.Records.{IsPermitted, IsHonest, record_after, record_of}
 use Rattle.scc_proto.specs.Soundness.{IsSound}
 
--- what no call of a port changes
+-- a port's seat: its setup, its rank and what else no call of the port changes
 pub record Seat : Type 0 where
   pub setup : SetupView
   pub rank : ℕ
-  -- which chip
+  -- the chip of the port
   pub mark : Gv
   -- the lists of the other ranks, where the port has them
   pub rest : Gv
@@ -31,7 +31,7 @@ record_in sight = record_of sight.seat.setup sight.seat.rank sight.events
 unfoldable pub record_next : Seat → Record → Event → Record
 record_next seat rec e = record_after seat.setup seat.rank rec e
 
--- the same seat, with more events
+-- a sight with more events, in the same seat
 abbrev pub and_then : Sight → List Event → Sight
 and_then sight events = record sight { events = sight.events ++ events }
 
@@ -39,7 +39,7 @@ and_then sight events = record sight { events = sight.events ++ events }
 abbrev pub MayMake : Seat → Record → Event → Type 0
 MayMake seat rec e = IsPermitted seat.setup seat.rank rec e
 
--- one event after the other is permitted
+-- a record permits these events of the seat, one after the other
 abbrev pub MayMakeAll : Seat → Record → List Event → Type 0
 MayMakeAll seat rec [] = Unit {0}
 MayMakeAll seat rec (e ∷ es) = MayMake seat rec e × MayMakeAll seat (record_next seat rec e) es

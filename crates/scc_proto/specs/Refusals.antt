@@ -98,11 +98,11 @@ reads_empty rank core = loads rank core 0 0 0 ∷ loads rank core 0 1 0 ∷ load
 abbrev pub misses : ℕ → ℕ → RankEvent
 misses rank core = record { rank = rank; event = take_of core false }
 
--- line flags, ranks on cores 7, 5 and 40: rank 2 has seen `sent` of rank 0 and read its head
+-- three ranks with line flags, on cores 7, 5 and 40: rank 2 has seen `sent` of rank 0 and read its head
 abbrev pub sees_sent : List RankEvent
 sees_sent = loads 2 40 1 0 1 ∷ reads_empty 2 7
 
--- the same ranks: rank 0 has raised `sent` at rank 2
+-- three ranks with line flags, on cores 7, 5 and 40: rank 0 has raised `sent` at rank 2
 abbrev pub raises_empty : List RankEvent
 raises_empty = drafts_empty 0 7 ++ stores 0 40 1 0 1 ∷ []
 
@@ -110,15 +110,15 @@ raises_empty = drafts_empty 0 7 ++ stores 0 40 1 0 1 ∷ []
 abbrev pub sees_bit : List RankEvent
 sees_bit = loads 0 0 1 0 2 ∷ reads_empty 0 1
 
--- the same ranks: rank 0 has lowered that bit under its register
+-- two ranks with bit flags: rank 0 has seen the bit of rank 1, read its head, and lowered the bit under its own register
 abbrev pub takes_bit : List RankEvent
 takes_bit = sees_bit ++ takes 0 0 ∷ loads 0 0 1 0 2 ∷ stores 0 0 1 0 0 ∷ frees 0 0 ∷ []
 
--- the same ranks: rank 1 has a draft and the register of rank 0
+-- two ranks with bit flags: rank 1 has a draft and the register of rank 0
 abbrev pub holds_draft : List RankEvent
 holds_draft = drafts_empty 1 1 ++ takes 1 0 ∷ []
 
--- the same ranks: rank 1 has a draft and the register of rank 0, and has set its bit there
+-- two ranks with bit flags: rank 1 has a draft and the register of rank 0, and has set its bit there
 abbrev pub sets_bit : List RankEvent
 sets_bit = holds_draft ++ loads 1 0 1 0 0 ∷ stores 1 0 1 0 2 ∷ []
 

@@ -24,7 +24,8 @@ NotedFlags layout None words = Unit {0}
 NotedFlags LineFlags (Some flags) words = (flags.sent ≡ None) × (flags.ready ≡ None)
 NotedFlags BitFlags (Some flags) words = IsNotedWord flags.sent (words 0) × IsNotedWord flags.ready (words 1)
 
--- the register of a core, and the words of flags in line 1 of its buffer
+-- the register of a core agrees with what the ranks hold, and the words of line 1 of its buffer with what they noted
+-- under it
 pub record RegisterAgrees (s : SetupView) (memory : Memory) (core : ℕ) (records : ℕ → Record) : Type 0 where
   pub holder : Holder s.nue (memory.register core) core records
   pub noted : (k : ℕ) → k < s.nue → NotedFlags s.layout ((records k).held core) (memory.word core 1)

@@ -43,6 +43,7 @@ pub record IsSound (s : SetupView) (me : ℕ) (rec : Record) : Type 0 where
   pub sent_clear : (j word : ℕ) → are_peers s me j ≡ true → sent_noted rec (host_of s.hosts j) ≡ Some word
       → is_drafting rec.stage rec.post ≡ true → bit_at word me ≡ 0
   pub ready_clear : (j word : ℕ) → ready_noted rec (host_of s.hosts j) ≡ Some word → is_taking j rec.stage ≡ true → bit_at word me ≡ 0
-  -- and at the own core: the bits that it may lower next are set
+  -- in a word of bit flags that was noted under the register of the own core: the bits that this rank may lower next
+  -- are set
   pub sent_set : (j word : ℕ) (header : Notes) → sent_noted rec (host_of s.hosts me) ≡ Some word → rec.notes j ≡ Some header → bit_at word j ≡ 1
   pub ready_set : (j word : ℕ) → ready_noted rec (host_of s.hosts me) ≡ Some word → is_answered j rec.stage rec.post ≡ true → bit_at word j ≡ 1

@@ -23,7 +23,7 @@ pub data Stage : Type 0 where
   Between : (from : ℕ) → Progress → Stage
   -- a chunk is being taken, and these words of it were loaded
   Taking : (from : ℕ) → Progress → (chunk : Notes) → Stage
-  -- a barrier was entered; its root has seen and released so many members
+  -- a barrier was entered; its root has seen `seen` members and released `released` of them
   Barrier : (comm : ℕ) → (seen : ℕ) → (released : ℕ) → Stage
 
 -- a posted message on its way: raised, and its `ready` not lowered

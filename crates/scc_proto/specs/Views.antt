@@ -85,7 +85,7 @@ shown me move view = record {
   release = release_shown me move view.release;
 }
 
--- the same flags of all ranks and communicators of the run
+-- two views have the same flags of all ranks and communicators of the run
 pub record SameFlagWords (s : SetupView) (one other : View) : Type 0 where
   pub sent : (from to : ℕ) → are_peers s from to ≡ true → one.sent from to ≡ other.sent from to
   pub ready : (from to : ℕ) → are_peers s from to ≡ true → one.ready from to ≡ other.ready from to

@@ -63,7 +63,7 @@ abbrev pub IsRun : Memory → List RankEvent → Type 0
 IsRun memory [] = Unit {0}
 IsRun memory (e ∷ es) = IsStep memory e.event × IsRun (memory_after memory e.event) es
 
--- the same words and registers
+-- two memories have the same words and registers
 pub record SameWords (one other : Memory) : Type 0 where
   pub words : (core line word : ℕ) → one.word core line word ≡ other.word core line word
   pub registers : (core : ℕ) → one.register core ≡ other.register core
@@ -91,7 +91,7 @@ rank_below (suc n) hosts core = if host_of hosts n == core then Some n else rank
 abbrev pub rank_on : SetupView → ℕ → Option ℕ
 rank_on s core = rank_below s.nue s.hosts core
 
--- the rule is there
+-- the rule is one that makes groups, and not that of an absent communicator
 abbrev pub is_present_rule : CommRule → Bool
 is_present_rule Absent = false
 is_present_rule World = true

@@ -51,7 +51,7 @@ pub fn two_chunks_arrive()
     ensures sent { (word : ℕ → ℕ) → (records_of two_ranks (two_chunks word) 0).calls ≡ Send 1 (plain_head 3585) (bytes_of word 3584 ++ 7 ∷ []) ∷ [] }
 {}
 
-/// The same by bit flags, each change under its register: a whole chunk has 6,624 bytes there.
+/// A message of 6,625 bytes by bit flags, each change under its register: a whole chunk has 6,624 bytes there.
 pub fn two_chunks_arrive_by_bits()
     ensures is_run { (word : ℕ → ℕ) → IsRun zeros (two_chunks_bits word) }
     ensures permitted { (word : ℕ → ℕ) → ((k : ℕ) → word k < 2 ^ 64) → IsPermittedRun two_ranks_bits (λ r. blank) (two_chunks_bits word) }

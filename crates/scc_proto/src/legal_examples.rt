@@ -17,7 +17,7 @@ pub fn posted()
         (lists_of (posting (four_bytes 1) ∷ []) [] []) (slot_of_first (Some (four_bytes 1))) }
 {}
 
-/// Then rank 1 receives them, after a barrier of all ranks.
+/// Rank 1 receives four bytes that rank 0 posted, after a barrier of all ranks.
 pub fn posted_and_received()
     ensures legal { IsLegal 3 one_group
         (lists_of (posting (four_bytes 1) ∷ Bar 0 ∷ []) (Bar 0 ∷ receiving 0 (four_bytes 1) ∷ []) (Bar 0 ∷ [])) no_slots }

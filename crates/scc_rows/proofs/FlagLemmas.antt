@@ -8,7 +8,7 @@ use Rattle.scc_proto.specs.Permission.{leaves_heap}
 use Rattle.scc_proto.specs.Records.{act_of}
 use Rattle.scc_proto.specs.Ports.{Seat, Sight, record_in, record_next, record_on}
 use Rattle.scc_proto.proofs.PortLaws.{record_on-append}
-use Rattle.scc_proto.proofs.PlaceMoves.{heap_stored}
+use Rattle.scc_proto.proofs.Layouts.PlaceMoves.{heap_stored}
 use Rattle.put_get.specs.Cores.{Private}
 use Rattle.tas_lock.specs.Holds.{IsNotHolding}
 use Rattle.sync_flags.specs.Flags.{FlagView, flag_of, flag_value}

@@ -5,7 +5,7 @@ use Rattle.scc_proto.specs.Stages.{Record, FlagWords}
 use Rattle.scc_proto.specs.Records.{act_of}
 use Rattle.scc_proto.specs.Ports.{Seat, Sight, Did, MayMake, record_in, record_next}
 use Rattle.scc_proto.proofs.Tests.{eqb_same}
-use Rattle.scc_proto.proofs.Roles.{if_yes}
+use Rattle.scc_proto.proofs.Layouts.Roles.{if_yes}
 use Rattle.scc_proto.proofs.PortLaws.{record_did_one}
 use Rattle.scc_rows.specs.Rests.{IsWithout, Holds}
 

@@ -27,7 +27,7 @@ use Rattle.send_recv.specs.Sending.{SlotStands, SlotTurned, SendStands, SendTurn
 use Rattle.send_recv.specs.Calling.{IsBetweenMessages, Received, RecvDiffers, FoundUnset, Sent}
 use Rattle.send_recv.specs.Turns.{HoldsNone, IsSamePost, KeepsAllButMessages}
 use Rattle.send_recv.specs.Ranks.{receiving, sending, with_slot, with_bytes}
-use Rattle.send_recv.proofs.LookTurn.{holds_kept}
+use Rattle.send_recv.proofs.Receiving.LookTurn.{holds_kept}
 
 some_chunk : (layout : Layout) (len : ℕ) → 0 < chunk_count (chunk_size layout) len
 some_chunk LineFlags len = omega arith

@@ -30,7 +30,7 @@ use Rattle.send_recv.specs.Sending.{SlotStands, SendStands, send_spot, send_call
 abbrev pub sent_aim : Seat → RecvAt → Aim
 sent_aim seat op = aim_of seat.setup.layout (flag_spot (own_core seat) (sent_flag seat op.from))
 
--- the last tries at none of its spots were all vain
+-- at none of a receive's spots were the last `polls` tries all vain
 abbrev pub HasNotStalled : Seat → RecvAt → ℕ → List Event → Type 0
 HasNotStalled seat op polls events = (spot : Spot) → IsRecvSpot seat op spot → TriedInVain (aim_of seat.setup.layout spot) polls events → ⊥
 
@@ -91,7 +91,7 @@ abbrev pub RecvEnds : Receiver → ℕ → BufferHolder → Result Unit RecvStop
 RecvEnds old polls now (Ok done) = Received old polls now
 RecvEnds old polls now (Err stop) = RecvStops old polls now stop
 
--- the first try found the flag set, and more was done
+-- the first try of a test found the flag set, and more was done
 pub record FoundFirst (aim : Aim) (s t : Sight) : Type 0 where
   pub first : List Event
   pub rest : List Event
@@ -99,7 +99,7 @@ pub record FoundFirst (aim : Aim) (s t : Sight) : Type 0 where
   pub one : tries_at aim first ≡ 1
   pub found : all_vain aim false first ≡ false
 
--- the one look found the flag unset, and nothing else was done
+-- the one look of a test found the flag unset, and nothing else was done
 pub record FoundUnset (aim : Aim) (old : Receiver) (now : BufferHolder) : Type 0 where
   pub events : List Event
   pub did : Did old.sight events now.sight

@@ -4,7 +4,7 @@ use Rattle.std.specs.Prelude.{ℕ, ◌+◌, ◌-◌, ◌*◌, ◌/◌, Bool, min
 use Rattle.scc_base.specs.Layouts.{chunk_size}
 use Rattle.scc_base.specs.declared.layouts.Layout.{Layout}
 
--- the chunks of a message of so many bytes: one at least, so that the empty message has its header
+-- how many chunks a message of `len` bytes has: at least one, so that the empty message has its header
 abbrev pub chunk_count : ℕ → ℕ → ℕ
 chunk_count size len = max 1 ((len + size - 1) / size)
 
@@ -12,26 +12,26 @@ chunk_count size len = max 1 ((len + size - 1) / size)
 abbrev pub chunk_start : ℕ → ℕ → ℕ
 chunk_start size chunk = size * chunk
 
--- the bytes of a chunk
+-- how many bytes chunk i of a message has
 abbrev pub chunk_len : ℕ → ℕ → ℕ → ℕ
 chunk_len size len chunk = min size (len - size * chunk)
 
--- the lines that so many bytes take
+-- how many lines n bytes take
 abbrev pub lines_of : ℕ → ℕ
 lines_of bytes = (bytes + 31) / 32
 
--- the lines of a chunk
+-- how many lines chunk i of a message takes
 abbrev pub chunk_lines_of : ℕ → ℕ → ℕ → ℕ
 chunk_lines_of size len chunk = lines_of (chunk_len size len chunk)
 
--- the lines of a chunk and of all later ones
+-- how many lines chunk i and all later ones take
 abbrev pub lines_from : ℕ → ℕ → ℕ → ℕ
 lines_from size len chunk = lines_of (len - size * chunk)
 
--- no chunk comes after this one
+-- chunk i of a message is its last
 abbrev pub is_last_chunk : ℕ → ℕ → ℕ → Bool
 is_last_chunk size len chunk = nat_le len (size * (chunk + 1))
 
--- the bound of a message of so many bytes: 4 + 5c + l turns for c chunks of l lines
+-- the most turns that do not wait of a message of `len` bytes: 4 + 5c + l, for c chunks of l lines
 abbrev pub message_bound : Layout → ℕ → ℕ
 message_bound layout len = 4 + 5 * chunk_count (chunk_size layout) len + lines_of len

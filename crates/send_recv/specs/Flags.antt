@@ -43,11 +43,12 @@ pub data TriesBit (s : Sight) (c : Private) (core : ℕ) (flag : FlagPlace) (set
       → d ≡ record m { lines = noted m.lines (flag_word core flag) (with_bit flag.bit set (slice_index words flag.word)) }
       → TriesBit s c core flag set done t d
 
--- one turn's change of a flag
+-- one turn changes a flag: with line flags it is written, with bit flags its bit is tried
 abbrev pub ChangesBy : Layout → Sight → Private → ℕ → FlagPlace → Bool → Bool → Sight → Private → Type 0
 ChangesBy LineFlags s c core flag set done t d = (done ≡ true) × WritesFlag s c core flag set t d
 ChangesBy BitFlags s c core flag set done t d = TriesBit s c core flag set done t d
 
+-- one turn changes a flag, in the layout of the port's setup
 abbrev pub Changes : Sight → Private → ℕ → FlagPlace → Bool → Bool → Sight → Private → Type 0
 Changes s c core flag set done t d = ChangesBy s.seat.setup.layout s c core flag set done t d
 
@@ -67,9 +68,11 @@ pub record MayChangeBit (s : Sight) (c : Private) (core : ℕ) (flag : FlagPlace
       → MayMake t.seat (record_in t) (store_of (flag_word core flag) (with_bit flag.bit set (slice_index words flag.word)))
       × (bit_at (slice_index words flag.word) flag.bit ≡ (if set then 0 else 1))
 
+-- a flag may be changed: a line flag may be written, a bit may be changed
 abbrev pub MayChangeBy : Layout → Sight → Private → ℕ → FlagPlace → Bool → Type 0
 MayChangeBy LineFlags s c core flag set = MayWriteFlag s c core flag set
 MayChangeBy BitFlags s c core flag set = MayChangeBit s c core flag set
 
+-- a flag may be changed, in the layout of the port's setup
 abbrev pub MayChange : Sight → Private → ℕ → FlagPlace → Bool → Type 0
 MayChange s c core flag set = MayChangeBy s.seat.setup.layout s c core flag set

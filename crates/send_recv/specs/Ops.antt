@@ -26,7 +26,7 @@ pub record SlotAt : Type 0 where
   pub to : Option ℕ
   pub seen : Bool
 
--- at the start of a message
+-- a receive at its start
 abbrev pub new_receive : ℕ → MessageHead → RecvAt
 new_receive from head = record { from = from; head = head; chunk = 0; stage = receive.Look }
 

@@ -110,12 +110,13 @@ recv_left_by more lines now first Finished = 0
 abbrev pub recv_left : ℕ → RecvAt → ℕ
 recv_left size op = recv_left_by (chunk_count size op.head.len - op.chunk) (lines_from size op.head.len op.chunk) (lines_now size op) (op.chunk == 0) op.stage
 
--- how many lines are left to be loaded, looks apart: the header, the chunks, and with bit flags the flags' line
--- under each of two changes a chunk
+-- the lines of flags that a change of a flag loads: with bit flags the flags' line, under its register
 abbrev pub flag_lines : Layout → ℕ
 flag_lines LineFlags = 0
 flag_lines BitFlags = 1
 
+-- how many lines are left to be loaded at a stage, looks apart: the header, the lines of this chunk and of all later
+-- ones, and those of two changes of flags a chunk
 abbrev pub lines_left_by : (flags more lines now : ℕ) → (first : Bool) → RecvStage → ℕ
 lines_left_by flags more lines now first Look = (if first then 1 else 0) + lines + 2 * flags * more
 lines_left_by flags more lines now first Header = 1 + lines + 2 * flags * more
@@ -130,7 +131,7 @@ lines_left layout size op =
     lines_left_by (flag_lines layout) (chunk_count size op.head.len - op.chunk) (lines_from size op.head.len op.chunk) (lines_now size op)
     (op.chunk == 0) op.stage
 
--- the turn makes a look
+-- the stage's turn makes a look
 abbrev pub is_look : RecvStage → Bool
 is_look Look = true
 is_look _ = false

@@ -120,8 +120,8 @@ header_words head posted = header_word head posted 0 ∷ header_word head posted
 abbrev pub lines_in_hand : ℕ → SendAt → ℕ
 lines_in_hand size op = chunk_lines_of size op.head.len op.chunk
 
--- the whole line that waits in the write-combining buffer after so many lines of the chunk were written: the
--- last of them, or the header before the first
+-- the whole line that waits in the write-combining buffer after n lines of the chunk were written: the last of them, or
+-- the header before the first
 abbrev pub waiting : Seat → SendAt → List ℕ → ℕ → Option Out
 waiting seat op bytes zero = if op.chunk == 0 then Some (whole_line (own_line seat 0) (header_words op.head op.posted)) else None
 waiting seat op bytes (suc i) =
@@ -148,12 +148,12 @@ pub record IsUp (size : ℕ) (stage : Stage) (op : SendAt) (bytes : List ℕ) (p
   pub stage_is : stage ≡ Sending op.to part (progress_at size op.head op.chunk bytes) chunk
   pub lines : HasLines size chunk op bytes (lines_in_hand size op)
 
--- no line of the chunk in hand is drafted: nothing at all where the header still waits in the buffer
+-- no line of the chunk in hand is drafted, and nothing at all where the header still waits in the buffer
 abbrev pub HasNoLines : ℕ → Stage → SendAt → List ℕ → Bool → Type 0
 HasNoLines size stage op bytes true = stage ≡ Idle
 HasNoLines size stage op bytes false = HasDrafted size stage op bytes 0
 
--- what is drafted while that line waits in the buffer: nothing where it is the header
+-- what is drafted while the line before line n of the chunk waits in the buffer: nothing where it is the header
 abbrev pub DraftedBefore : ℕ → Stage → SendAt → List ℕ → ℕ → Type 0
 DraftedBefore size stage op bytes zero = HasNoLines size stage op bytes (op.chunk == 0)
 DraftedBefore size stage op bytes (suc i) = HasDrafted size stage op bytes i

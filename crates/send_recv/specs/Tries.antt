@@ -7,7 +7,7 @@ use Rattle.scc_base.specs.declared.events.Spot.TheVariants.{Flag, Register}
 use Rattle.sync_flags.specs.Tries.{Aim, AtFlag, AtRegister}
 use Rattle.send_recv.specs.Flags.{bit_of}
 
--- what a try at a spot is for
+-- what a try at a spot is for: a flag that is set, or a register that is free
 abbrev pub aim_of : Layout → Spot → Aim
 aim_of layout (Flag place bit) = AtFlag place (bit_of layout bit) true
 aim_of layout (Register core) = AtRegister core

@@ -47,7 +47,7 @@ pub record IsAtRest (rec new : Record) : Type 0 where
   pub rest : KeepsAllButMessages rec new
   pub calls : new.calls ≡ rec.calls
 
--- nothing but one try, and that in vain for a register: the four loads of the flag's line, or one take
+-- the events of one try: the four loads of the flag's line, or one take that found the register taken
 abbrev pub IsOneTry : Aim → List Event → Type 0
 IsOneTry (AtFlag place bit want) events = (words : List ℕ) × (events ≡ loads_of (line_of_word place) words)
 IsOneTry (AtWord place value) events = (words : List ℕ) × (events ≡ loads_of (line_of_word place) words)
@@ -75,11 +75,11 @@ pub data LastHeld (es : List Event) (before : ℕ) (d : Private) : Type 0 where
       → es ≡ front ++ (loads_of line words ++ behind) → load_count behind ≡ 0
       → (d.evictions ≡ before → held d.lines line ≡ Some (stored_since line words behind)) → LastHeld es before d
 
--- no store of a header or chunk word
+-- the event is no store of a header or chunk word
 abbrev pub is_no_draft : SetupView → Event → Bool
 is_no_draft s e = not (is_draft s e)
 
--- nothing of what was held, or all of it
+-- of the stores of what was held none was made, or all were
 abbrev pub IsNoneOrAll : List Event → List Event → Type 0
 IsNoneOrAll front held = (front ≡ []) ⊎ (front ≡ held)
 
@@ -101,6 +101,6 @@ abbrev pub lines_for_try : Option Spot → ℕ
 lines_for_try None = 0
 lines_for_try (Some spot) = 1
 
--- at most so many lines were loaded, and one more for each eviction
+-- at most n lines were loaded, and one more for each eviction
 abbrev pub LoadsLines : List Event → Private → Private → ℕ → Type 0
 LoadsLines es c d lines = load_count es + 4 * c.evictions ≤ 4 * d.evictions + 4 * lines

@@ -10,7 +10,7 @@ use Rattle.scc_proto.proofs.PortLaws.{did_both, seat_kept}
 use Rattle.send_recv.specs.Turns.{KeepsAllButMessages}
 use Rattle.send_recv.specs.declared.answers.RecvTurn.{RecvTurn}
 use Rattle.send_recv.specs.declared.answers.RecvTurn.TheVariants as turn
-use Rattle.send_recv.proofs.RecvLoop.{rest_both, rest_itself, resting_quiet}
+use Rattle.send_recv.proofs.Loops.RecvLoop.{rest_both, rest_itself, resting_quiet}
 use Rattle.sync_flags.specs.Tries.{Tried}
 use Rattle.sync_flags.proofs.LoopLemmas.{Row, row_moved, row_none, row_waited}
 use Rattle.sync_flags.proofs.RowLemmas.{waited}

@@ -11,7 +11,7 @@ use Rattle.scc_proto.proofs.PortLaws.{did_both, did_nothing}
 use Rattle.sync_flags.specs.Tries.{TriedInVain}
 use Rattle.send_recv.specs.Sights.{layout_at}
 use Rattle.send_recv.specs.Tries.{aim_of}
-use Rattle.send_recv.proofs.RecvLoop.{rest_both, rest_itself}
+use Rattle.send_recv.proofs.Loops.RecvLoop.{rest_both, rest_itself}
 use Rattle.groups.specs.Collectives.{IsCallable, comm_of, fold_each, head_of, other_steps, others_of, root_place, root_steps, send_each, steps_of}
 use Rattle.groups.specs.Folds.{bytes_in as value_bytes}
 use Rattle.groups.specs.declared.collectives.Coll.{Coll}

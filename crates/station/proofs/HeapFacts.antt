@@ -11,7 +11,7 @@ use Rattle.scc_proto.specs.Stages.{FlagWords, Record}
 use Rattle.scc_proto.specs.Permission.{leaves_heap}
 use Rattle.scc_proto.specs.Ports.{Did, Seat, Sight, record_in, record_next, record_on}
 use Rattle.scc_proto.proofs.PortLaws.{record_did, record_on-append, seat_kept}
-use Rattle.scc_proto.proofs.PlaceMoves.{heap_loaded, heap_stored}
+use Rattle.scc_proto.proofs.Layouts.PlaceMoves.{heap_loaded, heap_stored}
 use Rattle.scc_proto.proofs.Tests.{put_here, put_there, same_or_other}
 use Rattle.write_combine.specs.declared.combiner.Out.{Out}
 use Rattle.write_combine.specs.Combining.{whole_line}

@@ -10,7 +10,7 @@ use Rattle.send_recv.specs.Ops.{SlotAt, empty_slot}
 use Rattle.send_recv.specs.Calling.{IsBetweenMessages}
 use Rattle.send_recv.specs.Sending.{SlotStands}
 use Rattle.send_recv.specs.Turns.{HoldsNone}
-use Rattle.send_recv.proofs.SendFacts.{slot_kept}
+use Rattle.send_recv.proofs.Sending.SendFacts.{slot_kept}
 use Rattle.send_recv.proofs.Starts as message
 use Rattle.barrier.specs.Flags.{IsParityOf, value_at}
 use Rattle.barrier.proofs.OtherPort as bar

@@ -12,7 +12,7 @@ use Rattle.scc_base.proofs.GroupFacts.{member_at_place, place_found}
 use Rattle.scc_proto.specs.Legality.{IsLegal, Outgoing, slot_message}
 use Rattle.scc_proto.specs.Messages.{received_messages, sent_messages}
 use Rattle.scc_proto.specs.Ports.{Seat}
-use Rattle.scc_proto.proofs.LegalMessages.{legal_messages}
+use Rattle.scc_proto.proofs.Legality.LegalMessages.{legal_messages}
 use Rattle.scc_proto.proofs.Tests.{eqb_same}
 use Rattle.groups.specs.Collectives.{head_of}
 use Rattle.groups.specs.declared.collectives.Coll.TheVariants.{Bcast}

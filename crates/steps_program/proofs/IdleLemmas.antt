@@ -5,7 +5,7 @@ use Rattle.scc_base.specs.declared.events.Event.{Event}
 use Rattle.scc_proto.specs.Ports.{Sight, Did}
 use Rattle.scc_proto.specs.IdlePorts.{IsIdle}
 use Rattle.scc_proto.proofs.PortLaws.{seat_kept, events_did}
-use Rattle.scc_proto.proofs.IdleLaws.{idle_at_start}
+use Rattle.scc_proto.proofs.Runs.IdleLaws.{idle_at_start}
 use Rattle.scc_mesh.specs.AwayRanks.{Ticket, Away}
 use Rattle.scc_mesh.specs.Scenes.{ChipView, about_in, table_in, events_in, sight_in, sight_away}
 use Rattle.scc_mesh.proofs.HandOuts.{same_ticket}

@@ -5,7 +5,7 @@ use Rattle.std.specs.List.{list_all}
 use Rattle.std.specs.Result.{OkIff}
 use Rattle.std.specs.Char.{digit_value}
 use Rattle.std.specs.Str.Parse.{AllDigits, IsNumeral, digits_value, without_leading_plus}
-use Rattle.scc_proto.proofs.Roles.{if_yes, if_no}
+use Rattle.scc_proto.proofs.Layouts.Roles.{if_yes, if_no}
 use Rattle.scc_proto.proofs.Tests.{both_first, both_second}
 use Rattle.steps_program.specs.Jobs.{is_digit, is_numeral, number_of_digits, number_of, job_of}
 

@@ -6,7 +6,7 @@ use mir.Syntax.{w64}
 use Rattle.std.proofs.lemmas.Bool.{cases_lt}
 use Rattle.std.proofs.lemmas.Nat.Bits.{bit_at-lt, bit_at_and, bit_at_above, bit_at_set_same, bit_at_set_other, bit_at_clear_same, bit_at_clear_other, same_from_bits}
 use Rattle.scc_proto.proofs.Tests.{same_or_other}
-use Rattle.scc_proto.proofs.FlagBits.{bit_set-is, bit_clear-is}
+use Rattle.scc_proto.proofs.Words.FlagBits.{bit_set-is, bit_clear-is}
 use Rattle.sync_flags.specs.Flags.{with_bit}
 
 clear_or_set : (n b : ℕ) → (bit_at n b ≡ 0) ⊎ (bit_at n b ≡ 1)

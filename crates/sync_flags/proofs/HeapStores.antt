@@ -6,7 +6,7 @@ use Rattle.scc_base.specs.Events.{load_of, store_of, take_of}
 use Rattle.scc_proto.specs.Stages.{Record}
 use Rattle.scc_proto.specs.Permission.{leaves_heap}
 use Rattle.scc_proto.specs.Ports.{Seat, MayMake, record_on, record_next}
-use Rattle.scc_proto.proofs.PlaceMoves.{heap_loaded, heap_stored}
+use Rattle.scc_proto.proofs.Layouts.PlaceMoves.{heap_loaded, heap_stored}
 use Rattle.put_get.specs.Accesses.{loads_of}
 use Rattle.tas_lock.specs.Holds.{IsNotHolding, after_try}
 use Rattle.tas_lock.proofs.HoldLemmas.{next_tried}

@@ -4,7 +4,7 @@ use Rattle.scc_base.specs.Events.{take_of, free_of}
 use Rattle.scc_proto.specs.Stages.{FlagWords, Record}
 use Rattle.scc_proto.specs.Records.{act_of}
 use Rattle.scc_proto.specs.Ports.{Seat, Sight, Did, record_in, record_next}
-use Rattle.scc_proto.proofs.Roles.{if_yes}
+use Rattle.scc_proto.proofs.Layouts.Roles.{if_yes}
 use Rattle.scc_proto.proofs.PortLaws.{record_did_one}
 use Rattle.scc_proto.proofs.Tests.{put_here}
 use Rattle.tas_lock.specs.Holds.{IsHolding, IsNotHolding, after_try, after_release}

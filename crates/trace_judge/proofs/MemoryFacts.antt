@@ -5,7 +5,7 @@ use Rattle.scc_base.specs.Places.{WordAt, IsPlace}
 use Rattle.scc_base.specs.Events.{store_of}
 use Rattle.scc_proto.specs.Memories.{word_number, register_number, memory_of}
 use Rattle.scc_proto.specs.Words.{Memory, zeros, word_at, SameWords, memory_after}
-use Rattle.scc_proto.proofs.MemoryLemmas.{words_at_start, word_is, register_is, word_stored, register_set}
+use Rattle.scc_proto.proofs.Words.MemoryLemmas.{words_at_start, word_is, register_is, word_stored, register_set}
 use Rattle.trace_judge.specs.Rulings.{register_changed}
 
 -- memories with the same words are one

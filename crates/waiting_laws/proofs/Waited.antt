@@ -12,7 +12,7 @@ use Rattle.scc_proto.specs.Resting.{is_resting}
 use Rattle.scc_proto.specs.Stages.{OnItsWay, Record}
 use Rattle.scc_proto.specs.Words.{IsStep, Memory}
 use Rattle.scc_proto.proofs.PortLaws.{made_left, record_in-and_then}
-use Rattle.scc_proto.proofs.RestLaw.{resting_part}
+use Rattle.scc_proto.proofs.Runs.RestLaw.{resting_part}
 use Rattle.put_get.specs.Accesses.{WereSteps}
 use Rattle.sync_flags.specs.Tries.{Aim, Fruitful, NoTry, Tried, Vain, changing_after, is_take}
 use Rattle.send_recv.specs.Turns as sr

@@ -1,5 +1,5 @@
-use Rattle.scc_proto.proofs.StartLaw.{agrees_at_start}
-use Rattle.scc_proto.proofs.AgreementLaw.{agreement_kept, passed_grow, agreement_of_lists}
+use Rattle.scc_proto.proofs.Agreement.StartLaw.{agrees_at_start}
+use Rattle.scc_proto.proofs.Agreement.AgreementLaw.{agreement_kept, passed_grow, agreement_of_lists}
 use Rattle.scc_proto.proofs.laws.agreement_law.Goals as goal
 
 pub returns-clause-start : goal.returns-clause-start

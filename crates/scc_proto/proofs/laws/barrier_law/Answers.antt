@@ -1,4 +1,4 @@
-use Rattle.scc_proto.proofs.BarrierLaw.{barriers_entered}
+use Rattle.scc_proto.proofs.Barriers.BarrierLaw.{barriers_entered}
 use Rattle.scc_proto.proofs.laws.barrier_law.Goals as goal
 
 pub returns : goal.returns

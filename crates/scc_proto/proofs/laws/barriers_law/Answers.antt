@@ -1,4 +1,4 @@
-use Rattle.scc_proto.proofs.LegalMessages.{legal_barriers}
+use Rattle.scc_proto.proofs.Legality.LegalMessages.{legal_barriers}
 use Rattle.scc_proto.proofs.laws.barriers_law.Goals as goal
 
 pub returns : goal.returns

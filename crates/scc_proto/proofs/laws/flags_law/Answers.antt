@@ -1,4 +1,4 @@
-use Rattle.scc_proto.proofs.FlagsTold.{flags_told, registers_told}
+use Rattle.scc_proto.proofs.Words.FlagsTold.{flags_told, registers_told}
 use Rattle.scc_proto.proofs.laws.flags_law.Goals as goal
 
 pub returns-clause-flags : goal.returns-clause-flags

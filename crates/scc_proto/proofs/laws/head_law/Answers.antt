@@ -1,4 +1,4 @@
-use Rattle.scc_proto.proofs.WordFacts.{head_is, is_head_of, post_head_is, is_post_head_of}
+use Rattle.scc_proto.proofs.Words.WordFacts.{head_is, is_head_of, post_head_is, is_post_head_of}
 use Rattle.scc_proto.proofs.laws.head_law.Goals as goal
 
 pub returns-clause-head : goal.returns-clause-head

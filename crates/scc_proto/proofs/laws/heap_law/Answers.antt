@@ -1,4 +1,4 @@
-use Rattle.scc_proto.proofs.HeapLaw.{heap_loaded}
+use Rattle.scc_proto.proofs.Words.HeapLaw.{heap_loaded}
 use Rattle.scc_proto.proofs.laws.heap_law.Goals as goal
 
 pub returns : goal.returns

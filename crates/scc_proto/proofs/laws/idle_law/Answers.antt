@@ -1,5 +1,5 @@
 use Rattle.scc_proto.specs.Words.{SentFlags, ReadyFlags, IdleWord}
-use Rattle.scc_proto.proofs.WordFacts.{word_by_role}
+use Rattle.scc_proto.proofs.Words.WordFacts.{word_by_role}
 use Rattle.scc_proto.proofs.laws.idle_law.Goals as goal
 
 pub returns-clause-word : goal.returns-clause-word

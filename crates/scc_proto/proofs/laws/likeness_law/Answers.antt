@@ -1,4 +1,4 @@
-use Rattle.scc_proto.proofs.FlagsTold.{flags_like}
+use Rattle.scc_proto.proofs.Words.FlagsTold.{flags_like}
 use Rattle.scc_proto.proofs.laws.likeness_law.Goals as goal
 
 pub returns : goal.returns

@@ -1,4 +1,4 @@
-use Rattle.scc_proto.proofs.LegalMessages.{legal_messages}
+use Rattle.scc_proto.proofs.Legality.LegalMessages.{legal_messages}
 use Rattle.scc_proto.proofs.laws.messages_law.Goals as goal
 
 pub returns : goal.returns

@@ -1,7 +1,7 @@
 use Rattle.std.proofs.Common.{ap}
 use Rattle.scc_proto.specs.Passed.{open_of}
 use Rattle.scc_proto.specs.Records.{chunk_of}
-use Rattle.scc_proto.proofs.WordFacts.{passed_is, idle_opens_nothing}
+use Rattle.scc_proto.proofs.Words.WordFacts.{passed_is, idle_opens_nothing}
 use Rattle.scc_proto.proofs.laws.open_call_law.Goals as goal
 
 pub returns-clause-passed : goal.returns-clause-passed

@@ -1,4 +1,4 @@
-use Rattle.scc_proto.proofs.LegalLaws.{legal_in_order, legal_in_some_order}
+use Rattle.scc_proto.proofs.Legality.LegalLaws.{legal_in_order, legal_in_some_order}
 use Rattle.scc_proto.proofs.laws.order_law.Goals as goal
 
 pub returns : goal.returns

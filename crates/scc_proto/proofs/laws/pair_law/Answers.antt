@@ -1,4 +1,4 @@
-use Rattle.scc_proto.proofs.MessageLaw.{pair_messages}
+use Rattle.scc_proto.proofs.Messages.MessageLaw.{pair_messages}
 use Rattle.scc_proto.proofs.laws.pair_law.Goals as goal
 
 pub returns : goal.returns

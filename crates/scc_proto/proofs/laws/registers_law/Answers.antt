@@ -1,4 +1,4 @@
-use Rattle.scc_proto.proofs.WordFacts.{holder_is, nobody_holds, taken_is, free_is}
+use Rattle.scc_proto.proofs.Words.WordFacts.{holder_is, nobody_holds, taken_is, free_is}
 use Rattle.scc_proto.proofs.laws.registers_law.Goals as goal
 
 pub returns-clause-taken : goal.returns-clause-taken

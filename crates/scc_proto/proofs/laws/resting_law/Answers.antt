@@ -1,4 +1,4 @@
-use Rattle.scc_proto.proofs.RestLaw.{resting_part}
+use Rattle.scc_proto.proofs.Runs.RestLaw.{resting_part}
 use Rattle.scc_proto.proofs.laws.resting_law.Goals as goal
 
 pub returns : goal.returns

@@ -1,4 +1,4 @@
-use Rattle.scc_proto.proofs.LegalLaws.{legal_slots}
+use Rattle.scc_proto.proofs.Legality.LegalLaws.{legal_slots}
 use Rattle.scc_proto.proofs.laws.slots_law.Goals as goal
 
 pub returns : goal.returns

@@ -1,5 +1,5 @@
-use Rattle.scc_proto.proofs.SoundLaw.{sound_law}
-use Rattle.scc_proto.proofs.HonestLaw.{told_law}
+use Rattle.scc_proto.proofs.Agreement.SoundLaw.{sound_law}
+use Rattle.scc_proto.proofs.Agreement.HonestLaw.{told_law}
 use Rattle.scc_proto.proofs.laws.sound_law.Goals as goal
 
 pub returns-clause-sound : goal.returns-clause-sound

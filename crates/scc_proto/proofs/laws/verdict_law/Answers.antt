@@ -1,4 +1,4 @@
-use Rattle.scc_proto.proofs.LegalLaws.{legal_from_end, end_of_legal}
+use Rattle.scc_proto.proofs.Legality.LegalLaws.{legal_from_end, end_of_legal}
 use Rattle.scc_proto.proofs.laws.verdict_law.Goals as goal
 
 pub returns : goal.returns

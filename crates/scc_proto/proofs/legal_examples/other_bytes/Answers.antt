@@ -1,4 +1,4 @@
-use Rattle.scc_proto.proofs.LegalExamples as examples
+use Rattle.scc_proto.proofs.Legality.LegalExamples as examples
 use Rattle.scc_proto.proofs.legal_examples.other_bytes.Goals as goal
 
 pub returns : goal.returns

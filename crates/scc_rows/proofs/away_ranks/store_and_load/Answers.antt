@@ -1,5 +1,5 @@
 use Rattle.std.proofs.Common.{◌∙◌, arith}
-use Rattle.scc_proto.proofs.IdleLaws.{idle_at_start, idle_may_store}
+use Rattle.scc_proto.proofs.Runs.IdleLaws.{idle_at_start, idle_may_store}
 use Rattle.scc_proto.proofs.PortLaws.{seat_kept}
 use Rattle.scc_rows.proofs.away_ranks.store_and_load.Goals as goal
 

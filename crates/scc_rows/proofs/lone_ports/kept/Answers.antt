@@ -1,7 +1,7 @@
 use Rattle.std.proofs.Common.{◌≡◌, ◌∙◌, ap, subst, arith}
 use Rattle.scc_base.specs.Setups.{SetupView, IsSetup, host_of}
-use Rattle.scc_proto.proofs.Roles.{own_word}
-use Rattle.scc_proto.proofs.IdleLaws.{idle_at_start, idle_may_store}
+use Rattle.scc_proto.proofs.Layouts.Roles.{own_word}
+use Rattle.scc_proto.proofs.Runs.IdleLaws.{idle_at_start, idle_may_store}
 use Rattle.scc_rows.proofs.lone_ports.kept.Goals as goal
 
 pub store_then_load-requires : goal.store_then_load-requires

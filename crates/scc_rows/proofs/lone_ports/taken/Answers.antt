@@ -1,6 +1,6 @@
 use Rattle.std.proofs.Common.{Option, is_none, ap}
 use Rattle.scc_proto.specs.Stages.{FlagWords}
-use Rattle.scc_proto.proofs.IdleLaws.{nothing_held}
+use Rattle.scc_proto.proofs.Runs.IdleLaws.{nothing_held}
 use Rattle.scc_rows.proofs.lone_ports.taken.Goals as goal
 
 pub take-requires : goal.take-requires

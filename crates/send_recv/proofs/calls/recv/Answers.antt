@@ -1,5 +1,5 @@
 use Rattle.std.proofs.Common.{arith, refl}
-use Rattle.send_recv.proofs.RecvLoop.{underway_none, underway_moved, underway_waited, underway_ends, underway_stalls, underway_differs, left_falls}
+use Rattle.send_recv.proofs.Loops.RecvLoop.{underway_none, underway_moved, underway_waited, underway_ends, underway_stalls, underway_differs, left_falls}
 use Rattle.sync_flags.proofs.LoopLemmas.{measure_falls}
 use Rattle.send_recv.proofs.calls.recv.Goals as goal
 

@@ -1,7 +1,7 @@
 use Rattle.std.proofs.Common.{◌-◌, ◌+◌, ◌*◌, ◌<◌}
 use Rattle.scc_proto.specs.Records.{chunk_of}
 use Rattle.send_recv.specs.Receiving.{recv_left}
-use Rattle.send_recv.proofs.RecvLoop.{Underway}
+use Rattle.send_recv.proofs.Loops.RecvLoop.{Underway}
 use Rattle.send_recv.proofs.calls.recv.Given as goal
 
 abbrev pub invariant-turns : goal.invariant-turns

@@ -1,4 +1,4 @@
-use Rattle.send_recv.proofs.TestLemmas.{tested_on, tested_stop, tested_done, passed_on}
+use Rattle.send_recv.proofs.Loops.TestLemmas.{tested_on, tested_stop, tested_done, passed_on}
 use Rattle.send_recv.proofs.calls.recv_test.Goals as goal
 
 pub returns-in_err-recv-in-Moved : goal.returns-in_err-recv-in-Moved

@@ -1,6 +1,6 @@
 use Rattle.std.proofs.Common.{arith, refl}
 use Rattle.sync_flags.proofs.LoopLemmas.{measure_falls}
-use Rattle.send_recv.proofs.SendLoop.{way_none, way_moved, way_waited, way_ends, way_stalls, send_falls}
+use Rattle.send_recv.proofs.Loops.SendLoop.{way_none, way_moved, way_waited, way_ends, way_stalls, send_falls}
 use Rattle.send_recv.proofs.deliveries.send.Goals as goal
 
 pub turns-init : goal.turns-init

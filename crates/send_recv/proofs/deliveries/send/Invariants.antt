@@ -1,7 +1,7 @@
 use Rattle.std.proofs.Common.{◌-◌, ◌+◌, ◌*◌, ◌<◌}
 use Rattle.scc_proto.specs.Records.{chunk_of}
 use Rattle.send_recv.specs.Sending.{send_left}
-use Rattle.send_recv.proofs.SendLoop.{SendWay}
+use Rattle.send_recv.proofs.Loops.SendLoop.{SendWay}
 use Rattle.send_recv.proofs.deliveries.send.Given as goal
 
 abbrev pub invariant-turns : goal.invariant-turns

@@ -1,4 +1,4 @@
-use Rattle.send_recv.proofs.BitLemmas.{may_try, bit_tried}
+use Rattle.send_recv.proofs.Looks.BitLemmas.{may_try, bit_tried}
 use Rattle.send_recv.proofs.flags.change_bit.Goals as goal
 
 pub try_change_bit-requires-clause-permitted : goal.try_change_bit-requires-clause-permitted

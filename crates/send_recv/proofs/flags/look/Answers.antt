@@ -1,6 +1,6 @@
 use Rattle.std.proofs.Common.{◌∙◌, ap}
 use Rattle.sync_flags.specs.Flags.{is_set_in}
-use Rattle.send_recv.proofs.FlagLemmas.{look_read}
+use Rattle.send_recv.proofs.Looks.FlagLemmas.{look_read}
 use Rattle.send_recv.proofs.flags.look.Goals as goal
 
 pub returns-clause-looks : goal.returns-clause-looks

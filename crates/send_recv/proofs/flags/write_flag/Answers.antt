@@ -1,4 +1,4 @@
-use Rattle.send_recv.proofs.FlagLemmas.{flag_permitted, flag_written}
+use Rattle.send_recv.proofs.Looks.FlagLemmas.{flag_permitted, flag_written}
 use Rattle.send_recv.proofs.flags.write_flag.Goals as goal
 
 pub word_write_through-requires : goal.word_write_through-requires

@@ -3,7 +3,7 @@ use Rattle.scc_base.specs.Setups.{IsSetup, host_of}
 use Rattle.scc_base.specs.Events.{store_of}
 use Rattle.scc_base.specs.declared.events.Access.TheVariants.{Store}
 use Rattle.scc_proto.specs.Ports.{Seat}
-use Rattle.scc_proto.proofs.IdleLaws.{idle_may_store, idle_after_store}
+use Rattle.scc_proto.proofs.Runs.IdleLaws.{idle_may_store, idle_after_store}
 use Rattle.steps_program.specs.declared.accesses.Kind.TheVariants.{Stores}
 use Rattle.steps_program.specs.Steps.{step_of, step_at, home_core}
 use Rattle.steps_program.proofs.IdleLemmas.{no_step, step_more}

@@ -1,5 +1,5 @@
 use Rattle.std.proofs.Common.{◌∙◌, ap, sym}
-use Rattle.scc_proto.proofs.IdleLaws.{idle_at_start}
+use Rattle.scc_proto.proofs.Runs.IdleLaws.{idle_at_start}
 use Rattle.scc_mesh.specs.AwayRanks.{Ticket, Away}
 use Rattle.scc_mesh.specs.Scenes.{sight_away}
 use Rattle.steps_program.proofs.IdleLemmas.{away_made}

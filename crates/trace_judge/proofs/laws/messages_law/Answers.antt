@@ -1,5 +1,5 @@
-use Rattle.scc_proto.proofs.AgreementLaw.{agreement_of_lists}
-use Rattle.scc_proto.proofs.MessageLaw.{pair_messages}
+use Rattle.scc_proto.proofs.Agreement.AgreementLaw.{agreement_of_lists}
+use Rattle.scc_proto.proofs.Messages.MessageLaw.{pair_messages}
 use Rattle.scc_proto.specs.Histories.{records_of}
 use Rattle.scc_proto.specs.Stages.{blank}
 use Rattle.scc_proto.specs.Words.{zeros}

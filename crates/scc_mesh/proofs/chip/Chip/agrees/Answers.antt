@@ -1,5 +1,5 @@
-use Rattle.scc_proto.proofs.BarrierLaw.{barriers_entered}
-use Rattle.scc_proto.proofs.MessageLaw.{pair_messages}
+use Rattle.scc_proto.proofs.Barriers.BarrierLaw.{barriers_entered}
+use Rattle.scc_proto.proofs.Messages.MessageLaw.{pair_messages}
 use Rattle.scc_mesh.specs.Scenes.{about_in, records_in}
 use Rattle.scc_mesh.proofs.HomeLaws.{agrees_at_home, none_beyond}
 use Rattle.scc_mesh.proofs.chip.Chip.agrees.Goals as goal

@@ -1,7 +1,7 @@
 use Rattle.std.proofs.Common.{List, sym, subst}
 use Rattle.scc_base.specs.declared.events.Event.{Event}
 use Rattle.scc_proto.specs.Lone.{IsLone}
-use Rattle.scc_proto.proofs.LoneLaws.{lone_at_start}
+use Rattle.scc_proto.proofs.Runs.LoneLaws.{lone_at_start}
 use Rattle.scc_proto.proofs.lone.LonePort.new.Goals as goal
 
 pub invariant_of-result : goal.invariant_of-result

@@ -1,7 +1,7 @@
 use Rattle.std.proofs.Common.{subst, sym}
 use Rattle.scc_base.specs.Events.{free_of}
 use Rattle.scc_proto.specs.Ports.{Sight, MayMake, record_in}
-use Rattle.scc_proto.proofs.LoneLaws.{went_free}
+use Rattle.scc_proto.proofs.Runs.LoneLaws.{went_free}
 use Rattle.scc_proto.proofs.lone.LonePortPort.free.Goals as goal
 
 pub invariant_of-self : goal.invariant_of-self

@@ -3,7 +3,7 @@ use Rattle.scc_base.specs.Events.{load_of}
 use Rattle.scc_proto.specs.Words.{IsStep}
 use Rattle.scc_proto.specs.Lone.{memory_since, lone_sight}
 use Rattle.scc_proto.specs.Ports.{Sight, Did}
-use Rattle.scc_proto.proofs.LoneLaws.{went_load}
+use Rattle.scc_proto.proofs.Runs.LoneLaws.{went_load}
 use Rattle.scc_proto.proofs.lone.LonePortPort.load.Goals as goal
 
 pub invariant_of-self : goal.invariant_of-self

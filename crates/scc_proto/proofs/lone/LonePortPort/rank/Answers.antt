@@ -1,6 +1,6 @@
 use Rattle.std.proofs.Common.{subst}
 use Rattle.scc_proto.specs.Ports.{Sight, IsSoundPort}
-use Rattle.scc_proto.proofs.LoneLaws.{lone_is_sound}
+use Rattle.scc_proto.proofs.Runs.LoneLaws.{lone_is_sound}
 use Rattle.scc_proto.proofs.lone.LonePortPort.rank.Goals as goal
 
 pub returns-clause-sound : goal.returns-clause-sound

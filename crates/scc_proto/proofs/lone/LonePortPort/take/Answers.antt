@@ -3,7 +3,7 @@ use Rattle.scc_base.specs.Events.{take_of}
 use Rattle.scc_proto.specs.Words.{IsStep}
 use Rattle.scc_proto.specs.Lone.{memory_since}
 use Rattle.scc_proto.specs.Ports.{Sight, MayMake, record_in}
-use Rattle.scc_proto.proofs.LoneLaws.{went_take}
+use Rattle.scc_proto.proofs.Runs.LoneLaws.{went_take}
 use Rattle.scc_proto.proofs.lone.LonePortPort.take.Goals as goal
 
 pub invariant_of-self : goal.invariant_of-self

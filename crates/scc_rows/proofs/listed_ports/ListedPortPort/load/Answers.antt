@@ -1,7 +1,7 @@
 use Rattle.std.proofs.Common.{◌∙◌, ap, arith}
 use Rattle.scc_base.specs.declared.events.Event.{Event}
 use Rattle.scc_rows.specs.Quiet.{is_quiet}
-use Rattle.scc_proto.proofs.Roles.{le_yes}
+use Rattle.scc_proto.proofs.Layouts.Roles.{le_yes}
 use Rattle.scc_rows.proofs.QuietLemmas.{quiet_sound}
 use Rattle.scc_rows.proofs.listed_ports.ListedPortPort.load.Goals as goal
 

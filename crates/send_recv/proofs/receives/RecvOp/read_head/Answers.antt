@@ -5,7 +5,7 @@ use Rattle.send_recv.specs.declared.stages.RecvStage.TheVariants.{Lower}
 use Rattle.send_recv.specs.declared.answers.RecvTurn.TheVariants.{Mismatch}
 use Rattle.send_recv.specs.Ops.{RecvAt}
 use Rattle.send_recv.specs.Steps.{Same, Differs}
-use Rattle.send_recv.proofs.HeadTurn.{read_at, head_is_valid, same_head_is, same_head_not}
+use Rattle.send_recv.proofs.Receiving.HeadTurn.{read_at, head_is_valid, same_head_is, same_head_not}
 use Rattle.send_recv.proofs.receives.RecvOp.read_head.Goals as goal
 
 pub head_from-sent-requires : goal.head_from-sent-requires

@@ -6,9 +6,9 @@ use Rattle.send_recv.specs.Ranks.{receiving}
 use Rattle.send_recv.specs.Receiving.{IsAtStage}
 use Rattle.scc_proto.specs.Ports.{record_in}
 use Rattle.send_recv.specs.Stretches.{is_reading}
-use Rattle.send_recv.proofs.LookTurn.{Turns}
-use Rattle.send_recv.proofs.LinesMove.{lines_turn}
-use Rattle.send_recv.proofs.StretchLoop.{NoLineRead, read_on, read_rest, not_reading, to_read, reads_nearer}
+use Rattle.send_recv.proofs.Receiving.LookTurn.{Turns}
+use Rattle.send_recv.proofs.Receiving.LinesMove.{lines_turn}
+use Rattle.send_recv.proofs.Loops.StretchLoop.{NoLineRead, read_on, read_rest, not_reading, to_read, reads_nearer}
 use Rattle.send_recv.proofs.receives.RecvOp.read_lines.Goals as goal
 
 pub lines-init : goal.lines-init

@@ -10,19 +10,19 @@ use Rattle.send_recv.specs.Receiving.{RecvTurned, spot_by, recv_waits, extra_lin
 use Rattle.send_recv.specs.Steps.{own_core, core_of, goes_on}
 use Rattle.sync_flags.specs.Tries.{Aim, NoTry, tries_at}
 use Rattle.send_recv.specs.Tries.{aim_of, aim_at}
-use Rattle.send_recv.proofs.TryLemmas.{le_self}
+use Rattle.send_recv.proofs.Looks.TryLemmas.{le_self}
 use Rattle.send_recv.specs.Turns.{NoLoad}
 use Rattle.send_recv.specs.declared.stages.RecvStage.{RecvStage}
 use Rattle.send_recv.specs.declared.stages.RecvStage.TheVariants.{Finished}
 use Rattle.send_recv.specs.declared.answers.RecvTurn.{RecvTurn}
 use Rattle.send_recv.specs.declared.answers.RecvTurn.TheVariants.{Moved, Waiting, Done, Mismatch}
 use Rattle.send_recv.specs.Ranks.{receiving}
-use Rattle.send_recv.proofs.LookTurn.{Turns, recv_does, look_turn}
-use Rattle.send_recv.proofs.HeadTurn.{head_turn, post_itself}
-use Rattle.send_recv.proofs.LinesMove.{lines_turn}
-use Rattle.send_recv.proofs.FlagTurns.{may_lower_turn}
-use Rattle.send_recv.proofs.RaiseTurn.{may_raise_turn}
-use Rattle.send_recv.proofs.RecvTurns.{lower_turn, raise_turn}
+use Rattle.send_recv.proofs.Receiving.LookTurn.{Turns, recv_does, look_turn}
+use Rattle.send_recv.proofs.Receiving.HeadTurn.{head_turn, post_itself}
+use Rattle.send_recv.proofs.Receiving.LinesMove.{lines_turn}
+use Rattle.send_recv.proofs.Receiving.FlagTurns.{may_lower_turn}
+use Rattle.send_recv.proofs.Receiving.RaiseTurn.{may_raise_turn}
+use Rattle.send_recv.proofs.Receiving.RecvTurns.{lower_turn, raise_turn}
 use Rattle.scc_base.specs.Calls.{Recv}
 use Rattle.std.proofs.Common.{◌∷◌, ◌++◌, if◌then◌else◌, ◌-◌, ◌+◌, ◌*◌, ◌≤◌}
 use Rattle.send_recv.proofs.receives.RecvOp.turn.Goals as goal

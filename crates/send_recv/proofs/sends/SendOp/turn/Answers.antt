@@ -7,14 +7,14 @@ use Rattle.put_get.specs.Cores.{Private}
 use Rattle.send_recv.specs.Ops.{SendAt, SlotAt}
 use Rattle.send_recv.specs.Steps.{moves_on}
 use Rattle.send_recv.specs.Turns.{waits_at}
-use Rattle.send_recv.proofs.SendFacts.{SendTurns}
-use Rattle.send_recv.proofs.SendWrites.{header_turn}
-use Rattle.send_recv.proofs.SendLines.{may_write_line, line_turn, may_flush, flush_turn}
-use Rattle.send_recv.proofs.SendMoves.{may_raise_sent}
-use Rattle.send_recv.proofs.SendRaiseTurn.{raise_turn}
-use Rattle.send_recv.proofs.SendLooks.{look_turn}
-use Rattle.send_recv.proofs.SendLowers.{may_lower_turn, lower_turn}
-use Rattle.send_recv.proofs.SendEnds.{slot_turn, finished_turn}
+use Rattle.send_recv.proofs.Sending.SendFacts.{SendTurns}
+use Rattle.send_recv.proofs.Sending.SendWrites.{header_turn}
+use Rattle.send_recv.proofs.Sending.SendLines.{may_write_line, line_turn, may_flush, flush_turn}
+use Rattle.send_recv.proofs.Sending.SendMoves.{may_raise_sent}
+use Rattle.send_recv.proofs.Sending.SendRaiseTurn.{raise_turn}
+use Rattle.send_recv.proofs.Sending.SendLooks.{look_turn}
+use Rattle.send_recv.proofs.Sending.SendLowers.{may_lower_turn, lower_turn}
+use Rattle.send_recv.proofs.Sending.SendEnds.{slot_turn, finished_turn}
 use Rattle.send_recv.proofs.sends.SendOp.turn.Goals as goal
 
 -- a turn, where the op and the slot after it and the answer are known by equations

@@ -4,7 +4,7 @@ use Rattle.scc_proto.specs.Ports.{Sight}
 use Rattle.put_get.specs.Cores.{Private}
 use Rattle.send_recv.specs.Ops.{SlotAt}
 use Rattle.send_recv.specs.Steps.{moves_on}
-use Rattle.send_recv.proofs.SlotTurns.{SlotTurns, nothing_turn, may_lower_slot, slot_look_turn, slot_lower_turn}
+use Rattle.send_recv.proofs.Posts.SlotTurns.{SlotTurns, nothing_turn, may_lower_slot, slot_look_turn, slot_lower_turn}
 use Rattle.send_recv.proofs.slots.Slot.turn.Goals as goal
 
 -- a turn, where the slot after it and the answer are known by equations

@@ -1,0 +1,270 @@
+-- What an event at each of the layout's places is to the record of a seat: the move that it is, and that the
+-- record permits it where it permits the move.
+use Rattle.std.proofs.Common.{◌≡◌, ◌≢◌, ℕ, ◌+◌, ◌*◌, ◌^◌, ◌<◌, ◌≤◌, Bool, true, false, not, ◌&&◌, ◌==◌, Option, Some, None, is_some, is_none, refl, sym, ◌∙◌, ap, subst}
+use Rattle.std.specs.Int.{bit_at}
+use Rattle.scc_base.specs.Places.{WordAt, flag_word}
+use Rattle.scc_base.specs.Layouts.{sent_at, ready_at, gather_at, release_at, first_chunk, first_heap, chunk_lines}
+use Rattle.scc_base.specs.Setups.{IsSetup, host_of, place_of}
+use Rattle.scc_base.specs.Events.{load_of, store_of, take_of, free_of}
+use Rattle.scc_base.specs.declared.layouts.Layout.{Layout}
+use Rattle.scc_base.specs.declared.layouts.Layout.TheVariants.{LineFlags, BitFlags}
+use Rattle.scc_base.specs.declared.events.Event.{Event}
+use Rattle.scc_proto.specs.Tables.{put}
+use Rattle.scc_proto.specs.Stages.{Record}
+use Rattle.scc_proto.specs.Moves.{Move, DraftHeader, DraftChunk, RaiseSent, LookSent, ReadHeader, ReadChunk, LowerSent, RaiseReady, LookReady, LowerReady, FlipGather, LookGather, WriteRelease, LookRelease, StoreHeap, NoMove, Misplaced, after}
+use Rattle.scc_proto.specs.Permission.{permits}
+use Rattle.scc_proto.specs.Words.{Role, HeaderWord, ChunkWord, SentFlag, ReadyFlag, SentFlags, ReadyFlags, GatherFlag, ReleaseFlag, HeapWord, IdleWord, role_of, are_peers, is_present}
+use Rattle.scc_proto.specs.Records.{Act, Moving, NotingSent, NotingReady, act_of, load_act, store_act, store_by, look_at, look_at_bits, last_of, leads, move_at, change_at, raises_bit, chunk_of, sent_noted, ready_noted, note_sent, note_ready, forget_sent, forget_ready, change_held, after_act, permits_act}
+use Rattle.scc_proto.specs.Ports.{Seat, record_next, MayMake}
+use Rattle.scc_proto.proofs.Tests.{eqb_same, eqb_other, peers_are, peers_swap}
+use Rattle.scc_proto.proofs.Words.FlagBits.{raises_from, lowers_from, lowered_below-from}
+use Rattle.scc_proto.proofs.Layouts.Roles.{if_yes, if_no, own_word, sent_role, ready_role, role_header, role_sent, role_ready, role_sent_bits, role_ready_bits, role_gather, role_release, role_chunk_line, role_heap}
+
+and_false : (b : Bool) → (b && false) ≡ false
+and_false true = refl
+and_false false = refl
+
+-- the record permits an event of the seat next, and is this one after it
+pub record Makes (seat : Seat) (rec : Record) (e : Event) (late : Record) : Type 0 where
+  pub may : MayMake seat rec e
+  pub becomes : record_next seat rec e ≡ late
+
+-- a load at a place of this use
+pub load_makes : (seat : Seat) (rec : Record) (place : WordAt) (value : ℕ) (role : Role) → role_of seat.setup place ≡ role
+    → Makes seat rec (load_of place value) (after_act (chunk_of seat.setup) (load_act seat.setup seat.rank rec place value role) rec)
+unfolding record_next act_of
+load_makes seat rec place value role is = record { may = refl; becomes = ap (λ (r : Role). after_act (chunk_of seat.setup) (load_act seat.setup seat.rank rec place value r) rec) is }
+
+-- a store at a place of this use
+pub store_makes : (seat : Seat) (rec : Record) (place : WordAt) (value : ℕ) (role : Role) → role_of seat.setup place ≡ role
+    → permits_act (chunk_of seat.setup) (store_act seat.setup seat.rank rec place value role) rec ≡ true
+    → Makes seat rec (store_of place value) (after_act (chunk_of seat.setup) (store_act seat.setup seat.rank rec place value role) rec)
+unfolding record_next act_of
+store_makes seat rec place value role is may =
+    let permitted : permits_act (chunk_of seat.setup) (store_act seat.setup seat.rank rec place value (role_of seat.setup place)) rec ≡ true
+    = ap (λ (r : Role). permits_act (chunk_of seat.setup) (store_act seat.setup seat.rank rec place value r) rec) is ∙ may in
+    record {
+      may = permitted;
+      becomes = if_yes _ _ rec permitted ∙ ap (λ (r : Role). after_act (chunk_of seat.setup) (store_act seat.setup seat.rank rec place value r) rec) is;
+    }
+
+-- a store that is this move by the use of its place
+pub store_moves : (seat : Seat) (rec : Record) (place : WordAt) (value : ℕ) (role : Role) (move : Move) → role_of seat.setup place ≡ role
+    → store_act seat.setup seat.rank rec place value role ≡ Moving move → permits (chunk_of seat.setup) move rec ≡ true
+    → Makes seat rec (store_of place value) (after (chunk_of seat.setup) move rec)
+store_moves seat rec place value role move is act may =
+    subst (λ (a : Act). Makes seat rec (store_of place value) (after_act (chunk_of seat.setup) a rec)) act
+    (store_makes seat rec place value role is (ap (λ (a : Act). permits_act (chunk_of seat.setup) a rec) act ∙ may))
+
+-- a load that is this move by the use of its place
+pub load_moves : (seat : Seat) (rec : Record) (place : WordAt) (value : ℕ) (role : Role) (move : Move) → role_of seat.setup place ≡ role
+    → load_act seat.setup seat.rank rec place value role ≡ Moving move
+    → Makes seat rec (load_of place value) (after (chunk_of seat.setup) move rec)
+load_moves seat rec place value role move is act =
+    subst (λ (a : Act). Makes seat rec (load_of place value) (after_act (chunk_of seat.setup) a rec)) act (load_makes seat rec place value role is)
+
+-- a load of an idle word, or of a heap word, tells nothing
+pub idle_loaded : (seat : Seat) (rec : Record) (place : WordAt) (value : ℕ) → role_of seat.setup place ≡ IdleWord → Makes seat rec (load_of place value) rec
+idle_loaded seat rec place value is = load_moves seat rec place value IdleWord NoMove is refl
+
+-- ---- in both layouts
+
+module _ (seat : Seat) (rec : Record) (valid : IsSetup seat.setup) where
+  pub header_loaded : (r k value : ℕ) → r < seat.setup.nue
+      → Makes seat rec (load_of (own_word seat.setup r 0 k) value) (after (chunk_of seat.setup) (ReadHeader r k value) rec)
+  header_loaded r k value lt = load_moves seat rec _ value (HeaderWord r k) (ReadHeader r k value) (role_header seat.setup valid r k lt) refl
+
+  -- word `word` of line `i` of the chunk buffer
+  pub chunk_loaded : (r i word value : ℕ) → r < seat.setup.nue → i < chunk_lines seat.setup.layout
+      → Makes seat rec (load_of (own_word seat.setup r (first_chunk seat.setup.layout + i) word) value) (after (chunk_of seat.setup) (ReadChunk r (4 * i + word) value) rec)
+  chunk_loaded r i word value lt low = load_moves seat rec _ value (ChunkWord r (4 * i + word)) (ReadChunk r (4 * i + word) value) (role_chunk_line seat.setup valid r i word lt low) refl
+
+  pub header_stored : (k value : ℕ) → seat.rank < seat.setup.nue → permits (chunk_of seat.setup) (DraftHeader k value) rec ≡ true
+      → Makes seat rec (store_of (own_word seat.setup seat.rank 0 k) value) (after (chunk_of seat.setup) (DraftHeader k value) rec)
+  header_stored k value lt = store_moves seat rec _ value (HeaderWord seat.rank k) (DraftHeader k value) (role_header seat.setup valid seat.rank k lt)
+      (ap (λ (m : Move). Moving m) (if_yes (seat.rank == seat.rank) (DraftHeader k value) Misplaced (eqb_same seat.rank)))
+
+  pub chunk_stored : (i word value : ℕ) → seat.rank < seat.setup.nue → i < chunk_lines seat.setup.layout → permits (chunk_of seat.setup) (DraftChunk (4 * i + word) value) rec ≡ true
+      → Makes seat rec (store_of (own_word seat.setup seat.rank (first_chunk seat.setup.layout + i) word) value) (after (chunk_of seat.setup) (DraftChunk (4 * i + word) value) rec)
+  chunk_stored i word value lt low = store_moves seat rec _ value (ChunkWord seat.rank (4 * i + word)) (DraftChunk (4 * i + word) value) (role_chunk_line seat.setup valid seat.rank i word lt low)
+      (ap (λ (m : Move). Moving m) (if_yes (seat.rank == seat.rank) (DraftChunk (4 * i + word) value) Misplaced (eqb_same seat.rank)))
+
+  pub heap_loaded : (r line word value : ℕ) → r < seat.setup.nue → first_heap ≤ line → Makes seat rec (load_of (own_word seat.setup r line word) value) rec
+  heap_loaded r line word value lt high = load_moves seat rec _ value HeapWord NoMove (role_heap seat.setup valid r line word lt high) refl
+
+  pub heap_stored : (r line word value : ℕ) → r < seat.setup.nue → first_heap ≤ line → permits (chunk_of seat.setup) (StoreHeap (own_word seat.setup r line word) value) rec ≡ true
+      → Makes seat rec (store_of (own_word seat.setup r line word) value) (after (chunk_of seat.setup) (StoreHeap (own_word seat.setup r line word) value) rec)
+  heap_stored r line word value lt high = store_moves seat rec _ value HeapWord (StoreHeap (own_word seat.setup r line word) value) (role_heap seat.setup valid r line word lt high) refl
+
+  -- a member's gather flag, by the root
+  pub gather_loaded : (comm r value : ℕ) → is_present seat.setup comm ≡ true → r < seat.setup.nue → leads seat.setup comm seat.rank r ≡ true
+      → Makes seat rec (load_of (flag_word (host_of seat.setup.hosts r) (gather_at seat.setup.layout comm)) value)
+      (after (chunk_of seat.setup) (LookGather comm r (place_of seat.setup comm r) value) rec)
+  gather_loaded comm r value present lt root = load_moves seat rec _ value (GatherFlag comm r) (LookGather comm r (place_of seat.setup comm r) value) (role_gather seat.setup valid comm r present lt)
+      (ap (λ (m : Move). Moving m) (if_yes (leads seat.setup comm seat.rank r) (LookGather comm r (place_of seat.setup comm r) value) NoMove root))
+
+  -- the own release flag, by a member that is not the root
+  pub release_loaded : (comm value : ℕ) → is_present seat.setup comm ≡ true → seat.rank < seat.setup.nue → leads seat.setup comm seat.rank seat.rank ≡ false
+      → Makes seat rec (load_of (flag_word (host_of seat.setup.hosts seat.rank) (release_at seat.setup.layout comm)) value)
+      (after (chunk_of seat.setup) (LookRelease comm value) rec)
+  release_loaded comm value present lt member = load_moves seat rec _ value (ReleaseFlag comm seat.rank) (LookRelease comm value) (role_release seat.setup valid comm seat.rank present lt)
+      (ap (λ (m : Move). Moving m) (if_yes ((seat.rank == seat.rank) && not (leads seat.setup comm seat.rank seat.rank)) (LookRelease comm value) NoMove
+      (λ i. eqb_same seat.rank i && not (member i))))
+
+  pub gather_stored : (comm value : ℕ) → is_present seat.setup comm ≡ true → seat.rank < seat.setup.nue
+      → permits (chunk_of seat.setup) (FlipGather comm value (last_of seat.setup comm seat.rank)) rec ≡ true
+      → Makes seat rec (store_of (flag_word (host_of seat.setup.hosts seat.rank) (gather_at seat.setup.layout comm)) value)
+      (after (chunk_of seat.setup) (FlipGather comm value (last_of seat.setup comm seat.rank)) rec)
+  gather_stored comm value present lt = store_moves seat rec _ value (GatherFlag comm seat.rank) (FlipGather comm value (last_of seat.setup comm seat.rank)) (role_gather seat.setup valid comm seat.rank present lt)
+      (ap (λ (m : Move). Moving m) (if_yes (seat.rank == seat.rank) (FlipGather comm value (last_of seat.setup comm seat.rank)) Misplaced (eqb_same seat.rank)))
+
+  pub release_stored : (comm r value : ℕ) → is_present seat.setup comm ≡ true → r < seat.setup.nue → leads seat.setup comm seat.rank r ≡ true
+      → permits (chunk_of seat.setup) (WriteRelease comm r (place_of seat.setup comm r) value (last_of seat.setup comm seat.rank)) rec ≡ true
+      → Makes seat rec (store_of (flag_word (host_of seat.setup.hosts r) (release_at seat.setup.layout comm)) value)
+      (after (chunk_of seat.setup) (WriteRelease comm r (place_of seat.setup comm r) value (last_of seat.setup comm seat.rank)) rec)
+  release_stored comm r value present lt root = store_moves seat rec _ value (ReleaseFlag comm r) (WriteRelease comm r (place_of seat.setup comm r) value (last_of seat.setup comm seat.rank)) (role_release seat.setup valid comm r present lt)
+      (ap (λ (m : Move). Moving m) (if_yes (leads seat.setup comm seat.rank r) (WriteRelease comm r (place_of seat.setup comm r) value (last_of seat.setup comm seat.rank)) Misplaced root))
+
+  -- ---- registers
+
+  pub register_taken : (core : ℕ) → rec.held core ≡ None
+      → Makes seat rec (take_of core true) (record rec { held = put rec.held core (Some (record { sent = None; ready = None })) })
+  unfolding record_next act_of
+  register_taken core free =
+      let may : is_none (rec.held core) ≡ true = ap is_none free in
+      record { may = may; becomes = if_yes (is_none (rec.held core)) _ rec may }
+
+  pub register_missed : (core : ℕ) → rec.held core ≡ None → Makes seat rec (take_of core false) rec
+  unfolding record_next act_of
+  register_missed core free =
+      let may : is_none (rec.held core) ≡ true = ap is_none free in
+      record { may = may; becomes = if_yes (is_none (rec.held core)) _ rec may }
+
+  pub register_freed : (core : ℕ) → is_some (rec.held core) ≡ true → Makes seat rec (free_of core) (record rec { held = put rec.held core None })
+  unfolding record_next act_of
+  register_freed core held = record { may = held; becomes = if_yes (is_some (rec.held core)) _ rec held }
+
+-- ---- line flags
+
+module _ (seat : Seat) (rec : Record) (valid : IsSetup seat.setup) (lines : seat.setup.layout ≡ LineFlags) where
+  sent_is : (from to : ℕ) → are_peers seat.setup from to ≡ true → role_of seat.setup (flag_word (host_of seat.setup.hosts to) (sent_at LineFlags from)) ≡ SentFlag from to
+  sent_is from to peers = subst (λ (layout : Layout). role_of seat.setup (flag_word (host_of seat.setup.hosts to) (sent_at layout from)) ≡ sent_role layout from to) lines (role_sent seat.setup valid from to peers)
+
+  ready_is : (from to : ℕ) → are_peers seat.setup from to ≡ true → role_of seat.setup (flag_word (host_of seat.setup.hosts from) (ready_at LineFlags to)) ≡ ReadyFlag from to
+  ready_is from to peers = subst (λ (layout : Layout). role_of seat.setup (flag_word (host_of seat.setup.hosts from) (ready_at layout to)) ≡ ready_role layout from to) lines (role_ready seat.setup valid from to peers)
+
+  -- the flag of the messages from rank j, at the own core
+  pub sent_loaded : (j value : ℕ) → are_peers seat.setup seat.rank j ≡ true
+      → Makes seat rec (load_of (flag_word (host_of seat.setup.hosts seat.rank) (sent_at LineFlags j)) value) (after (chunk_of seat.setup) (LookSent (look_at j value)) rec)
+  sent_loaded j value peers = load_moves seat rec _ value (SentFlag j seat.rank) (LookSent (look_at j value)) (sent_is j seat.rank (peers_swap seat.setup seat.rank j peers))
+      (ap (λ (m : Move). Moving m) (if_yes (seat.rank == seat.rank) (LookSent (look_at j value)) NoMove (eqb_same seat.rank)))
+
+  pub ready_loaded : (j value : ℕ) → are_peers seat.setup seat.rank j ≡ true
+      → Makes seat rec (load_of (flag_word (host_of seat.setup.hosts seat.rank) (ready_at LineFlags j)) value) (after (chunk_of seat.setup) (LookReady (look_at j value)) rec)
+  ready_loaded j value peers = load_moves seat rec _ value (ReadyFlag seat.rank j) (LookReady (look_at j value)) (ready_is seat.rank j peers)
+      (ap (λ (m : Move). Moving m) (if_yes (seat.rank == seat.rank) (LookReady (look_at j value)) NoMove (eqb_same seat.rank)))
+
+  -- at the core of the receiver
+  pub sent_raised : (to : ℕ) → are_peers seat.setup seat.rank to ≡ true → permits (chunk_of seat.setup) (RaiseSent to) rec ≡ true
+      → Makes seat rec (store_of (flag_word (host_of seat.setup.hosts to) (sent_at LineFlags seat.rank)) 1) (after (chunk_of seat.setup) (RaiseSent to) rec)
+  sent_raised to peers = store_moves seat rec _ 1 (SentFlag seat.rank to) (RaiseSent to) (sent_is seat.rank to peers)
+      (ap (λ (m : Move). Moving m) (if_yes ((seat.rank == seat.rank) && true) (RaiseSent to) _ (λ i. eqb_same seat.rank i && true)))
+
+  pub sent_lowered : (from : ℕ) → are_peers seat.setup seat.rank from ≡ true → permits (chunk_of seat.setup) (LowerSent from) rec ≡ true
+      → Makes seat rec (store_of (flag_word (host_of seat.setup.hosts seat.rank) (sent_at LineFlags from)) 0) (after (chunk_of seat.setup) (LowerSent from) rec)
+  sent_lowered from peers = let p = peers_are seat.setup seat.rank from peers in
+      store_moves seat rec _ 0 (SentFlag from seat.rank) (LowerSent from) (sent_is from seat.rank (peers_swap seat.setup seat.rank from peers))
+      (ap (λ (m : Move). Moving m) (if_no ((from == seat.rank) && false) (RaiseSent seat.rank) _ (and_false (from == seat.rank))
+      ∙ if_yes ((seat.rank == seat.rank) && true) (LowerSent from) Misplaced (λ i. eqb_same seat.rank i && true)))
+
+  pub ready_raised : (to : ℕ) → are_peers seat.setup seat.rank to ≡ true → permits (chunk_of seat.setup) (RaiseReady to) rec ≡ true
+      → Makes seat rec (store_of (flag_word (host_of seat.setup.hosts to) (ready_at LineFlags seat.rank)) 1) (after (chunk_of seat.setup) (RaiseReady to) rec)
+  ready_raised to peers = store_moves seat rec _ 1 (ReadyFlag to seat.rank) (RaiseReady to) (ready_is to seat.rank (peers_swap seat.setup seat.rank to peers))
+      (ap (λ (m : Move). Moving m) (if_yes ((seat.rank == seat.rank) && true) (RaiseReady to) _ (λ i. eqb_same seat.rank i && true)))
+
+  pub ready_lowered : (by : ℕ) → are_peers seat.setup seat.rank by ≡ true → permits (chunk_of seat.setup) (LowerReady by) rec ≡ true
+      → Makes seat rec (store_of (flag_word (host_of seat.setup.hosts seat.rank) (ready_at LineFlags by)) 0) (after (chunk_of seat.setup) (LowerReady by) rec)
+  ready_lowered by peers = store_moves seat rec _ 0 (ReadyFlag seat.rank by) (LowerReady by) (ready_is seat.rank by peers)
+      (ap (λ (m : Move). Moving m) (if_no ((by == seat.rank) && false) (RaiseReady seat.rank) _ (and_false (by == seat.rank))
+      ∙ if_yes ((seat.rank == seat.rank) && true) (LowerReady by) Misplaced (λ i. eqb_same seat.rank i && true)))
+
+-- ---- bit flags
+
+module _ (seat : Seat) (rec : Record) (valid : IsSetup seat.setup) (bits : seat.setup.layout ≡ BitFlags) where
+  -- a look at all flags at the own core, which is not made under its register
+  pub sent_bits_loaded : (value : ℕ) → seat.rank < seat.setup.nue → rec.held (host_of seat.setup.hosts seat.rank) ≡ None
+      → Makes seat rec (load_of (own_word seat.setup seat.rank 1 0) value) (after (chunk_of seat.setup) (LookSent (look_at_bits seat.setup seat.rank value)) rec)
+  sent_bits_loaded value lt free = load_moves seat rec _ value (SentFlags seat.rank) (LookSent (look_at_bits seat.setup seat.rank value)) (role_sent_bits seat.setup valid bits seat.rank lt)
+      (if_no (is_some (rec.held (host_of seat.setup.hosts seat.rank))) _ _ (ap is_some free)
+      ∙ ap (λ (m : Move). Moving m) (if_yes (seat.rank == seat.rank) (LookSent (look_at_bits seat.setup seat.rank value)) NoMove (eqb_same seat.rank)))
+
+  pub ready_bits_loaded : (value : ℕ) → seat.rank < seat.setup.nue → rec.held (host_of seat.setup.hosts seat.rank) ≡ None
+      → Makes seat rec (load_of (own_word seat.setup seat.rank 1 1) value) (after (chunk_of seat.setup) (LookReady (look_at_bits seat.setup seat.rank value)) rec)
+  ready_bits_loaded value lt free = load_moves seat rec _ value (ReadyFlags seat.rank) (LookReady (look_at_bits seat.setup seat.rank value)) (role_ready_bits seat.setup valid bits seat.rank lt)
+      (if_no (is_some (rec.held (host_of seat.setup.hosts seat.rank))) _ _ (ap is_some free)
+      ∙ ap (λ (m : Move). Moving m) (if_yes (seat.rank == seat.rank) (LookReady (look_at_bits seat.setup seat.rank value)) NoMove (eqb_same seat.rank)))
+
+  -- a load under the register of the word's core
+  pub sent_bits_noted : (r value : ℕ) → r < seat.setup.nue → is_some (rec.held (host_of seat.setup.hosts r)) ≡ true
+      → Makes seat rec (load_of (own_word seat.setup r 1 0) value) (change_held (note_sent value) (host_of seat.setup.hosts r) rec)
+  sent_bits_noted r value lt held = let act = if_yes (is_some (rec.held (host_of seat.setup.hosts r))) (NotingSent (host_of seat.setup.hosts r) value) _ held in
+      subst (λ (a : Act). Makes seat rec (load_of (own_word seat.setup r 1 0) value) (after_act (chunk_of seat.setup) a rec)) act
+      (load_makes seat rec (own_word seat.setup r 1 0) value (SentFlags r) (role_sent_bits seat.setup valid bits r lt))
+
+  pub ready_bits_noted : (r value : ℕ) → r < seat.setup.nue → is_some (rec.held (host_of seat.setup.hosts r)) ≡ true
+      → Makes seat rec (load_of (own_word seat.setup r 1 1) value) (change_held (note_ready value) (host_of seat.setup.hosts r) rec)
+  ready_bits_noted r value lt held = let act = if_yes (is_some (rec.held (host_of seat.setup.hosts r))) (NotingReady (host_of seat.setup.hosts r) value) _ held in
+      subst (λ (a : Act). Makes seat rec (load_of (own_word seat.setup r 1 1) value) (after_act (chunk_of seat.setup) a rec)) act
+      (load_makes seat rec (own_word seat.setup r 1 1) value (ReadyFlags r) (role_ready_bits seat.setup valid bits r lt))
+
+  -- a store of a flag word that is this move
+  sent_changed : (r value : ℕ) (move : Move) → r < seat.setup.nue → store_by seat.setup seat.rank rec (own_word seat.setup r 1 0) value (SentFlags r) ≡ move
+      → permits (chunk_of seat.setup) move rec ≡ true
+      → Makes seat rec (store_of (own_word seat.setup r 1 0) value) (change_held forget_sent (host_of seat.setup.hosts r) (after (chunk_of seat.setup) move rec))
+  sent_changed r value move lt is may =
+      subst (λ (m : Move). Makes seat rec (store_of (own_word seat.setup r 1 0) value) (change_held forget_sent (host_of seat.setup.hosts r) (after (chunk_of seat.setup) m rec))) is
+      (store_makes seat rec (own_word seat.setup r 1 0) value (SentFlags r) (role_sent_bits seat.setup valid bits r lt) (ap (λ (m : Move). permits (chunk_of seat.setup) m rec) is ∙ may))
+
+  ready_changed : (r value : ℕ) (move : Move) → r < seat.setup.nue → store_by seat.setup seat.rank rec (own_word seat.setup r 1 1) value (ReadyFlags r) ≡ move
+      → permits (chunk_of seat.setup) move rec ≡ true
+      → Makes seat rec (store_of (own_word seat.setup r 1 1) value) (change_held forget_ready (host_of seat.setup.hosts r) (after (chunk_of seat.setup) move rec))
+  ready_changed r value move lt is may =
+      subst (λ (m : Move). Makes seat rec (store_of (own_word seat.setup r 1 1) value) (change_held forget_ready (host_of seat.setup.hosts r) (after (chunk_of seat.setup) m rec))) is
+      (store_makes seat rec (own_word seat.setup r 1 1) value (ReadyFlags r) (role_ready_bits seat.setup valid bits r lt) (ap (λ (m : Move). permits (chunk_of seat.setup) m rec) is ∙ may))
+
+  raised_is : (lower raise : ℕ → Move) (r old : ℕ) (o : Option ℕ) → o ≡ Some old → seat.rank ≢ r → bit_at old seat.rank ≡ 0 → change_at lower raise seat.setup seat.rank r (old + 2 ^ seat.rank) o ≡ raise r
+  raised_is lower raise r old o is other clear = ap (λ (x : Option ℕ). change_at lower raise seat.setup seat.rank r (old + 2 ^ seat.rank) x) is
+      ∙ if_no (r == seat.rank) _ _ (eqb_other r seat.rank (λ e. other (sym e))) ∙ if_yes (raises_bit seat.rank old (old + 2 ^ seat.rank)) (raise r) Misplaced (raises_from seat.rank old clear)
+
+  lowered_is : (lower raise : ℕ → Move) (j old new : ℕ) (o : Option ℕ) → o ≡ Some old → are_peers seat.setup seat.rank j ≡ true → bit_at old j ≡ 1 → old ≡ new + 2 ^ j
+      → change_at lower raise seat.setup seat.rank seat.rank new o ≡ lower j
+  lowered_is lower raise j old new o is peers set sum = let p = peers_are seat.setup seat.rank j peers in
+      ap (λ (x : Option ℕ). change_at lower raise seat.setup seat.rank seat.rank new x) is
+      ∙ if_yes (seat.rank == seat.rank) _ _ (eqb_same seat.rank)
+      ∙ ap (λ (x : Option ℕ). move_at lower x) (lowered_below-from seat.rank old new seat.setup.nue j p.other (λ e. p.apart (sym e)) (lowers_from j old new set sum))
+
+  -- the own bit is raised in the noted word of another core
+  pub sent_bit_raised : (to old : ℕ) → are_peers seat.setup seat.rank to ≡ true → sent_noted rec (host_of seat.setup.hosts to) ≡ Some old → bit_at old seat.rank ≡ 0
+      → permits (chunk_of seat.setup) (RaiseSent to) rec ≡ true
+      → Makes seat rec (store_of (own_word seat.setup to 1 0) (old + 2 ^ seat.rank)) (change_held forget_sent (host_of seat.setup.hosts to) (after (chunk_of seat.setup) (RaiseSent to) rec))
+  sent_bit_raised to old peers is clear = let p = peers_are seat.setup seat.rank to peers in
+      sent_changed to (old + 2 ^ seat.rank) (RaiseSent to) p.other (raised_is LowerSent RaiseSent to old (sent_noted rec (host_of seat.setup.hosts to)) is p.apart clear)
+
+  pub ready_bit_raised : (to old : ℕ) → are_peers seat.setup seat.rank to ≡ true → ready_noted rec (host_of seat.setup.hosts to) ≡ Some old → bit_at old seat.rank ≡ 0
+      → permits (chunk_of seat.setup) (RaiseReady to) rec ≡ true
+      → Makes seat rec (store_of (own_word seat.setup to 1 1) (old + 2 ^ seat.rank)) (change_held forget_ready (host_of seat.setup.hosts to) (after (chunk_of seat.setup) (RaiseReady to) rec))
+  ready_bit_raised to old peers is clear = let p = peers_are seat.setup seat.rank to peers in
+      ready_changed to (old + 2 ^ seat.rank) (RaiseReady to) p.other (raised_is LowerReady RaiseReady to old (ready_noted rec (host_of seat.setup.hosts to)) is p.apart clear)
+
+  -- the bit of another rank is lowered in the noted word of the own core
+  pub sent_bit_lowered : (from old new : ℕ) → are_peers seat.setup seat.rank from ≡ true → sent_noted rec (host_of seat.setup.hosts seat.rank) ≡ Some old → bit_at old from ≡ 1 → old ≡ new + 2 ^ from
+      → permits (chunk_of seat.setup) (LowerSent from) rec ≡ true
+      → Makes seat rec (store_of (own_word seat.setup seat.rank 1 0) new) (change_held forget_sent (host_of seat.setup.hosts seat.rank) (after (chunk_of seat.setup) (LowerSent from) rec))
+  sent_bit_lowered from old new peers is set sum = let p = peers_are seat.setup seat.rank from peers in
+      sent_changed seat.rank new (LowerSent from) p.one (lowered_is LowerSent RaiseSent from old new (sent_noted rec (host_of seat.setup.hosts seat.rank)) is peers set sum)
+
+  pub ready_bit_lowered : (by old new : ℕ) → are_peers seat.setup seat.rank by ≡ true → ready_noted rec (host_of seat.setup.hosts seat.rank) ≡ Some old → bit_at old by ≡ 1 → old ≡ new + 2 ^ by
+      → permits (chunk_of seat.setup) (LowerReady by) rec ≡ true
+      → Makes seat rec (store_of (own_word seat.setup seat.rank 1 1) new) (change_held forget_ready (host_of seat.setup.hosts seat.rank) (after (chunk_of seat.setup) (LowerReady by) rec))
+  ready_bit_lowered by old new peers is set sum = let p = peers_are seat.setup seat.rank by peers in
+      ready_changed seat.rank new (LowerReady by) p.one (lowered_is LowerReady RaiseReady by old new (ready_noted rec (host_of seat.setup.hosts seat.rank)) is peers set sum)

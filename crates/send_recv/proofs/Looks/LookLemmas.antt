@@ -1,0 +1,170 @@
+-- What a look at a flag of the own core is to the record and to the cache, in both layouts.
+use Rattle.std.proofs.Common.{◌≡◌, ◌≢◌, ℕ, ◌+◌, ◌<◌, ◌≤◌, Bool, true, false, ◌==◌, ◌&&◌, List, [], ◌∷◌, Option, Some, None, option_map, refl, sym, ◌∙◌, ap, subst, arith, slice_index}
+use Rattle.scc_base.specs.Places.{line_of_word, flag_word}
+use Rattle.scc_base.specs.Layouts.{sent_at, ready_at, first_gather}
+use Rattle.scc_base.specs.Setups.{IsSetup}
+use Rattle.scc_base.specs.Events.{load_of}
+use Rattle.scc_base.specs.declared.events.Event.{Event}
+use Rattle.scc_base.specs.declared.layouts.Layout.{Layout}
+use Rattle.scc_base.specs.declared.layouts.Layout.TheVariants.{LineFlags, BitFlags}
+use Rattle.scc_proto.specs.Stages.{Filling, Raised, Answered, Stage, Idle, Drafting, Sending, Between, Taking, Barrier, OnItsWay, Record}
+use Rattle.scc_proto.specs.Moves.{LookSent, LookReady, look_ready, post_answered, after}
+use Rattle.scc_proto.specs.Words.{are_peers}
+use Rattle.scc_proto.specs.Records.{look_at, look_at_bits, chunk_of}
+use Rattle.scc_proto.specs.Ports.{Seat, Sight, Did, record_in, record_next, record_on}
+use Rattle.scc_proto.proofs.PortLaws.{record_did}
+use Rattle.scc_proto.proofs.Tests.{eqb_same, peers_are}
+use Rattle.scc_proto.proofs.Layouts.Roles.{own_word, role_spare_line, role_spare_bits}
+use Rattle.scc_proto.proofs.Layouts.PlaceMoves.{idle_loaded, sent_loaded, ready_loaded, sent_bits_loaded, ready_bits_loaded}
+use Rattle.put_get.specs.Accesses.{loads_of}
+use Rattle.put_get.specs.Cores.{Private}
+use Rattle.send_recv.specs.Flags.{is_set, Looks}
+use Rattle.send_recv.specs.Turns.{HoldsNoneBy, HoldsNone}
+use Rattle.send_recv.specs.Steps.{own_core, line_at}
+
+-- the record after four events
+pub on_four : (seat : Seat) (a b c d last : Record) (e0 e1 e2 e3 : Event) → record_next seat a e0 ≡ b → record_next seat b e1 ≡ c → record_next seat c e2 ≡ d → record_next seat d e3 ≡ last
+    → record_on seat a (e0 ∷ e1 ∷ e2 ∷ e3 ∷ []) ≡ last
+on_four seat a b c d last e0 e1 e2 e3 p q r t =
+    ap (λ (x : Record). record_next seat (record_next seat (record_next seat x e1) e2) e3) p
+    ∙ ap (λ (x : Record). record_next seat (record_next seat x e2) e3) q
+    ∙ ap (λ (x : Record). record_next seat x e3) r ∙ t
+
+-- a record was looked with: some `sent` flags were seen, and some `ready` flags
+pub record IsLooked (size : ℕ) (rec new : Record) : Type 0 where
+  pub sent : ℕ → Bool
+  pub ready : ℕ → Bool
+  pub is : new ≡ after size (LookReady ready) (after size (LookSent sent) rec)
+
+-- no flag was seen
+abbrev pub none_set : ℕ → Bool
+none_set = λ j. false
+
+seen_none : (stage : Stage) → look_ready none_set stage ≡ stage
+seen_none Idle = refl
+seen_none (Drafting header chunk) = refl
+seen_none (Sending to Filling message chunk) = refl
+seen_none (Sending to Raised message chunk) = refl
+seen_none (Sending to Answered message chunk) = refl
+seen_none (Between from message) = refl
+seen_none (Taking from message chunk) = refl
+seen_none (Barrier comm seen released) = refl
+
+answered_none : (post : Option OnItsWay) → option_map (post_answered none_set) post ≡ post
+answered_none None = refl
+answered_none (Some post) = refl
+
+-- a look at `sent` flags alone, and one at `ready` flags alone
+looked_sent_alone : (size : ℕ) (rec : Record) (p : ℕ → Bool) → after size (LookSent p) rec ≡ after size (LookReady none_set) (after size (LookSent p) rec)
+looked_sent_alone size rec p = λ i. record (after size (LookSent p) rec) { stage = sym (seen_none rec.stage) i; post = sym (answered_none rec.post) i }
+
+-- ---- line flags
+
+-- the line of a flag that fills one: its other words are idle
+four_of_line : (seat : Seat) (rec last : Record) (line : ℕ) (words : List ℕ) → IsSetup seat.setup → seat.setup.layout ≡ LineFlags → seat.rank < seat.setup.nue → 1 ≤ line → line < 97
+    → record_next seat rec (load_of (own_word seat.setup seat.rank line 0) (slice_index words 0)) ≡ last
+    → record_on seat rec (loads_of (line_at seat seat.rank line) words) ≡ last
+four_of_line seat rec last line words valid lines below low high first =
+    let high2 : line < first_gather seat.setup.layout = subst (λ (l : Layout). line < first_gather l) (sym lines) high in
+    let idle : (word : ℕ) → word ≢ 0 → record_next seat last (load_of (own_word seat.setup seat.rank line word) (slice_index words word)) ≡ last
+    = λ word other. (idle_loaded seat last (own_word seat.setup seat.rank line word) (slice_index words word) (role_spare_line seat.setup valid lines seat.rank line word below low high2 other)).becomes in
+    on_four seat rec last last last last _ _ _ _ first (idle 1 (omega arith)) (idle 2 (omega arith)) (idle 3 (omega arith))
+
+sent_lines : (seat : Seat) (rec : Record) (j : ℕ) (words : List ℕ) → IsSetup seat.setup → seat.setup.layout ≡ LineFlags → are_peers seat.setup seat.rank j ≡ true
+    → record_on seat rec (loads_of (line_at seat seat.rank (1 + j)) words) ≡ after (chunk_of seat.setup) (LookSent (look_at j (slice_index words 0))) rec
+sent_lines seat rec j words valid lines peers =
+    let p = peers_are seat.setup seat.rank j peers in
+    let within = valid.ranks_within in
+    let other = p.other in
+    four_of_line seat rec _ (1 + j) words valid lines p.one (omega arith) (omega (arith, within, other)) (sent_loaded seat rec valid lines j (slice_index words 0) peers).becomes
+
+ready_lines : (seat : Seat) (rec : Record) (j : ℕ) (words : List ℕ) → IsSetup seat.setup → seat.setup.layout ≡ LineFlags → are_peers seat.setup seat.rank j ≡ true
+    → record_on seat rec (loads_of (line_at seat seat.rank (49 + j)) words) ≡ after (chunk_of seat.setup) (LookReady (look_at j (slice_index words 0))) rec
+ready_lines seat rec j words valid lines peers =
+    let p = peers_are seat.setup seat.rank j peers in
+    let within = valid.ranks_within in
+    let other = p.other in
+    four_of_line seat rec _ (49 + j) words valid lines p.one (omega arith) (omega (arith, within, other)) (ready_loaded seat rec valid lines j (slice_index words 0) peers).becomes
+
+-- ---- bit flags: the line has the flags of all ranks
+
+bits_line : (seat : Seat) (rec : Record) (words : List ℕ) → IsSetup seat.setup → seat.setup.layout ≡ BitFlags → seat.rank < seat.setup.nue → rec.held (own_core seat) ≡ None
+    → record_on seat rec (loads_of (line_at seat seat.rank 1) words)
+    ≡ after (chunk_of seat.setup) (LookReady (look_at_bits seat.setup seat.rank (slice_index words 1))) (after (chunk_of seat.setup) (LookSent (look_at_bits seat.setup seat.rank (slice_index words 0))) rec)
+bits_line seat rec words valid bits below free =
+    let a : Record = after (chunk_of seat.setup) (LookSent (look_at_bits seat.setup seat.rank (slice_index words 0))) rec in
+    let b : Record = after (chunk_of seat.setup) (LookReady (look_at_bits seat.setup seat.rank (slice_index words 1))) a in
+    on_four seat rec a b b b _ _ _ _
+    (sent_bits_loaded seat rec valid bits (slice_index words 0) below free).becomes
+    (ready_bits_loaded seat a valid bits (slice_index words 1) below free).becomes
+    (idle_loaded seat b (own_word seat.setup seat.rank 1 2) (slice_index words 2) (role_spare_bits seat.setup valid bits seat.rank 2 below (omega arith))).becomes
+    (idle_loaded seat b (own_word seat.setup seat.rank 1 3) (slice_index words 3) (role_spare_bits seat.setup valid bits seat.rank 3 below (omega arith))).becomes
+
+-- ---- in both layouts
+
+-- the look tells of rank j what was found
+pub record LooksAtSent (s t : Sight) (j : ℕ) (found : Bool) : Type 0 where
+  pub looked : IsLooked (chunk_of s.seat.setup) (record_in s) (record_in t)
+  pub tells : looked.sent j ≡ found
+
+pub record LooksAtReady (s t : Sight) (j : ℕ) (found : Bool) : Type 0 where
+  pub looked : IsLooked (chunk_of s.seat.setup) (record_in s) (record_in t)
+  pub tells : looked.ready j ≡ found
+
+at_itself : (j value : ℕ) → look_at j value j ≡ (value == 1)
+at_itself j value = ap (λ b. b && (value == 1)) (eqb_same j)
+
+sent_by : (layout : Layout) (s t : Sight) (j : ℕ) (words : List ℕ) → s.seat.setup.layout ≡ layout → IsSetup s.seat.setup → are_peers s.seat.setup s.seat.rank j ≡ true
+    → HoldsNoneBy layout (record_in s).held → Did s (loads_of (line_of_word (flag_word (own_core s.seat) (sent_at layout j))) words) t
+    → LooksAtSent s t j (is_set layout (sent_at layout j) (slice_index words (sent_at layout j).word))
+sent_by LineFlags s t j words lines valid peers hands did = record {
+  looked = record {
+    sent = look_at j (slice_index words 0);
+    ready = none_set;
+    is = record_did s _ t did ∙ sent_lines s.seat (record_in s) j words valid lines peers ∙ looked_sent_alone (chunk_of s.seat.setup) (record_in s) (look_at j (slice_index words 0));
+  };
+  tells = at_itself j (slice_index words 0);
+}
+sent_by BitFlags s t j words bits valid peers hands did =
+    let p = peers_are s.seat.setup s.seat.rank j peers in
+    record {
+      looked = record {
+        sent = look_at_bits s.seat.setup s.seat.rank (slice_index words 0);
+        ready = look_at_bits s.seat.setup s.seat.rank (slice_index words 1);
+        is = record_did s _ t did ∙ bits_line s.seat (record_in s) words valid bits p.one (hands (own_core s.seat));
+      };
+      tells = ap (λ b. b && (is_set BitFlags (sent_at BitFlags j) (slice_index words 0))) peers;
+    }
+
+ready_by : (layout : Layout) (s t : Sight) (j : ℕ) (words : List ℕ) → s.seat.setup.layout ≡ layout → IsSetup s.seat.setup → are_peers s.seat.setup s.seat.rank j ≡ true
+    → HoldsNoneBy layout (record_in s).held → Did s (loads_of (line_of_word (flag_word (own_core s.seat) (ready_at layout j))) words) t
+    → LooksAtReady s t j (is_set layout (ready_at layout j) (slice_index words (ready_at layout j).word))
+ready_by LineFlags s t j words lines valid peers hands did = record {
+  looked = record {
+    sent = none_set;
+    ready = look_at j (slice_index words 0);
+    is = record_did s _ t did ∙ ready_lines s.seat (record_in s) j words valid lines peers;
+  };
+  tells = at_itself j (slice_index words 0);
+}
+ready_by BitFlags s t j words bits valid peers hands did =
+    let p = peers_are s.seat.setup s.seat.rank j peers in
+    record {
+      looked = record {
+        sent = look_at_bits s.seat.setup s.seat.rank (slice_index words 0);
+        ready = look_at_bits s.seat.setup s.seat.rank (slice_index words 1);
+        is = record_did s _ t did ∙ bits_line s.seat (record_in s) words valid bits p.one (hands (own_core s.seat));
+      };
+      tells = ap (λ b. b && (is_set BitFlags (ready_at BitFlags j) (slice_index words 1))) peers;
+    }
+
+-- a look at the `sent` flag of the messages from rank j
+pub looks_at_sent : (s t : Sight) (c d : Private) (j : ℕ) (found : Bool) → IsSetup s.seat.setup → are_peers s.seat.setup s.seat.rank j ≡ true → HoldsNone s.seat.setup.layout (record_in s)
+    → Looks s c (own_core s.seat) (sent_at s.seat.setup.layout j) found t d → LooksAtSent s t j found
+looks_at_sent s t c d j found valid peers hands looks =
+    subst (λ b. LooksAtSent s t j b) (sym looks.is) (sent_by s.seat.setup.layout s t j looks.words refl valid peers hands looks.looks.did)
+
+pub looks_at_ready : (s t : Sight) (c d : Private) (j : ℕ) (found : Bool) → IsSetup s.seat.setup → are_peers s.seat.setup s.seat.rank j ≡ true → HoldsNone s.seat.setup.layout (record_in s)
+    → Looks s c (own_core s.seat) (ready_at s.seat.setup.layout j) found t d → LooksAtReady s t j found
+looks_at_ready s t c d j found valid peers hands looks =
+    subst (λ b. LooksAtReady s t j b) (sym looks.is) (ready_by s.seat.setup.layout s t j looks.words refl valid peers hands looks.looks.did)
