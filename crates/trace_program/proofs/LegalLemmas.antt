@@ -16,8 +16,8 @@ use Rattle.rcce_words.specs.ScriptWords.{plan_of}
 use Rattle.scc_proto.specs.Histories.{records_of}
 use Rattle.scc_proto.specs.Stages.{blank}
 use Rattle.scc_proto.specs.Words.{zeros}
-use Rattle.scc_proto.proofs.AgreementLaw.{agreement_of_lists}
-use Rattle.scc_proto.proofs.MessageLaw.{pair_messages}
+use Rattle.scc_proto.proofs.Agreement.AgreementLaw.{agreement_of_lists}
+use Rattle.scc_proto.proofs.Messages.MessageLaw.{pair_messages}
 use Rattle.trace_judge.specs.Judged.{Judged, new_judged}
 use Rattle.trace_judge.specs.Rulings.{RefusedAt, ruling_from}
 use Rattle.trace_judge.proofs.LegalLists.{legal_told}
