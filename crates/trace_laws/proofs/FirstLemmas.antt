@@ -1,5 +1,5 @@
 -- The first line of a trace is read back.
-use Rattle.std.proofs.Common.{◌≡◌, ℕ, zero, suc, ◌+◌, ◌-◌, ◌<◌, ◌≤◌, false, ◌==◌, List, [], ◌∷◌, ◌++◌, length, map, replicate, codes, decimal, Option, Some, option_map, Ok, refl, sym, ap, subst, ◌∙◌, append_assoc, arith}
+use Rattle.std.proofs.Common.{◌≡◌, ℕ, zero, suc, ◌+◌, ◌-◌, ◌<◌, ◌≤◌, false, ◌==◌, List, [], ◌∷◌, ◌++◌, length, map, replicate, codes, decimal, Option, Some, None, option_map, Ok, refl, sym, ap, subst, ◌∙◌, append_assoc, arith}
 use Rattle.std.specs.Prelude.{All, nat_lt}
 use Rattle.std.specs.Option.{ok_or}
 use Rattle.std.proofs.lemmas.Bool.{cond-false, cond-true, eq-eqb, le-ltb}
@@ -84,7 +84,7 @@ head_said_is s some most are apart =
 head_taken : (line : List ℕ) (words : List (List ℕ)) (head : TraceHead) → words_of line ≡ words → head_of_words words ≡ Some head → nat_lt most_line_bytes (length line) ≡ false → first_taken line ≡ Ok (behind_head head)
 head_taken line words head are said short =
     ap (λ (o : Option TraceHead). ok_or {E = TraceFault} (option_map behind_head o) (record { line = 1; kind = kind.BadHead }))
-      (cond-false (nat_lt most_line_bytes (length line)) None (head_of_words (words_of line)) short ∙ ap head_of_words are ∙ said)
+    (cond-false (nat_lt most_line_bytes (length line)) None (head_of_words (words_of line)) short ∙ ap head_of_words are ∙ said)
 
 pub first_told : (s : SetupView) → 1 ≤ s.nue → s.nue ≤ 48 → AreOnChip s s.nue → AreApart s.nue (cores_from s 0 s.nue) → length (head_body s) ≤ 255 → first_taken (head_body s) ≡ Ok (behind_head (head_read s))
 first_told s some most are apart short = head_taken (head_body s) (head_is s) (head_read s) (head_words_are s most are) (head_said_is s some most are apart) (le-ltb most_line_bytes (length (head_body s)) short)
