@@ -1,12 +1,14 @@
 //! The top call.
 
-ghost use Rattle.std.specs.Prelude.{◌≡◌, ◌<◌, ◌≤◌, length, map, string_bytes, None};
+ghost use Rattle.std.specs.Prelude.{◌≡◌, ◌<◌, ◌≤◌, ℕ, List, length, map, string_bytes, None};
 ghost use Rattle.outcomes.specs.Delivery.{sinks};
 ghost use Rattle.outcomes.specs.declared.status.Status.TheVariants.{Finished};
-ghost use Rattle.scc_mesh.specs.Scenes.{IsOpen};
+ghost use Rattle.scc_base.specs.Setups.{IsSetup};
+ghost use Rattle.scc_mesh.specs.Scenes.{IsOpen, about_in};
 ghost use Rattle.rcce_run.specs.UeRuns.{AreLegal};
 ghost use Rattle.trace_script.specs.Tracing.{TracesWords};
 ghost use Rattle.trace_program.specs.Legal.{NamesLegal};
+ghost use Rattle.trace_commands.specs.Again.{HasPrinted, TellsOfChip, WroteAll};
 ghost use Rattle.trace_commands.specs.Commands.{JudgesWords};
 
 use rcce_io::{Files, Sink};
@@ -40,12 +42,27 @@ pub fn rccetrace<F: Files, O: Sink, E: Sink>(
     // blank memory, each permitted when it is made; err and the status are those of the launcher's definition.
     ensures traces { 2 < length words.now → ∥ TracesWords (map string_bytes words.now) (F.seen files.old) (F.seen files.new) chip.new
         (sinks (O.seen out.old) (E.seen err.old)) (sinks (O.seen out.new) (E.seen err.new)) result ∥₁ }
+    // What was printed of a run is read again: the same program is expected to call it legal, with the calls of the chip, whichever
+    // words name a file that has this text. (Out had taken nothing before, and the text has no more lines than a trace may have.)
+    ensures again { 2 < length words.now → IsOpen chip.new → WroteAll result → (text : List ℕ)
+        → HasPrinted (O.seen out.old) (O.seen out.new) text → ∥ TellsOfChip chip.new text ∥₁ }
     // The legality theorem, whatever the status. (A blank chip has no calls.)
     ensures legal { IsOpen chip.new → AreLegal chip.new }
 {
     if words.len() <= 2 {
         TraceEnd::Ended(judge_trace(alloc, words, files, out, err))
     } else {
-        trace_script(alloc, words, files, out, err, chip)
+        let end = trace_script(alloc, words, files, out, err, chip);
+        see_setup(chip);
+        end
+    }
+}
+
+/// The setup of an open chip is one that a run may have.
+fn see_setup(chip: &Chip)
+    ensures valid { IsOpen chip.now → IsSetup (about_in chip.now) }
+{
+    if chip.is_open() {
+        let _ = chip.setup().nue();
     }
 }
