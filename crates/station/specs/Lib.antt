@@ -7,3 +7,4 @@ pub mod Worlds
 pub mod Steps
 pub mod Groups
 pub mod Reductions
+pub mod Texts

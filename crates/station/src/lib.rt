@@ -14,6 +14,7 @@ mod setups;
 mod stations;
 mod steps;
 mod stops;
+mod texts;
 
 pub use laws::{bcast_law, other_port_law};
 pub use setups::world_of;

@@ -1,4 +1,4 @@
-//! Why a call of a station stopped. Each of these prints itself.
+//! Why a call of a station stopped. Each of these prints itself (`texts`).
 
 ghost use Rattle.std.specs.Prelude.{◌≡◌};
 ghost use Rattle.station.specs.declared.stops.Stop.TheVariants.{Send, Recv, Barrier, Collective, Group, Flag, Range, Malloc};
@@ -10,7 +10,6 @@ use mpb_alloc::MallocFault;
 use put_get::RangeFault;
 use scc_base::{Head, Spot, Stalled};
 use send_recv::{RecvOp, SendOp};
-use std::fmt;
 
 /// A send or a post gave up: the last `polls` tries at this spot were vain. It can go on with the same bytes.
 #[derive(Drop)]
@@ -83,159 +82,6 @@ pub enum GroupStop {
         sent: Head,
         asked: Head,
     },
-}
-
-// Writes what stalled, where, and after how many tries.
-fn stalled<W: fmt::Write>(
-    f: &mut fmt::Formatter<W>,
-    what: &str,
-    spot: &Spot,
-    polls: u32,
-) -> fmt::Result {
-    match spot {
-        Spot::Flag { place, bit } => {
-            let core = place.core().number();
-            let line = place.line();
-            let word = place.word();
-            write!(
-                f,
-                "{what} stalled after {polls} tries at the flag of core {core}, line {line}, word {word}, bit {bit}"
-            )
-        }
-        Spot::Register { core } => {
-            let core = core.number();
-            write!(
-                f,
-                "{what} stalled after {polls} tries at the register of core {core}"
-            )
-        }
-    }
-}
-
-// Writes a head.
-fn message<W: fmt::Write>(f: &mut fmt::Formatter<W>, head: &Head) -> fmt::Result {
-    let kind = head.kind_text();
-    let comm = head.comm();
-    let len = head.len();
-    write!(f, "{kind} {comm} {len}")
-}
-
-impl fmt::Display for SendStall {
-    fn fmt<W: fmt::Write>(&self, f: &mut fmt::Formatter<W>) -> fmt::Result {
-        stalled(f, "a send", &self.spot, self.polls)
-    }
-}
-
-impl fmt::Debug for SendStall {
-    fn fmt<W: fmt::Write>(&self, f: &mut fmt::Formatter<W>) -> fmt::Result {
-        stalled(f, "a send", &self.spot, self.polls)
-    }
-}
-
-impl fmt::Display for RecvStall {
-    fn fmt<W: fmt::Write>(&self, f: &mut fmt::Formatter<W>) -> fmt::Result {
-        stalled(f, "a receive", &self.spot, self.polls)
-    }
-}
-
-impl fmt::Debug for RecvStall {
-    fn fmt<W: fmt::Write>(&self, f: &mut fmt::Formatter<W>) -> fmt::Result {
-        stalled(f, "a receive", &self.spot, self.polls)
-    }
-}
-
-impl fmt::Display for RecvStop {
-    fn fmt<W: fmt::Write>(&self, f: &mut fmt::Formatter<W>) -> fmt::Result {
-        match self {
-            RecvStop::Stalled(stall) => stalled(f, "a receive", &stall.spot, stall.polls),
-            RecvStop::Mismatch { sent, asked } => {
-                write!(f, "a receive met another message: sent ")?;
-                message(f, sent)?;
-                write!(f, ", asked ")?;
-                message(f, asked)
-            }
-        }
-    }
-}
-
-impl fmt::Debug for RecvStop {
-    fn fmt<W: fmt::Write>(&self, f: &mut fmt::Formatter<W>) -> fmt::Result {
-        fmt::Display::fmt(self, f)
-    }
-}
-
-impl fmt::Display for BarStall {
-    fn fmt<W: fmt::Write>(&self, f: &mut fmt::Formatter<W>) -> fmt::Result {
-        stalled(f, "a barrier", &self.spot, self.polls)
-    }
-}
-
-impl fmt::Debug for BarStall {
-    fn fmt<W: fmt::Write>(&self, f: &mut fmt::Formatter<W>) -> fmt::Result {
-        stalled(f, "a barrier", &self.spot, self.polls)
-    }
-}
-
-impl fmt::Display for CollStall {
-    fn fmt<W: fmt::Write>(&self, f: &mut fmt::Formatter<W>) -> fmt::Result {
-        stalled(f, "a collective call", &self.spot, self.polls)
-    }
-}
-
-impl fmt::Debug for CollStall {
-    fn fmt<W: fmt::Write>(&self, f: &mut fmt::Formatter<W>) -> fmt::Result {
-        fmt::Display::fmt(self, f)
-    }
-}
-
-impl fmt::Display for CollStop {
-    fn fmt<W: fmt::Write>(&self, f: &mut fmt::Formatter<W>) -> fmt::Result {
-        match self {
-            CollStop::Stalled(stall) => fmt::Display::fmt(stall, f),
-            CollStop::Mismatch { op: _, sent } => {
-                write!(f, "a collective call met another message: sent ")?;
-                message(f, sent)
-            }
-        }
-    }
-}
-
-impl fmt::Debug for CollStop {
-    fn fmt<W: fmt::Write>(&self, f: &mut fmt::Formatter<W>) -> fmt::Result {
-        fmt::Display::fmt(self, f)
-    }
-}
-
-impl fmt::Display for GroupStall {
-    fn fmt<W: fmt::Write>(&self, f: &mut fmt::Formatter<W>) -> fmt::Result {
-        stalled(f, "a collective call", &self.spot, self.polls)
-    }
-}
-
-impl fmt::Debug for GroupStall {
-    fn fmt<W: fmt::Write>(&self, f: &mut fmt::Formatter<W>) -> fmt::Result {
-        fmt::Display::fmt(self, f)
-    }
-}
-
-impl fmt::Display for GroupStop {
-    fn fmt<W: fmt::Write>(&self, f: &mut fmt::Formatter<W>) -> fmt::Result {
-        match self {
-            GroupStop::Stalled(stall) => fmt::Display::fmt(stall, f),
-            GroupStop::Mismatch { op: _, sent, asked } => {
-                write!(f, "a collective call met another message: sent ")?;
-                message(f, sent)?;
-                write!(f, ", asked ")?;
-                message(f, asked)
-            }
-        }
-    }
-}
-
-impl fmt::Debug for GroupStop {
-    fn fmt<W: fmt::Write>(&self, f: &mut fmt::Formatter<W>) -> fmt::Result {
-        fmt::Display::fmt(self, f)
-    }
 }
 
 /// Why a call of a station stopped, whichever call it was: for a caller's `?`.
@@ -320,26 +166,5 @@ impl From<MallocFault> for Stop {
 
     fn from(fault: MallocFault) -> Stop {
         Stop::Malloc(fault)
-    }
-}
-
-impl fmt::Display for Stop {
-    fn fmt<W: fmt::Write>(&self, f: &mut fmt::Formatter<W>) -> fmt::Result {
-        match self {
-            Stop::Send(stall) => fmt::Display::fmt(stall, f),
-            Stop::Recv(stop) => fmt::Display::fmt(stop, f),
-            Stop::Barrier(stall) => fmt::Display::fmt(stall, f),
-            Stop::Collective(stop) => fmt::Display::fmt(stop, f),
-            Stop::Group(stop) => fmt::Display::fmt(stop, f),
-            Stop::Flag(stall) => stalled(f, "a flag", &stall.spot, stall.polls),
-            Stop::Range(fault) => fmt::Display::fmt(fault, f),
-            Stop::Malloc(fault) => fmt::Display::fmt(fault, f),
-        }
-    }
-}
-
-impl fmt::Debug for Stop {
-    fn fmt<W: fmt::Write>(&self, f: &mut fmt::Formatter<W>) -> fmt::Result {
-        fmt::Display::fmt(self, f)
     }
 }
