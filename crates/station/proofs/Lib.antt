@@ -10,3 +10,4 @@ pub mod ReduceLemmas
 pub mod ToldLemmas
 pub mod BeginLemmas
 pub mod ArmLemmas
+pub mod TextLemmas
