@@ -206,10 +206,10 @@ call_told nue comms r (Bar comm) ranks below (within, stands) =
     ∙ cond-true (is_present (rule_of comms comm)) (Some (record { rank = r; call = Bar comm })) None (present_is (rule_of comms comm) stands)
 
 -- a call's line does not begin as one of a communicator
-abbrev BeginsLow : List ℕ → Type 0
+abbrev pub BeginsLow : List ℕ → Type 0
 BeginsLow text = (b : ℕ) × (rest : List ℕ) × (text ≡ b ∷ rest) × (b ≤ 57)
 
-decimal_low : (n : ℕ) → n < 2 ^ 64 → BeginsLow (decimal n)
+pub decimal_low : (n : ℕ) → n < 2 ^ 64 → BeginsLow (decimal n)
 decimal_low n small = decimal_by_steps (λ m ds. BeginsLow ds) (λ m low. (48 + m, [], refl, omega arith)) (λ m ds high begins. (begins.0, begins.1 ++ (48 + m % 10) ∷ [], ap (λ (t : List ℕ). t ++ (48 + m % 10) ∷ []) begins.2, begins.3)) n small
 
 not_comm : (text : List ℕ) → BeginsLow text → begins_comm text ≡ false

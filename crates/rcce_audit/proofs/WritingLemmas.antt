@@ -39,11 +39,11 @@ get_or-middle : {X : Type 0} (front : List X) (x : X) (back : List X) (d : X) �
 get_or-middle [] x back d = refl
 get_or-middle (y ∷ front) x back d = get_or-middle front x back d
 
-set-middle : {X : Type 0} (front : List X) (x y : X) (back : List X) → set (front ++ x ∷ back) (length front) y ≡ front ++ y ∷ back
+pub set-middle : {X : Type 0} (front : List X) (x y : X) (back : List X) → set (front ++ x ∷ back) (length front) y ≡ front ++ y ∷ back
 set-middle [] x y back = refl
 set-middle {X} (z ∷ front) x y back = ap (λ (l : List X). z ∷ l) (set-middle front x y back)
 
-get_or-front : {X : Type 0} (front back : List X) (k : ℕ) (d : X) → k < length front → get_or (front ++ back) k d ≡ get_or front k d
+pub get_or-front : {X : Type 0} (front back : List X) (k : ℕ) (d : X) → k < length front → get_or (front ++ back) k d ≡ get_or front k d
 get_or-front [] back k d below = absurd (omega arith)
 get_or-front (x ∷ front) back zero d below = refl
 get_or-front (x ∷ front) back (suc k) d below = let within : k < length front = omega arith in get_or-front front back k d within
@@ -95,7 +95,7 @@ lists_lead r front (l ∷ ls) n o ranks at ordered valid none =
     (rest.0, leads_append (at_lists r (front ++ [] ∷ replicate (length ls) []) o) (at_lists r (front ++ l ∷ replicate (length ls) []) first.0) (at_lists r (front ++ l ∷ ls) rest.0) (call_lines n l) (table_lines call_lines (n + 1) ls) first.2 joined)
 
 -- the line of a communicator says it
-split_told : (last : ℕ) (comms : List CommRule) (c p k : ℕ) (how : List ℕ) (rule : CommRule) → last < c → c < 16 → p < c → is_present (rule_of comms p) ≡ true → 1 ≤ k → k ≤ 48 → rule_named how p k ≡ Some rule
+pub split_told : (last : ℕ) (comms : List CommRule) (c p k : ℕ) (how : List ℕ) (rule : CommRule) → last < c → c < 16 → p < c → is_present (rule_of comms p) ≡ true → 1 ≤ k → k ≤ 48 → rule_named how p k ≡ Some rule
     → comm_said last comms (split_words c p how k) ≡ Some (record { comm = c; rule = rule })
 split_told last comms c p k how rule above below low stands some most named =
     ap (λ (o : Option ℕ). o >>= λ x. range_said 0 15 (decimal p) >>= λ y. range_said 1 48 (decimal k) >>= λ z. rule_named how y z >>= λ w. only_if (bytes_eq (codes "comm") (codes "comm") && is_present (rule_of comms y)) (record { comm = x; rule = w }))
@@ -128,7 +128,7 @@ split_leads r front back c p k how rule last none at above below low stands some
       refl,
     )
 
-present_before : (front back rs : List CommRule) (p : ℕ) → p < length front → rule_of (front ++ rs) p ≢ Absent → is_present (rule_of (front ++ back) p) ≡ true
+pub present_before : (front back rs : List CommRule) (p : ℕ) → p < length front → rule_of (front ++ rs) p ≢ Absent → is_present (rule_of (front ++ back) p) ≡ true
 present_before front back rs p below stands =
     present_is (rule_of (front ++ back) p) (λ is. stands (get_or-front front rs p Absent below ∙ sym (get_or-front front back p Absent below) ∙ is))
 

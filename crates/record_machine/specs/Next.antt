@@ -10,7 +10,7 @@ use Rattle.scc_proto.specs.Moves.{Move, DraftHeader, DraftChunk, RaiseSent, Look
 use Rattle.scc_proto.specs.Permission.{is_drafted, is_empty, is_whole_header}
 use Rattle.scc_proto.specs.Records.{chunk_of, ready_noted, sent_noted}
 use Rattle.scc_proto.specs.Stages.{Filling, Raised, Answered, Stage, Idle, Drafting, Sending, Between, Taking, Barrier, OnItsWay, Record}
-use Rattle.scc_proto.specs.Words.{Role, SentFlags, ReadyFlags, role_of}
+use Rattle.scc_proto.specs.Words.{Role, HeaderWord, ChunkWord, SentFlag, ReadyFlag, SentFlags, ReadyFlags, GatherFlag, ReleaseFlag, HeapWord, IdleWord, role_of}
 use Rattle.record_machine.specs.declared.next.NextEvent.{NextEvent}
 use Rattle.record_machine.specs.declared.next.NextEvent.TheVariants as next
 use Rattle.record_machine.specs.declared.next.NextStore.{NextStore}
@@ -41,11 +41,18 @@ stores_allowed s rec = next.Stores (store_allowed (chunk_of s) rec.stage rec.pos
 
 -- the word is one of bit flags that the record has not noted
 abbrev pub lacks_flags : Record → ℕ → Role → Bool
+lacks_flags rec core (HeaderWord owner k) = false
+lacks_flags rec core (ChunkWord owner k) = false
+lacks_flags rec core (SentFlag from to) = false
+lacks_flags rec core (ReadyFlag from to) = false
 lacks_flags rec core (SentFlags owner) = is_none (sent_noted rec core)
 lacks_flags rec core (ReadyFlags owner) = is_none (ready_noted rec core)
-lacks_flags rec core role = false
+lacks_flags rec core (GatherFlag comm owner) = false
+lacks_flags rec core (ReleaseFlag comm owner) = false
+lacks_flags rec core HeapWord = false
+lacks_flags rec core IdleWord = false
 
--- what a record allows in place of an access that it does not permit
+-- what a record allows in place of an access that it does not permit (each load is permitted, so of a load this tells only what may be stored)
 abbrev pub allowed_by : SetupView → Record → Access → WordAt → NextEvent
 allowed_by s rec Load place = stores_allowed s rec
 allowed_by s rec Store place = if lacks_flags rec place.core (role_of s place) then next.LoadFlags else stores_allowed s rec
@@ -105,11 +112,20 @@ names_move store ready move = offers store move || (awaits store move || lowers_
 
 -- the move is a load
 abbrev pub is_load_move : Move → Bool
+is_load_move (DraftHeader k v) = false
+is_load_move (DraftChunk k v) = false
+is_load_move (RaiseSent to) = false
 is_load_move (LookSent is_set) = true
 is_load_move (ReadHeader from k v) = true
 is_load_move (ReadChunk from k v) = true
+is_load_move (LowerSent from) = false
+is_load_move (RaiseReady to) = false
 is_load_move (LookReady is_set) = true
+is_load_move (LowerReady by) = false
+is_load_move (FlipGather comm value last) = false
 is_load_move (LookGather comm from place value) = true
+is_load_move (WriteRelease comm to place value last) = false
 is_load_move (LookRelease comm value) = true
+is_load_move (StoreHeap place value) = false
 is_load_move NoMove = true
-is_load_move move = false
+is_load_move Misplaced = false

@@ -24,7 +24,7 @@ use Rattle.scc_proto.specs.Records.{record_after, record_of}
 use Rattle.scc_proto.specs.Stages.{Record, blank}
 use Rattle.scc_proto.specs.Tables.{put}
 use Rattle.scc_proto.specs.Words.{RankEvent}
-use Rattle.scc_proto.proofs.ListLaw.{records_from_start}
+use Rattle.scc_proto.proofs.Agreement.ListLaw.{records_from_start}
 use Rattle.trace_judge.specs.Judged.{Judged, judged_by, new_judged}
 use Rattle.trace_judge.specs.Rulings.{AreRankEvents, RefusedAt, ruling_from}
 use Rattle.trace_laws.specs.Told.{IsWritable, text_lines, told_setup}

@@ -9,6 +9,7 @@ use Rattle.std.proofs.lemmas.List.Elements.{All-head, All-tail}
 use Rattle.rcce_io.specs.Sending.{joined}
 use Rattle.rcce_audit.specs.Grammar.{begins_comm, rank_said}
 use Rattle.rcce_audit.specs.Words.{◌>>=◌, only_if, words_of}
+use Rattle.rcce_audit.proofs.CallTexts.{BeginsLow, decimal_low}
 use Rattle.rcce_audit.proofs.WordLemmas.{range_said-decimal}
 use Rattle.scc_base.specs.Events.{IsAccess, IsEvent, free_of, load_of, store_of, take_of}
 use Rattle.scc_base.specs.Places.{WordAt, register_place}
@@ -148,15 +149,6 @@ said s nue e ranks below is =
     ∙ ap (λ (o : Option Event). o >>= λ made. Some (record { rank = e.rank; event = made })) (access_told a e.event.place e.event.value is)
 
 -- ---- the line is one of an event
-
--- it begins with a digit
-abbrev BeginsLow : List ℕ → Type 0
-BeginsLow text = (b : ℕ) × (rest : List ℕ) × (text ≡ b ∷ rest) × (b ≤ 57)
-
-decimal_low : (n : ℕ) → n < 2 ^ 64 → BeginsLow (decimal n)
-decimal_low n small =
-    decimal_by_steps (λ m ds. BeginsLow ds) (λ m low. (48 + m, [], refl, omega arith))
-    (λ m ds high begins. (begins.0, begins.1 ++ (48 + m % 10) ∷ [], ap (λ (t : List ℕ). t ++ (48 + m % 10) ∷ []) begins.2, begins.3)) n small
 
 not_comm : (text rest : List ℕ) → BeginsLow text → begins_comm (text ++ rest) ≡ false
 not_comm text rest (b, more, is, low) = ap (λ (t : List ℕ). begins_comm (t ++ rest)) is ∙ and_left (b == 99) _ (ne_eqb b 99 (λ at. omega (arith, low, at)))

@@ -13,7 +13,7 @@ use Rattle.rcce_audit.specs.Texts.{line_of, rule_lines, split_words, table_lines
 use Rattle.rcce_audit.specs.Words.{◌>>=◌, only_if, range_said, words_of}
 use Rattle.rcce_audit.specs.declared.lines.CommSplit.{CommSplit}
 use Rattle.rcce_audit.proofs.TextLemmas.{split_pieces, text_of-append}
-use Rattle.rcce_audit.proofs.WordLemmas.{range_said-decimal}
+use Rattle.rcce_audit.proofs.WritingLemmas.{present_before, set-middle, split_told}
 use Rattle.scc_base.specs.Communicators.{IsRule, rule_of}
 use Rattle.scc_base.specs.Setups.{SetupView}
 use Rattle.scc_base.specs.declared.communicators.CommRule.{CommRule}
@@ -65,18 +65,6 @@ split_short c p k how below low most three =
     let d = two_digits k (omega (arith, most)) in
     simp length-append (omega (arith, a, b, d, three))
 
-split_told : (last : ℕ) (comms : List CommRule) (c p k : ℕ) (how : List ℕ) (rule : CommRule) → last < c → c < 16 → p < c → is_present (rule_of comms p) ≡ true → 1 ≤ k → k ≤ 48 → rule_named how p k ≡ Some rule
-    → comm_said last comms (split_words c p how k) ≡ Some (record { comm = c; rule = rule })
-split_told last comms c p k how rule above below low stands some most named =
-    ap (λ (o : Option ℕ). o >>= λ x. range_said 0 15 (decimal p) >>= λ y. range_said 1 48 (decimal k) >>= λ z. rule_named how y z >>= λ w. only_if (bytes_eq (codes "comm") (codes "comm") && is_present (rule_of comms y)) (record { comm = x; rule = w }))
-    (range_said-decimal (last + 1) 15 c (omega (arith, above)) (omega (arith, below)) (omega (arith, below)))
-    ∙ ap (λ (o : Option ℕ). o >>= λ y. range_said 1 48 (decimal k) >>= λ z. rule_named how y z >>= λ w. only_if (bytes_eq (codes "comm") (codes "comm") && is_present (rule_of comms y)) (record { comm = c; rule = w }))
-    (range_said-decimal 0 15 p (omega arith) (omega (arith, below, low)) (omega (arith, below, low)))
-    ∙ ap (λ (o : Option ℕ). o >>= λ z. rule_named how p z >>= λ w. only_if (bytes_eq (codes "comm") (codes "comm") && is_present (rule_of comms p)) (record { comm = c; rule = w }))
-    (range_said-decimal 1 48 k some most (omega (arith, most)))
-    ∙ ap (λ (o : Option CommRule). o >>= λ w. only_if (bytes_eq (codes "comm") (codes "comm") && is_present (rule_of comms p)) (record { comm = c; rule = w })) named
-    ∙ cond-true (is_present (rule_of comms p)) (Some (record { comm = c; rule = rule })) None stands
-
 -- a reading of this setup, with these rules and this last communicator, before all events
 abbrev pub at_rules : SetupView → List CommRule → ℕ → TraceReading
 at_rules t comms last = record { trace = record { setup = record t { comms = comms }; events = [] }; comm = last }
@@ -93,25 +81,6 @@ split_line_taken t comms last c p k how rule above below low stands some most na
 
 -- ---- all lines
 
-rules_at : (front : List CommRule) (x y : CommRule) (back : List CommRule) → set (front ++ x ∷ back) (length front) y ≡ front ++ y ∷ back
-rules_at [] x y back = refl
-rules_at (z ∷ front) x y back = ap (λ (l : List CommRule). z ∷ l) (rules_at front x y back)
-
-rules_front : (front back : List CommRule) (k : ℕ) → k < length front → get_or (front ++ back) k Absent ≡ get_or front k Absent
-rules_front [] back k below = absurd (omega arith)
-rules_front (x ∷ front) back zero below = refl
-rules_front (x ∷ front) back (suc k) below = let within : k < length front = omega arith in rules_front front back k within
-
-present_is : (rule : CommRule) → rule ≢ Absent → is_present rule ≡ true
-present_is Absent stands = absurd (stands refl)
-present_is World stands = refl
-present_is (Mod parent k) stands = refl
-present_is (Div parent k) stands = refl
-
-stands_before : (front back rs : List CommRule) (p : ℕ) → p < length front → rule_of (front ++ rs) p ≢ Absent → is_present (rule_of (front ++ back) p) ≡ true
-stands_before front back rs p below stands =
-    present_is (rule_of (front ++ back) p) (λ is. stands (rules_front front rs p below ∙ sym (rules_front front back p below) ∙ is))
-
 -- what the line of a rule leads to, if it has one, where that is known of the lines behind it
 rule_taken : (t : SetupView) (front rs : List CommRule) (rule : CommRule) (c last number : ℕ) (behind : List (List ℕ)) (done : TraceReading → Result TraceView TraceFault) (said : Result TraceView TraceFault)
     → c ≡ length front → 1 ≤ c → last < c → c < 16 → IsRule (front ++ rule ∷ rs) c rule
@@ -127,9 +96,9 @@ rule_taken t front rs rule c last number behind done said at some above below is
     one x p k how same (low, stands, least, most) named word three =
         let line = line_of (split_words c p how k) in
         let comms = front ++ Absent ∷ empty in
-        let placed : set comms c x ≡ front ++ rule ∷ empty = ap (λ (n : ℕ). set comms n x) at ∙ rules_at front Absent x empty ∙ ap (λ (y : CommRule). front ++ y ∷ empty) (sym same) in
+        let placed : set comms c x ≡ front ++ rule ∷ empty = ap (λ (n : ℕ). set comms n x) at ∙ set-middle front Absent x empty ∙ ap (λ (y : CommRule). front ++ y ∷ empty) (sym same) in
         ap (λ (o : Option TraceReading). (ok_or {E = TraceFault} o (record { line = number; kind = line_fault line }) >-> λ next. lines_taken (number + 1) next behind) >-> done)
-        (split_line_taken t comms last c p k how x above below low (stands_before front (Absent ∷ empty) (rule ∷ rs) p (omega (arith, at, low)) stands) least most named word three
+        (split_line_taken t comms last c p k how x above below low (present_before front (Absent ∷ empty) (rule ∷ rs) p (omega (arith, at, low)) stands) least most named word three
         ∙ ap (λ (l : List CommRule). Some (at_rules t l c)) placed)
         ∙ go (number + 1) c (omega arith)
 
