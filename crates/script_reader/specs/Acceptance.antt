@@ -1,5 +1,5 @@
 -- What acceptance means: of each statement of a script that was read, for each rank that runs it (this project's profile).
-use Rattle.std.specs.Prelude.{◌≡◌, ℕ, ◌<◌, ◌≤◌, ◌%◌, true, length, reverse, take, slice_get, Option, Some, IfSome, IsSome}
+use Rattle.std.specs.Prelude.{◌≡◌, ℕ, ◌<◌, ◌≤◌, ◌%◌, true, length, reverse, take, slice_get, Option, Some, IfSome, IsSome, MatchOption}
 use Rattle.groups.specs.Folds.{bytes_in}
 use Rattle.groups.specs.declared.operations.Ty.{Ty}
 use Rattle.scc_base.specs.Setups.{SetupView, place_of}
@@ -12,7 +12,7 @@ use Rattle.script_reader.specs.declared.effect.Size.{Size}
 use Rattle.script_reader.specs.declared.effect.Size.TheVariants as size
 use Rattle.script_reader.specs.declared.script.Item.{Item}
 use Rattle.script_reader.specs.Checks.{length_at}
-use Rattle.script_reader.specs.Effects.{EachUse, comm_named, effect_of}
+use Rattle.script_reader.specs.Effects.{EachUse, comm_needed, effect_of}
 use Rattle.script_reader.specs.Script.{Script, has_rank, rules_of}
 use Rattle.script_reader.specs.Settled.{run_with}
 
@@ -34,7 +34,7 @@ length_before script place rank = length_at script.nue (reverse (take place scri
 
 -- the rank is at the place that the statement names as the root of its collective call
 abbrev pub IsRoot : SetupView → Effect → ℕ → Type 0
-IsRoot run e rank = IfSome e.root (λ root. place_of run (comm_named e.group) rank ≡ root)
+IsRoot run e rank = MatchOption e.root ⊥ (λ root. place_of run (comm_needed e.group) rank ≡ root)
 
 -- a fact of a part of the statement, where it counts for the rank
 abbrev pub IfAt : SetupView → Effect → ℕ → At → Type 0 → Type 0

@@ -34,7 +34,7 @@ use Rattle.script_reader.specs.declared.script.Who.{Who}
 use Rattle.script_reader.specs.declared.tally.Setting.{Setting}
 use Rattle.script_reader.specs.declared.version.Version.{Version}
 use Rattle.script_reader.specs.declared.version.Version.TheVariants as version
-use Rattle.script_reader.specs.Effects.{comm_named, comm_needed, effect_of, is_split_of, parent_of, some_use}
+use Rattle.script_reader.specs.Effects.{comm_needed, effect_of, is_split_of, parent_of, some_use}
 use Rattle.script_reader.specs.Script.{has_rank, peer_of, rules_of}
 
 -- whether some rank below n passes
@@ -74,11 +74,11 @@ is_past_group run comm rank root = is_known run comm && not (has_place run comm 
 
 -- the root that a collective call names is no place of the rank's group, where this is known
 abbrev pub has_no_root : SetupView → Effect → ℕ → Bool
-has_no_root run e rank = option_map_or (is_past_group run (comm_named e.group) rank) e.root false
+has_no_root run e rank = option_map_or (is_past_group run (comm_needed e.group) rank) e.root false
 
 -- the rank is known to be the root of its collective call
 abbrev pub is_root : SetupView → Effect → ℕ → Bool
-is_root run e rank = option_map_or (is_at run (comm_named e.group) rank) e.root false
+is_root run e rank = option_map_or (is_at run (comm_needed e.group) rank) e.root false
 
 -- whether a part of the statement counts for a rank of its section
 abbrev pub counts_at : SetupView → Effect → ℕ → At → Bool

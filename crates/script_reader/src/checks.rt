@@ -23,7 +23,7 @@ fn has_no_root(run: &Run, effect: &Effect, rank: u8) -> bool
     ensures { result ≡ has_no_root run.now effect.now rank }
 {
     match effect.root {
-        Some(root) => run.is_past_group(effect.group.named(), rank, root),
+        Some(root) => run.is_past_group(effect.group.needed(), rank, root),
         None => false,
     }
 }
@@ -34,7 +34,7 @@ fn is_root(run: &Run, effect: &Effect, rank: u8) -> bool
     ensures { result ≡ is_root run.now effect.now rank }
 {
     match effect.root {
-        Some(root) => run.is_at(effect.group.named(), rank, root),
+        Some(root) => run.is_at(effect.group.needed(), rank, root),
         None => false,
     }
 }

@@ -289,17 +289,7 @@ pub fn effect_of(stmt: &Stmt) -> Effect
 
 impl Group {
     ghost use Rattle.std.specs.Prelude.{◌≡◌};
-    ghost use Rattle.script_reader.specs.Effects.{comm_named, comm_needed, split_rule};
-
-    /// The communicator that a statement names: the world where it names none.
-    pub(crate) fn named(self) -> u8
-        ensures { result ≡ comm_named self }
-    {
-        match self {
-            Group::World => 0,
-            Group::Of(comm) | Group::Split(comm, _) => comm,
-        }
-    }
+    ghost use Rattle.script_reader.specs.Effects.{comm_needed, split_rule};
 
     /// The communicator whose groups a statement needs: the world where it needs none.
     pub(crate) fn needed(self) -> u8
