@@ -101,13 +101,13 @@ abbrev pub first_fault : Progress → Effect → Option FaultKind
 first_fault p e = find (has_fault p e) fault_table
 
 -- the section of a statement behind the lines so far, or its first fault
-abbrev pub checked : Progress → Stmt → Result Who FaultKind
-checked p stmt = option_map_or Err (first_fault p (effect_of stmt)) (ok_or p.section kind.NoSection)
+abbrev pub checked : Progress → Effect → Result Who FaultKind
+checked p e = option_map_or Err (first_fault p e) (ok_or p.section kind.NoSection)
 
 -- the statement behind the others, unless a check refuses it
 abbrev pub place : ℕ → Progress → Stmt → Result Progress FaultKind
 place line p stmt = do
-  who ← checked p stmt
+  who ← checked p (effect_of stmt)
   Ok (record p { items = p.items ++ (record { line = line; who = who; stmt = stmt }) ∷ [] })
 
 -- a number as a rank

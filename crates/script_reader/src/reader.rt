@@ -75,13 +75,11 @@ impl Model for Reader {
 }
 
 impl Reader {
-    ghost use Rattle.std.specs.Prelude.{◌≡◌, ◌+◌, ◌^◌, ◌<◌, ◌≤◌, ◌==◌, ◌&&◌, ◌++◌, ◌∷◌, [], Err, IfOk, MatchResult, None, OnOk, Some, length};
-    ghost use Rattle.std.specs.Option.{ok_or, option_map_or};
-    ghost use Rattle.script_reader.specs.declared.fault.FaultKind.TheVariants.{NoSection};
+    ghost use Rattle.std.specs.Prelude.{◌≡◌, ◌+◌, ◌^◌, ◌<◌, ◌≤◌, ◌==◌, ◌&&◌, ◌++◌, ◌∷◌, [], IfOk, MatchResult, None, OnOk, Some, length};
     ghost use Rattle.script_reader.specs.Checks.{innermost, last_comm, open_of, refuses, some_below};
     ghost use Rattle.script_reader.specs.Effects.{effect_of};
     ghost use Rattle.script_reader.specs.Faults.{LineGives};
-    ghost use Rattle.script_reader.specs.Progress.{first_fault, has_fault, is_refused, named, open_section, past, place, register_of, start};
+    ghost use Rattle.script_reader.specs.Progress.{checked, first_fault, has_fault, is_refused, named, open_section, past, place, register_of, start};
     ghost use Rattle.script_reader.specs.Settled.{HasCommsTo, IsNamed};
     ghost use Rattle.script_reader.specs.Reading.{script_of};
     ghost use Rattle.script_reader.specs.Script.{has_rank};
@@ -254,7 +252,7 @@ impl Reader {
 
     /// The section of a statement behind the lines so far, or its first fault.
     fn checked(&self, effect: &Effect) -> Result<Who, FaultKind>
-        ensures same { result ≡ option_map_or Err (first_fault self.now effect.now) (ok_or self.now.section NoSection) }
+        ensures same { result ≡ checked self.now effect.now }
         ensures passed { OnOk result (first_fault self.now effect.now ≡ None) }
         ensures opened { IfOk result (λ who. self.now.section ≡ Some who) }
     {
@@ -309,11 +307,12 @@ impl Reader {
     {
         let turns = turns_in(self.repeats.as_slice());
         let place = self.items.len();
+        let is_split = is_new_split(&self.run, effect.group);
         self.items.push(item)?;
         let last = &self.items[place];
         note_item(&mut self.tallies, &self.run, turns, &last.who, effect);
         note_repeat(&mut self.repeats, effect.nesting, place as u32);
-        if is_new_split(&self.run, effect.group) {
+        if is_split {
             self.run = Run::new(self.nue, rules_of(self.items.as_slice()));
         }
         Ok(())
