@@ -4,16 +4,15 @@ ghost use Rattle.std.specs.Prelude.{◌≡◌, ◌<◌, ◌≤◌, ℕ, length, 
 ghost use Rattle.std.specs.Option.{option_map};
 ghost use Rattle.scc_base.specs.Heads.{plain_head};
 ghost use Rattle.script_reader.specs.Script.{IsSized};
-ghost use Rattle.script_reader.specs.Checks.{parent_of};
 ghost use Rattle.groups.specs.Collectives.{IsCallable, steps_of};
 ghost use Rattle.std.specs.Option.{option_to_list};
-ghost use Rattle.script_plain.specs.Program.{acts_of, begins, call_steps, collective_of, nesting_of, part_of, parts_of, single_of};
+ghost use Rattle.script_plain.specs.Program.{acts_of, begins, call_steps, collective_of, part_of, parts_of, single_of};
 ghost use Rattle.script_plain.specs.Walk.{IsShort, act_meant};
 
 use crate::registers::plain_message;
 use groups::{Coll, Op, Step, Ty, step, steps};
-use scc_base::{CommRule, Head, Rank, Setup};
-use script_reader::{Bytes, Form, Stmt};
+use scc_base::{Head, Rank, Setup};
+use script_reader::{Bytes, Form, Stmt, parent_of};
 
 /// The bytes that a register is set to.
 #[derive(Clone, Copy)]
@@ -202,36 +201,6 @@ pub struct Collective {
     pub operands: Operands,
 }
 
-/// What a statement does to the repeats.
-#[derive(Clone, Copy)]
-pub enum Nesting {
-    /// It opens one.
-    Opens(u32),
-    /// It closes the innermost one.
-    Closes,
-    Stays,
-}
-
-/// What a statement does to the repeats.
-pub fn nesting_of(stmt: &Stmt) -> Nesting
-    ensures { result ≡ nesting_of stmt.now }
-{
-    match stmt {
-        Stmt::Repeat { times, .. } => Nesting::Opens(*times),
-        Stmt::End { .. } => Nesting::Closes,
-        _ => Nesting::Stays,
-    }
-}
-
-fn parent_of(rule: CommRule) -> u8
-    ensures { result ≡ parent_of rule }
-{
-    match rule {
-        CommRule::Mod { parent, .. } | CommRule::Div { parent, .. } => parent,
-        CommRule::Absent | CommRule::World => 0,
-    }
-}
-
 /// The primitive of a statement that is one.
 fn single_of<'s>(nue: u8, rank: Rank, stmt: &'s Stmt) -> Option<Action<'s>>
     requires some { 1 ≤ nue }
@@ -360,7 +329,18 @@ fn collective_of(stmt: &Stmt) -> Option<Collective>
                 sized: Some(*src),
             },
         }),
-        _ => None,
+        Stmt::Bytes { .. }
+        | Stmt::Fill { .. }
+        | Stmt::RankOf { .. }
+        | Stmt::Apply { .. }
+        | Stmt::Send { .. }
+        | Stmt::Post { .. }
+        | Stmt::Recv { .. }
+        | Stmt::Print { .. }
+        | Stmt::Barrier { .. }
+        | Stmt::Split { .. }
+        | Stmt::Repeat { .. }
+        | Stmt::End { .. } => None,
     }
 }
 
