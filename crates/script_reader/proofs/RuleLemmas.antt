@@ -17,7 +17,7 @@ use Rattle.script_reader.specs.declared.effect.Group.TheVariants as group
 use Rattle.script_reader.specs.Checks.{differs_from, has_no_parent, is_absent, is_badly_split, is_known, is_unknown, last_comm, run_of}
 use Rattle.script_reader.specs.Effects.{effect_of, parent_of, split_rule}
 use Rattle.script_reader.specs.Script.{first_split, or_rule, rules_of}
-use Rattle.script_reader.specs.Tally.{IsMadeOf, IsParted, is_new_split}
+use Rattle.script_reader.specs.Tally.{IsSplitMade, IsParted, is_new_split}
 use Rattle.script_reader.specs.declared.version.Version.{Version}
 use Rattle.script_reader.specs.declared.version.Version.TheVariants as version
 use Rattle.scc_base.specs.declared.layouts.Layout.TheVariants as layout
@@ -172,7 +172,7 @@ rules-kept group.World items item version nue is known old = rules-same items it
 rules-kept (group.Of place) items item version nue is known old = rules-same items item (λ c. subst (λ (g : Group). or_rule (first_split items c) (split_rule g c) ≡ first_split items c) (sym is) (or_absent _))
 
 -- the rules are rules where a statement splits something
-pub rules-made : (g : Group) (items : List Item) (item : Item) (version : Version) (nue : ℕ) → (effect_of item.stmt).group ≡ g → IsMadeOf g → is_unknown version (run_of nue (reverse items)) g ≡ false → has_no_parent (run_of nue (reverse items)) g ≡ false
+pub rules-made : (g : Group) (items : List Item) (item : Item) (version : Version) (nue : ℕ) → (effect_of item.stmt).group ≡ g → IsSplitMade g → is_unknown version (run_of nue (reverse items)) g ≡ false → has_no_parent (run_of nue (reverse items)) g ≡ false
     → is_new_split (run_of nue (reverse items)) g ≡ true → AreRules (rules_of items) → AreRules (rules_of (items ++ item ∷ []))
 rules-made (group.Split split r) items item version nue is made known parented new rules =
     let ok = splittable version (run_of nue (reverse items)) split r known in

@@ -26,7 +26,7 @@ use Rattle.script_reader.specs.Checks.{has_no_root, has_split, is_absent, is_not
 use Rattle.script_reader.specs.Effects.{comm_needed, effect_of, is_split_of, split_rule}
 use Rattle.script_reader.specs.Progress.{Progress, is_refused}
 use Rattle.script_reader.specs.Ends.{with_ends}
-use Rattle.script_reader.specs.Tally.{IsAimed, IsMadeOf, IsParted, IsWithin}
+use Rattle.script_reader.specs.Tally.{IsAimed, IsSplitMade, IsParted, IsWithin}
 use Rattle.script_reader.specs.declared.script.Peer.{Peer}
 use Rattle.script_reader.specs.declared.script.Peer.TheVariants as peer
 use Rattle.script_reader.proofs.EndLemmas.{with_ends-keeps}
@@ -220,7 +220,7 @@ parted-there rule.World made gone = absurd made
 parted-there (rule.Mod parent k) made gone = cc
 parted-there (rule.Div parent k) made gone = cc
 
-pub made-rule : (g : Group) → IsMadeOf g → HasRule g
+pub made-rule : (g : Group) → IsSplitMade g → HasRule g
 made-rule (group.Split comm by) made = parted-there by made.1
 made-rule group.World made = tt
 made-rule (group.Of comm) made = tt

@@ -20,7 +20,7 @@ use Rattle.script_reader.specs.declared.tally.Tally.{Tally}
 use Rattle.script_reader.specs.Checks.{cost_of, counts_at, is_misshapen, is_not_split, is_unset, length_at, open_of, operations, posts_too_much, printed, prints, prints_too_much, refuses, run_of, set_by, set_if, sets_to, turns_in}
 use Rattle.script_reader.specs.Effects.{effect_of, is_split_of}
 use Rattle.script_reader.specs.Script.{has_rank}
-use Rattle.script_reader.specs.Tally.{AreTallies, IsMade, IsMadeOf, IsTally, empty_tally, length_in, noted, noted_at, refuses_by, with_length, with_split}
+use Rattle.script_reader.specs.Tally.{AreTallies, IsMade, IsSplitMade, IsTally, empty_tally, length_in, noted, noted_at, refuses_by, with_length, with_split}
 
 -- a default stands everywhere in a list of defaults
 defaults : {A : Type 0} (n k : ℕ) (d : A) → get_or (replicate n d) k d ≡ d
@@ -103,7 +103,7 @@ mark-split splits split comm within =
       | inr other ↦ rw other.0 (get_or-set_other splits split comm true false (λ e. other.1 (sym e)) ∙ sym (or_false _))
     ]
 
-split-marked : (g : Group) (splits : List Bool) (comm : ℕ) → length splits ≡ 256 → IsMadeOf g → get_or (with_split splits g) comm false ≡ (get_or splits comm false || is_split_of g comm)
+split-marked : (g : Group) (splits : List Bool) (comm : ℕ) → length splits ≡ 256 → IsSplitMade g → get_or (with_split splits g) comm false ≡ (get_or splits comm false || is_split_of g comm)
 split-marked (group.Split split rule) splits comm long made = mark-split splits split comm (omega (arith, long, made.0))
 split-marked group.World splits comm long made = sym (or_false _)
 split-marked (group.Of place) splits comm long made = sym (or_false _)

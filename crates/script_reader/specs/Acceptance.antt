@@ -44,18 +44,18 @@ IfAt run e rank at.Others P = (IsRoot run e rank → ⊥) → P
 
 -- each register that the statement reads at the rank has a length
 abbrev pub IsReadable : SetupView → (ℕ → Option ℕ) → Effect → ℕ → Type 0
-IsReadable run len e rank = EachUse (λ use. IfAt run e rank use.at (IsSome (len use.reg))) e.uses
+IsReadable run len e rank = EachUse (λ used. IfAt run e rank used.at (IsSome (len used.reg))) e.uses
 
 -- the bytes of a register are whole values of the type
 abbrev pub IsWholeOf : Ty → Option ℕ → Type 0
 IsWholeOf ty len = IfSome len (λ size. size % bytes_in ty ≡ 0)
 
 -- a register has the length that it must have
-abbrev pub IsFit : (ℕ → Option ℕ) → ℕ → Fit → Type 0
-IsFit len reg fit.Any = Unit {0}
-IsFit len reg (fit.Whole ty) = IsWholeOf ty (len reg)
-IsFit len reg (fit.Long size) = len reg ≡ Some size
-IsFit len reg (fit.Like other) = len reg ≡ len other
+abbrev pub HasFit : (ℕ → Option ℕ) → ℕ → Fit → Type 0
+HasFit len reg fit.Any = Unit {0}
+HasFit len reg (fit.Whole ty) = IsWholeOf ty (len reg)
+HasFit len reg (fit.Long size) = len reg ≡ Some size
+HasFit len reg (fit.Like other) = len reg ≡ len other
 
 -- a register has the length that a statement gives it
 abbrev pub IsGiven : (ℕ → Option ℕ) → ℕ → Size → Type 0
@@ -65,7 +65,7 @@ IsGiven len reg (size.Same other) = len reg ≡ len other
 -- the registers of the statement have at the rank the lengths that it gives them or needs
 pub record IsFitting (run : SetupView) (len : ℕ → Option ℕ) (e : Effect) (rank : ℕ) : Type 0 where
   pub given : IfSome e.sets (λ target. IfAt run e rank target.at (IsGiven len target.reg target.size))
-  pub needed : EachUse (λ use. IfAt run e rank use.at (IsFit len use.reg use.fit)) e.uses
+  pub needed : EachUse (λ used. IfAt run e rank used.at (HasFit len used.reg used.fit)) e.uses
 
 -- a post has one chunk at most
 abbrev pub IsPostable : (ℕ → Option ℕ) → Effect → Type 0

@@ -153,7 +153,7 @@ length_at nue (item ∷ past) rank reg =
 
 -- Unset: a statement that reads a register which the rank has not set
 abbrev pub is_unset : SetupView → (ℕ → Option ℕ) → Effect → ℕ → Bool
-is_unset run had e rank = some_use (λ use. counts_at run e rank use.at && is_none (had use.reg)) e.uses
+is_unset run had e rank = some_use (λ used. counts_at run e rank used.at && is_none (had used.reg)) e.uses
 
 -- another length than the one that is there
 abbrev pub differs : Option ℕ → ℕ → Bool
@@ -179,7 +179,7 @@ is_unfit had reg (fit.Like other) = differs (had reg) (unwrap_or (had other) 0)
 
 -- and one that needs another length than its registers have
 abbrev pub misfits : SetupView → (ℕ → Option ℕ) → Effect → ℕ → Bool
-misfits run had e rank = some_use (λ use. counts_at run e rank use.at && is_unfit had use.reg use.fit) e.uses
+misfits run had e rank = some_use (λ used. counts_at run e rank used.at && is_unfit had used.reg used.fit) e.uses
 
 -- a register would get a second length, or has another one than the statement needs
 abbrev pub is_misshapen : SetupView → (ℕ → Option ℕ) → Effect → ℕ → Bool

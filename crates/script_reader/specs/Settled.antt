@@ -62,7 +62,7 @@ AreInLine nue (item ∷ past) = AreInLine nue past × IsInLine nue past item
 
 -- the registers of a statement are among so many names
 abbrev pub IsNamed : ℕ → Effect → Type 0
-IsNamed count e = EachUse (λ use. use.reg < count) e.uses × IfSome e.sets (λ set. set.reg < count)
+IsNamed count e = EachUse (λ used. used.reg < count) e.uses × IfSome e.sets (λ set. set.reg < count)
 
 -- what is true of each script that was read
 pub record IsWhole (nue : ℕ) (items : List Item) : Type 0 where

@@ -100,15 +100,15 @@ IsParted (rule.Mod parent k) = (1 ≤ k) × (k ≤ 48)
 IsParted (rule.Div parent k) = (1 ≤ k) × (k ≤ 48)
 
 -- what the reader knows of the communicator that a statement names
-abbrev pub IsMadeOf : Group → Type 0
-IsMadeOf group.World = Unit {0}
-IsMadeOf (group.Of comm) = Unit {0}
-IsMadeOf (group.Split comm rule) = (comm < 256) × IsParted rule
+abbrev pub IsSplitMade : Group → Type 0
+IsSplitMade group.World = Unit {0}
+IsSplitMade (group.Of comm) = Unit {0}
+IsSplitMade (group.Split comm rule) = (comm < 256) × IsParted rule
 
 -- what the reader knows of a statement that it has made
 pub record IsMade (e : Effect) : Type 0 where
   pub set : IfSome e.sets (λ target. target.reg < 256)
-  pub split : IsMadeOf e.group
+  pub split : IsSplitMade e.group
 
 -- a rank that a statement names is a rank of the run
 abbrev pub IsWithin : ℕ → Peer → Type 0
