@@ -25,6 +25,12 @@ record IsOther (s : Stmt) : Type 0 where
   no_end : (start : ℕ) → s ≡ stmt.End start → ⊥
   same : bare s ≡ s
 
+opens_stays : (times : ℕ) → nesting.Opens times ≡ nesting.Stays → ⊥
+opens_stays times is = cc
+
+closes_stays : (start : ℕ) → nesting.Closes start ≡ nesting.Stays → ⊥
+closes_stays start is = cc
+
 -- what stays within the repeats is none of them
 other-of : (s : Stmt) → (effect_of s).nesting ≡ nesting.Stays → bare s ≡ s → IsOther s
 other-of s stays same = record {
@@ -33,12 +39,6 @@ other-of s stays same = record {
   no_end = λ start is. closes_stays start (sym (ap (λ (s : Stmt). (effect_of s).nesting) is) ∙ stays);
   same = same;
 }
-  where
-    opens_stays : (times : ℕ) → nesting.Opens times ≡ nesting.Stays → ⊥
-    opens_stays times is = cc
-
-    closes_stays : (start : ℕ) → nesting.Closes start ≡ nesting.Stays → ⊥
-    closes_stays start is = cc
 
 -- what is true of repeats, of ends and of the others
 sorted : (P : Stmt → Type 0) → ((times end : ℕ) → P (stmt.Repeat times end)) → ((start : ℕ) → P (stmt.End start)) → ((s : Stmt) → IsOther s → P s) → (s : Stmt) → P s
