@@ -7,7 +7,8 @@ ghost use Rattle.script_plain.specs.Depths.{HasRoom, IsDeep, IsIdleFrom, IsIdleT
 ghost use Rattle.script_plain.specs.Program.{marks_of, nesting_at, prims_of};
 ghost use Rattle.script_plain.specs.Walk.{AreOpenAt, StandsAt, closed, closed_to, is_closing, left_at, opened, passed, passed_to};
 
-use crate::prims::{Primitive, action_of, count};
+use crate::prims::Primitive;
+use crate::statements::{action_of, count};
 use scc_base::{Rank, Setup};
 use script_reader::{Item, Nesting, Scripts, effect_of};
 use std::alloc::{AllocError, Global};

@@ -75,7 +75,7 @@ impl Model for Reader {
 }
 
 impl Reader {
-    ghost use Rattle.std.specs.Prelude.{◌≡◌, ◌+◌, ◌^◌, ◌<◌, ◌≤◌, ◌==◌, ◌&&◌, ◌++◌, ◌∷◌, [], IfOk, MatchResult, None, OnOk, Some, length};
+    ghost use Rattle.std.specs.Prelude.{◌≡◌, ◌+◌, ◌^◌, ◌<◌, ◌≤◌, ◌==◌, ◌&&◌, ◌++◌, ◌∷◌, [], false, IfOk, MatchResult, None, OnOk, Some, length};
     ghost use Rattle.script_reader.specs.Checks.{innermost, last_comm, open_of, refuses, some_below};
     ghost use Rattle.script_reader.specs.Effects.{effect_of};
     ghost use Rattle.script_reader.specs.Faults.{LineGives};
