@@ -29,7 +29,8 @@ use Rattle.script_reader.specs.Checks.{cost_of, counts_at, differs, is_absent, i
 use Rattle.script_reader.specs.Effects.{IsSizedBy, comm_needed, effect_of}
 use Rattle.script_reader.specs.Script.{IsSized, Script, has_rank, rules_of}
 use Rattle.script_reader.specs.Settled.{AreInLine, ArePassed, IsInLine, IsWhole, run_with}
-use Rattle.script_reader.proofs.SettledLemmas.{Extends, and-false, false-left, false-right, key-same, present-low, same-more}
+use Rattle.script_reader.proofs.CheckLemmas.{false-left, false-right}
+use Rattle.script_reader.proofs.SettledLemmas.{Extends, and-false, key-same, present-low, same-more}
 
 -- the statements that stand behind a place, and those before it, the latest first
 around : (items : List Item) (place : ℕ) (item : Item) → slice_get items place ≡ Some item → (front : List Item) × (reverse items ≡ front ++ item ∷ reverse (take place items))

@@ -251,7 +251,7 @@ matched-bare [] matched = tt
 matched-bare (item ∷ past) matched = (
   matched-bare past matched.0,
   subst (λ (e : Effect). Closes (open_of (all_bared past)) e.nesting) (sym (effect-bare item.stmt))
-  (subst (λ (repeats : List Open). Closes repeats (effect_of item.stmt).nesting) (sym (open-bared past)) matched.1),
+      (subst (λ (repeats : List Open). Closes repeats (effect_of item.stmt).nesting) (sym (open-bared past)) matched.1),
 )
 
 matched-whole : (past : List Item) → AreMatched (all_bared past) → AreMatched past
@@ -259,7 +259,7 @@ matched-whole [] matched = tt
 matched-whole (item ∷ past) matched = (
   matched-whole past matched.0,
   subst (λ (repeats : List Open). Closes repeats (effect_of item.stmt).nesting) (open-bared past)
-  (subst (λ (e : Effect). Closes (open_of (all_bared past)) e.nesting) (effect-bare item.stmt) matched.1),
+      (subst (λ (e : Effect). Closes (open_of (all_bared past)) e.nesting) (effect-bare item.stmt) matched.1),
 )
 
 pub matched-with_ends : (n : ℕ) (items : List Item) → AreMatched (reverse items) → AreMatched (reverse (with_ends n items))

@@ -21,6 +21,7 @@ use Rattle.script_reader.specs.Tally.{IsSplitMade, IsParted, is_new_split}
 use Rattle.script_reader.specs.declared.version.Version.{Version}
 use Rattle.script_reader.specs.declared.version.Version.TheVariants as version
 use Rattle.scc_base.specs.declared.layouts.Layout.TheVariants as layout
+use Rattle.script_reader.proofs.CheckLemmas.{false-left, false-right}
 
 pub past-more : (items : List Item) (item : Item) → reverse (items ++ item ∷ []) ≡ item ∷ reverse items
 past-more items item = reverse-append items (item ∷ [])
@@ -115,14 +116,6 @@ split-kept items split r there comm =
       | inr other ↦ rw other.0 (or_absent _)
     ]
 
-or-false-left : (a b : Bool) → (a || b) ≡ false → a ≡ false
-or-false-left false b h = refl
-or-false-left true b h = cc
-
-or-false-right : (a b : Bool) → (a || b) ≡ false → b ≡ false
-or-false-right false b h = h
-or-false-right true b h = cc
-
 not-false-is : (a : Bool) → not a ≡ false → a ≡ true
 not-false-is true h = refl
 not-false-is false h = cc
@@ -139,11 +132,11 @@ last-within version.Two = lit< tt
 
 pub splittable : (version : Version) (run : SetupView) (split : ℕ) (r : CommRule) → is_unknown version run (group.Split split r) ≡ false → IsSplittable split r
 splittable version run split r known =
-    let top = ltb-false (last_comm version) split (or-false-left (ltb (last_comm version) split) (is_badly_split run split r) known) in
-    let good = or-false-right (ltb (last_comm version) split) (is_badly_split run split r) known in
-    let front = or-false-left (split == 0 || not (nat_lt (parent_of r) split)) (differs_from (rule_of run.comms split) r) good in
-    let some = eqb-false split 0 (or-false-left (split == 0) (not (nat_lt (parent_of r) split)) front) in
-    let below = ltb-true (parent_of r) split (not-false-is (nat_lt (parent_of r) split) (or-false-right (split == 0) (not (nat_lt (parent_of r) split)) front)) in
+    let top = ltb-false (last_comm version) split (false-left (ltb (last_comm version) split) (is_badly_split run split r) known) in
+    let good = false-right (ltb (last_comm version) split) (is_badly_split run split r) known in
+    let front = false-left (split == 0 || not (nat_lt (parent_of r) split)) (differs_from (rule_of run.comms split) r) good in
+    let some = eqb-false split 0 (false-left (split == 0) (not (nat_lt (parent_of r) split)) front) in
+    let below = ltb-true (parent_of r) split (not-false-is (nat_lt (parent_of r) split) (false-right (split == 0) (not (nat_lt (parent_of r) split)) front)) in
     record {
       some = elim (cases_lt 0 split) [ inl h ↦ h | inr h ↦ absurd (some (omega arith)) ];
       top = omega (arith, top, last-within version);
@@ -185,7 +178,7 @@ rules-made (group.Of comm) items item version nue is made known parented new rul
 -- a communicator past the last one has no split
 pub split-low : (g : Group) (version : Version) (run : SetupView) (comm : ℕ) → is_unknown version run g ≡ false → last_comm version < comm → split_rule g comm ≡ rule.Absent
 split-low (group.Split split r) version run comm known above =
-    let top = ltb-false (last_comm version) split (or-false-left (ltb (last_comm version) split) (is_badly_split run split r) known) in
+    let top = ltb-false (last_comm version) split (false-left (ltb (last_comm version) split) (is_badly_split run split r) known) in
     elim (eqb_tells split comm) [
       | inl same ↦ absurd (omega (arith, top, above, same.1))
       | inr other ↦ rw other.0 refl

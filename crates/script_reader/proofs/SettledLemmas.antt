@@ -29,6 +29,7 @@ use Rattle.script_reader.specs.Ends.{with_ends}
 use Rattle.script_reader.specs.Tally.{IsAimed, IsSplitMade, IsParted, IsWithin}
 use Rattle.script_reader.specs.declared.script.Peer.{Peer}
 use Rattle.script_reader.specs.declared.script.Peer.TheVariants as peer
+use Rattle.script_reader.proofs.CheckLemmas.{false-left, false-right, nobody}
 use Rattle.script_reader.proofs.EndLemmas.{with_ends-keeps}
 use Rattle.script_reader.proofs.FaultLemmas.{IsSound}
 use Rattle.script_reader.specs.Script.{first_split, has_rank, or_rule, peer_of, rules_of}
@@ -107,14 +108,6 @@ settled-push nue items item rules all new =
     (IsSettled-more nue (rules_of items) (rules_of (items ++ item ∷ [])) item e new)
 
 -- where no rank of a section is refused, none is
-pub false-left : (a b : Bool) → (a || b) ≡ false → a ≡ false
-false-left false b h = refl
-false-left true b h = cc
-
-pub false-right : (a b : Bool) → (a || b) ≡ false → b ≡ false
-false-right false b h = h
-false-right true b h = cc
-
 none-below : (n : ℕ) (test : ℕ → Bool) → some_below n test ≡ false → (k : ℕ) → k < n → test k ≡ false
 none-below zero test none k below = absurd (omega arith)
 none-below (suc n) test none k below =
@@ -237,23 +230,6 @@ settled-with_ends nue n comms items world all =
 pub world-present : (items : List Item) → rule_of (rules_of items) 0 ≡ rule.Absent → ⊥
 world-present items gone = world-there gone
 
--- where no rank can be refused, none is
-none-refused : (nue : ℕ) (who : Option Who) → some_rank nue who (λ rank. false) ≡ false
-none-refused nue None = refl
-none-refused nue (Some who) = below nue
-  where
-    both : (b : Bool) → (b && false) ≡ false
-    both true = refl
-    both false = refl
-
-    either : (a b : Bool) → a ≡ false → b ≡ false → (a || b) ≡ false
-    either true b is no = is
-    either false b is no = no
-
-    below : (n : ℕ) → some_below n (λ rank. has_rank who rank && false) ≡ false
-    below zero = refl
-    below (suc n) = either (some_below n (λ rank. has_rank who rank && false)) (has_rank who n && false) (below n) (both (has_rank who n))
-
 -- a statement without a fault has none for a rank of its section
 pub passed-all : (p : Progress) (e : Effect) → IsSound p e → (kind : FaultKind) → is_refused kind p e ≡ false
 passed-all p e sound kind.RankRange = sound.rooted
@@ -263,18 +239,18 @@ passed-all p e sound kind.Unset = sound.set
 passed-all p e sound kind.Shape = sound.shaped
 passed-all p e sound kind.TooManyOps = sound.worked
 passed-all p e sound kind.TooLong = sound.printed
-passed-all p e sound kind.NotText = none-refused p.nue p.section
-passed-all p e sound kind.UnknownStatement = none-refused p.nue p.section
-passed-all p e sound kind.WrongCount = none-refused p.nue p.section
-passed-all p e sound kind.BadNumber = none-refused p.nue p.section
-passed-all p e sound kind.BadHex = none-refused p.nue p.section
-passed-all p e sound kind.BadName = none-refused p.nue p.section
-passed-all p e sound kind.UnknownComm = none-refused p.nue p.section
-passed-all p e sound kind.NoSection = none-refused p.nue p.section
-passed-all p e sound kind.UnclosedRepeat = none-refused p.nue p.section
-passed-all p e sound kind.StrayEnd = none-refused p.nue p.section
-passed-all p e sound kind.TooDeep = none-refused p.nue p.section
-passed-all p e sound kind.TooManyNames = none-refused p.nue p.section
+passed-all p e sound kind.NotText = nobody p.nue p.section (λ rank. false) (λ rank. refl)
+passed-all p e sound kind.UnknownStatement = nobody p.nue p.section (λ rank. false) (λ rank. refl)
+passed-all p e sound kind.WrongCount = nobody p.nue p.section (λ rank. false) (λ rank. refl)
+passed-all p e sound kind.BadNumber = nobody p.nue p.section (λ rank. false) (λ rank. refl)
+passed-all p e sound kind.BadHex = nobody p.nue p.section (λ rank. false) (λ rank. refl)
+passed-all p e sound kind.BadName = nobody p.nue p.section (λ rank. false) (λ rank. refl)
+passed-all p e sound kind.UnknownComm = nobody p.nue p.section (λ rank. false) (λ rank. refl)
+passed-all p e sound kind.NoSection = nobody p.nue p.section (λ rank. false) (λ rank. refl)
+passed-all p e sound kind.UnclosedRepeat = nobody p.nue p.section (λ rank. false) (λ rank. refl)
+passed-all p e sound kind.StrayEnd = nobody p.nue p.section (λ rank. false) (λ rank. refl)
+passed-all p e sound kind.TooDeep = nobody p.nue p.section (λ rank. false) (λ rank. refl)
+passed-all p e sound kind.TooManyNames = nobody p.nue p.section (λ rank. false) (λ rank. refl)
 
 pub rules-low : (items : List Item) (comm : ℕ) → 1 ≤ comm → first_split items comm ≡ rule.Absent → rule_of (rules_of items) comm ≡ rule.Absent
 rules-low items comm some none =

@@ -1,5 +1,5 @@
 -- What the reader keeps, so that no check goes through the statements again: what it is, and what it becomes with a statement.
-use Rattle.std.specs.Prelude.{◌≡◌, ℕ, ◌+◌, ◌*◌, ◌<◌, ◌≤◌, ◌||◌, IfSome, min, not, replicate, is_none, Bool, true, false, if◌then◌else◌, List, length, reverse, All, slice_index_or, slice_set, Option, Some, None}
+use Rattle.std.specs.Prelude.{◌≡◌, ℕ, ◌+◌, ◌*◌, ◌<◌, ◌≤◌, ◌||◌, ◌==◌, IfSome, min, not, replicate, is_none, is_some, Bool, true, false, if◌then◌else◌, List, length, reverse, All, slice_index_or, slice_set, Option, Some, None}
 use Rattle.scc_base.specs.Communicators.{AreRules}
 use Rattle.scc_base.specs.Setups.{SetupView}
 use Rattle.scc_base.specs.declared.communicators.CommRule.{CommRule}
@@ -7,6 +7,8 @@ use Rattle.scc_base.specs.declared.communicators.CommRule.TheVariants as rule
 use Rattle.script_reader.specs.declared.effect.Effect.{Effect}
 use Rattle.script_reader.specs.declared.effect.Group.{Group}
 use Rattle.script_reader.specs.declared.effect.Group.TheVariants as group
+use Rattle.script_reader.specs.declared.effect.Uses.{Uses}
+use Rattle.script_reader.specs.declared.effect.Uses.TheVariants as uses
 use Rattle.script_reader.specs.declared.fault.FaultKind.{FaultKind}
 use Rattle.script_reader.specs.declared.fault.FaultKind.TheVariants as kind
 use Rattle.script_reader.specs.declared.reader.Pair.{Pair}
@@ -19,7 +21,7 @@ use Rattle.script_reader.specs.declared.tally.Setting.{Setting}
 use Rattle.script_reader.specs.declared.tally.Tally.{Tally}
 use Rattle.script_reader.specs.declared.version.Version.{Version}
 use Rattle.script_reader.specs.Checks.{cost_of, has_no_root, has_split, is_known, is_misshapen, is_not_split, is_overworked, is_to_self, is_unset, last_comm, length_at, open_of, operations, posts_too_much, printed, prints, prints_too_much, run_of, set_by}
-use Rattle.script_reader.specs.Effects.{effect_of}
+use Rattle.script_reader.specs.Effects.{comm_needed, effect_of}
 use Rattle.script_reader.specs.Progress.{Progress, named, register_of}
 use Rattle.script_reader.specs.Script.{IsSized, first_split, has_rank, rules_of}
 use Rattle.script_reader.specs.Settled.{AreInLine, ArePassed, HaveRules, IsNamed, IsSettled}
@@ -141,6 +143,34 @@ refuses_by kind.UnclosedRepeat run tally turns e rank = false
 refuses_by kind.StrayEnd run tally turns e rank = false
 refuses_by kind.TooDeep run tally turns e rank = false
 refuses_by kind.TooManyNames run tally turns e rank = false
+
+-- a statement reads a register
+abbrev pub reads : Uses → Bool
+reads uses.Nothing = false
+reads (uses.One first) = true
+reads (uses.Two first second) = true
+
+-- a statement can have this fault for some rank: a message to oneself needs a peer, and so on
+abbrev pub can_have : FaultKind → Effect → Bool
+can_have kind.RankRange e = is_some e.root
+can_have kind.SelfMessage e = is_some e.peer
+can_have kind.NotSplit e = not (comm_needed e.group == 0)
+can_have kind.Unset e = reads e.uses
+can_have kind.Shape e = reads e.uses || is_some e.sets
+can_have kind.TooManyOps e = true
+can_have kind.TooLong e = true
+can_have kind.NotText e = false
+can_have kind.UnknownStatement e = false
+can_have kind.WrongCount e = false
+can_have kind.BadNumber e = false
+can_have kind.BadHex e = false
+can_have kind.BadName e = false
+can_have kind.UnknownComm e = false
+can_have kind.NoSection e = false
+can_have kind.UnclosedRepeat e = false
+can_have kind.StrayEnd e = false
+can_have kind.TooDeep e = false
+can_have kind.TooManyNames e = false
 
 -- a statement that splits a communicator without a rule
 abbrev pub is_new_split : SetupView → Group → Bool

@@ -2,7 +2,7 @@
 
 ghost use Rattle.std.specs.Prelude.{◌≡◌, ◌<◌, ◌≤◌};
 ghost use Rattle.script_reader.specs.Checks.{cost_of, counts_at, differs, differs_from, has_no_parent, has_no_root, is_badly_split, is_misshapen, is_not_split, is_overworked, is_past_most, is_ragged, is_root, is_to_self, is_too_long, is_unfit, is_unknown, is_unset, last_comm, length_given, misfits, posts_too_much, prints, prints_too_much, resizes, set_by};
-ghost use Rattle.script_reader.specs.Tally.{is_new_split, length_in, refuses_by, split_in};
+ghost use Rattle.script_reader.specs.Tally.{can_have, is_new_split, length_in, reads, refuses_by, split_in};
 
 use crate::effect::{At, Cost, Effect, Fit, Group, Size, Use, Uses, parent_of};
 use crate::fault::FaultKind;
@@ -316,6 +316,42 @@ fn prints_too_much(tally: &Tally, turns: u32, effect: &Effect) -> bool
 {
     let printed = (turns as u64).saturating_mul(prints(tally, effect));
     tally.printed.saturating_add(printed) > MOST_PRINTED
+}
+
+/// Whether a statement reads a register.
+fn reads(uses: Uses) -> bool
+    ensures { result ≡ reads uses }
+{
+    match uses {
+        Uses::Nothing => false,
+        Uses::One(_) | Uses::Two(_, _) => true,
+    }
+}
+
+/// Whether a statement can have this fault for some rank. Where it can't, no rank needs a look.
+pub(crate) fn can_have(kind: FaultKind, effect: &Effect) -> bool
+    ensures { result ≡ can_have kind effect.now }
+{
+    match kind {
+        FaultKind::RankRange => effect.root.is_some(),
+        FaultKind::SelfMessage => effect.peer.is_some(),
+        FaultKind::NotSplit => effect.group.needed() != 0,
+        FaultKind::Unset => reads(effect.uses),
+        FaultKind::Shape => reads(effect.uses) || effect.sets.is_some(),
+        FaultKind::TooManyOps | FaultKind::TooLong => true,
+        FaultKind::NotText
+        | FaultKind::UnknownStatement
+        | FaultKind::WrongCount
+        | FaultKind::BadNumber
+        | FaultKind::BadHex
+        | FaultKind::BadName
+        | FaultKind::UnknownComm
+        | FaultKind::NoSection
+        | FaultKind::UnclosedRepeat
+        | FaultKind::StrayEnd
+        | FaultKind::TooDeep
+        | FaultKind::TooManyNames => false,
+    }
 }
 
 /// Whether a statement has this fault for a rank, which has this tally.

@@ -166,7 +166,7 @@ pub fn parent_of(rule: CommRule) -> u8
 }
 
 /// What a statement needs and does.
-#[inline]
+#[inline(always)]
 pub fn effect_of(stmt: &Stmt) -> Effect
     ensures { result ≡ effect_of stmt.now }
 {

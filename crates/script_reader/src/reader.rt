@@ -1,6 +1,6 @@
 //! The lines so far, and what a line adds to them.
 
-use crate::checks::{has_no_parent, is_new_split, is_too_long, is_unknown, refuses_by};
+use crate::checks::{can_have, has_no_parent, is_new_split, is_too_long, is_unknown, refuses_by};
 use crate::effect::{Effect, effect_of};
 use crate::ends::tell_ends;
 use crate::fault::{FaultKind, LineStop};
@@ -200,6 +200,9 @@ impl Reader {
     fn is_refused(&self, kind: FaultKind, effect: &Effect) -> bool
         ensures { result ≡ is_refused kind self.now effect.now }
     {
+        if !can_have(kind, effect) {
+            return false;
+        }
         match &self.section {
             Some(who) => self.is_refused_by(who, kind, effect),
             None => false,
@@ -219,10 +222,8 @@ impl Reader {
             | FaultKind::BadHex
             | FaultKind::BadName
             | FaultKind::UnclosedRepeat => false,
-            FaultKind::RankRange
-            | FaultKind::SelfMessage
-            | FaultKind::Unset
-            | FaultKind::Shape => self.is_refused(kind, effect),
+            FaultKind::RankRange | FaultKind::SelfMessage | FaultKind::Unset | FaultKind::Shape =>
+                self.is_refused(kind, effect),
             FaultKind::UnknownComm => is_unknown(self.version, &self.run, effect.group),
             FaultKind::NotSplit => {
                 has_no_parent(&self.run, effect.group) || self.is_refused(kind, effect)
