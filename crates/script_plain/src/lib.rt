@@ -4,11 +4,13 @@
 
 mod barriers;
 mod call_laws;
+mod calls;
 mod collective_laws;
 mod course;
 mod decisions;
 mod ends;
 mod facing;
+mod held;
 mod held_laws;
 mod laws;
 mod machines;
