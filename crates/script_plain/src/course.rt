@@ -302,7 +302,7 @@ fn enter(rank: Rank, item: &Item, at: usize, repeats: &mut VecDeque<Open>)
 
 /// The first place from here on at which an item has a mark for the rank, or the end. From the place `end` on none is
 /// an item of the rank.
-#[inline]
+#[inline(always)]
 fn settled(
     scripts: &Scripts,
     setup: &Setup,
