@@ -141,6 +141,7 @@ fn length_given(tally: &Tally, size: Size) -> u64
 }
 
 /// The register that a statement sets at a rank, with its length.
+#[inline(always)]
 pub(crate) fn set_by(run: &Run, tally: &Tally, effect: &Effect, rank: u8) -> Option<Setting>
     requires { rank < run.now.nue }
     ensures { result ≡ set_by run.now (length_in tally.now) effect.now rank }
@@ -160,6 +161,7 @@ impl Use {
     ghost use Rattle.script_reader.specs.Tally.{length_in};
 
     /// Whether the rank has not set the register.
+    #[inline(always)]
     fn is_unset(self, run: &Run, tally: &Tally, effect: &Effect, rank: u8) -> bool
         requires { rank < run.now.nue }
         ensures { result ≡ (counts_at run.now effect.now rank self.at && is_none (length_in tally.now self.reg)) }
@@ -168,6 +170,7 @@ impl Use {
     }
 
     /// Whether the register has another length at the rank than it must have.
+    #[inline(always)]
     fn misfits(self, run: &Run, tally: &Tally, effect: &Effect, rank: u8) -> bool
         requires { rank < run.now.nue }
         ensures { result ≡ (counts_at run.now effect.now rank self.at && is_unfit (length_in tally.now) self.reg self.fit) }
