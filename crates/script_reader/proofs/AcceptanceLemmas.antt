@@ -1,5 +1,5 @@
 -- What the checks of a script's statements leave, as facts of each statement.
-use Rattle.std.proofs.Common.{◌≡◌, ℕ, zero, suc, ◌+◌, ◌-◌, ◌*◌, ◌%◌, ◌<◌, ◌≤◌, Bool, true, false, not, ◌||◌, ◌&&◌, cond, eqb, ltb, List, [], ◌∷◌, ◌++◌, length, reverse, take, drop, slice_get, is_none, unwrap_or, Option, Some, None, refl, sym, ap, ◌∙◌, arith, subst, append_assoc, inl, inr, lit<}
+use Rattle.std.proofs.Common.{◌≡◌, ℕ, zero, suc, ◌+◌, ◌-◌, ◌*◌, ◌%◌, ◌<◌, ◌≤◌, Bool, true, false, not, ◌||◌, ◌&&◌, cond, eqb, ltb, List, [], ◌∷◌, ◌++◌, length, reverse, take, drop, slice_get, is_none, unwrap_or, Option, Some, None, refl, sym, ap, ◌∙◌, arith, subst, append_assoc, inl, inr}
 use Rattle.std.proofs.lemmas.Bool.Decides.{eqb_tells}
 use Rattle.std.proofs.lemmas.Bool.{eqb-true, ltb-false, not-false}
 use Rattle.std.proofs.lemmas.List.{length-append, length-take, reverse-append, reverse-reverse, take-append-drop}
@@ -9,7 +9,7 @@ use Rattle.groups.specs.Folds.{bytes_in}
 use Rattle.groups.specs.declared.operations.Ty.{Ty}
 use Rattle.scc_base.specs.Communicators.{key_of, rule_of}
 use Rattle.scc_base.specs.Groups.{place_in}
-use Rattle.scc_base.specs.Setups.{SetupView, place_of}
+use Rattle.scc_base.specs.Setups.{place_of}
 use Rattle.scc_base.specs.declared.communicators.CommRule.{CommRule}
 use Rattle.scc_base.specs.declared.communicators.CommRule.TheVariants as rule
 use Rattle.script_reader.specs.declared.effect.Nesting.{Nesting}
@@ -27,7 +27,7 @@ use Rattle.script_reader.specs.declared.tally.Setting.{Setting}
 use Rattle.script_reader.specs.Acceptance.{ForEachRun, IsFitting, IsPostable, IsReadable, IsWholeOf, groups_of, length_before, length_of}
 use Rattle.script_reader.specs.Checks.{cost_of, counts_at, differs, is_absent, is_at, is_misshapen, is_ragged, is_too_deep, is_unset, length_at, length_given, open_of, opened, operations, posts_too_much, printed, prints, prints_too_much, resizes, run_of, set_by, set_if, sets_to, turns_in}
 use Rattle.script_reader.specs.Effects.{IsSizedBy, comm_needed, effect_of}
-use Rattle.script_reader.specs.Script.{IsSized, Script, has_rank, rules_of}
+use Rattle.script_reader.specs.Script.{Script, has_rank, rules_of}
 use Rattle.script_reader.specs.Settled.{AreInLine, ArePassed, IsInLine, IsWhole, run_with}
 use Rattle.script_reader.proofs.CheckLemmas.{false-left, false-right}
 use Rattle.script_reader.proofs.SettledLemmas.{Extends, and-false, key-same, present-low, same-more}

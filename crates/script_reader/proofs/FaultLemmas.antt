@@ -1,5 +1,5 @@
 -- What a statement without a fault has not.
-use Rattle.std.proofs.Common.{◌≡◌, ℕ, Bool, true, false, ◌||◌, ◌&&◌, ◌==◌, not, ap, cond, List, [], ◌∷◌, Option, Some, None, length, refl, subst}
+use Rattle.std.proofs.Common.{◌≡◌, ℕ, Bool, true, false, ◌&&◌, ◌==◌, not, ap, cond, List, [], ◌∷◌, Option, Some, None, length, refl, subst}
 use Rattle.std.specs.List.{find}
 use Rattle.std.specs.Option.{option_map_or}
 use Rattle.std.specs.Prelude.{is_none, is_some, nat_lt}
@@ -15,7 +15,7 @@ use Rattle.script_reader.specs.declared.script.Stmt.{Stmt}
 use Rattle.script_reader.specs.declared.tally.Setting.{Setting}
 use Rattle.script_reader.specs.Checks.{counts_at, has_no_parent, has_split, is_past_group, is_stray, is_too_deep, is_too_long, is_unfit, is_unknown, length_at, misfits, open_of, refuses, resizes, run_of, set_by, set_if, turns_in, turns_too_often}
 use Rattle.script_reader.specs.Effects.{comm_needed, effect_of, some_use}
-use Rattle.script_reader.specs.Progress.{Progress, fault_table, first_fault, has_fault, is_refused, past}
+use Rattle.script_reader.specs.Progress.{Progress, first_fault, has_fault, is_refused, past}
 use Rattle.script_reader.specs.Script.{peer_of}
 use Rattle.script_reader.specs.Tally.{can_have, reads}
 use Rattle.script_reader.proofs.CheckLemmas.{false-left, false-right, neither, nobody}

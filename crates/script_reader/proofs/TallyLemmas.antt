@@ -1,5 +1,5 @@
 -- The tallies before the first statement, and after one more.
-use Rattle.std.proofs.Common.{◌≡◌, ℕ, ◌+◌, ◌*◌, ◌<◌, Bool, true, false, ◌||◌, cond, eqb, ltb, min, List, [], ◌∷◌, ◌++◌, length, get_or, set, take, slice_set, is_none, unwrap_or, replicate, Option, Some, None, refl, sym, ap, ◌∙◌, arith, subst, inl, inr}
+use Rattle.std.proofs.Common.{◌≡◌, ℕ, ◌+◌, ◌*◌, ◌<◌, Bool, true, false, ◌||◌, cond, eqb, ltb, min, List, [], ◌∷◌, ◌++◌, length, get_or, set, take, slice_set, is_none, replicate, Option, Some, None, refl, sym, ap, ◌∙◌, arith, subst, inl, inr}
 use Rattle.std.proofs.Math.Path.{fun_ext}
 use Rattle.std.proofs.lemmas.Bool.Decides.{eqb_tells, nat_tests}
 use Rattle.std.proofs.lemmas.Bool.{cases_lt}
@@ -7,7 +7,6 @@ use Rattle.std.proofs.lemmas.List.{length-replicate, length-set, take-append-le,
 use Rattle.std.proofs.lemmas.Grind.{get_or-set_at}
 use Rattle.std.specs.Option.{option_map_or, option_or}
 use Rattle.std.specs.Prelude.{IfSome}
-use Rattle.scc_base.specs.Setups.{SetupView}
 use Rattle.script_reader.specs.declared.effect.Effect.{Effect}
 use Rattle.script_reader.specs.declared.effect.Group.{Group}
 use Rattle.script_reader.specs.declared.effect.Group.TheVariants as group

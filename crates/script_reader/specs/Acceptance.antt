@@ -1,5 +1,5 @@
 -- What acceptance means: of each statement of a script that was read, for each rank that runs it (this project's profile).
-use Rattle.std.specs.Prelude.{◌≡◌, ℕ, ◌<◌, ◌≤◌, ◌%◌, true, length, reverse, take, slice_get, Option, Some, IfSome, IsSome, MatchOption}
+use Rattle.std.specs.Prelude.{◌≡◌, ℕ, ◌<◌, ◌≤◌, ◌%◌, true, reverse, take, slice_get, Option, Some, IfSome, IsSome, MatchOption}
 use Rattle.groups.specs.Folds.{bytes_in}
 use Rattle.groups.specs.declared.operations.Ty.{Ty}
 use Rattle.scc_base.specs.Setups.{SetupView, place_of}

@@ -1,4 +1,4 @@
-use Rattle.std.proofs.Common.{◌≡◌, ℕ, ◌≤◌, ap, arith, length, length-append}
+use Rattle.std.proofs.Common.{◌≤◌, ap, arith, length, length-append}
 use Rattle.std.proofs.lemmas.Bool.{ltb-false}
 use Rattle.script_reader.specs.declared.script.Item.{Item}
 use Rattle.script_reader.specs.Progress.{Progress}
