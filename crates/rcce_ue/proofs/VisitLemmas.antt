@@ -7,8 +7,8 @@ use Rattle.script_reader.specs.declared.script.Item.{Item}
 use Rattle.script_reader.specs.declared.script.Stmt.{Stmt}
 use Rattle.script_plain.specs.Program.{Act, Prim, Unrolled, acts_by, acts_of, begins, call_steps, collective_of, copies, in_front, nesting_at, part_of, prims_of, program_of, repeated, setup_of, single_of, unrolled}
 use Rattle.script_plain.specs.declared.prims.Collective.{Collective}
-use Rattle.script_plain.specs.declared.prims.Nesting.{Nesting}
-use Rattle.script_plain.specs.declared.prims.Nesting.TheVariants as nesting
+use Rattle.script_reader.specs.declared.effect.Nesting.{Nesting}
+use Rattle.script_reader.specs.declared.effect.Nesting.TheVariants as nesting
 use Rattle.std.specs.Option.{option_to_list}
 use Rattle.rcce_ue.specs.Bounds.{Visits, item_visits, steps_by, visits, visits_in_front, visits_of, visits_repeated}
 
@@ -47,7 +47,7 @@ within_repeated own times body (next ∷ behind) n (m ∷ ns) here rest =
 
 within_front : (n : Nesting) (prims : List Prim) (own : ℕ) (u : Unrolled Prim) (v : Visits) → length prims ≤ own → IsWithin u v → IsWithin (in_front n prims u) (visits_in_front n own v)
 within_front (nesting.Opens times) prims own u v each all = within_repeated own times u.here u.behind v.here v.behind all.here all.behind
-within_front nesting.Closes prims own u v each all = record { here = each; behind = (all.here, all.behind) }
+within_front (nesting.Closes start) prims own u v each all = record { here = each; behind = (all.here, all.behind) }
 within_front nesting.Stays prims own u v each all =
     let both = length-append prims u.here in
     let here = all.here in

@@ -7,8 +7,8 @@ use Rattle.script_plain.specs.Lengths.{lengths_of}
 use Rattle.script_plain.specs.Local.{local_start}
 use Rattle.script_plain.specs.Program.{call_steps, collective_of, nesting_at, program_of, setup_of}
 use Rattle.script_plain.specs.declared.prims.Collective.{Collective}
-use Rattle.script_plain.specs.declared.prims.Nesting.{Nesting}
-use Rattle.script_plain.specs.declared.prims.Nesting.TheVariants as nesting
+use Rattle.script_reader.specs.declared.effect.Nesting.{Nesting}
+use Rattle.script_reader.specs.declared.effect.Nesting.TheVariants as nesting
 use Rattle.std.specs.Prelude.{Option, Some, None}
 use Rattle.rcce_ue.specs.Left.{bounds_left}
 
@@ -34,7 +34,7 @@ visits_repeated own times body (next ∷ behind) = record { here = own + (body +
 
 abbrev pub visits_in_front : Nesting → ℕ → Visits → Visits
 visits_in_front (nesting.Opens times) own v = visits_repeated own times v.here v.behind
-visits_in_front nesting.Closes own v = record { here = own; behind = v.here ∷ v.behind }
+visits_in_front (nesting.Closes start) own v = record { here = own; behind = v.here ∷ v.behind }
 visits_in_front nesting.Stays own v = record { here = own + v.here; behind = v.behind }
 
 unfoldable pub visits_of : SetupView → ℕ → List Item → Visits

@@ -11,16 +11,16 @@ use Rattle.groups.specs.declared.collectives.Coll.TheVariants as coll
 use Rattle.groups.specs.declared.collectives.Step.TheVariants as step
 use Rattle.scc_base.specs.declared.kinds.Kind.TheVariants as message_kind
 use Rattle.groups.proofs.StepLemmas.{folds_length, sends_length}
-use Rattle.script_reader.specs.declared.checks.RankCheck.{RankCheck}
-use Rattle.script_reader.specs.declared.checks.RankCheck.TheVariants as check
 use Rattle.script_reader.specs.declared.fault.FaultKind.{FaultKind}
+use Rattle.script_reader.specs.declared.fault.FaultKind.TheVariants as kind
 use Rattle.script_reader.specs.declared.script.Item.{Item}
 use Rattle.script_reader.specs.declared.script.Stmt.{Stmt}
 use Rattle.script_reader.specs.declared.script.Who.{Who}
 use Rattle.script_reader.specs.declared.version.Version.TheVariants as version
 use Rattle.script_reader.specs.Checks.{cost_of, has_no_parent, has_no_root, has_split, is_misshapen, is_not_split, is_stray, is_to_self, is_too_deep, is_too_long, is_unknown, is_unset, length_at, open_of, operations, posts_too_much, printed, prints, refuses, run_of, some_below, turns_in, turns_too_often}
+use Rattle.script_reader.specs.Effects.{effect_of}
 use Rattle.script_reader.specs.Faults.{◌>>=◌}
-use Rattle.script_reader.specs.Progress.{Progress, checked_in, fault_before, is_refused, place}
+use Rattle.script_reader.specs.Progress.{Progress, first_fault, is_refused, place}
 use Rattle.script_reader.specs.Script.{has_rank}
 use Rattle.script_gen.specs.Scripts.{item_of}
 
@@ -40,70 +40,69 @@ none_below (suc n) who test clear =
 
 -- what the checks ask of a statement behind others
 pub record Passes (nue : ℕ) (past : List Item) (who : Who) (s : Stmt) : Type 0 where
-  pub known : is_unknown version.One (run_of nue past) s ≡ false
-  pub parented : has_no_parent (run_of nue past) s ≡ false
-  pub closed : is_stray (open_of past) s ≡ false
-  pub flat : is_too_deep (open_of past) s ≡ false
-  pub turning : turns_too_often (turns_in (open_of past)) s ≡ false
-  pub short : is_too_long s ≡ false
-  pub clear : (check : RankCheck) (rank : ℕ) → rank < nue → has_rank who rank ≡ true → refuses check nue past s rank ≡ false
+  pub known : is_unknown version.One (run_of nue past) (effect_of s).group ≡ false
+  pub parented : has_no_parent (run_of nue past) (effect_of s).group ≡ false
+  pub closed : is_stray (open_of past) (effect_of s).nesting ≡ false
+  pub flat : is_too_deep (open_of past) (effect_of s).nesting ≡ false
+  pub turning : turns_too_often (turns_in (open_of past)) (effect_of s).nesting ≡ false
+  pub short : is_too_long (effect_of s) ≡ false
+  pub clear : (kind : FaultKind) (rank : ℕ) → rank < nue → has_rank who rank ≡ true → refuses kind nue past (effect_of s) rank ≡ false
 
 -- where the reader stands in a section
 abbrev pub stage : ℕ → List Item → List (List ℕ) → Who → Progress
 stage nue items names who = record { version = version.One; nue = nue; opening = false; items = items; names = names; section = Some who }
 
 module _ (nue : ℕ) (items : List Item) (names : List (List ℕ)) (who : Who) (s : Stmt) (p : Passes nue (reverse items) who s) where
-  not_refused : (check : RankCheck) → is_refused check (stage nue items names who) s ≡ false
-  not_refused check = none_below nue who (refuses check nue (reverse items) s) (p.clear check)
+  not_refused : (kind : FaultKind) → is_refused kind (stage nue items names who) (effect_of s) ≡ false
+  not_refused kind = none_below nue who (refuses kind nue (reverse items) (effect_of s)) (p.clear kind)
 
-  before : fault_before (stage nue items names who) s ≡ None
-  before =
-      cond-false _ _ _ (not_refused check.RootRange)
-      ∙ cond-false _ _ _ (not_refused check.SelfMessage)
+  -- no fault of the table, in its order
+  sound : nat_lt 64 (length names) ≡ false → first_fault (stage nue items names who) (effect_of s) ≡ None
+  sound few =
+      cond-false _ _ _ (not_refused kind.RankRange)
+      ∙ cond-false _ _ _ (not_refused kind.SelfMessage)
       ∙ cond-false _ _ _ p.known
-      ∙ cond-false _ _ _ (or_false _ _ p.parented (not_refused check.NotSplit))
-      ∙ cond-false _ _ _ (not_refused check.Unset)
-      ∙ cond-false _ _ _ (not_refused check.Shape)
-
-  behind : nat_lt 64 (length names) ≡ false → checked_in (stage nue items names who) s (Some who) ≡ Ok who
-  behind few =
-      cond-false _ _ _ p.closed
+      ∙ cond-false _ _ _ (or_false _ _ p.parented (not_refused kind.NotSplit))
+      ∙ cond-false _ _ _ (not_refused kind.Unset)
+      ∙ cond-false _ _ _ (not_refused kind.Shape)
+      ∙ cond-false _ _ _ refl
+      ∙ cond-false _ _ _ p.closed
       ∙ cond-false _ _ _ p.flat
-      ∙ cond-false _ _ _ (or_false _ _ p.turning (not_refused check.TooManyOps))
-      ∙ cond-false _ _ _ (or_false _ _ p.short (not_refused check.TooLong))
+      ∙ cond-false _ _ _ (or_false _ _ p.turning (not_refused kind.TooManyOps))
+      ∙ cond-false _ _ _ (or_false _ _ p.short (not_refused kind.TooLong))
       ∙ cond-false _ _ _ few
 
   pub placed : (line : ℕ) → nat_lt 64 (length names) ≡ false → place line (stage nue items names who) s ≡ Ok (stage nue (items ++ item_of line who s ∷ []) names who)
   placed line few =
-      ap (λ (r : Result Who FaultKind). r >>= λ w. Ok (record (stage nue items names who) { items = items ++ item_of line w s ∷ [] }))
-      (ap (λ (o : Option FaultKind). option_map_or Err o (checked_in (stage nue items names who) s (Some who))) before ∙ behind few)
+      ap (λ (o : Option FaultKind). option_map_or Err o (Ok {E = FaultKind} who) >>= λ w. Ok (record (stage nue items names who) { items = items ++ item_of line w s ∷ [] })) (sound few)
 
 pub not_above : (limit n : ℕ) → n ≤ limit → nat_lt limit n ≡ false
 not_above limit n within = le-ltb limit n within
 
 -- no check refuses a statement for a rank
 pub clears : (nue : ℕ) (past : List Item) (s : Stmt) (rank : ℕ)
-    → has_no_root (run_of nue past) s rank ≡ false
-    → is_to_self nue s rank ≡ false
-    → is_not_split (has_split past rank) s ≡ false
-    → is_unset (run_of nue past) (length_at nue past rank) s rank ≡ false
-    → is_misshapen (run_of nue past) (length_at nue past rank) s rank ≡ false
-    → posts_too_much (length_at nue past rank) s ≡ false
-    → operations nue past rank + turns_in (open_of past) * cost_of (run_of nue past) s rank ≤ 100000
-    → printed nue past rank + turns_in (open_of past) * prints (length_at nue past rank) s ≤ 1048576
-    → (check : RankCheck) → refuses check nue past s rank ≡ false
-clears nue past s rank root self split set shape posts worked shown check.RootRange = root
-clears nue past s rank root self split set shape posts worked shown check.SelfMessage = self
-clears nue past s rank root self split set shape posts worked shown check.NotSplit = split
-clears nue past s rank root self split set shape posts worked shown check.Unset = set
-clears nue past s rank root self split set shape posts worked shown check.Shape = shape
-clears nue past s rank root self split set shape posts worked shown check.TooManyOps = not_above 100000 _ worked
-clears nue past s rank root self split set shape posts worked shown check.TooLong = or_false _ _ posts (not_above 1048576 _ shown)
+    → has_no_root (run_of nue past) (effect_of s) rank ≡ false
+    → is_to_self nue (effect_of s) rank ≡ false
+    → is_not_split (has_split past rank) (effect_of s).group ≡ false
+    → is_unset (run_of nue past) (length_at nue past rank) (effect_of s) rank ≡ false
+    → is_misshapen (run_of nue past) (length_at nue past rank) (effect_of s) rank ≡ false
+    → posts_too_much (length_at nue past rank) (effect_of s) ≡ false
+    → operations nue past rank + turns_in (open_of past) * cost_of (run_of nue past) (effect_of s).cost rank ≤ 100000
+    → printed nue past rank + turns_in (open_of past) * prints (length_at nue past rank) (effect_of s) ≤ 1048576
+    → (kind : FaultKind) → refuses kind nue past (effect_of s) rank ≡ false
+clears nue past s rank root self split set shape posts worked shown kind.RankRange = root
+clears nue past s rank root self split set shape posts worked shown kind.SelfMessage = self
+clears nue past s rank root self split set shape posts worked shown kind.NotSplit = split
+clears nue past s rank root self split set shape posts worked shown kind.Unset = set
+clears nue past s rank root self split set shape posts worked shown kind.Shape = shape
+clears nue past s rank root self split set shape posts worked shown kind.TooManyOps = not_above 100000 _ worked
+clears nue past s rank root self split set shape posts worked shown kind.TooLong = or_false _ _ posts (not_above 1048576 _ shown)
+clears nue past s rank root self split set shape posts worked shown _ = refl
 
 -- statements that are few operations each
 abbrev pub AreLight : ℕ → ℕ → List Item → Type 0
 AreLight nue rank [] = Unit {0}
-AreLight nue rank (item ∷ past) = AreLight nue rank past × (turns_in (open_of past) * cost_of (run_of nue past) item.stmt rank ≤ 1500)
+AreLight nue rank (item ∷ past) = AreLight nue rank past × (turns_in (open_of past) * cost_of (run_of nue past) (effect_of item.stmt).cost rank ≤ 1500)
 
 pub part : (b : Bool) (n m : ℕ) → n ≤ m → cond b n 0 ≤ m
 part true n m within = within
@@ -116,13 +115,13 @@ light_work : (nue rank : ℕ) (past : List Item) → AreLight nue rank past → 
 light_work nue rank [] light = omega arith
 light_work nue rank (item ∷ past) light =
     let before = light_work nue rank past light.0 in
-    let here = part (has_rank item.who rank) (turns_in (open_of past) * cost_of (run_of nue past) item.stmt rank) 1500 light.1 in
+    let here = part (has_rank item.who rank) (turns_in (open_of past) * cost_of (run_of nue past) (effect_of item.stmt).cost rank) 1500 light.1 in
     one_more _ _ _ before here
 
 within_all : (a c n : ℕ) → a ≤ 1500 * n → c ≤ 1500 → n ≤ 60 → a + c ≤ 100000
 within_all a c n before here few = omega arith
 
-pub worked : (nue rank : ℕ) (past : List Item) (item : Item) → AreLight nue rank (item ∷ past) → length past ≤ 60 → operations nue past rank + turns_in (open_of past) * cost_of (run_of nue past) item.stmt rank ≤ 100000
+pub worked : (nue rank : ℕ) (past : List Item) (item : Item) → AreLight nue rank (item ∷ past) → length past ≤ 60 → operations nue past rank + turns_in (open_of past) * cost_of (run_of nue past) (effect_of item.stmt).cost rank ≤ 100000
 worked nue rank past item light few =
     within_all _ _ _ (light_work nue rank past light.0) light.1 few
 

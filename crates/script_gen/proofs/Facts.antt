@@ -12,6 +12,7 @@ use Rattle.groups.specs.Collectives.{steps_of}
 use Rattle.script_reader.specs.declared.script.Item.{Item}
 use Rattle.script_reader.specs.declared.script.Stmt.TheVariants as stmt
 use Rattle.script_reader.specs.Checks.{cost_of, is_known, is_to_self, open_of, operations, run_of, turns_in}
+use Rattle.script_reader.specs.Effects.{effect_of}
 use Rattle.script_gen.specs.Scripts.{recv_last, send_next}
 use Rattle.script_gen.proofs.Checks.{AreLight, allreduce_short, part, worked}
 
@@ -27,7 +28,7 @@ next_other nue rank some below same =
         let is : (rank + 1) % nue ≡ 0 = ap (λ (k : ℕ). k % nue) round ∙ mod_self nue in
         absurd (omega (arith, is, same, round, some))
 
-pub send_other : (nue rank : ℕ) → 2 ≤ nue → rank < nue → is_to_self nue send_next rank ≡ false
+pub send_other : (nue rank : ℕ) → 2 ≤ nue → rank < nue → is_to_self nue (effect_of send_next) rank ≡ false
 send_other nue rank some below = ne_eqb _ _ (next_other nue rank some below)
 
 -- and so is the rank before
@@ -40,7 +41,7 @@ last_other nue (suc r) some below same =
     let is : (suc r + (nue - 1)) % nue ≡ r = ap (λ (k : ℕ). k % nue) round ∙ add-mod_right r nue ∙ mod-eq_of_lt (omega (arith, below)) in
     absurd (omega (arith, is, same))
 
-pub recv_other : (nue s rank : ℕ) → 2 ≤ nue → rank < nue → is_to_self nue (recv_last s) rank ≡ false
+pub recv_other : (nue s rank : ℕ) → 2 ≤ nue → rank < nue → is_to_self nue (effect_of (recv_last s)) rank ≡ false
 recv_other nue s rank some below =
     let one : 1 % nue ≡ 1 = mod-eq_of_lt (omega (arith, some)) in
     ap (λ (k : ℕ). ((rank + (nue - k)) % nue == rank)) one ∙ ne_eqb _ _ (last_other nue rank some below)
@@ -55,9 +56,9 @@ none_odd zero below odd = cc
 none_odd (suc r) below odd = absurd (omega (arith, below))
 
 -- a reduction to all in a repeat of few turns
-pub light_sum : (nue rank : ℕ) (past : List Item) → turns_in (open_of past) ≤ 10 → nue ≤ 48 → turns_in (open_of past) * cost_of (run_of nue past) (stmt.Allreduce 0 op.Sum ty.Long 1 1) rank ≤ 1500
+pub light_sum : (nue rank : ℕ) (past : List Item) → turns_in (open_of past) ≤ 10 → nue ≤ 48 → turns_in (open_of past) * cost_of (run_of nue past) (effect_of (stmt.Allreduce 0 op.Sum ty.Long 1 1)).cost rank ≤ 1500
 light_sum nue rank past few most =
-    mul-le (turns_in (open_of past)) (cost_of (run_of nue past) (stmt.Allreduce 0 op.Sum ty.Long 1 1) rank) 10 150 few
+    mul-le (turns_in (open_of past)) (cost_of (run_of nue past) (effect_of (stmt.Allreduce 0 op.Sum ty.Long 1 1)).cost rank) 10 150 few
     (part (is_known (run_of nue past) 0) (length (steps_of (run_of nue past) rank (coll.Allreduce 0 0))) 150 (allreduce_short (run_of nue past) rank most))
 
 light_back : (nue rank : ℕ) (more past : List Item) → AreLight nue rank (more ++ past) → AreLight nue rank past
@@ -66,6 +67,6 @@ light_back nue rank (item ∷ more) past light = light_back nue rank more past l
 
 -- the operations up to a statement among others
 pub work : (nue rank : ℕ) (all more past : List Item) (item : Item) → AreLight nue rank all → more ++ item ∷ past ≡ all → length past ≤ 60
-    → operations nue past rank + turns_in (open_of past) * cost_of (run_of nue past) item.stmt rank ≤ 100000
+    → operations nue past rank + turns_in (open_of past) * cost_of (run_of nue past) (effect_of item.stmt).cost rank ≤ 100000
 work nue rank all more past item light is few =
     worked nue rank past item (light_back nue rank more (item ∷ past) (subst (AreLight nue rank) (sym is) light)) few

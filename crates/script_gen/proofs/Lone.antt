@@ -13,6 +13,7 @@ use Rattle.script_reader.specs.declared.script.Who.TheVariants as who
 use Rattle.script_reader.specs.declared.version.Version.TheVariants as version
 use Rattle.script_reader.specs.Checks.{cost_of, open_of, operations, run_of, turns_in}
 use Rattle.script_reader.specs.Faults.{◌>>=◌}
+use Rattle.script_reader.specs.Effects.{effect_of}
 use Rattle.script_reader.specs.Progress.{Progress, start}
 use Rattle.script_reader.specs.Reading.{at_end, most_script_bytes, parse_script, read_all_lines, read_lines, version_of}
 use Rattle.script_reader.specs.Words.{line_count, lines_of}
@@ -105,7 +106,7 @@ module _ (s t : ℕ) (small : s ≤ 65535) (least : 1 ≤ t) (few : t ≤ 10) wh
   )
 
   spent : (rank : ℕ) (ahead back : List Item) (item : Item) → ahead ++ item ∷ back ≡ reverse (lone_said s t) → length back ≤ 60
-      → operations 1 back rank + turns_in (open_of back) * cost_of (run_of 1 back) item.stmt rank ≤ 100000
+      → operations 1 back rank + turns_in (open_of back) * cost_of (run_of 1 back) (effect_of item.stmt).cost rank ≤ 100000
   spent rank ahead back item is short = work 1 rank (reverse (lone_said s t)) ahead back item (light rank) is short
 
   pass_0 : Passes 1 (past s t 0) who.Even (stmt.Fill 0 s s)

@@ -4,6 +4,7 @@ use Rattle.std.specs.Option.{option_or}
 use Rattle.std.proofs.lemmas.Bool.{cond-false}
 use Rattle.script_reader.specs.declared.script.Item.{Item}
 use Rattle.script_reader.specs.Checks.{length_at, open_of, printed, prints, run_of, set_by, sets_to, turns_in}
+use Rattle.script_reader.specs.Effects.{effect_of}
 use Rattle.script_reader.specs.Script.{has_rank}
 
 abbrev pub AreOthers : ℕ → List Item → Type 0
@@ -13,22 +14,22 @@ AreOthers rank (item ∷ past) = AreOthers rank past × (has_rank item.who rank 
 pub others_none : (nue rank : ℕ) (past : List Item) → AreOthers rank past → (reg : ℕ) → length_at nue past rank reg ≡ None
 others_none nue rank [] others reg = refl
 others_none nue rank (item ∷ past) others reg =
-    ap (λ (had : Option ℕ). option_or had (cond (has_rank item.who rank) (sets_to (set_by (run_of nue past) (length_at nue past rank) item.stmt rank) reg) None))
+    ap (λ (had : Option ℕ). option_or had (cond (has_rank item.who rank) (sets_to (set_by (run_of nue past) (length_at nue past rank) (effect_of item.stmt) rank) reg) None))
     (others_none nue rank past others.0 reg)
     ∙ cond-false _ _ _ others.1
 
 pub others_shown : (nue rank : ℕ) (past : List Item) → AreOthers rank past → printed nue past rank ≡ 0
 others_shown nue rank [] others = refl
 others_shown nue rank (item ∷ past) others =
-    ap (λ (n : ℕ). n + cond (has_rank item.who rank) (turns_in (open_of past) * prints (length_at nue past rank) item.stmt) 0) (others_shown nue rank past others.0)
-    ∙ ap (λ (b : Bool). 0 + cond b (turns_in (open_of past) * prints (length_at nue past rank) item.stmt) 0) others.1
+    ap (λ (n : ℕ). n + cond (has_rank item.who rank) (turns_in (open_of past) * prints (length_at nue past rank) (effect_of item.stmt)) 0) (others_shown nue rank past others.0)
+    ∙ ap (λ (b : Bool). 0 + cond b (turns_in (open_of past) * prints (length_at nue past rank) (effect_of item.stmt)) 0) others.1
 
 -- a statement that prints nothing
 no_part : (b : Bool) (n t : ℕ) → n + cond b (t * 0) 0 ≡ n
 no_part true n t = omega arith
 no_part false n t = omega arith
 
-pub silent : (nue rank : ℕ) (past : List Item) (item : Item) → prints (length_at nue past rank) item.stmt ≡ 0 → printed nue (item ∷ past) rank ≡ printed nue past rank
+pub silent : (nue rank : ℕ) (past : List Item) (item : Item) → prints (length_at nue past rank) (effect_of item.stmt) ≡ 0 → printed nue (item ∷ past) rank ≡ printed nue past rank
 silent nue rank past item none =
     ap (λ (n : ℕ). printed nue past rank + cond (has_rank item.who rank) (turns_in (open_of past) * n) 0) none
     ∙ no_part (has_rank item.who rank) (printed nue past rank) (turns_in (open_of past))

@@ -13,6 +13,7 @@ use Rattle.script_reader.specs.declared.script.Who.TheVariants as who
 use Rattle.script_reader.specs.declared.version.Version.TheVariants as version
 use Rattle.script_reader.specs.Checks.{cost_of, differs, is_ragged, length_at, open_of, operations, printed, run_of, turns_in}
 use Rattle.script_reader.specs.Faults.{◌>>=◌}
+use Rattle.script_reader.specs.Effects.{effect_of}
 use Rattle.script_reader.specs.Progress.{Progress, start}
 use Rattle.script_reader.specs.Reading.{at_end, most_script_bytes, parse_script, read_all_lines, read_lines, version_of}
 use Rattle.script_reader.specs.Words.{line_count, lines_of}
@@ -154,7 +155,7 @@ module _ (nue s t : ℕ) (some : 2 ≤ nue) (most : nue ≤ 48) (small : s ≤ 6
   )
 
   spent : (rank : ℕ) (ahead back : List Item) (item : Item) → ahead ++ item ∷ back ≡ reverse (ring_said s t) → length back ≤ 60
-      → operations nue back rank + turns_in (open_of back) * cost_of (run_of nue back) item.stmt rank ≤ 100000
+      → operations nue back rank + turns_in (open_of back) * cost_of (run_of nue back) (effect_of item.stmt).cost rank ≤ 100000
   spent rank ahead back item is short = work nue rank (reverse (ring_said s t)) ahead back item (light rank) is short
 
   others : (rank : ℕ) → (rank % 2 == 1) ≡ true → AreOthers rank (past s t 9)

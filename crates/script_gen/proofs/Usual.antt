@@ -11,11 +11,12 @@ use Rattle.groups.specs.declared.collectives.Step.TheVariants as step
 use Rattle.script_reader.specs.declared.script.Item.{Item}
 use Rattle.script_reader.specs.declared.script.Stmt.{Stmt}
 use Rattle.script_reader.specs.declared.script.Stmt.TheVariants as stmt
+use Rattle.script_reader.specs.Effects.{effect_of}
 use Rattle.script_reader.specs.Script.{Script, has_rank}
-use Rattle.script_plain.specs.declared.prims.Nesting.{Nesting}
-use Rattle.script_plain.specs.declared.prims.Nesting.TheVariants as nesting
+use Rattle.script_reader.specs.declared.effect.Nesting.{Nesting}
+use Rattle.script_reader.specs.declared.effect.Nesting.TheVariants as nesting
 use Rattle.script_plain.specs.declared.prims.Operands.{Operands}
-use Rattle.script_plain.specs.Program.{Act, Prim, Unrolled, acts_of, call_steps, can_call, copies, in_front, nesting_at, nesting_of, part_of, begins, prims_of, program_of, repeated, setup_of, unrolled}
+use Rattle.script_plain.specs.Program.{Act, Prim, Unrolled, acts_of, call_steps, can_call, copies, in_front, nesting_at, part_of, begins, prims_of, program_of, repeated, setup_of, unrolled}
 use Rattle.script_plain.specs.Program.Act.{Post}
 use Rattle.script_gen.specs.Scripts.{gen_script_of, lone_script, ring_script}
 use Rattle.script_gen.specs.Texts.{turns_of}
@@ -97,7 +98,7 @@ quiet_repeated times body (next ∷ behind) quiet all =
 
 quiet_front : (n : Nesting) (prims : List Prim) (u : Unrolled Prim) → AreQuiet prims → IsQuietRun u → IsQuietRun (in_front n prims u)
 quiet_front (nesting.Opens times) prims u quiet run = quiet_repeated times u.here u.behind run.here run.behind
-quiet_front nesting.Closes prims u quiet run = record { here = quiet; behind = (run.here, run.behind) }
+quiet_front (nesting.Closes start) prims u quiet run = record { here = quiet; behind = (run.here, run.behind) }
 quiet_front nesting.Stays prims u quiet run = record { here = quiet_both prims u.here quiet run.here; behind = run.behind }
 
 quiet_part : (o : Operands) (b : Bool) (st : Step) → IsQuiet (part_of o b st)
@@ -200,8 +201,8 @@ repeated_short times body (next ∷ behind) few =
 stays_short : (prims : List Prim) (u : Unrolled Prim) → length prims ≤ 150 → made (in_front nesting.Stays prims u) ≤ 150 + made u
 stays_short prims u short = let both = length-append prims u.here in omega (arith, short, both)
 
-closes_short : (prims : List Prim) (u : Unrolled Prim) → length prims ≤ 150 → made (in_front nesting.Closes prims u) ≤ 150 + made u
-closes_short prims u short = omega (arith, short)
+closes_short : (place : ℕ) (prims : List Prim) (u : Unrolled Prim) → length prims ≤ 150 → made (in_front (nesting.Closes place) prims u) ≤ 150 + made u
+closes_short place prims u short = omega (arith, short)
 
 steps_short : (s : SetupView) (rank comm : ℕ) → s.nue ≤ 48 → comm ≡ 0 → length (call_steps s rank (coll.Allreduce comm 0)) ≤ 150
 steps_short s rank comm few world =
@@ -234,7 +235,7 @@ acts_short s rank (stmt.Repeat times end) few usual = omega arith
 acts_short s rank (stmt.End start) few usual = omega arith
 
 -- an item in front of others
-item_short : (b : Bool) (statement : Stmt) (prims : List Prim) (u : Unrolled Prim) (n : ℕ) → IsUsual statement → length prims ≤ 150 → made u ≤ n → made (in_front (cond b (nesting_of statement) nesting.Stays) (cond b prims []) u) ≤ most_by statement n
+item_short : (b : Bool) (statement : Stmt) (prims : List Prim) (u : Unrolled Prim) (n : ℕ) → IsUsual statement → length prims ≤ 150 → made u ≤ n → made (in_front (cond b (effect_of statement).nesting nesting.Stays) (cond b prims []) u) ≤ most_by statement n
 item_short b (stmt.Bytes reg bytes) prims u n usual short within = absurd usual
 item_short true (stmt.Fill reg len start) prims u n usual short within = let one = stays_short prims u short in omega (arith, one, within)
 item_short false (stmt.Fill reg len start) prims u n usual short within = omega (arith, within)
@@ -256,7 +257,7 @@ item_short true (stmt.Allreduce comm op ty dst src) prims u n usual short within
 item_short false (stmt.Allreduce comm op ty dst src) prims u n usual short within = omega (arith, within)
 item_short true (stmt.Repeat times end) prims u n usual short within = let one = repeated_short times u.here u.behind usual in omega (arith, one, within)
 item_short false (stmt.Repeat times end) prims u n usual short within = omega (arith, within)
-item_short true (stmt.End start) prims u n usual short within = let one = closes_short prims u short in omega (arith, one, within)
+item_short true (stmt.End start) prims u n usual short within = let one = closes_short start prims u short in omega (arith, one, within)
 item_short false (stmt.End start) prims u n usual short within = omega (arith, within)
 
 items_short : (s : SetupView) (rank : ℕ) (items : List Item) → s.nue ≤ 48 → AreUsual items → made (unrolled s rank items) ≤ most items

@@ -20,7 +20,8 @@ use Rattle.scc_base.specs.Heads.{IsHead, plain_head}
 use Rattle.scc_base.specs.Setups.{SetupView}
 use Rattle.scc_base.specs.declared.communicators.CommRule.{CommRule}
 use Rattle.scc_base.specs.declared.communicators.CommRule.TheVariants as rule
-use Rattle.script_reader.specs.Checks.{comm_needed, has_root, is_absent, is_to_self}
+use Rattle.script_reader.specs.Checks.{has_root, is_absent, is_to_self}
+use Rattle.script_reader.specs.Effects.{comm_needed, effect_of}
 use Rattle.script_reader.specs.Script.{IsSized, Script, has_rank, peer_of, rules_of}
 use Rattle.script_reader.specs.Settled.{HasPeer, IsSettled, IsWhole}
 use Rattle.script_reader.specs.declared.script.Item.{Item}
@@ -28,8 +29,8 @@ use Rattle.script_reader.specs.declared.script.Peer.{Peer}
 use Rattle.script_reader.specs.declared.script.Stmt.{Stmt}
 use Rattle.script_reader.specs.declared.script.Stmt.TheVariants as stmt
 use Rattle.script_reader.proofs.SettledLemmas.{present-low}
-use Rattle.script_plain.specs.declared.prims.Nesting.{Nesting}
-use Rattle.script_plain.specs.declared.prims.Nesting.TheVariants as nesting
+use Rattle.script_reader.specs.declared.effect.Nesting.{Nesting}
+use Rattle.script_reader.specs.declared.effect.Nesting.TheVariants as nesting
 use Rattle.script_plain.specs.declared.prims.Operands.{Operands}
 use Rattle.script_plain.specs.Program.{Act, Prim, Unrolled, acts_of, begins, call_steps, can_call, copies, in_front, nesting_at, part_of, parts_of, prims_of, program_of, repeated, setup_of, unrolled}
 use Rattle.script_plain.proofs.LengthLemmas.{at-found}
@@ -110,7 +111,7 @@ module _ (script : Script) (rank : ℕ) where
 
   aimed_front : (n : Nesting) (prims : List Prim) (u : Unrolled Prim) → AreAimed prims → AimedIn u → AimedIn (in_front n prims u)
   aimed_front (nesting.Opens times) prims u each all = aimed_repeated times u.here u.behind all.here all.behind
-  aimed_front nesting.Closes prims u each all = record { here = each; behind = (all.here, all.behind) }
+  aimed_front (nesting.Closes start) prims u each all = record { here = each; behind = (all.here, all.behind) }
   aimed_front nesting.Stays prims u each all = record { here = aimed_both prims u.here each all.here; behind = all.behind }
 
   aimed_unrolled : (s : SetupView) (items : List Item) → ((k : ℕ) (item : Item) → slice_get items k ≡ Some item → AreAimed (prims_of s rank item)) → AimedIn (unrolled s rank items)
@@ -141,12 +142,12 @@ module _ (script : Script) (rank : ℕ) where
           (steps_with (setup_of script) rank c (called (setup_of script) rank c may))
       by false may = tt
 
-  peer_by : (peer : Peer) → peer_of script.nue peer rank < script.nue → is_to_self script.nue (stmt.Send peer 0) rank ≡ false → IsPeer script.nue rank (peer_of script.nue peer rank)
+  peer_by : (peer : Peer) → peer_of script.nue peer rank < script.nue → is_to_self script.nue (effect_of (stmt.Send peer 0)) rank ≡ false → IsPeer script.nue rank (peer_of script.nue peer rank)
   peer_by peer below other = record { below = below; other = eqb-false (peer_of script.nue peer rank) rank other }
 
   -- each statement's
-  aimed_statement : (line : ℕ) (statement : Stmt) → HasPeer script.nue statement rank → is_to_self script.nue statement rank ≡ false
-      → rule_of (rules_of script.items) (comm_needed statement) ≢ rule.Absent → IsSized statement → AimedActs line (acts_of (setup_of script) rank statement)
+  aimed_statement : (line : ℕ) (statement : Stmt) → HasPeer script.nue (effect_of statement) rank → is_to_self script.nue (effect_of statement) rank ≡ false
+      → rule_of (rules_of script.items) (comm_needed (effect_of statement).group) ≢ rule.Absent → IsSized statement → AimedActs line (acts_of (setup_of script) rank statement)
   aimed_statement line (stmt.Bytes reg bytes) below other there short = (short, tt)
   aimed_statement line (stmt.Fill reg len start) below other there short =
       let long = length-map-range_with_len (λ (i : ℕ). (start + i) % 251) 0 len in (omega (arith, long, short), tt)

@@ -10,7 +10,8 @@ use Rattle.scc_base.specs.Communicators.{rule_of}
 use Rattle.scc_base.specs.Setups.{size_of}
 use Rattle.scc_base.specs.declared.communicators.CommRule.{CommRule}
 use Rattle.scc_base.specs.declared.communicators.CommRule.TheVariants as rule
-use Rattle.script_reader.specs.Checks.{comm_needed, has_no_root, has_root, is_absent, is_past_group}
+use Rattle.script_reader.specs.Checks.{has_no_root, has_root, is_absent, is_past_group}
+use Rattle.script_reader.specs.Effects.{comm_needed, effect_of}
 use Rattle.script_reader.specs.Script.{IsSized, Script, has_rank, rules_of}
 use Rattle.script_reader.specs.Settled.{IsSettled, IsWhole, run_with}
 use Rattle.script_reader.specs.declared.script.Item.{Item}
@@ -50,8 +51,8 @@ module _ (script : Script) (rank : ℕ) (below : rank < script.nue) where
   in_group : (comm root : ℕ) → (rule_of (rules_of script.items) comm ≡ rule.Absent → ⊥) → is_past_group (run_with script.nue (rules_of script.items)) comm rank root ≡ false → nat_lt root (size_of (setup_of script) comm rank) ≡ true
   in_group comm root there none = rooted_by (rule_of (rules_of script.items) comm) (nat_lt root (size_of (run_with script.nue (rules_of script.items)) comm rank)) there none
 
-  callable_by : (s : Stmt) (call : Collective) → collective_of s ≡ Some call → IsSized s → (rule_of (rules_of script.items) (comm_needed s) ≡ rule.Absent → ⊥)
-      → has_no_root (run_with script.nue (rules_of script.items)) s rank ≡ false → can_call (setup_of script) rank call.coll ≡ true
+  callable_by : (s : Stmt) (call : Collective) → collective_of s ≡ Some call → IsSized s → (rule_of (rules_of script.items) (comm_needed (effect_of s).group) ≡ rule.Absent → ⊥)
+      → has_no_root (run_with script.nue (rules_of script.items)) (effect_of s) rank ≡ false → can_call (setup_of script) rank call.coll ≡ true
   callable_by (stmt.Bcast comm root reg len) call is short there rooted =
       let c : Coll = coll.Bcast comm root len in
       subst (λ (x : Collective). can_call (setup_of script) rank x.coll ≡ true) (same_Some _ call is) (may_call c (present-low script.items comm there) there short (in_group comm root there rooted))

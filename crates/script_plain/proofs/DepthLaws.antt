@@ -3,8 +3,8 @@ use Rattle.std.proofs.Common.{◌≡◌, ℕ, zero, suc, ◌+◌, ◌-◌, ◌<�
 use Rattle.std.proofs.lemmas.Bool.{cases_lt}
 use Rattle.scc_base.specs.Setups.{SetupView}
 use Rattle.script_reader.specs.declared.script.Item.{Item}
-use Rattle.script_plain.specs.declared.prims.Nesting.{Nesting}
-use Rattle.script_plain.specs.declared.prims.Nesting.TheVariants as nesting
+use Rattle.script_reader.specs.declared.effect.Nesting.{Nesting}
+use Rattle.script_reader.specs.declared.effect.Nesting.TheVariants as nesting
 use Rattle.script_plain.specs.declared.course.Open.{Open}
 use Rattle.script_plain.specs.Depths.{AreHeld, HasRoom, IsDeep, depth_after, depth_at, depth_from}
 use Rattle.script_plain.specs.Program.{marks_of, nesting_at}
@@ -45,11 +45,11 @@ module _ (rank : ℕ) where
 
   -- over an item that has no marks
   entered_by : (items : List Item) (at : ℕ) (item : Item) (repeats : List Open) (n : Nesting) → slice_get items at ≡ Some item → nesting_at rank item ≡ n
-      → (n ≡ nesting.Closes → ⊥) → IsDeep rank items at repeats → IsDeep rank items (at + 1) (opened n at repeats)
+      → ((place : ℕ) → n ≡ nesting.Closes place → ⊥) → IsDeep rank items at repeats → IsDeep rank items (at + 1) (opened n at repeats)
   entered_by items at item repeats nesting.Stays here is stays deep =
       let next : depth_at rank items (at + 1) ≡ depth_at rank items at = depth_next items at item here ∙ ap (λ (n : Nesting). depth_after n (depth_at rank items at)) is in
       record { here = omega (arith, deep.here, next); held = deep.held }
-  entered_by items at item repeats nesting.Closes here is stays deep = absurd (stays refl)
+  entered_by items at item repeats (nesting.Closes start) here is stays deep = absurd (stays start refl)
   entered_by items at item repeats (nesting.Opens times) here is stays deep =
       let next : depth_at rank items (at + 1) ≡ depth_at rank items at + 1 = depth_next items at item here ∙ ap (λ (n : Nesting). depth_after n (depth_at rank items at)) is in
       record { here = omega (arith, deep.here, next); held = (omega (arith, deep.here, next), deep.held) }
@@ -58,7 +58,7 @@ module _ (rank : ℕ) where
       → after ≡ opened (nesting_at rank item) at before → IsDeep rank items at before → IsDeep rank items (at + 1) after
   deep_entered s items at item before after here none is deep =
       let P : List Open → Type 0 = λ r. IsDeep rank items (at + 1) r in
-      let stays : nesting_at rank item ≡ nesting.Closes → ⊥ = λ closes. absurd (omega (arith, none, closes_by s rank item closes)) in
+      let stays : (place : ℕ) → nesting_at rank item ≡ nesting.Closes place → ⊥ = λ place closes. absurd (omega (arith, none, closes_by s rank item place closes)) in
       subst P (sym is) (entered_by items at item before (nesting_at rank item) here refl stays deep)
 
   -- there is room to enter
@@ -81,8 +81,8 @@ module _ (rank : ℕ) where
   passed_by items at end item repeats (nesting.Opens times) here is deep =
       let next : depth_at rank items (at + 1) ≡ depth_at rank items at + 1 = depth_next items at item here ∙ ap (λ (n : Nesting). depth_after n (depth_at rank items at)) is in
       record { here = omega (arith, deep.here, next); held = deep.held }
-  passed_by items at end item [] nesting.Closes here is deep = record { here = omega arith; held = tt }
-  passed_by items at end item (o ∷ repeats) nesting.Closes here is deep =
+  passed_by items at end item [] (nesting.Closes start) here is deep = record { here = omega arith; held = tt }
+  passed_by items at end item (o ∷ repeats) (nesting.Closes start) here is deep =
       let next : depth_at rank items (at + 1) ≡ depth_at rank items at - 1 = depth_next items at item here ∙ ap (λ (n : Nesting). depth_after n (depth_at rank items at)) is in
       closed_by_deep items at o.start o.left repeats deep.held.0 (omega (arith, deep.here, next)) deep.held.1
 
@@ -96,7 +96,7 @@ module _ (rank : ℕ) where
   -- one item changes the depth by at most one
   pub depth_more : (n : Nesting) (depth : ℕ) → depth_after n depth ≤ depth + 1
   depth_more (nesting.Opens times) depth = omega arith
-  depth_more nesting.Closes depth = omega arith
+  depth_more (nesting.Closes start) depth = omega arith
   depth_more nesting.Stays depth = omega arith
 
   -- the greatest depth so far, and one place more

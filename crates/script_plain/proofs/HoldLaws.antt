@@ -1,6 +1,6 @@
 -- What the machine of a rank holds has room for what comes, and comes to what the rank comes to.
 use Rattle.std.proofs.Common.{◌≡◌, ℕ, true, List, [], length, drop, Option, Some, refl, ap, arith}
-use Rattle.script_plain.specs.declared.machines.Held.{Held}
+use Rattle.script_plain.specs.declared.held.Held.{Held}
 use Rattle.script_plain.specs.declared.prims.Action.{Action}
 use Rattle.script_plain.specs.declared.prims.Action.TheVariants as action
 use Rattle.script_plain.specs.declared.prims.Standing.{Standing}

@@ -4,12 +4,13 @@ use Rattle.std.proofs.lemmas.Bool.{cases_lt}
 use Rattle.std.proofs.lemmas.Option.{slice_get_cases}
 use Rattle.scc_base.specs.Setups.{SetupView}
 use Rattle.script_reader.specs.declared.script.Item.{Item}
+use Rattle.script_reader.specs.Effects.{effect_of}
 use Rattle.script_reader.specs.Script.{has_rank}
-use Rattle.script_plain.specs.declared.prims.Nesting.{Nesting}
-use Rattle.script_plain.specs.declared.prims.Nesting.TheVariants as nesting
+use Rattle.script_reader.specs.declared.effect.Nesting.{Nesting}
+use Rattle.script_reader.specs.declared.effect.Nesting.TheVariants as nesting
 use Rattle.script_plain.specs.declared.course.Open.{Open}
 use Rattle.script_plain.specs.Depths.{IsDeep, IsIdleFrom, IsIdleTo, depth_after, depth_at}
-use Rattle.script_plain.specs.Program.{Act, Prim, Unrolled, acts_of, in_front, marked, marks_by, marks_of, nesting_at, nesting_of, prims_of}
+use Rattle.script_plain.specs.Program.{Act, Prim, Unrolled, acts_of, in_front, marked, marks_by, marks_of, nesting_at, prims_of}
 use Rattle.script_plain.specs.Walk.{again, left_at, left_of, opened}
 use Rattle.script_plain.proofs.DepthLaws.{depth_next, depth_past}
 use Rattle.script_plain.proofs.WalkLaws.{over_same, past_same, marked-at, marked-past}
@@ -19,7 +20,7 @@ idle_prims s rank item idle = ap (λ (b : Bool). cond b (map (λ (act : Act). re
 
 -- an item of another rank does nothing to the repeats, and has no marks
 pub idle_stays : (rank : ℕ) (item : Item) → has_rank item.who rank ≡ false → nesting_at rank item ≡ nesting.Stays
-idle_stays rank item idle = ap (λ (b : Bool). cond b (nesting_of item.stmt) nesting.Stays) idle
+idle_stays rank item idle = ap (λ (b : Bool). cond b (effect_of item.stmt).nesting nesting.Stays) idle
 
 pub idle_none : (s : SetupView) (rank : ℕ) (item : Item) → has_rank item.who rank ≡ false → marks_of s rank item ≡ []
 idle_none s rank item idle =

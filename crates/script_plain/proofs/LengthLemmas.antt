@@ -7,6 +7,7 @@ use Rattle.scc_base.specs.Communicators.{key_of}
 use Rattle.scc_base.specs.Groups.{place_in}
 use Rattle.scc_base.specs.declared.communicators.CommRule.{CommRule}
 use Rattle.script_reader.specs.Acceptance.{IsFitting, IsPostable, IsReadable, IsWholeOf, length_before, length_of}
+use Rattle.script_reader.specs.Effects.{effect_of}
 use Rattle.script_reader.specs.Script.{Script, has_rank, rules_of}
 use Rattle.script_reader.specs.Settled.{IsWhole, run_with}
 use Rattle.script_reader.specs.declared.script.Item.{Item}
@@ -42,23 +43,23 @@ module _ (nue : ℕ) (comms : List CommRule) (before had : ℕ → Option ℕ) (
       let is = stays src here.0 here.1 in
       (here.0, is, subst (λ (o : Option ℕ). IfSome o (λ size. size % bytes_in ty ≡ 0)) is whole)
 
-  reckons : (s : Stmt) → IsReadable (run_with nue comms) before s rank → IsFitting (run_with nue comms) had s rank → IsPostable had s → Reckons comms had rank s
-  reckons (stmt.Bytes reg bytes) reads fits posts = fits
-  reckons (stmt.Fill reg len start) reads fits posts = fits
-  reckons (stmt.RankOf reg ty) reads fits posts = fits
+  reckons : (s : Stmt) → IsReadable (run_with nue comms) before (effect_of s) rank → IsFitting (run_with nue comms) had (effect_of s) rank → IsPostable had (effect_of s) → Reckons comms had rank s
+  reckons (stmt.Bytes reg bytes) reads fits posts = fits.given
+  reckons (stmt.Fill reg len start) reads fits posts = fits.given
+  reckons (stmt.RankOf reg ty) reads fits posts = fits.given
   reckons (stmt.Apply op ty dst src) reads fits posts = tt
   reckons (stmt.Send peer reg) reads fits posts = tt
   reckons (stmt.Post peer reg) reads fits posts =
       let here = there_by (before reg) reads in
       let is = stays reg here.0 here.1 in
       (here.0, is, subst (λ (o : Option ℕ). IfSome o (λ size. size ≤ 3584)) is posts)
-  reckons (stmt.Recv peer reg len) reads fits posts = fits
+  reckons (stmt.Recv peer reg len) reads fits posts = fits.given
   reckons (stmt.Print reg form) reads fits posts = tt
   reckons (stmt.Barrier comm) reads fits posts = tt
   reckons (stmt.Split comm by) reads fits posts = tt
-  reckons (stmt.Bcast comm root reg len) reads fits posts = λ apart. fits
-  reckons (stmt.Reduce comm root op ty dst src) reads fits posts = (even ty src reads fits.1, fits.0)
-  reckons (stmt.Allreduce comm op ty dst src) reads fits posts = (even ty src reads fits.1, fits.0)
+  reckons (stmt.Bcast comm root reg len) reads fits posts = fits.given
+  reckons (stmt.Reduce comm root op ty dst src) reads fits posts = (even ty src reads fits.needed, fits.given)
+  reckons (stmt.Allreduce comm op ty dst src) reads fits posts = (even ty src reads fits.needed, fits.given)
   reckons (stmt.Repeat times end) reads fits posts = tt
   reckons (stmt.End start) reads fits posts = tt
 

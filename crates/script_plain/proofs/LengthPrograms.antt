@@ -19,8 +19,8 @@ use Rattle.script_reader.specs.declared.script.Item.{Item}
 use Rattle.script_reader.specs.declared.script.Stmt.{Stmt}
 use Rattle.script_reader.specs.declared.script.Stmt.TheVariants as stmt
 use Rattle.script_plain.proofs.LengthLemmas.{Reckons}
-use Rattle.script_plain.specs.declared.prims.Nesting.{Nesting}
-use Rattle.script_plain.specs.declared.prims.Nesting.TheVariants as nesting
+use Rattle.script_reader.specs.declared.effect.Nesting.{Nesting}
+use Rattle.script_reader.specs.declared.effect.Nesting.TheVariants as nesting
 use Rattle.script_plain.specs.declared.prims.Operands.{Operands}
 use Rattle.script_plain.specs.Program.{Act, Prim, Unrolled, acts_of, begins, call_steps, can_call, copies, in_front, nesting_at, part_of, parts_of, prims_of, repeated, unrolled}
 use Rattle.script_plain.specs.Kept.{Keeps, folding, gathering}
@@ -59,7 +59,7 @@ module _ (had : ℕ → Option ℕ) where
 
   always_front : (n : Nesting) (prims : List Prim) (u : Unrolled Prim) → KeepsAlways prims → AlwaysIn u → AlwaysIn (in_front n prims u)
   always_front (nesting.Opens times) prims u each all = always_repeated times u.here u.behind all.here all.behind
-  always_front nesting.Closes prims u each all = record { here = each; behind = (all.here, all.behind) }
+  always_front (nesting.Closes start) prims u each all = record { here = each; behind = (all.here, all.behind) }
   always_front nesting.Stays prims u each all = record { here = always_both prims u.here each all.here; behind = all.behind }
 
   always_unrolled : (s : SetupView) (rank : ℕ) (items : List Item) → ((k : ℕ) (item : Item) → slice_get items k ≡ Some item → KeepsAlways (prims_of s rank item)) → AlwaysIn (unrolled s rank items)

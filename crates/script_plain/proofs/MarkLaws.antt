@@ -3,10 +3,11 @@ use Rattle.std.proofs.Common.{◌≡◌, ℕ, zero, suc, ◌-◌, ◌<◌, ◌�
 use Rattle.std.proofs.lemmas.List.Elements.{filter_map-append}
 use Rattle.scc_base.specs.Setups.{SetupView}
 use Rattle.script_reader.specs.declared.script.Item.{Item}
+use Rattle.script_reader.specs.Effects.{effect_of}
 use Rattle.script_reader.specs.Script.{Script, has_rank}
-use Rattle.script_plain.specs.declared.prims.Nesting.{Nesting}
-use Rattle.script_plain.specs.declared.prims.Nesting.TheVariants as nesting
-use Rattle.script_plain.specs.Program.{Act, Prim, Unrolled, acts_of, copies, in_front, marked, marks_by, marks_in, marks_of, nesting_at, nesting_of, prims_in, prims_of, program_of, repeated, setup_of, unrolled}
+use Rattle.script_reader.specs.declared.effect.Nesting.{Nesting}
+use Rattle.script_reader.specs.declared.effect.Nesting.TheVariants as nesting
+use Rattle.script_plain.specs.Program.{Act, Prim, Unrolled, acts_of, copies, in_front, marked, marks_by, marks_in, marks_of, nesting_at, prims_in, prims_of, program_of, repeated, setup_of, unrolled}
 use Rattle.script_plain.specs.Walk.{is_end, prim_of}
 use Rattle.script_plain.proofs.WalkLaws.{end_prim}
 
@@ -21,17 +22,17 @@ copied_prims : (n : ℕ) (marks : List (Option Prim)) → prims_in (copies n mar
 copied_prims zero marks = refl
 copied_prims (suc n) marks = both_prims marks (copies n marks) ∙ ap (λ (l : List Prim). prims_in marks ++ l) (copied_prims n marks)
 
-closes_none : (s : SetupView) (rank : ℕ) (item : Item) (b : Bool) → has_rank item.who rank ≡ b → nesting_at rank item ≡ nesting.Closes → prims_of s rank item ≡ []
-closes_none s rank item true has closes =
-    let closing : nesting_of item.stmt ≡ nesting.Closes = sym (ap (λ (b : Bool). cond b (nesting_of item.stmt) nesting.Stays) has) ∙ closes in
+closes_none : (s : SetupView) (rank : ℕ) (item : Item) (place : ℕ) (b : Bool) → has_rank item.who rank ≡ b → nesting_at rank item ≡ nesting.Closes place → prims_of s rank item ≡ []
+closes_none s rank item place true has closes =
+    let closing : (effect_of item.stmt).nesting ≡ nesting.Closes place = sym (ap (λ (b : Bool). cond b (effect_of item.stmt).nesting nesting.Stays) has) ∙ closes in
     ap (λ (b : Bool). cond b (map (λ (act : Act). record { line = item.line; act = act }) (acts_of s rank item.stmt)) []) has
-    ∙ ap (λ (acts : List Act). map (λ (act : Act). record { line = item.line; act = act }) acts) (end_prim s rank item.stmt closing)
-closes_none s rank item false has closes =
+    ∙ ap (λ (acts : List Act). map (λ (act : Act). record { line = item.line; act = act }) acts) (end_prim s rank item.stmt place closing)
+closes_none s rank item place false has closes =
     ap (λ (b : Bool). cond b (map (λ (act : Act). record { line = item.line; act = act }) (acts_of s rank item.stmt)) []) has
 
 item_prims : (s : SetupView) (rank : ℕ) (item : Item) (n : Nesting) → nesting_at rank item ≡ n → prims_in (marks_by n (prims_of s rank item)) ≡ prims_of s rank item
 item_prims s rank item (nesting.Opens times) is = some_prims (prims_of s rank item)
-item_prims s rank item nesting.Closes is = sym (closes_none s rank item (has_rank item.who rank) refl is)
+item_prims s rank item (nesting.Closes start) is = sym (closes_none s rank item start (has_rank item.who rank) refl is)
 item_prims s rank item nesting.Stays is = some_prims (prims_of s rank item)
 
 -- what is made without the marks
@@ -47,7 +48,7 @@ without_repeated times here (next ∷ behind) =
 
 without_front : (n : Nesting) (marks : List (Option Prim)) (u : Unrolled (Option Prim)) → without (in_front n marks u) ≡ in_front n (prims_in marks) (without u)
 without_front (nesting.Opens times) marks u = without_repeated times u.here u.behind
-without_front nesting.Closes marks u = refl
+without_front (nesting.Closes start) marks u = refl
 without_front nesting.Stays marks u = ap (λ (l : List Prim). record { here = l; behind = map prims_in u.behind }) (both_prims marks u.here)
 
 without_marks : (s : SetupView) (rank : ℕ) (items : List Item) → without (marked s rank items) ≡ unrolled s rank items

@@ -17,8 +17,9 @@ use Rattle.groups.specs.declared.collectives.Coll.TheVariants as coll
 use Rattle.groups.specs.declared.collectives.Step.{Step}
 use Rattle.groups.specs.declared.operations.Op.TheVariants as op_of
 use Rattle.groups.specs.declared.operations.Ty.TheVariants as ty_of
-use Rattle.script_reader.specs.Checks.{comm_needed, cost_of, has_root, is_known, open_of, opened, operations, run_of, steps_in, turns_in}
+use Rattle.script_reader.specs.Checks.{cost_of, has_root, is_known, open_of, opened, operations, run_of, steps_in, turns_in}
 use Rattle.script_reader.specs.Closed.{AreMatched, AreWithin, Closes, HasPass, HavePasses, IsClosed, latest_section}
+use Rattle.script_reader.specs.Effects.{comm_needed, effect_of}
 use Rattle.script_reader.specs.Script.{Script, has_rank, rules_of}
 use Rattle.script_reader.specs.Settled.{AreInLine, IsInLine, IsWhole}
 use Rattle.script_reader.specs.declared.script.Item.{Item}
@@ -27,10 +28,10 @@ use Rattle.script_reader.specs.declared.script.Stmt.TheVariants as stmt
 use Rattle.script_reader.specs.declared.script.Who.{Who}
 use Rattle.script_reader.proofs.AcceptanceLemmas.{worked-law}
 use Rattle.script_reader.proofs.SettledLemmas.{Extends, key-same, present-low, same-more}
-use Rattle.script_plain.specs.declared.prims.Nesting.{Nesting}
-use Rattle.script_plain.specs.declared.prims.Nesting.TheVariants as nesting
+use Rattle.script_reader.specs.declared.effect.Nesting.{Nesting}
+use Rattle.script_reader.specs.declared.effect.Nesting.TheVariants as nesting
 use Rattle.script_plain.specs.declared.prims.Operands.{Operands}
-use Rattle.script_plain.specs.Program.{Act, Prim, Unrolled, acts_of, begins, call_steps, can_call, collective_of, copies, in_front, marked, marks_by, marks_in, nesting_of, part_of, parts_of, program_of, repeated, setup_of}
+use Rattle.script_plain.specs.Program.{Act, Prim, Unrolled, acts_of, begins, call_steps, can_call, collective_of, copies, in_front, marked, marks_by, marks_in, part_of, parts_of, program_of, repeated, setup_of}
 use Rattle.script_plain.proofs.CallableLaws.{callable, known}
 use Rattle.script_plain.proofs.MarkLaws.{fewer_prims, program_is}
 use Rattle.script_plain.proofs.ReductionPaths.{fold_operands}
@@ -64,19 +65,19 @@ popped : {A : Type 0} (front : List A) (last : A) → take (length (front ++ las
 popped front last = ap (λ (n : ℕ). take n (front ++ last ∷ [])) (one_less front last) ∙ take-append_seam front (last ∷ [])
 
 -- what a repeat opens
-one_opened : (past : List Item) (times end place : ℕ) → length (opened (stmt.Repeat times end) place (open_of past)) ≡ length (open_of past) + 1
+one_opened : (past : List Item) (times end place : ℕ) → length (opened (nesting.Opens times) place (open_of past)) ≡ length (open_of past) + 1
 one_opened past times end place = length-append (open_of past) _
 
-turns_opened : (past : List Item) (times end place : ℕ) → turns_in (opened (stmt.Repeat times end) place (open_of past)) ≡ turns_in (open_of past) * times
+turns_opened : (past : List Item) (times end place : ℕ) → turns_in (opened (nesting.Opens times) place (open_of past)) ≡ turns_in (open_of past) * times
 turns_opened past times end place =
-    ap (λ (n : ℕ). option_map_or (λ r. r.turns) (slice_get (opened (stmt.Repeat times end) place (open_of past)) n) 1) (one_less (open_of past) _)
+    ap (λ (n : ℕ). option_map_or (λ r. r.turns) (slice_get (opened (nesting.Opens times) place (open_of past)) n) 1) (one_less (open_of past) _)
     ∙ ap (λ o. option_map_or (λ r. r.turns) o 1) (seam (open_of past) _ [])
 
 -- how often a statement in each open repeat runs, the innermost one first: each was opened behind statements of its own
 abbrev IsStack : List Item → List ℕ → Type 0
 IsStack past [] = open_of past ≡ []
 IsStack past (t ∷ stack) =
-    (before : List Item) × (times : ℕ) × (end : ℕ) × (place : ℕ) × (open_of past ≡ opened (stmt.Repeat times end) place (open_of before)) × (t ≡ turns_in (open_of before) * times) × IsStack before stack
+    (before : List Item) × (times : ℕ) × (end : ℕ) × (place : ℕ) × (open_of past ≡ opened (nesting.Opens times) place (open_of before)) × (t ≡ turns_in (open_of before) * times) × IsStack before stack
 
 abbrev top : List ℕ → ℕ
 top [] = 1
@@ -92,8 +93,8 @@ same_stack past before (t ∷ stack) same (b, times, end, place, is, turns, rest
 
 -- a statement that is no repeat and no end
 record IsOther (s : Stmt) : Type 0 where
-  opens : (place : ℕ) (past : List Item) → opened s place (open_of past) ≡ open_of past
-  stays : nesting_of s ≡ nesting.Stays
+  opens : (place : ℕ) (past : List Item) → opened (effect_of s).nesting place (open_of past) ≡ open_of past
+  stays : (effect_of s).nesting ≡ nesting.Stays
 
 -- what is true of repeats, of ends and of the others
 sorted : (P : Stmt → Type 0) → ((times end : ℕ) → P (stmt.Repeat times end)) → ((start : ℕ) → P (stmt.End start)) → ((s : Stmt) → IsOther s → P s) → (s : Stmt) → P s
@@ -130,9 +131,9 @@ counts_stays turns cost m stack prims u is many c =
     let both : top stack * length (prims ++ u.here) ≡ top stack * length prims + top stack * length u.here = ap (λ (n : ℕ). top stack * n) (length-append prims u.here) ∙ spread (top stack) (length prims) (length u.here) in
     (omega (arith, one, both, c.0), c.1)
 
-counts_closes : (turns m t : ℕ) (stack : List ℕ) (prims : List (Option Prim)) (u : Unrolled (Option Prim)) → turns ≡ t → length prims ≡ 1 → Counts m stack u
-    → Counts (turns * 1 + m) (t ∷ stack) (in_front nesting.Closes prims u)
-counts_closes turns m t stack prims u is many c =
+counts_closes : (turns m t place : ℕ) (stack : List ℕ) (prims : List (Option Prim)) (u : Unrolled (Option Prim)) → turns ≡ t → length prims ≡ 1 → Counts m stack u
+    → Counts (turns * 1 + m) (t ∷ stack) (in_front (nesting.Closes place) prims u)
+counts_closes turns m t place stack prims u is many c =
     let one : turns * 1 ≡ t * length prims = ap (λ (t : ℕ). t * 1) is ∙ ap (λ (n : ℕ). t * n) (sym many) in
     (omega (arith, one, c.0), ap suc c.1)
 
@@ -225,7 +226,7 @@ module _ (script : Script) (whole : IsWhole script.nue script.items) (rank : ℕ
     rooted_of c may = (and_parts _ (has_root (setup_of script) rank c) may).1
 
     cost : (k : ℕ) (item : Item) → slice_get script.items k ≡ Some item → has_rank item.who rank ≡ true → (s : Stmt) → item.stmt ≡ s
-        → (rule_of (rules_of (reverse past)) (comm_needed s) ≡ rule.Absent → ⊥) → length (marks_by (nesting_of s) (in_line item.line (acts_of (setup_of script) rank s))) ≡ cost_of (run_of script.nue past) s rank
+        → (rule_of (rules_of (reverse past)) (comm_needed (effect_of s).group) ≡ rule.Absent → ⊥) → length (marks_by (effect_of s).nesting (in_line item.line (acts_of (setup_of script) rank s))) ≡ cost_of (run_of script.nue past) (effect_of s).cost rank
     cost k item found has (stmt.Bcast comm root reg len) is there =
         let o : Operands = record { op = op_of.Sum; ty = ty_of.Int; dst = reg; src = reg; sized = None } in
         let c : Coll = coll.Bcast comm root len in
@@ -259,7 +260,7 @@ module _ (script : Script) (whole : IsWhole script.nue script.items) (rank : ℕ
 
   -- what the statements behind others cost a rank
   abbrev cost_at : List Item → Item → ℕ
-  cost_at past item = cond (has_rank item.who rank) (turns_in (open_of past) * cost_of (run_of script.nue past) item.stmt rank) 0
+  cost_at past item = cond (has_rank item.who rank) (turns_in (open_of past) * cost_of (run_of script.nue past) (effect_of item.stmt).cost rank) 0
 
   abbrev more : List Item → List Item → ℕ
   more past [] = 0
@@ -282,8 +283,8 @@ module _ (script : Script) (whole : IsWhole script.nue script.items) (rank : ℕ
   -- what is known of a statement behind others
   record IsPlaced (past : List Item) (item : Item) : Type 0 where
     within : 1 ≤ length (open_of past) → latest_section past ≡ Some item.who
-    closes : Closes (open_of past) item.stmt
-    once : HasPass item.stmt
+    closes : Closes (open_of past) (effect_of item.stmt).nesting
+    once : HasPass (effect_of item.stmt).nesting
 
   clash : (b : Bool) → b ≡ true → b ≡ false → ⊥
   clash b is other = cc
@@ -299,8 +300,8 @@ module _ (script : Script) (whole : IsWhole script.nue script.items) (rank : ℕ
   too_few list none some = omega (arith, ap length none, some)
 
   -- the repeats that are open behind a statement
-  behind_is : (past : List Item) (item : Item) (s : Stmt) → item.stmt ≡ s → open_of (item ∷ past) ≡ opened s (length past) (open_of past)
-  behind_is past item s is = ap (λ (t : Stmt). opened t (length past) (open_of past)) is
+  behind_is : (past : List Item) (item : Item) (s : Stmt) → item.stmt ≡ s → open_of (item ∷ past) ≡ opened (effect_of s).nesting (length past) (open_of past)
+  behind_is past item s is = ap (λ (t : Stmt). opened (effect_of t).nesting (length past) (open_of past)) is
 
   -- behind a statement of other ranks
   outside : (past : List Item) (item : Item) → has_rank item.who rank ≡ false → 1 ≤ length (open_of (item ∷ past)) → Stands (item ∷ past) []
@@ -312,7 +313,7 @@ module _ (script : Script) (whole : IsWhole script.nue script.items) (rank : ℕ
   -- none is open
   beside_none : (past : List Item) (item : Item) → has_rank item.who rank ≡ false → IsPlaced past item → open_of past ≡ [] → Stands (item ∷ past) []
   beside_none past item has placed none =
-      sorted (λ s. item.stmt ≡ s → Closes (open_of past) s → Stands (item ∷ past) [])
+      sorted (λ s. item.stmt ≡ s → Closes (open_of past) (effect_of s).nesting → Stands (item ∷ past) [])
       (λ times end is closes. outside past item has (omega (arith, ap length (behind_is past item (stmt.Repeat times end) is), one_opened past times end (length past))))
       (λ start is closes. absurd (too_few (open_of past) none closes.0))
       (λ s other is closes. inside past item (behind_is past item s is ∙ other.opens (length past) past ∙ none))
@@ -359,31 +360,31 @@ module _ (script : Script) (whole : IsWhole script.nue script.items) (rank : ℕ
         counts_repeated turns times m stack u.here u.behind (top_of past stack stacked) once
         (on (turns * times ∷ stack) (ahead past item (turns * times ∷ stack) has (past, times, end, length past, behind_is past item (stmt.Repeat times end) is, refl, stacked)))
 
-    own_end : (stack : List ℕ) → IsStack past stack → (start : ℕ) → item.stmt ≡ stmt.End start → 1 ≤ length (open_of past) → length prims ≡ 1 → Counts (turns * 1 + m) stack (in_front nesting.Closes prims u)
+    own_end : (stack : List ℕ) → IsStack past stack → (start : ℕ) → item.stmt ≡ stmt.End start → 1 ≤ length (open_of past) → length prims ≡ 1 → Counts (turns * 1 + m) stack (in_front (nesting.Closes start) prims u)
     own_end [] none start is some many = absurd (too_few (open_of past) none some)
     own_end (t ∷ stack) (before, times, end, place, repeats, turns_are, rest) start is some many =
         let left : open_of (item ∷ past) ≡ open_of before = behind_is past item (stmt.End start) is ∙ ap (λ l. take (length l - 1) l) repeats ∙ popped (open_of before) _ in
-        counts_closes turns m t stack prims u (top_of past (t ∷ stack) (before, times, end, place, repeats, turns_are, rest)) many
+        counts_closes turns m t start stack prims u (top_of past (t ∷ stack) (before, times, end, place, repeats, turns_are, rest)) many
         (on stack (ahead past item stack has (same_stack (item ∷ past) before stack left rest)))
 
-    own_other : (stack : List ℕ) → IsStack past stack → (s : Stmt) → IsOther s → item.stmt ≡ s → (cost : ℕ) → length prims ≡ cost → Counts (turns * cost + m) stack (in_front (nesting_of s) prims u)
+    own_other : (stack : List ℕ) → IsStack past stack → (s : Stmt) → IsOther s → item.stmt ≡ s → (cost : ℕ) → length prims ≡ cost → Counts (turns * cost + m) stack (in_front (effect_of s).nesting prims u)
     own_other stack stacked s other is cost many =
         let left : open_of (item ∷ past) ≡ open_of past = behind_is past item s is ∙ other.opens (length past) past in
         subst (λ (n : Nesting). Counts (turns * cost + m) stack (in_front n prims u)) (sym other.stays)
         (counts_stays turns cost m stack prims u (top_of past stack stacked) many (on stack (ahead past item stack has (same_stack (item ∷ past) past stack left stacked))))
 
-    own_by : (stack : List ℕ) → IsStack past stack → length prims ≡ cost_of (run_of script.nue past) item.stmt rank
-        → Counts (turns * cost_of (run_of script.nue past) item.stmt rank + m) stack (in_front (nesting_of item.stmt) prims u)
+    own_by : (stack : List ℕ) → IsStack past stack → length prims ≡ cost_of (run_of script.nue past) (effect_of item.stmt).cost rank
+        → Counts (turns * cost_of (run_of script.nue past) (effect_of item.stmt).cost rank + m) stack (in_front (effect_of item.stmt).nesting prims u)
     own_by stack stacked many =
         sorted
-        (λ s. item.stmt ≡ s → HasPass s → Closes (open_of past) s → length prims ≡ cost_of (run_of script.nue past) s rank → Counts (turns * cost_of (run_of script.nue past) s rank + m) stack (in_front (nesting_of s) prims u))
+        (λ s. item.stmt ≡ s → HasPass (effect_of s).nesting → Closes (open_of past) (effect_of s).nesting → length prims ≡ cost_of (run_of script.nue past) (effect_of s).cost rank → Counts (turns * cost_of (run_of script.nue past) (effect_of s).cost rank + m) stack (in_front (effect_of s).nesting prims u))
         (λ times end is once closes many. own_repeat stack stacked times end is once)
         (λ start is once closes many. own_end stack stacked start is closes.0 many)
-        (λ s other is once closes many. own_other stack stacked s other is (cost_of (run_of script.nue past) s rank) many)
+        (λ s other is once closes many. own_other stack stacked s other is (cost_of (run_of script.nue past) (effect_of s).cost rank) many)
         item.stmt refl placed.once placed.closes many
 
-    own : (stack : List ℕ) → length prims ≡ cost_of (run_of script.nue past) item.stmt rank → Stands past stack
-        → Counts (turns * cost_of (run_of script.nue past) item.stmt rank + m) stack (in_front (nesting_of item.stmt) prims u)
+    own : (stack : List ℕ) → length prims ≡ cost_of (run_of script.nue past) (effect_of item.stmt).cost rank → Stands past stack
+        → Counts (turns * cost_of (run_of script.nue past) (effect_of item.stmt).cost rank + m) stack (in_front (effect_of item.stmt).nesting prims u)
     own stack many (Inside _ stacked mine) = own_by stack stacked many
     own [] many (Outside some other) = absurd (clash (has_rank item.who rank) has (other item.who (placed.within some)))
 
@@ -395,12 +396,12 @@ module _ (script : Script) (whole : IsWhole script.nue script.items) (rank : ℕ
     once : HavePasses list
     none : open_of list ≡ []
 
-  counted_by : (past : List Item) (item : Item) (u : Unrolled (Option Prim)) (m : ℕ) (stack : List ℕ) → (has_rank item.who rank ≡ true → length (marks_by (nesting_of item.stmt) (in_line item.line (acts_of (setup_of script) rank item.stmt))) ≡ cost_of (run_of script.nue past) item.stmt rank)
+  counted_by : (past : List Item) (item : Item) (u : Unrolled (Option Prim)) (m : ℕ) (stack : List ℕ) → (has_rank item.who rank ≡ true → length (marks_by (effect_of item.stmt).nesting (in_line item.line (acts_of (setup_of script) rank item.stmt))) ≡ cost_of (run_of script.nue past) (effect_of item.stmt).cost rank)
       → IsPlaced past item → ((stack : List ℕ) → Stands (item ∷ past) stack → Counts m stack u) → Stands past stack → (b : Bool) → has_rank item.who rank ≡ b
-      → Counts (cond b (turns_in (open_of past) * cost_of (run_of script.nue past) item.stmt rank) 0 + m) stack
-      (in_front (cond b (nesting_of item.stmt) nesting.Stays) (marks_by (cond b (nesting_of item.stmt) nesting.Stays) (cond b (in_line item.line (acts_of (setup_of script) rank item.stmt)) [])) u)
+      → Counts (cond b (turns_in (open_of past) * cost_of (run_of script.nue past) (effect_of item.stmt).cost rank) 0 + m) stack
+      (in_front (cond b (effect_of item.stmt).nesting nesting.Stays) (marks_by (cond b (effect_of item.stmt).nesting nesting.Stays) (cond b (in_line item.line (acts_of (setup_of script) rank item.stmt)) [])) u)
   counted_by past item u m stack costs placed on stands true has =
-      own past item has placed (marks_by (nesting_of item.stmt) (in_line item.line (acts_of (setup_of script) rank item.stmt))) m u on stack (costs has) stands
+      own past item has placed (marks_by (effect_of item.stmt).nesting (in_line item.line (acts_of (setup_of script) rank item.stmt))) m u on stack (costs has) stands
   counted_by past item u m stack costs placed on stands false has =
       let c = on stack (beside past item stack has placed stands) in
       (omega (arith, c.0), c.1)

@@ -5,8 +5,8 @@ use Rattle.std.proofs.lemmas.List.{append-nil}
 use Rattle.scc_base.specs.Setups.{SetupView}
 use Rattle.script_reader.specs.declared.script.Item.{Item}
 use Rattle.script_reader.specs.Script.{Script, has_rank}
-use Rattle.script_plain.specs.declared.prims.Nesting.{Nesting}
-use Rattle.script_plain.specs.declared.prims.Nesting.TheVariants as nesting
+use Rattle.script_reader.specs.declared.effect.Nesting.{Nesting}
+use Rattle.script_reader.specs.declared.effect.Nesting.TheVariants as nesting
 use Rattle.script_plain.specs.declared.prims.Standing.TheVariants as standing
 pub use Rattle.script_plain.specs.Collectives.{IsOfRank, Made, made_by}
 use Rattle.script_plain.specs.Collectives.Made.{Done, Then}
@@ -50,7 +50,7 @@ module _ (s : SetupView) (rank : ℕ) (items : List Item) where
 
   made_front : (n : Nesting) (prims : List Prim) (u : Unrolled Prim) → Made s rank items prims → MadeAll u → MadeAll (in_front n prims u)
   made_front (nesting.Opens times) prims u made all = made_repeated times u.here u.behind all.0 all.1
-  made_front nesting.Closes prims u made all = (made, all)
+  made_front (nesting.Closes start) prims u made all = (made, all)
   made_front nesting.Stays prims u made all = (made_both prims u.here made all.0, all.1)
 
   -- each of these items is one of the script

@@ -12,15 +12,16 @@ use Rattle.groups.specs.Collectives.{steps_of}
 use Rattle.script_reader.specs.declared.script.Item.{Item}
 use Rattle.script_reader.specs.declared.script.Stmt.{Stmt}
 use Rattle.script_reader.specs.declared.script.Stmt.TheVariants as stmt
+use Rattle.script_reader.specs.Effects.{effect_of}
 use Rattle.script_reader.specs.Script.{Script, has_rank, rules_of}
 use Rattle.scc_base.specs.declared.communicators.CommRule.{CommRule}
 use Rattle.scc_base.specs.declared.layouts.Layout.TheVariants.{LineFlags}
 use Rattle.std.specs.List.{range_with_len}
-use Rattle.script_plain.specs.declared.prims.Nesting.{Nesting}
-use Rattle.script_plain.specs.declared.prims.Nesting.TheVariants as nesting
+use Rattle.script_reader.specs.declared.effect.Nesting.{Nesting}
+use Rattle.script_reader.specs.declared.effect.Nesting.TheVariants as nesting
 use Rattle.script_plain.specs.declared.prims.Operands.{Operands}
 use Rattle.script_plain.specs.declared.course.Open.{Open}
-use Rattle.script_plain.specs.Program.{Act, Prim, Unrolled, acts_of, begins, call_steps, can_call, copies, in_front, marked, marks_by, marks_in, marks_of, nesting_at, nesting_of, part_of, parts_of, prims_of, repeated, setup_of}
+use Rattle.script_plain.specs.Program.{Act, Prim, Unrolled, acts_of, begins, call_steps, can_call, copies, in_front, marked, marks_by, marks_in, marks_of, nesting_at, part_of, parts_of, prims_of, repeated, setup_of}
 use Rattle.script_plain.specs.Walk.{AreOpen, AreOpenAt, HasMore, is_closing, is_end, StandsAt, again, closed_by, left_at, left_of, next_pass, opened, passed, passed_to, woven}
 
 -- the k-th of the parts of a collective call
@@ -70,52 +71,37 @@ open-past s rank items at repeats past =
     let P : Unrolled (Option Prim) → Type 0 = λ u. AreOpen s rank items u.behind repeats in
     subst P (sym (marked-past s rank items at past)) tt
 
+stays_opens : (times : ℕ) → nesting.Stays ≡ nesting.Opens times → ⊥
+stays_opens times is = cc
+
+stays_closes : (place : ℕ) → nesting.Stays ≡ nesting.Closes place → ⊥
+stays_closes place is = cc
+
+opens_closes : (times place : ℕ) → nesting.Opens times ≡ nesting.Closes place → ⊥
+opens_closes times place is = cc
+
 -- the beginning of a repeat is no primitive
-no_prim : (s : SetupView) (rank : ℕ) (stmt : Stmt) (times : ℕ) → nesting_of stmt ≡ nesting.Opens times → length (acts_of s rank stmt) ≡ 0
+no_prim : (s : SetupView) (rank : ℕ) (stmt : Stmt) (times : ℕ) → (effect_of stmt).nesting ≡ nesting.Opens times → length (acts_of s rank stmt) ≡ 0
 no_prim s rank (stmt.Repeat most end) times opens = refl
-no_prim s rank (stmt.End start) times opens = absurd (cc)
-no_prim s rank (stmt.Bytes reg bytes) times opens = absurd (cc)
-no_prim s rank (stmt.Fill reg len start) times opens = absurd (cc)
-no_prim s rank (stmt.RankOf reg ty) times opens = absurd (cc)
-no_prim s rank (stmt.Apply op ty dst src) times opens = absurd (cc)
-no_prim s rank (stmt.Send peer reg) times opens = absurd (cc)
-no_prim s rank (stmt.Post peer reg) times opens = absurd (cc)
-no_prim s rank (stmt.Recv peer reg len) times opens = absurd (cc)
-no_prim s rank (stmt.Print reg form) times opens = absurd (cc)
-no_prim s rank (stmt.Barrier comm) times opens = absurd (cc)
-no_prim s rank (stmt.Split comm rule) times opens = absurd (cc)
-no_prim s rank (stmt.Bcast comm root reg len) times opens = absurd (cc)
-no_prim s rank (stmt.Reduce comm root op ty dst src) times opens = absurd (cc)
-no_prim s rank (stmt.Allreduce comm op ty dst src) times opens = absurd (cc)
+no_prim s rank (stmt.End start) times opens = absurd (opens_closes times start (sym opens))
+no_prim s rank _ times opens = absurd (stays_opens times opens)
 
 -- and neither is the end of a pass
-pub end_prim : (s : SetupView) (rank : ℕ) (stmt : Stmt) → nesting_of stmt ≡ nesting.Closes → acts_of s rank stmt ≡ []
-end_prim s rank (stmt.End start) closes = refl
-end_prim s rank (stmt.Bytes reg bytes) closes = absurd (cc)
-end_prim s rank (stmt.Fill reg len start) closes = absurd (cc)
-end_prim s rank (stmt.RankOf reg ty) closes = absurd (cc)
-end_prim s rank (stmt.Apply op ty dst src) closes = absurd (cc)
-end_prim s rank (stmt.Send peer reg) closes = absurd (cc)
-end_prim s rank (stmt.Post peer reg) closes = absurd (cc)
-end_prim s rank (stmt.Recv peer reg len) closes = absurd (cc)
-end_prim s rank (stmt.Print reg form) closes = absurd (cc)
-end_prim s rank (stmt.Barrier comm) closes = absurd (cc)
-end_prim s rank (stmt.Split comm rule) closes = absurd (cc)
-end_prim s rank (stmt.Bcast comm root reg len) closes = absurd (cc)
-end_prim s rank (stmt.Reduce comm root op ty dst src) closes = absurd (cc)
-end_prim s rank (stmt.Allreduce comm op ty dst src) closes = absurd (cc)
-end_prim s rank (stmt.Repeat times end) closes = absurd (cc)
+pub end_prim : (s : SetupView) (rank : ℕ) (stmt : Stmt) (place : ℕ) → (effect_of stmt).nesting ≡ nesting.Closes place → acts_of s rank stmt ≡ []
+end_prim s rank (stmt.End start) place closes = refl
+end_prim s rank (stmt.Repeat times end) place closes = absurd (opens_closes times place closes)
+end_prim s rank _ place closes = absurd (stays_closes place closes)
 
 -- the end of a pass is a mark
-pub closes_by : (s : SetupView) (rank : ℕ) (item : Item) → nesting_at rank item ≡ nesting.Closes → length (marks_of s rank item) ≡ 1
-closes_by s rank item closes = ap (λ (n : Nesting). length (marks_by n (prims_of s rank item))) closes
+pub closes_by : (s : SetupView) (rank : ℕ) (item : Item) (place : ℕ) → nesting_at rank item ≡ nesting.Closes place → length (marks_of s rank item) ≡ 1
+closes_by s rank item place closes = ap (λ (n : Nesting). length (marks_by n (prims_of s rank item))) closes
 
 opens_prims : (s : SetupView) (rank : ℕ) (item : Item) (times : ℕ) (b : Bool) → has_rank item.who rank ≡ b → nesting_at rank item ≡ nesting.Opens times → length (prims_of s rank item) ≡ 0
 opens_prims s rank item times true has opens =
-    let opening : nesting_of item.stmt ≡ nesting.Opens times = sym (ap (λ (b : Bool). cond b (nesting_of item.stmt) nesting.Stays) has) ∙ opens in
+    let opening : (effect_of item.stmt).nesting ≡ nesting.Opens times = sym (ap (λ (b : Bool). cond b (effect_of item.stmt).nesting nesting.Stays) has) ∙ opens in
     rw has (length-map (acts_of s rank item.stmt) (λ (act : Act). record { line = item.line; act = act }) ∙ no_prim s rank item.stmt times opening)
 opens_prims s rank item times false has opens =
-    let staying = sym (ap (λ (b : Bool). cond b (nesting_of item.stmt) nesting.Stays) has) ∙ opens in absurd (cc)
+    let staying = sym (ap (λ (b : Bool). cond b (effect_of item.stmt).nesting nesting.Stays) has) ∙ opens in absurd (stays_opens times staying)
 
 opens_by : (s : SetupView) (rank : ℕ) (item : Item) (times : ℕ) → nesting_at rank item ≡ nesting.Opens times → length (marks_of s rank item) ≡ 0
 opens_by s rank item times opens =
@@ -148,8 +134,8 @@ over_by s rank items at item repeats (nesting.Opens times) here is none =
       sym (ap (λ (v : Unrolled (Option Prim)). left_of v (map (again s rank items) repeats)) now ∙ woven-repeated times u.here u.behind (map (again s rank items) repeats)),
       λ opens. entered s rank items (at + 1) times repeats u.here u.behind refl (subst P now opens),
     )
-over_by s rank items at item repeats nesting.Closes here is none =
-    absurd (omega (arith, none, closes_by s rank item is))
+over_by s rank items at item repeats (nesting.Closes start) here is none =
+    absurd (omega (arith, none, closes_by s rank item start is))
 
 pub over_same : (s : SetupView) (rank : ℕ) (items : List Item) (at : ℕ) (item : Item) (before after : List Open) → slice_get items at ≡ Some item → length (marks_of s rank item) ≡ 0 → after ≡ opened (nesting_at rank item) at before → left_at s rank items (at + 1) after ≡ left_at s rank items at before
 over_same s rank items at item before after here none now =
@@ -171,14 +157,14 @@ front_by s rank items at item repeats nesting.Stays here is some =
     )
 front_by s rank items at item repeats (nesting.Opens times) here is some =
     absurd (omega (arith, some, opens_by s rank item times is))
-front_by s rank items at item [] nesting.Closes here is some =
+front_by s rank items at item [] (nesting.Closes start) here is some =
     let u = marked s rank (drop (at + 1) items) in
-    let now : marked s rank (drop at items) ≡ in_front nesting.Closes (marks_of s rank item) u =
+    let now : marked s rank (drop at items) ≡ in_front (nesting.Closes start) (marks_of s rank item) u =
     marked-at s rank items at item here ∙ ap (λ (n : Nesting). in_front n (marks_of s rank item) u) is in
     ([], ap (λ (v : Unrolled (Option Prim)). left_of v []) now ∙ sym (append-nil (marks_of s rank item)))
-front_by s rank items at item (o ∷ repeats) nesting.Closes here is some =
+front_by s rank items at item (o ∷ repeats) (nesting.Closes start) here is some =
     let u = marked s rank (drop (at + 1) items) in
-    let now : marked s rank (drop at items) ≡ in_front nesting.Closes (marks_of s rank item) u =
+    let now : marked s rank (drop at items) ≡ in_front (nesting.Closes start) (marks_of s rank item) u =
     marked-at s rank items at item here ∙ ap (λ (n : Nesting). in_front n (marks_of s rank item) u) is in
     (again s rank items o ++ woven u.here u.behind (map (again s rank items) repeats), ap (λ (v : Unrolled (Option Prim)). left_of v (map (again s rank items) (o ∷ repeats))) now)
 
@@ -188,13 +174,13 @@ get_within (x ∷ marks) rest zero mark here = here
 get_within (x ∷ marks) rest (suc step) mark here = get_within marks rest step mark here
 
 -- what closes a repeat, and what does not
-closing : (n : Nesting) → is_closing n ≡ true → n ≡ nesting.Closes
+closing : (n : Nesting) → is_closing n ≡ true → (place : ℕ) × (n ≡ nesting.Closes place)
 closing (nesting.Opens times) is = absurd (cc)
-closing nesting.Closes is = refl
+closing (nesting.Closes start) is = (start, refl)
 closing nesting.Stays is = absurd (cc)
 
-staying : (n : Nesting) → is_closing n ≡ false → n ≡ nesting.Closes → ⊥
-staying n not is = let both : is_closing n ≡ true = ap is_closing is in absurd (cc)
+staying : (n : Nesting) → is_closing n ≡ false → (place : ℕ) → n ≡ nesting.Closes place → ⊥
+staying n not place is = let both : is_closing n ≡ true = ap is_closing is in absurd (cc)
 
 -- the mark that comes next
 front_mark : (s : SetupView) (rank : ℕ) (items : List Item) (at step : ℕ) (item : Item) (repeats : List Open) (mark : Option Prim) → slice_get items at ≡ Some item → step < length (marks_of s rank item) → slice_get (marks_of s rank item) step ≡ Some mark → slice_get (drop step (left_at s rank items at repeats)) 0 ≡ Some mark
@@ -207,15 +193,15 @@ front_mark s rank items at step item repeats mark here there is =
 pub front_end : (s : SetupView) (rank : ℕ) (items : List Item) (at step : ℕ) (item : Item) (repeats : List Open) → slice_get items at ≡ Some item → step < length (marks_of s rank item) → is_closing (nesting_at rank item) ≡ true → slice_get (drop step (left_at s rank items at repeats)) 0 ≡ Some None
 front_end s rank items at step item repeats here there ends =
     let closes = closing (nesting_at rank item) ends in
-    let one = closes_by s rank item closes in
+    let one = closes_by s rank item closes.0 closes.1 in
     let first : step ≡ 0 = omega (arith, there, one) in
     front_mark s rank items at step item repeats None here there
-    (ap (slice_get (marks_of s rank item)) first ∙ ap (λ (n : Nesting). slice_get (marks_by n (prims_of s rank item)) 0) closes)
+    (ap (slice_get (marks_of s rank item)) first ∙ ap (λ (n : Nesting). slice_get (marks_by n (prims_of s rank item)) 0) closes.1)
 
 -- an item that closes no repeat has a mark for each primitive
-prims_by : (n : Nesting) (prims : List Prim) → (n ≡ nesting.Closes → ⊥) → marks_by n prims ≡ map Some prims
+prims_by : (n : Nesting) (prims : List Prim) → ((place : ℕ) → n ≡ nesting.Closes place → ⊥) → marks_by n prims ≡ map Some prims
 prims_by (nesting.Opens times) prims other = refl
-prims_by nesting.Closes prims other = absurd (other refl)
+prims_by (nesting.Closes start) prims other = absurd (other start refl)
 prims_by nesting.Stays prims other = refl
 
 pub as_many_prims : (s : SetupView) (rank : ℕ) (item : Item) → is_closing (nesting_at rank item) ≡ false → length (marks_of s rank item) ≡ length (prims_of s rank item)
@@ -320,16 +306,16 @@ behind_by s rank items at end item repeats nesting.Stays here is some past opens
     )
 behind_by s rank items at end item repeats (nesting.Opens times) here is some past opens =
     absurd (omega (arith, some, opens_by s rank item times is))
-behind_by s rank items at end item [] nesting.Closes here is some past opens =
+behind_by s rank items at end item [] (nesting.Closes start) here is some past opens =
     let u = marked s rank (drop (at + 1) items) in
     let marks = marks_of s rank item in
-    let now : marked s rank (drop at items) ≡ in_front nesting.Closes marks u =
+    let now : marked s rank (drop at items) ≡ in_front (nesting.Closes start) marks u =
     marked-at s rank items at item here ∙ ap (λ (n : Nesting). in_front n marks u) is in
     (left-past s rank items end [] past ∙ sym (ap (λ (v : Unrolled (Option Prim)). drop (length marks) (left_of v [])) now ∙ drop_of_length-le marks (omega arith)), open-past s rank items end [] past)
-behind_by s rank items at end item (o ∷ repeats) nesting.Closes here is some past opens =
+behind_by s rank items at end item (o ∷ repeats) (nesting.Closes start) here is some past opens =
     let u = marked s rank (drop (at + 1) items) in
     let marks = marks_of s rank item in
-    let now : marked s rank (drop at items) ≡ in_front nesting.Closes marks u =
+    let now : marked s rank (drop at items) ≡ in_front (nesting.Closes start) marks u =
     marked-at s rank items at item here ∙ ap (λ (n : Nesting). in_front n marks u) is in
     let P : Unrolled (Option Prim) → Type 0 = λ v. AreOpen s rank items v.behind (o ∷ repeats) in
     let was : drop (length marks) (left_at s rank items at (o ∷ repeats)) ≡ again s rank items o ++ left_of u (map (again s rank items) repeats) =

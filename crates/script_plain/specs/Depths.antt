@@ -1,15 +1,15 @@
 -- How many repeats of a rank are open at a place of a script, and where its items stand.
 use Rattle.std.specs.Prelude.{◌≡◌, ℕ, zero, suc, ◌+◌, ◌-◌, ◌<◌, ◌≤◌, false, List, [], ◌∷◌, length, slice_get, Some}
 use Rattle.script_plain.specs.Program.{nesting_at}
-use Rattle.script_plain.specs.declared.prims.Nesting.{Nesting}
-use Rattle.script_plain.specs.declared.prims.Nesting.TheVariants as nesting
+use Rattle.script_reader.specs.declared.effect.Nesting.{Nesting}
+use Rattle.script_reader.specs.declared.effect.Nesting.TheVariants as nesting
 use Rattle.script_plain.specs.declared.course.Open.{Open}
 use Rattle.script_reader.specs.declared.script.Item.{Item}
 use Rattle.script_reader.specs.Script.{has_rank}
 
 abbrev pub depth_after : Nesting → ℕ → ℕ
 depth_after (nesting.Opens times) depth = depth + 1
-depth_after nesting.Closes depth = depth - 1
+depth_after (nesting.Closes start) depth = depth - 1
 depth_after nesting.Stays depth = depth
 
 -- before the item at a place, where `depth` are open before the first one

@@ -18,12 +18,13 @@ use Rattle.groups.specs.declared.operations.Ty.TheVariants as ty
 use Rattle.groups.specs.Collectives.{comm_of, len_of, steps_of}
 use Rattle.groups.specs.Folds.{bytes_of}
 use Rattle.script_plain.specs.declared.prims.Collective.{Collective}
-use Rattle.script_plain.specs.declared.prims.Nesting.{Nesting}
-use Rattle.script_plain.specs.declared.prims.Nesting.TheVariants as nesting
+use Rattle.script_reader.specs.declared.effect.Nesting.{Nesting}
+use Rattle.script_reader.specs.declared.effect.Nesting.TheVariants as nesting
 use Rattle.script_plain.specs.declared.prims.Operands.{Operands}
 use Rattle.script_plain.specs.declared.prims.Source.{Source}
 use Rattle.script_plain.specs.declared.prims.Source.TheVariants as source
-use Rattle.script_reader.specs.Checks.{has_root, is_absent, parent_of}
+use Rattle.script_reader.specs.Checks.{has_root, is_absent}
+use Rattle.script_reader.specs.Effects.{effect_of, parent_of}
 use Rattle.script_reader.specs.declared.script.Form.{Form}
 use Rattle.script_reader.specs.declared.script.Item.{Item}
 use Rattle.script_reader.specs.declared.script.Stmt.{Stmt}
@@ -91,7 +92,18 @@ collective_of (stmt.Reduce comm root op ty dst src) =
     Some (record { coll = coll.Reduce comm root 0; operands = record { op = op; ty = ty; dst = dst; src = src; sized = Some src } })
 collective_of (stmt.Allreduce comm op ty dst src) =
     Some (record { coll = coll.Allreduce comm 0; operands = record { op = op; ty = ty; dst = dst; src = src; sized = Some src } })
-collective_of _ = None
+collective_of (stmt.Bytes reg bytes) = None
+collective_of (stmt.Fill reg len start) = None
+collective_of (stmt.RankOf reg ty) = None
+collective_of (stmt.Apply op ty dst src) = None
+collective_of (stmt.Send peer reg) = None
+collective_of (stmt.Post peer reg) = None
+collective_of (stmt.Recv peer reg len) = None
+collective_of (stmt.Print reg form) = None
+collective_of (stmt.Barrier comm) = None
+collective_of (stmt.Split comm rule) = None
+collective_of (stmt.Repeat times end) = None
+collective_of (stmt.End start) = None
 
 -- a collective call that rank r may make. (A script that was read has no others.)
 abbrev pub can_call : SetupView → ℕ → Coll → Bool
@@ -138,15 +150,9 @@ acts_of s rank stmt = acts_by s rank stmt (collective_of stmt)
 abbrev pub prims_of : SetupView → ℕ → Item → List Prim
 prims_of s rank item = if has_rank item.who rank then map (λ act. record { line = item.line; act = act }) (acts_of s rank item.stmt) else []
 
--- what a statement does to the repeats: it opens one, it closes the innermost one, or it stays within it
-abbrev pub nesting_of : Stmt → Nesting
-nesting_of (stmt.Repeat times end) = nesting.Opens times
-nesting_of (stmt.End start) = nesting.Closes
-nesting_of _ = nesting.Stays
-
 -- what an item does to the repeats of a rank: nothing where the item is not the rank's
 abbrev pub nesting_at : ℕ → Item → Nesting
-nesting_at rank item = if has_rank item.who rank then nesting_of item.stmt else nesting.Stays
+nesting_at rank item = if has_rank item.who rank then (effect_of item.stmt).nesting else nesting.Stays
 
 -- what items make: up to the end of the repeat that stands open before them, and then, behind each end that closes a
 -- repeat which stands open before them, up to the next such end
@@ -168,7 +174,7 @@ repeated times body (next ∷ behind) = record { here = body ++ (copies (times -
 -- one item more, in front of what the items behind it make
 abbrev pub in_front : {A : Type 0} → Nesting → List A → Unrolled A → Unrolled A
 in_front (nesting.Opens times) own u = repeated times u.here u.behind
-in_front nesting.Closes own u = record { here = own; behind = u.here ∷ u.behind }
+in_front (nesting.Closes start) own u = record { here = own; behind = u.here ∷ u.behind }
 in_front nesting.Stays own u = record { here = own ++ u.here; behind = u.behind }
 
 -- what items make for a rank: the primitives up to the end of the open repeat, and those behind it
@@ -187,7 +193,7 @@ program_of script rank = (unrolled (setup_of script) rank script.items).here
 -- what an item is for a walk: its primitives, or a mark (None) where a pass of a repeat ends
 abbrev pub marks_by : Nesting → List Prim → List (Option Prim)
 marks_by (nesting.Opens times) prims = map Some prims
-marks_by nesting.Closes prims = None ∷ []
+marks_by (nesting.Closes start) prims = None ∷ []
 marks_by nesting.Stays prims = map Some prims
 
 abbrev pub marks_of : SetupView → ℕ → Item → List (Option Prim)

@@ -6,8 +6,8 @@ use Rattle.script_plain.specs.declared.prims.Action.{Action}
 use Rattle.script_plain.specs.declared.prims.Action.TheVariants as action
 use Rattle.script_plain.specs.declared.prims.Content.{Content}
 use Rattle.script_plain.specs.declared.prims.Content.TheVariants as content
-use Rattle.script_plain.specs.declared.prims.Nesting.{Nesting}
-use Rattle.script_plain.specs.declared.prims.Nesting.TheVariants as nesting
+use Rattle.script_reader.specs.declared.effect.Nesting.{Nesting}
+use Rattle.script_reader.specs.declared.effect.Nesting.TheVariants as nesting
 use Rattle.script_plain.specs.declared.prims.Primitive.{Primitive}
 use Rattle.script_plain.specs.declared.course.Open.{Open}
 use Rattle.script_reader.specs.declared.script.Item.{Item}
@@ -70,7 +70,7 @@ is_end (Some (Some prim)) = false
 -- whether a pass of a repeat ends with a statement
 abbrev pub is_closing : Nesting → Bool
 is_closing (nesting.Opens times) = false
-is_closing nesting.Closes = true
+is_closing (nesting.Closes start) = true
 is_closing nesting.Stays = false
 
 -- the primitive that comes next: none where the end of a pass does
@@ -131,7 +131,7 @@ pub record IsAt (s : SetupView) (rank : ℕ) (items : List Item) (place step : �
 -- the repeats that are open behind the beginning of a repeat
 abbrev pub opened : Nesting → ℕ → List Open → List Open
 opened (nesting.Opens times) at repeats = record { start = at + 1; left = times - 1 } ∷ repeats
-opened nesting.Closes at repeats = repeats
+opened (nesting.Closes start) at repeats = repeats
 opened nesting.Stays at repeats = repeats
 
 -- behind the end of a pass: the place, and the repeats that are open there
@@ -154,10 +154,10 @@ closed (o ∷ repeats) = closed_by o.start o.left repeats
 -- behind an item that has marks: the place, and the repeats that are open there
 abbrev pub passed_to : Nesting → ℕ → ℕ → List Open → ℕ
 passed_to (nesting.Opens times) at end repeats = at + 1
-passed_to nesting.Closes at end repeats = closed_to at end repeats
+passed_to (nesting.Closes start) at end repeats = closed_to at end repeats
 passed_to nesting.Stays at end repeats = at + 1
 
 abbrev pub passed : Nesting → List Open → List Open
 passed (nesting.Opens times) repeats = repeats
-passed nesting.Closes repeats = closed repeats
+passed (nesting.Closes start) repeats = closed repeats
 passed nesting.Stays repeats = repeats

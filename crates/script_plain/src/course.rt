@@ -7,9 +7,10 @@ ghost use Rattle.script_plain.specs.Depths.{HasRoom, IsDeep, IsIdleFrom, IsIdleT
 ghost use Rattle.script_plain.specs.Program.{marks_of, nesting_at, prims_of};
 ghost use Rattle.script_plain.specs.Walk.{AreOpenAt, StandsAt, closed, closed_to, is_closing, left_at, opened, passed, passed_to};
 
-use crate::prims::{Nesting, Primitive, action_of, count, nesting_of};
+use crate::prims::Primitive;
+use crate::statements::{action_of, count};
 use scc_base::{Rank, Setup};
-use script_reader::{Item, Scripts};
+use script_reader::{Item, Nesting, Scripts, effect_of};
 use std::alloc::{AllocError, Global};
 use std::collections::VecDeque;
 use std::marker::Model;
@@ -215,7 +216,7 @@ fn nesting_at(rank: Rank, item: &Item) -> Nesting
     ensures { result ≡ nesting_at rank item.now }
 {
     if item.who.has(rank.number()) {
-        nesting_of(&item.stmt)
+        effect_of(&item.stmt).nesting
     } else {
         Nesting::Stays
     }
@@ -226,7 +227,7 @@ fn ends_pass(rank: Rank, item: &Item) -> bool
     ensures { result ≡ is_closing (nesting_at rank item.now) }
 {
     match nesting_at(rank, item) {
-        Nesting::Closes => true,
+        Nesting::Closes(_) => true,
         Nesting::Opens(_) | Nesting::Stays => false,
     }
 }
@@ -238,7 +239,7 @@ fn depth_behind(nesting: Nesting, depth: usize) -> usize
 {
     match nesting {
         Nesting::Opens(_) => depth + 1,
-        Nesting::Closes => depth.saturating_sub(1),
+        Nesting::Closes(_) => depth.saturating_sub(1),
         Nesting::Stays => depth,
     }
 }
@@ -295,12 +296,13 @@ fn enter(rank: Rank, item: &Item, at: usize, repeats: &mut VecDeque<Open>)
             start: at + 1,
             left: times.saturating_sub(1),
         }),
-        Nesting::Closes | Nesting::Stays => {}
+        Nesting::Closes(_) | Nesting::Stays => {}
     }
 }
 
 /// The first place from here on at which an item has a mark for the rank, or the end. From the place `end` on none is
 /// an item of the rank.
+#[inline(always)]
 fn settled(
     scripts: &Scripts,
     setup: &Setup,
@@ -363,7 +365,7 @@ fn pass_item(rank: Rank, item: &Item, at: usize, end: usize, repeats: &mut VecDe
     ensures room { deque_capacity repeats.new ≡ deque_capacity repeats.old }
 {
     match nesting_at(rank, item) {
-        Nesting::Closes => close(at, end, repeats),
+        Nesting::Closes(_) => close(at, end, repeats),
         Nesting::Opens(_) | Nesting::Stays => at + 1,
     }
 }

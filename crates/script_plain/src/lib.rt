@@ -4,10 +4,13 @@
 
 mod barriers;
 mod call_laws;
+mod calls;
 mod collective_laws;
 mod course;
+mod decisions;
 mod ends;
 mod facing;
+mod held;
 mod held_laws;
 mod laws;
 mod machines;
@@ -18,6 +21,7 @@ mod prints;
 mod reckoning;
 mod registers;
 mod rooms;
+mod statements;
 mod steps;
 mod ues;
 mod walk;

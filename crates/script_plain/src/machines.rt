@@ -3,18 +3,16 @@
 
 ghost use Rattle.std.specs.Prelude.{◌≡◌, ◌≤◌, Option};
 ghost use Rattle.std.specs.Option.{option_map};
-ghost use Rattle.script_plain.specs.Code.{is_own};
 ghost use Rattle.script_plain.specs.Local.{end_by_slot, with_length};
 ghost use Rattle.script_plain.specs.Machine.{on_its_way};
 ghost use Rattle.script_plain.specs.declared.posts.Posted.{Posted};
 
 use crate::ends::UeEnd;
-use crate::facing::Facing;
+use crate::held::Held;
 use crate::posts::OnItsWay;
 use crate::prims::{Action, Primitive, Source, Standing};
 use crate::prints::{PrintedItem, Prints};
-use crate::reckoning::{Needs, Reckoned, reckon};
-use crate::rooms::{Registers, Room};
+use crate::reckoning::{Reckoned, reckon};
 use crate::walk::Walk;
 use scc_base::{Call, Head, PostHead, Rank, Setup};
 use script_reader::Scripts;
@@ -29,25 +27,6 @@ pub struct Machine<'s> {
     walk: Walk<'s>,
     held: Held,
     state: Standing,
-}
-
-/// What a rank holds: its registers, the two work buffers of collective calls, and what it printed; and a room for the copy
-/// of a register that is applied to one.
-#[derive(Drop)]
-struct Held {
-    registers: Registers,
-    folded: Room,
-    taken: Room,
-    spare: Room,
-    prints: Prints,
-}
-
-/// Three empty rooms of a rank.
-#[derive(Drop)]
-struct Buffers {
-    folded: Room,
-    taken: Room,
-    spare: Room,
 }
 
 impl<'s> Model for Machine<'s> {
@@ -80,7 +59,6 @@ impl<'s> Machine<'s> {
     ghost use Rattle.script_plain.specs.Rooms.{AreWithin, nothing_held, rooms_of};
     ghost use Rattle.script_plain.specs.declared.prims.Standing.TheVariants as standing;
     ghost use Rattle.script_plain.specs.Moves.{bytes_out, is_passable, is_receiving, is_stopped, length_in, line_out, passed, post_of, refused, taken, went};
-    ghost use Rattle.script_plain.specs.Facing.{facing_of};
     ghost use Rattle.script_plain.specs.Next.{call_of, is_going};
     ghost use Rattle.script_plain.specs.Walk.{IsShort, prim_meant};
     ghost use Rattle.script_plain.specs.declared.posts.Posted.{Posted};
@@ -124,7 +102,7 @@ impl<'s> Machine<'s> {
     }
 
     /// The primitive at which the rank stands.
-    fn prim(&self) -> Option<&Primitive<'s>>
+    pub(crate) fn prim(&self) -> Option<&Primitive<'s>>
         ensures same { option_map (λ p. prim_meant p.now) result ≡ next_prim self.now.local }
         ensures short { IfSome result (λ p. IsShort p.now.action) }
     {
@@ -143,7 +121,7 @@ impl<'s> Machine<'s> {
     }
 
     /// The bytes that a send takes.
-    fn source(&self, source: Source) -> &[u8]
+    pub(crate) fn source(&self, source: Source) -> &[u8]
         ensures same { result.now ≡ source_bytes self.now.local source }
         ensures within { length (source_bytes self.now.local source) ≤ 65536 }
     {
@@ -154,7 +132,7 @@ impl<'s> Machine<'s> {
     }
 
     /// The head that a receive of a collective call asks for.
-    fn asked_head(&self, head: Head, sized: Option<u8>) -> Head
+    pub(crate) fn asked_head(&self, head: Head, sized: Option<u8>) -> Head
         ensures { result ≡ asked_head self.now.local head sized }
     {
         match sized {
@@ -164,22 +142,12 @@ impl<'s> Machine<'s> {
     }
 
     /// The head of the message that a post of a register leaves behind.
-    fn post_head(&self, reg: u8) -> PostHead
+    pub(crate) fn post_head(&self, reg: u8) -> PostHead
         ensures { result ≡ plain_head (min (length (register_at self.now.local reg)) 3584) }
     {
         match PostHead::plain(self.len(reg).min(PostHead::MOST)) {
             Some(head) => head,
             None => unreachable!(),
-        }
-    }
-
-    /// Whether a statement of the rank alone stands next.
-    pub fn is_going(&self) -> bool
-        ensures { result ≡ is_going (local_next self.now.local) }
-    {
-        match self.prim() {
-            Some(prim) => is_own(&prim.action),
-            None => false,
         }
     }
 
@@ -190,143 +158,6 @@ impl<'s> Machine<'s> {
         match &self.state {
             Standing::Running => false,
             Standing::Mismatched { .. } => true,
-        }
-    }
-
-    /// The call that stands next.
-    pub fn call(&self) -> Option<Call>
-        ensures { result ≡ call_of (local_next self.now.local) }
-    {
-        let Some(prim) = self.prim() else {
-            return None;
-        };
-        match &prim.action {
-            Action::Send { to, head, source } => Some(Call::Send {
-                to: *to,
-                head: with_length(*head, self.source(*source).len() as u32),
-            }),
-            Action::Post { to, reg } => Some(Call::Post {
-                to: *to,
-                head: self.post_head(*reg),
-            }),
-            Action::Recv { from, head, .. } => Some(Call::Recv {
-                from: *from,
-                head: *head,
-            }),
-            Action::Gather { from, head, sized } => Some(Call::Recv {
-                from: *from,
-                head: self.asked_head(*head, *sized),
-            }),
-            Action::Bar { comm } => Some(Call::Bar { comm: *comm }),
-            _ => None,
-        }
-    }
-
-    /// Whom the rank faces in what stands next.
-    pub(crate) fn facing(&self) -> Facing
-        ensures { result ≡ facing_of (local_next self.now.local) }
-    {
-        let Some(prim) = self.prim() else {
-            return Facing::Nobody;
-        };
-        match &prim.action {
-            Action::Send { to, .. } => Facing::One { rank: *to },
-            Action::Recv { from, .. } => Facing::One { rank: *from },
-            Action::Gather { from, .. } => Facing::One { rank: *from },
-            Action::Bar { .. } => Facing::Group,
-            Action::Set { .. }
-            | Action::Apply { .. }
-            | Action::Print { .. }
-            | Action::Post { .. }
-            | Action::Begin { .. }
-            | Action::Fold { .. }
-            | Action::Accept { .. }
-            | Action::Finish { .. } => Facing::Nobody,
-        }
-    }
-
-    /// The bytes of the send or post that stands next; none where something else does.
-    pub fn bytes(&self) -> &[u8]
-        ensures { result.now ≡ bytes_out (local_next self.now.local) }
-    {
-        self.sent()
-    }
-
-    /// The same bytes: no more than a message may have.
-    pub(crate) fn sent(&self) -> &[u8]
-        ensures same { result.now ≡ bytes_out (local_next self.now.local) }
-        ensures within { length (bytes_out (local_next self.now.local)) ≤ 65536 }
-    {
-        match self.prim() {
-            Some(
-                Primitive {
-                    action: Action::Send { source, .. },
-                    ..
-                },
-            ) => self.source(*source),
-            Some(
-                Primitive {
-                    action: Action::Post { reg, .. },
-                    ..
-                },
-            ) => self.held.registers.bytes(*reg),
-            _ => &[],
-        }
-    }
-
-    /// The line of the statement that stands next; 0 where nothing does.
-    pub fn stands_at(&self) -> u32
-        ensures { result ≡ line_of self.now.local }
-    {
-        match self.prim() {
-            Some(prim) => prim.line,
-            None => 0,
-        }
-    }
-
-    /// The post that stands next, without its bytes.
-    pub fn post(&self) -> Option<OnItsWay>
-        ensures { result ≡ post_of (local_next self.now.local) }
-    {
-        let Some(prim) = self.prim() else {
-            return None;
-        };
-        match &prim.action {
-            Action::Post { to, reg } => Some(OnItsWay {
-                line: prim.line,
-                to: *to,
-                head: self.post_head(*reg),
-            }),
-            _ => None,
-        }
-    }
-
-    /// The line of the post that stands next; 0 where something else does.
-    pub fn line(&self) -> u32
-        ensures { result ≡ line_out (local_next self.now.local) }
-    {
-        match self.prim() {
-            Some(
-                Primitive {
-                    line,
-                    action: Action::Post { .. },
-                },
-            ) => *line,
-            _ => 0,
-        }
-    }
-
-    /// How many bytes the receive that stands next asks for; 0 where something else stands.
-    pub fn asked(&self) -> usize
-        ensures { result ≡ length_in (local_next self.now.local) }
-    {
-        let Some(prim) = self.prim() else {
-            return 0;
-        };
-        match &prim.action {
-            Action::Recv { head, .. } => head.len() as usize,
-            Action::Gather { head, sized, .. } => self.asked_head(*head, *sized).len() as usize,
-            _ => 0,
         }
     }
 
@@ -456,77 +287,8 @@ impl<'s> Machine<'s> {
     }
 }
 
-impl Held {
-    ghost use Rattle.std.specs.Prelude.{◌≡◌, IfOk};
-    ghost use Rattle.script_plain.specs.Holds.{HasRoomFor, empty, worked};
-    ghost use Rattle.script_plain.specs.Rooms.{rooms_of};
-
-    /// Nothing yet, in the rooms that are needed.
-    fn new(alloc: Global, needs: &Needs) -> Result<Held, AllocError>
-        ensures { IfOk result (λ h. h ≡ empty (rooms_of needs.now)) }
-    {
-        let registers = Registers::new(alloc, needs.registers.as_slice())?;
-        let Buffers {
-            folded,
-            taken,
-            spare,
-        } = Buffers::new(alloc, needs)?;
-        let prints = Prints::new(alloc, needs.items, needs.printed)?;
-        Ok(Held {
-            registers,
-            folded,
-            taken,
-            spare,
-            prints,
-        })
-    }
-
-    /// Does what a statement of the rank alone does to what it holds; other statements do nothing to it.
-    fn work(&mut self, action: &Action)
-        requires { HasRoomFor action.now self.old }
-        ensures { self.new ≡ worked action.now self.old }
-    {
-        match *action {
-            Action::Set { reg, content } => self.registers.set(reg, &content),
-            Action::Apply { op, ty, dst, src } => {
-                self.spare.write(self.registers.bytes(src));
-                self.registers.fold(op, ty, dst, self.spare.bytes());
-            }
-            Action::Print { reg, form } => {
-                self.prints.print(reg, form, self.registers.bytes(reg));
-            }
-            Action::Begin { reg } => self.folded.write(self.registers.bytes(reg)),
-            Action::Fold { op, ty } => self.folded.fold(op, ty, self.taken.bytes()),
-            Action::Accept { reg } => self.registers.write(reg, self.taken.bytes()),
-            Action::Finish { reg } => self.registers.write(reg, self.folded.bytes()),
-            Action::Send { .. }
-            | Action::Post { .. }
-            | Action::Recv { .. }
-            | Action::Gather { .. }
-            | Action::Bar { .. } => {}
-        }
-    }
-}
-
-impl Buffers {
-    ghost use Rattle.std.specs.Prelude.{◌≡◌, [], IfOk};
-
-    fn new(alloc: Global, needs: &Needs) -> Result<Buffers, AllocError>
-        ensures { IfOk result (λ b. b ≡ record { folded = record { bytes = []; room = needs.now.accumulator }; taken = record { bytes = []; room = needs.now.received }; spare = record { bytes = []; room = needs.now.spare } }) }
-    {
-        let folded = Room::new(alloc, needs.accumulator)?;
-        let taken = Room::new(alloc, needs.received)?;
-        let spare = Room::new(alloc, needs.spare)?;
-        Ok(Buffers {
-            folded,
-            taken,
-            spare,
-        })
-    }
-}
-
 /// A head with another length.
-fn with_length(head: Head, len: u32) -> Head
+pub(crate) fn with_length(head: Head, len: u32) -> Head
     requires { len ≤ 65536 }
     ensures { result ≡ with_length head len }
 {
@@ -549,25 +311,5 @@ fn end_by_slot(post: Option<OnItsWay>) -> UeEnd
                 head: message.head,
             },
         },
-    }
-}
-
-/// Whether a primitive is one of the rank alone.
-fn is_own(action: &Action) -> bool
-    ensures { result ≡ is_own action.now }
-{
-    match action {
-        Action::Set { .. }
-        | Action::Apply { .. }
-        | Action::Print { .. }
-        | Action::Begin { .. }
-        | Action::Fold { .. }
-        | Action::Accept { .. }
-        | Action::Finish { .. } => true,
-        Action::Send { .. }
-        | Action::Post { .. }
-        | Action::Recv { .. }
-        | Action::Gather { .. }
-        | Action::Bar { .. } => false,
     }
 }

@@ -11,10 +11,11 @@ ghost use Rattle.script_plain.specs.Step.{lowest_step, run_on};
 ghost use Rattle.script_plain.specs.declared.steps.Step.TheVariants as variant;
 
 use crate::barriers::setup_of;
+use crate::decisions::{call_at, decide};
 use crate::ends::{End, end_all};
 use crate::facing::{facing_at, still_to};
 use crate::posts::Left;
-use crate::steps::{Ranks, Step, begin, call_at, decide, take_step};
+use crate::steps::{Ranks, Step, begin, take_step};
 use crate::ues::Ue;
 use scc_base::{Call, Head, Rank, Setup};
 use script_reader::Scripts;

@@ -1,10 +1,10 @@
 //! The plain step, and the run that takes it again and again.
 
-ghost use Rattle.std.specs.Prelude.{◌≡◌, ◌≢◌, ◌<◌, None, Some, true, length, IfOk, OnOk, replicate, slice_index_or, sum_by};
+ghost use Rattle.std.specs.Prelude.{◌≡◌, ◌≢◌, ◌<◌, None, Some, true, length, IfOk, OnOk, replicate, sum_by};
 ghost use Rattle.scc_base.specs.Setups.{setup_key};
 ghost use Rattle.script_plain.specs.Barriers.{AreMet};
 ghost use Rattle.script_plain.specs.Collectives.{CollectivesHold};
-ghost use Rattle.script_plain.specs.Code.{GoesOn, IsRun, StepsAt, Sweeps, barrier_decision, call_at, call_decision, config, decision, fetch_decision, match_decision, post_decision, receive_decision};
+ghost use Rattle.script_plain.specs.Code.{GoesOn, IsRun, StepsAt, Sweeps, config, decision};
 ghost use Rattle.script_reader.specs.Script.{rules_of};
 ghost use Rattle.script_plain.specs.Local.{cost_of, local_next};
 ghost use Rattle.script_plain.specs.Meaning.{keys_of, locals_of, plain_end, plain_ends, plain_step, start_of};
@@ -12,11 +12,12 @@ ghost use Rattle.script_plain.specs.Meaning.{ends_at};
 ghost use Rattle.script_plain.specs.Step.{lowest_step, run_on};
 ghost use Rattle.script_plain.specs.declared.steps.Step.TheVariants as variant;
 
-use crate::barriers::{all_at_barrier, pass_barrier, root_of, setup_of};
+use crate::barriers::{pass_barrier, setup_of};
+use crate::decisions::decide;
 use crate::ends::{End, end_all};
 use crate::posts::Left;
 use crate::ues::Ue;
-use scc_base::{Call, Head, Rank, Setup};
+use scc_base::{Head, Rank, Setup};
 use script_reader::Scripts;
 use std::alloc::{AllocError, Global};
 
@@ -289,122 +290,4 @@ fn take(setup: &Setup, ues: &mut [Ue], slots: &mut [Option<Left>], to: usize, fr
         unreachable!()
     };
     ues[to].receive(message.bytes());
-}
-
-/// The step that a rank owns.
-pub(crate) fn decide(setup: &Setup, ues: &[Ue], slots: &[Option<Left>], rank: Rank) -> Step
-    requires rank { rank < setup.now.nue }
-    requires run { IsRun setup.now ues.now slots.now }
-    ensures { result ≡ decision (setup_key setup.now) ues.now slots.now rank }
-{
-    let i = rank.number() as usize;
-    let ue = &ues[i];
-    if ue.is_going() {
-        return Step::Goes;
-    }
-    decide_at(setup, ues, slots, rank, &ue.call())
-}
-
-/// The step of a rank that stands at this call, or at none.
-fn decide_at(
-    setup: &Setup,
-    ues: &[Ue],
-    slots: &[Option<Left>],
-    rank: Rank,
-    call: &Option<Call>,
-) -> Step
-    requires rank { rank < setup.now.nue }
-    requires run { IsRun setup.now ues.now slots.now }
-    ensures { result ≡ call_decision (setup_key setup.now) ues.now slots.now rank call.now }
-{
-    match call {
-        None => Step::Stays,
-        Some(Call::Post { .. }) => post_of(slots, rank),
-        Some(Call::Send { to, head }) => match_of(ues, slots, rank, *to, *head),
-        Some(Call::Recv { from, head }) => receive_of(ues, slots, rank, *from, *head),
-        Some(Call::Bar { comm }) => barrier_of(setup, ues, rank, *comm),
-    }
-}
-
-/// The step of a rank that stands at a post.
-fn post_of(slots: &[Option<Left>], rank: Rank) -> Step
-    ensures { result ≡ post_decision (slice_index_or slots.now rank None) }
-{
-    match slots.get(rank.number() as usize) {
-        Some(Some(_)) => Step::Stays,
-        _ => Step::Posts,
-    }
-}
-
-/// The step of a rank that stands at a send of this head.
-fn match_of(ues: &[Ue], slots: &[Option<Left>], rank: Rank, to: Rank, head: Head) -> Step
-    ensures { result ≡ match_decision rank to head (slice_index_or slots.now rank None) (call_at ues.now to) }
-{
-    if let Some(Some(_)) = slots.get(rank.number() as usize) {
-        return Step::Stays;
-    }
-    match &call_at(ues, to) {
-        Some(Call::Recv { from, head: asked }) if *from == rank && head == *asked => {
-            Step::Matches { to }
-        }
-        _ => Step::Stays,
-    }
-}
-
-/// The step of a rank that stands at a receive of this head.
-fn receive_of(ues: &[Ue], slots: &[Option<Left>], rank: Rank, from: Rank, asked: Head) -> Step
-    ensures { result ≡ receive_decision rank from asked (slice_index_or slots.now from None) (call_at ues.now from) }
-{
-    match slots.get(from.number() as usize) {
-        Some(Some(message)) => fetch_of(message.to(), message.head(), rank, from, asked),
-        _ => mismatch_of(ues, rank, from, asked),
-    }
-}
-
-/// The step of a rank that stands at a receive of this head from a rank that left a message with this other head
-/// behind, for the rank `to`.
-fn fetch_of(to: Rank, sent: Head, rank: Rank, from: Rank, asked: Head) -> Step
-    ensures { result ≡ fetch_decision rank from asked to sent }
-{
-    if to != rank {
-        return Step::Stays;
-    }
-    if sent == asked {
-        Step::Takes { from }
-    } else {
-        Step::Mismatches { sent }
-    }
-}
-
-/// The step of a rank that stands at a receive of this head from a rank that left no message behind.
-fn mismatch_of(ues: &[Ue], rank: Rank, from: Rank, asked: Head) -> Step
-    ensures { result ≡ receive_decision rank from asked None (call_at ues.now from) }
-{
-    match &call_at(ues, from) {
-        Some(Call::Send { to, head: sent }) if *to == rank && *sent != asked => {
-            Step::Mismatches { sent: *sent }
-        }
-        _ => Step::Stays,
-    }
-}
-
-/// The step of a rank that stands at a barrier of this communicator.
-fn barrier_of(setup: &Setup, ues: &[Ue], rank: Rank, comm: u8) -> Step
-    requires rank { rank < setup.now.nue }
-    requires ranks { length ues.now ≡ setup.now.nue }
-    requires sixteen { length setup.now.comms ≡ 16 }
-    ensures { result ≡ barrier_decision (setup_key setup.now) ues.now rank comm }
-{
-    if root_of(setup, comm, rank) == rank && all_at_barrier(setup, ues, comm, rank) {
-        Step::Passes { comm }
-    } else {
-        Step::Stays
-    }
-}
-
-/// The call at which a rank stands.
-pub(crate) fn call_at(ues: &[Ue], rank: Rank) -> Option<Call>
-    ensures { result ≡ call_at ues.now rank }
-{
-    ues.get(rank.number() as usize)?.call()
 }

@@ -1,19 +1,23 @@
 -- What the checks of a script's statements leave, as facts of each statement.
-use Rattle.std.proofs.Common.{◌≡◌, ℕ, zero, suc, ◌+◌, ◌-◌, ◌*◌, ◌%◌, ◌<◌, ◌≤◌, Bool, true, false, not, ◌||◌, ◌&&◌, cond, eqb, ltb, List, [], ◌∷◌, ◌++◌, length, reverse, take, drop, slice_get, is_none, unwrap_or, Option, Some, None, refl, sym, ap, ◌∙◌, arith, subst, append_assoc, inl, inr, lit<}
+use Rattle.std.proofs.Common.{◌≡◌, ℕ, zero, suc, ◌+◌, ◌-◌, ◌*◌, ◌%◌, ◌<◌, ◌≤◌, Bool, true, false, not, ◌||◌, ◌&&◌, cond, eqb, ltb, List, [], ◌∷◌, ◌++◌, length, reverse, take, drop, slice_get, is_none, unwrap_or, Option, Some, None, refl, sym, ap, ◌∙◌, arith, subst, append_assoc, inl, inr}
 use Rattle.std.proofs.lemmas.Bool.Decides.{eqb_tells}
 use Rattle.std.proofs.lemmas.Bool.{eqb-true, ltb-false, not-false}
 use Rattle.std.proofs.lemmas.List.{length-append, length-take, reverse-append, reverse-reverse, take-append-drop}
-use Rattle.std.specs.Option.{option_or}
+use Rattle.std.specs.Option.{option_map_or, option_or}
 use Rattle.std.specs.Prelude.{IfSome, IsSome, nat_lt}
 use Rattle.groups.specs.Folds.{bytes_in}
 use Rattle.groups.specs.declared.operations.Ty.{Ty}
-use Rattle.groups.specs.declared.operations.Ty.TheVariants as ty
 use Rattle.scc_base.specs.Communicators.{key_of, rule_of}
 use Rattle.scc_base.specs.Groups.{place_in}
-use Rattle.scc_base.specs.Setups.{SetupView, place_of}
+use Rattle.scc_base.specs.Setups.{place_of}
 use Rattle.scc_base.specs.declared.communicators.CommRule.{CommRule}
 use Rattle.scc_base.specs.declared.communicators.CommRule.TheVariants as rule
-use Rattle.script_reader.specs.declared.checks.RankCheck.TheVariants as check
+use Rattle.script_reader.specs.declared.effect.Nesting.{Nesting}
+use Rattle.script_reader.specs.declared.effect.Nesting.TheVariants as nesting
+use Rattle.script_reader.specs.declared.effect.Size.{Size}
+use Rattle.script_reader.specs.declared.effect.Size.TheVariants as sizes
+use Rattle.script_reader.specs.declared.effect.Target.{Target}
+use Rattle.script_reader.specs.declared.fault.FaultKind.TheVariants as kind
 use Rattle.script_reader.specs.declared.repeats.Open.{Open}
 use Rattle.script_reader.specs.declared.script.Form.TheVariants as form
 use Rattle.script_reader.specs.declared.script.Item.{Item}
@@ -21,10 +25,12 @@ use Rattle.script_reader.specs.declared.script.Stmt.{Stmt}
 use Rattle.script_reader.specs.declared.script.Stmt.TheVariants as stmt
 use Rattle.script_reader.specs.declared.tally.Setting.{Setting}
 use Rattle.script_reader.specs.Acceptance.{ForEachRun, IsFitting, IsPostable, IsReadable, IsWholeOf, groups_of, length_before, length_of}
-use Rattle.script_reader.specs.Checks.{comm_needed, cost_of, differs, is_absent, is_at, is_misshapen, is_ragged, is_too_deep, is_unset, length_at, open_of, opened, operations, posts_too_much, printed, prints, prints_too_much, resizes, run_of, set_by, setting, sets_to, turns_in}
-use Rattle.script_reader.specs.Script.{IsSized, Script, has_rank, rules_of}
+use Rattle.script_reader.specs.Checks.{cost_of, counts_at, differs, is_absent, is_at, is_misshapen, is_ragged, is_too_deep, is_unset, length_at, length_given, open_of, opened, operations, posts_too_much, printed, prints, prints_too_much, resizes, run_of, set_by, set_if, sets_to, turns_in}
+use Rattle.script_reader.specs.Effects.{IsSizedBy, comm_needed, effect_of}
+use Rattle.script_reader.specs.Script.{Script, has_rank, rules_of}
 use Rattle.script_reader.specs.Settled.{AreInLine, ArePassed, IsInLine, IsWhole, run_with}
-use Rattle.script_reader.proofs.SettledLemmas.{Extends, and-false, false-left, false-right, key-same, present-low, same-more}
+use Rattle.script_reader.proofs.CheckLemmas.{false-left, false-right}
+use Rattle.script_reader.proofs.SettledLemmas.{Extends, and-false, key-same, present-low, same-more}
 
 -- the statements that stand behind a place, and those before it, the latest first
 around : (items : List Item) (place : ℕ) (item : Item) → slice_get items place ≡ Some item → (front : List Item) × (reverse items ≡ front ++ item ∷ reverse (take place items))
@@ -108,8 +114,8 @@ some-value None some = absurd cc
 some-value (Some x) some = refl
 
 -- a statement that no check of unset registers refuses reads registers that are set
-readable : (s : Stmt) (nue : ℕ) (past : List Item) (comms : List CommRule) (rank : ℕ) → Extends (rules_of (reverse past)) comms → (rule_of (rules_of (reverse past)) (comm_needed s) ≡ rule.Absent → ⊥)
-    → is_unset (run_of nue past) (length_at nue past rank) s rank ≡ false → IsReadable (run_with nue comms) (length_at nue past rank) s rank
+readable : (s : Stmt) (nue : ℕ) (past : List Item) (comms : List CommRule) (rank : ℕ) → Extends (rules_of (reverse past)) comms → (rule_of (rules_of (reverse past)) (comm_needed (effect_of s).group) ≡ rule.Absent → ⊥)
+    → is_unset (run_of nue past) (length_at nue past rank) (effect_of s) rank ≡ false → IsReadable (run_with nue comms) (length_at nue past rank) (effect_of s) rank
 readable (stmt.Apply op ty dst src) nue past comms rank e there set =
     let to = is_none (length_at nue past rank dst) in
     let from = is_none (length_at nue past rank src) in
@@ -128,13 +134,16 @@ no-other : (o : Option ℕ) (len : ℕ) → is_none o ≡ false → differs o le
 no-other None len some same = absurd cc
 no-other (Some x) len some same = ap Some (eqb-true x len (not-false (eqb x len) same))
 
+abbrev setting : ℕ → ℕ → Option Setting
+setting reg len = Some (record { reg = reg; len = len })
+
 -- a register that is set without a change of its length
 set-once : (o : Option ℕ) (reg len : ℕ) → differs o len ≡ false → option_or o (cond (eqb reg reg) (Some len) None) ≡ Some len
 set-once None reg len same = rw (eqb-same reg reg refl) refl
 set-once (Some x) reg len same = no-other (Some x) len refl same
 
-bcast-once : (at : Bool) (had : ℕ → Option ℕ) (reg len : ℕ) → (resizes had (cond at None (setting reg len)) || (at && differs (had reg) len)) ≡ false → (at && is_none (had reg)) ≡ false
-    → option_or (had reg) (sets_to (cond at None (setting reg len)) reg) ≡ Some len
+bcast-once : (at : Bool) (had : ℕ → Option ℕ) (reg len : ℕ) → (resizes had (cond (not at) (setting reg len) None) || (at && differs (had reg) len)) ≡ false → (at && is_none (had reg)) ≡ false
+    → option_or (had reg) (sets_to (cond (not at) (setting reg len) None) reg) ≡ Some len
 bcast-once true had reg len shaped set = or_some (had reg) None len (no-other (had reg) len set shaped)
 bcast-once false had reg len shaped set = set-once (had reg) reg len (false-left (differs (had reg) len) false shaped)
 
@@ -152,47 +161,66 @@ whole-of ty o None len is later whole = absurd cc
 whole-of ty o (Some x) len is later whole = let same : x ≡ len = cc in subst (λ (n : ℕ). n % bytes_in ty ≡ 0) (sym same) (whole-value ty o len is whole)
 
 -- a statement that no check of registers refuses has the lengths that it gives or needs, and they stay
-fitting : (s : Stmt) (nue : ℕ) (past : List Item) (comms : List CommRule) (rank : ℕ) (after : ℕ → Option ℕ) → Extends (rules_of (reverse past)) comms → (rule_of (rules_of (reverse past)) (comm_needed s) ≡ rule.Absent → ⊥)
-    → is_unset (run_of nue past) (length_at nue past rank) s rank ≡ false → is_misshapen (run_of nue past) (length_at nue past rank) s rank ≡ false
-    → ((reg len : ℕ) → option_or (length_at nue past rank reg) (sets_to (set_by (run_of nue past) (length_at nue past rank) s rank) reg) ≡ Some len → after reg ≡ Some len)
-    → IsFitting (run_with nue comms) after s rank
-fitting (stmt.Bytes reg bytes) nue past comms rank after e there set shaped stays = stays reg (length bytes) (set-once (length_at nue past rank reg) reg (length bytes) (false-left (differs (length_at nue past rank reg) (length bytes)) false shaped))
-fitting (stmt.Fill reg len start) nue past comms rank after e there set shaped stays = stays reg len (set-once (length_at nue past rank reg) reg len (false-left (differs (length_at nue past rank reg) len) false shaped))
-fitting (stmt.RankOf reg ty) nue past comms rank after e there set shaped stays = stays reg (bytes_in ty) (set-once (length_at nue past rank reg) reg (bytes_in ty) (false-left (differs (length_at nue past rank reg) (bytes_in ty)) false shaped))
-fitting (stmt.Recv peer reg len) nue past comms rank after e there set shaped stays = stays reg len (set-once (length_at nue past rank reg) reg len (false-left (differs (length_at nue past rank reg) len) false shaped))
+fitting : (s : Stmt) (nue : ℕ) (past : List Item) (comms : List CommRule) (rank : ℕ) (after : ℕ → Option ℕ) → Extends (rules_of (reverse past)) comms
+    → (rule_of (rules_of (reverse past)) (comm_needed (effect_of s).group) ≡ rule.Absent → ⊥)
+    → is_unset (run_of nue past) (length_at nue past rank) (effect_of s) rank ≡ false → is_misshapen (run_of nue past) (length_at nue past rank) (effect_of s) rank ≡ false
+    → ((reg len : ℕ) → option_or (length_at nue past rank reg) (sets_to (set_by (run_of nue past) (length_at nue past rank) (effect_of s) rank) reg) ≡ Some len → after reg ≡ Some len)
+    → IsFitting (run_with nue comms) after (effect_of s) rank
+fitting (stmt.Bytes reg bytes) nue past comms rank after e there set shaped stays = record {
+  given = stays reg (length bytes) (set-once (length_at nue past rank reg) reg (length bytes) (false-left (differs (length_at nue past rank reg) (length bytes)) false shaped));
+  needed = tt;
+}
+fitting (stmt.Fill reg len start) nue past comms rank after e there set shaped stays = record {
+  given = stays reg len (set-once (length_at nue past rank reg) reg len (false-left (differs (length_at nue past rank reg) len) false shaped));
+  needed = tt;
+}
+fitting (stmt.RankOf reg ty) nue past comms rank after e there set shaped stays = record {
+  given = stays reg (bytes_in ty) (set-once (length_at nue past rank reg) reg (bytes_in ty) (false-left (differs (length_at nue past rank reg) (bytes_in ty)) false shaped));
+  needed = tt;
+}
+fitting (stmt.Recv peer reg len) nue past comms rank after e there set shaped stays = record {
+  given = stays reg len (set-once (length_at nue past rank reg) reg len (false-left (differs (length_at nue past rank reg) len) false shaped));
+  needed = tt;
+}
 fitting (stmt.Apply op ty dst src) nue past comms rank after e there set shaped stays =
     let had = length_at nue past rank in
     let size = unwrap_or (had src) 0 in
     let from = some-value (had src) (false-right (is_none (had dst)) (is_none (had src)) set) in
     let to = no-other (had dst) size (false-left (is_none (had dst)) (is_none (had src)) set) (false-left (differs (had dst) size) (is_ragged ty (had src)) shaped) in
     let from-after = stays src size (or_some (had src) None size from) in
-    (stays dst size (or_some (had dst) None size to) ∙ sym from-after, whole-of ty (had src) (after src) size from from-after (false-right (differs (had dst) size) (is_ragged ty (had src)) shaped))
+    record {
+      given = tt;
+      needed = (stays dst size (or_some (had dst) None size to) ∙ sym from-after, whole-of ty (had src) (after src) size from from-after (false-right (differs (had dst) size) (is_ragged ty (had src)) shaped));
+    }
 fitting (stmt.Print reg (form.Decimal ty)) nue past comms rank after e there set shaped stays =
     let had = length_at nue past rank in
     let size = unwrap_or (had reg) 0 in
     let is = some-value (had reg) set in
-    whole-of ty (had reg) (after reg) size is (stays reg size (or_some (had reg) None size is)) shaped
-fitting (stmt.Print reg form.Hex) nue past comms rank after e there set shaped stays = tt
+    record { given = tt; needed = whole-of ty (had reg) (after reg) size is (stays reg size (or_some (had reg) None size is)) shaped }
+fitting (stmt.Print reg form.Hex) nue past comms rank after e there set shaped stays = record { given = tt; needed = tt }
 fitting (stmt.Bcast comm root reg len) nue past comms rank after e there set shaped stays =
-    stays reg len (bcast-once (is_at (run_of nue past) comm rank root) (length_at nue past rank) reg len shaped set)
+    let is = stays reg len (bcast-once (is_at (run_of nue past) comm rank root) (length_at nue past rank) reg len shaped set) in
+    record { given = λ other. is; needed = λ here. is }
 fitting (stmt.Reduce comm root op ty dst src) nue past comms rank after e there set shaped stays =
     let had = length_at nue past rank in
     let size = unwrap_or (had src) 0 in
     let at = is_at (run_of nue past) comm rank root in
     let from = some-value (had src) set in
-    let from-after = stays src size (or_some (had src) (sets_to (cond at (setting dst size) None) src) size from) in (
-      λ is. stays dst size (root-once at had dst size (is_ragged ty (had src)) (at-root nue past comms comm rank root e there is) shaped) ∙ sym from-after,
-      whole-of ty (had src) (after src) size from from-after (false-right (resizes had (cond at (setting dst size) None)) (is_ragged ty (had src)) shaped),
-    )
+    let from-after = stays src size (or_some (had src) (sets_to (cond at (setting dst size) None) src) size from) in
+    record {
+      given = λ is. stays dst size (root-once at had dst size (is_ragged ty (had src)) (at-root nue past comms comm rank root e there is) shaped) ∙ sym from-after;
+      needed = whole-of ty (had src) (after src) size from from-after (false-right (resizes had (cond at (setting dst size) None)) (is_ragged ty (had src)) shaped);
+    }
 fitting (stmt.Allreduce comm op ty dst src) nue past comms rank after e there set shaped stays =
     let had = length_at nue past rank in
     let size = unwrap_or (had src) 0 in
     let from = some-value (had src) set in
-    let from-after = stays src size (or_some (had src) (sets_to (setting dst size) src) size from) in (
-      stays dst size (set-once (had dst) dst size (false-left (differs (had dst) size) (is_ragged ty (had src)) shaped)) ∙ sym from-after,
-      whole-of ty (had src) (after src) size from from-after (false-right (differs (had dst) size) (is_ragged ty (had src)) shaped),
-    )
-fitting _ nue past comms rank after e there set shaped stays = tt
+    let from-after = stays src size (or_some (had src) (sets_to (setting dst size) src) size from) in
+    record {
+      given = stays dst size (set-once (had dst) dst size (false-left (differs (had dst) size) (is_ragged ty (had src)) shaped)) ∙ sym from-after;
+      needed = whole-of ty (had src) (after src) size from from-after (false-right (differs (had dst) size) (is_ragged ty (had src)) shaped);
+    }
+fitting _ nue past comms rank after e there set shaped stays = record { given = tt; needed = tt }
 
 post-value : (o after : Option ℕ) (len : ℕ) → o ≡ Some len → after ≡ Some len → nat_lt 3584 (unwrap_or o 0) ≡ false → IfSome after (λ size. size ≤ 3584)
 post-value o None len is later short = absurd cc
@@ -201,8 +229,9 @@ post-value o (Some x) len is later short =
     let value : unwrap_or o 0 ≡ len = ap (λ (o : Option ℕ). unwrap_or o 0) is in
     omega (arith, ltb-false 3584 (unwrap_or o 0) short)
 
-postable : (s : Stmt) (nue : ℕ) (past : List Item) (rank : ℕ) (after : ℕ → Option ℕ) → is_unset (run_of nue past) (length_at nue past rank) s rank ≡ false → posts_too_much (length_at nue past rank) s ≡ false
-    → ((reg len : ℕ) → length_at nue past rank reg ≡ Some len → after reg ≡ Some len) → IsPostable after s
+postable : (s : Stmt) (nue : ℕ) (past : List Item) (rank : ℕ) (after : ℕ → Option ℕ) → is_unset (run_of nue past) (length_at nue past rank) (effect_of s) rank ≡ false
+    → posts_too_much (length_at nue past rank) (effect_of s) ≡ false
+    → ((reg len : ℕ) → length_at nue past rank reg ≡ Some len → after reg ≡ Some len) → IsPostable after (effect_of s)
 postable (stmt.Post peer reg) nue past rank after set short stays =
     let is = some-value (length_at nue past rank reg) set in
     post-value (length_at nue past rank reg) (after reg) (unwrap_or (length_at nue past rank reg) 0) is (stays reg (unwrap_or (length_at nue past rank reg) 0) is) short
@@ -210,7 +239,7 @@ postable _ nue past rank after set short stays = tt
 
 -- where a rank runs the latest statement, its lengths behind it
 length-new : (nue : ℕ) (past : List Item) (item : Item) (rank reg : ℕ) → has_rank item.who rank ≡ true
-    → length_at nue (item ∷ past) rank reg ≡ option_or (length_at nue past rank reg) (sets_to (set_by (run_of nue past) (length_at nue past rank) item.stmt rank) reg)
+    → length_at nue (item ∷ past) rank reg ≡ option_or (length_at nue past rank reg) (sets_to (set_by (run_of nue past) (length_at nue past rank) (effect_of item.stmt) rank) reg)
 length-new nue past item rank reg has = rw has refl
 
 -- a statement of a script that was read, behind those before it
@@ -241,23 +270,23 @@ length-stays : (script : Script) (past : List Item) (item : Item) (rank reg len 
 length-stays script past item rank reg len p is =
     subst (λ (list : List Item). length_at script.nue list rank reg ≡ Some len) (sym p.is) (length-longer script.nue p.front (item ∷ past) rank reg len is)
 
-pub set-law : (script : Script) → IsWhole script.nue script.items → ForEachRun script (λ place stmt rank. IsReadable (groups_of script) (length_before script place rank) stmt rank)
+pub set-law : (script : Script) → IsWhole script.nue script.items → ForEachRun script (λ place effect rank. IsReadable (groups_of script) (length_before script place rank) effect rank)
 set-law script whole place item found rank below has =
     let p = placed script place item whole found in
-    readable item.stmt script.nue (reverse (take place script.items)) (rules_of script.items) rank p.extends (p.line.present rank below has) (p.passed.1 check.Unset rank below has)
+    readable item.stmt script.nue (reverse (take place script.items)) (rules_of script.items) rank p.extends (p.line.present rank below has) (p.passed.1 kind.Unset rank below has)
 
-pub fitting-law : (script : Script) → IsWhole script.nue script.items → ForEachRun script (λ place stmt rank. IsFitting (groups_of script) (length_of script rank) stmt rank)
+pub fitting-law : (script : Script) → IsWhole script.nue script.items → ForEachRun script (λ place effect rank. IsFitting (groups_of script) (length_of script rank) effect rank)
 fitting-law script whole place item found rank below has =
     let p = placed script place item whole found in
     let past = reverse (take place script.items) in
-    fitting item.stmt script.nue past (rules_of script.items) rank (length_of script rank) p.extends (p.line.present rank below has) (p.passed.1 check.Unset rank below has) (p.passed.1 check.Shape rank below has)
+    fitting item.stmt script.nue past (rules_of script.items) rank (length_of script rank) p.extends (p.line.present rank below has) (p.passed.1 kind.Unset rank below has) (p.passed.1 kind.Shape rank below has)
     (λ reg len is. length-stays script past item rank reg len p (length-new script.nue past item rank reg has ∙ is))
 
-pub postable-law : (script : Script) → IsWhole script.nue script.items → ForEachRun script (λ place stmt rank. IsPostable (length_of script rank) stmt)
+pub postable-law : (script : Script) → IsWhole script.nue script.items → ForEachRun script (λ place effect rank. IsPostable (length_of script rank) effect)
 postable-law script whole place item found rank below has =
     let p = placed script place item whole found in
     let past = reverse (take place script.items) in
-    postable item.stmt script.nue past rank (length_of script rank) (p.passed.1 check.Unset rank below has) (false-left (posts_too_much (length_at script.nue past rank) item.stmt) (prints_too_much (length_at script.nue past rank) (printed script.nue past rank) (turns_in (open_of past)) item.stmt) (p.passed.1 check.TooLong rank below has))
+    postable item.stmt script.nue past rank (length_of script rank) (p.passed.1 kind.Unset rank below has) (false-left (posts_too_much (length_at script.nue past rank) (effect_of item.stmt)) (prints_too_much (length_at script.nue past rank) (printed script.nue past rank) (turns_in (open_of past)) (effect_of item.stmt)) (p.passed.1 kind.TooLong rank below has))
     (λ reg len is. length-stays script past item rank reg len p (length-longer script.nue (item ∷ []) past rank reg len is))
 
 pub stays-law : (script : Script) (place rank reg len : ℕ) → length_before script place rank reg ≡ Some len → length_of script rank reg ≡ Some len
@@ -266,28 +295,22 @@ stays-law script place rank reg len is =
     (length-longer script.nue (reverse (drop place script.items)) (reverse (take place script.items)) rank reg len is)
 
 -- the lengths of registers
-width-short : (ty : Ty) → bytes_in ty ≤ 65536
-width-short ty.Int = lit< tt
-width-short ty.Long = lit< tt
-
 value-short : (o : Option ℕ) → ((len : ℕ) → o ≡ Some len → len ≤ 65536) → unwrap_or o 0 ≤ 65536
 value-short None short = omega arith
 value-short (Some x) short = short x refl
 
-cond-short : (b : Bool) (x y : Option Setting) → IfSome x (λ set. set.len ≤ 65536) → IfSome y (λ set. set.len ≤ 65536) → IfSome (cond b x y) (λ set. set.len ≤ 65536)
-cond-short true x y sx sy = sx
-cond-short false x y sx sy = sy
+given-short : (size : Size) (had : ℕ → Option ℕ) → IsSizedBy size → ((reg len : ℕ) → had reg ≡ Some len → len ≤ 65536) → length_given had size ≤ 65536
+given-short (sizes.Bytes len) had sized short = sized
+given-short (sizes.Same reg) had sized short = value-short (had reg) (λ len is. short reg len is)
 
-set-short : (s : Stmt) (run : SetupView) (had : ℕ → Option ℕ) (rank : ℕ) → IsSized s → ((reg len : ℕ) → had reg ≡ Some len → len ≤ 65536) → IfSome (set_by run had s rank) (λ set. set.len ≤ 65536)
-set-short (stmt.Bytes reg bytes) run had rank sized short = sized
-set-short (stmt.Fill reg len start) run had rank sized short = sized
-set-short (stmt.RankOf reg ty) run had rank sized short = width-short ty
-set-short (stmt.Recv peer reg len) run had rank sized short = sized
-set-short (stmt.Bcast comm root reg len) run had rank sized short = cond-short (is_at run comm rank root) None (setting reg len) tt sized
-set-short (stmt.Reduce comm root op ty dst src) run had rank sized short =
-    cond-short (is_at run comm rank root) (setting dst (unwrap_or (had src) 0)) None (value-short (had src) (λ len is. short src len is)) tt
-set-short (stmt.Allreduce comm op ty dst src) run had rank sized short = value-short (had src) (λ len is. short src len is)
-set-short _ run had rank sized short = tt
+cond-short : (b : Bool) (had : ℕ → Option ℕ) (t : Target) → length_given had t.size ≤ 65536 → IfSome (set_if had t b) (λ set. set.len ≤ 65536)
+cond-short true had t short = short
+cond-short false had t short = tt
+
+set-short : (o : Option Target) (had : ℕ → Option ℕ) (counts : Target → Bool) → IfSome o (λ target. IsSizedBy target.size) → ((reg len : ℕ) → had reg ≡ Some len → len ≤ 65536)
+    → IfSome (option_map_or (λ target. set_if had target (counts target)) o None) (λ set. set.len ≤ 65536)
+set-short None had counts sized short = tt
+set-short (Some target) had counts sized short = cond-short (counts target) had target (given-short target.size had sized short)
 
 reg-short : (b : Bool) (x len : ℕ) → x ≤ 65536 → cond b (Some x) None ≡ Some len → len ≤ 65536
 reg-short true x len short is = let same : x ≡ len = cc in omega arith
@@ -309,9 +332,10 @@ length-short : (nue : ℕ) (past : List Item) (rank : ℕ) → AreInLine nue pas
 length-short nue [] rank lines reg len is = absurd cc
 length-short nue (item ∷ past) rank lines reg len is =
     let had = length_at nue past rank in
+    let e = effect_of item.stmt in
     let before = length-short nue past rank lines.0 in
-    or-short (had reg) (cond (has_rank item.who rank) (sets_to (set_by (run_of nue past) had item.stmt rank) reg) None) len (before reg len)
-    (run-short (has_rank item.who rank) (set_by (run_of nue past) had item.stmt rank) reg len (set-short item.stmt (run_of nue past) had rank lines.1.sized before)) is
+    or-short (had reg) (cond (has_rank item.who rank) (sets_to (set_by (run_of nue past) had e rank) reg) None) len (before reg len)
+    (run-short (has_rank item.who rank) (set_by (run_of nue past) had e rank) reg len (set-short e.sets had (λ target. counts_at (run_of nue past) e rank target.at) lines.1.sized before)) is
 
 pub short-law : (script : Script) → IsWhole script.nue script.items → (rank reg len : ℕ) → length_of script rank reg ≡ Some len → len ≤ 65536
 short-law script whole rank reg len is = length-short script.nue (reverse script.items) rank whole.in_line reg len is
@@ -324,14 +348,14 @@ sum-within false done more most none within = omega arith
 operations-within : (nue : ℕ) (past : List Item) (rank : ℕ) → rank < nue → ArePassed nue past → operations nue past rank ≤ 100000
 operations-within nue [] rank below all = omega arith
 operations-within nue (item ∷ past) rank below all =
-    sum-within (has_rank item.who rank) (operations nue past rank) (turns_in (open_of past) * cost_of (run_of nue past) item.stmt rank) 100000
-    (λ has. all.1 check.TooManyOps rank below has) (operations-within nue past rank below all.0)
+    sum-within (has_rank item.who rank) (operations nue past rank) (turns_in (open_of past) * cost_of (run_of nue past) (effect_of item.stmt).cost rank) 100000
+    (λ has. all.1 kind.TooManyOps rank below has) (operations-within nue past rank below all.0)
 
 printed-within : (nue : ℕ) (past : List Item) (rank : ℕ) → rank < nue → ArePassed nue past → printed nue past rank ≤ 1048576
 printed-within nue [] rank below all = omega arith
 printed-within nue (item ∷ past) rank below all =
-    sum-within (has_rank item.who rank) (printed nue past rank) (turns_in (open_of past) * prints (length_at nue past rank) item.stmt) 1048576
-    (λ has. false-right (posts_too_much (length_at nue past rank) item.stmt) (prints_too_much (length_at nue past rank) (printed nue past rank) (turns_in (open_of past)) item.stmt) (all.1 check.TooLong rank below has)) (printed-within nue past rank below all.0)
+    sum-within (has_rank item.who rank) (printed nue past rank) (turns_in (open_of past) * prints (length_at nue past rank) (effect_of item.stmt)) 1048576
+    (λ has. false-right (posts_too_much (length_at nue past rank) (effect_of item.stmt)) (prints_too_much (length_at nue past rank) (printed nue past rank) (turns_in (open_of past)) (effect_of item.stmt)) (all.1 kind.TooLong rank below has)) (printed-within nue past rank below all.0)
 
 pub worked-law : (script : Script) → IsWhole script.nue script.items → (rank : ℕ) → rank < script.nue → operations script.nue (reverse script.items) rank ≤ 100000
 worked-law script whole rank below = operations-within script.nue (reverse script.items) rank below whole.passed
@@ -340,14 +364,14 @@ pub printed-law : (script : Script) → IsWhole script.nue script.items → (ran
 printed-law script whole rank below = printed-within script.nue (reverse script.items) rank below whole.passed
 
 -- the open repeats
-opened-few : (s : Stmt) (place : ℕ) (repeats : List Open) → is_too_deep repeats s ≡ false → length repeats ≤ 8 → length (opened s place repeats) ≤ 8
-opened-few (stmt.Repeat times end) place repeats flat few = omega (arith, ltb-false 7 (length repeats) flat, length-append repeats ((record { start = place; turns = turns_in repeats * times }) ∷ []))
-opened-few (stmt.End start) place repeats flat few = omega (arith, length-take (length repeats - 1) repeats)
-opened-few _ place repeats flat few = few
+opened-few : (n : Nesting) (place : ℕ) (repeats : List Open) → is_too_deep repeats n ≡ false → length repeats ≤ 8 → length (opened n place repeats) ≤ 8
+opened-few (nesting.Opens times) place repeats flat few = omega (arith, ltb-false 7 (length repeats) flat, length-append repeats ((record { start = place; turns = turns_in repeats * times }) ∷ []))
+opened-few (nesting.Closes start) place repeats flat few = omega (arith, length-take (length repeats - 1) repeats)
+opened-few nesting.Stays place repeats flat few = few
 
 open-few : (nue : ℕ) (past : List Item) → AreInLine nue past → length (open_of past) ≤ 8
 open-few nue [] lines = omega arith
-open-few nue (item ∷ past) lines = opened-few item.stmt (length past) (open_of past) lines.1.flat (open-few nue past lines.0)
+open-few nue (item ∷ past) lines = opened-few (effect_of item.stmt).nesting (length past) (open_of past) lines.1.flat (open-few nue past lines.0)
 
 pub shallow-law : (script : Script) → IsWhole script.nue script.items → (place : ℕ) → length (open_of (reverse (take place script.items))) ≤ 8
 shallow-law script whole place =

@@ -4,21 +4,24 @@ use Rattle.std.proofs.Math.Path.{fun_ext}
 use Rattle.std.proofs.lemmas.List.{length-map, map-append, reverse-append}
 use Rattle.std.specs.List.{range_with_len}
 use Rattle.std.specs.Option.{option_or}
+use Rattle.std.specs.Prelude.{IfSome}
 use Rattle.scc_base.specs.Setups.{SetupView}
 use Rattle.scc_base.specs.declared.communicators.CommRule.{CommRule}
 use Rattle.scc_base.specs.declared.communicators.CommRule.TheVariants as rule
 use Rattle.scc_base.specs.declared.layouts.Layout.TheVariants as layout
-use Rattle.script_reader.specs.declared.checks.RankCheck.{RankCheck}
-use Rattle.script_reader.specs.declared.checks.RankCheck.TheVariants as check
+use Rattle.script_reader.specs.declared.effect.Effect.{Effect}
+use Rattle.script_reader.specs.declared.fault.FaultKind.{FaultKind}
+use Rattle.script_reader.specs.declared.fault.FaultKind.TheVariants as kind
 use Rattle.script_reader.specs.declared.repeats.Open.{Open}
 use Rattle.script_reader.specs.declared.script.Item.{Item}
 use Rattle.script_reader.specs.declared.script.Stmt.{Stmt}
 use Rattle.script_reader.specs.declared.script.Stmt.TheVariants as stmt
-use Rattle.script_reader.specs.Checks.{comm_needed, cost_of, has_no_root, has_split, is_misshapen, is_not_split, is_overworked, is_split_of, is_to_self, is_too_deep, is_unset, length_at, open_of, opened, operations, posts_too_much, printed, prints, prints_too_much, refuses, run_of, set_by, sets_to, turns_in}
+use Rattle.script_reader.specs.Checks.{cost_of, has_no_root, has_split, is_misshapen, is_not_split, is_overworked, is_too_deep, is_unset, length_at, open_of, opened, operations, posts_too_much, printed, prints, prints_too_much, refuses, run_of, set_by, sets_to, turns_in}
 use Rattle.script_reader.specs.Closed.{AreMatched, AreWithin, Closes, HasPass, HavePasses, latest_section}
 use Rattle.script_reader.specs.Ends.{with_ends}
 use Rattle.scc_base.specs.Communicators.{AreRules, rule_of}
-use Rattle.script_reader.specs.Script.{IsSized, first_split, has_rank, or_rule, rules_of, split_rule}
+use Rattle.script_reader.specs.Effects.{IsSizedBy, comm_needed, effect_of, is_split_of, split_rule}
+use Rattle.script_reader.specs.Script.{IsSized, first_split, has_rank, or_rule, rules_of}
 use Rattle.script_reader.specs.Settled.{AreInLine, ArePassed, IsInLine}
 use Rattle.script_reader.proofs.EndLemmas.{with_ends-keeps}
 
@@ -49,6 +52,10 @@ bare-same f same (stmt.Bcast comm root reg len) = refl
 bare-same f same (stmt.Reduce comm root op ty dst src) = refl
 bare-same f same (stmt.Allreduce comm op ty dst src) = refl
 bare-same f same (stmt.End start) = refl
+
+-- no effect looks there
+pub effect-bare : (s : Stmt) → effect_of (bare s) ≡ effect_of s
+effect-bare s = bare-same effect_of (λ times end. refl) s
 
 bared-told : (first item : Item) (times end place : ℕ) → Some first ≡ Some item → item.stmt ≡ stmt.Repeat times end → bared (record item { stmt = stmt.Repeat times place }) ≡ bared first
 bared-told first item times end place found is =
@@ -81,8 +88,8 @@ bared-reverse-ends n items = bared-reverse items ∙ ap reverse (sym (bared-with
 first-bared : (items : List Item) (comm : ℕ) → first_split (all_bared items) comm ≡ first_split items comm
 first-bared [] comm = refl
 first-bared (item ∷ items) comm =
-    ap (λ (r : CommRule). or_rule r (first_split (all_bared items) comm)) (bare-same (λ s. split_rule s comm) (λ times end. refl) item.stmt)
-    ∙ ap (or_rule (split_rule item.stmt comm)) (first-bared items comm)
+    ap (λ (e : Effect). or_rule (split_rule e.group comm) (first_split (all_bared items) comm)) (effect-bare item.stmt)
+    ∙ ap (or_rule (split_rule (effect_of item.stmt).group comm)) (first-bared items comm)
 
 rules-bared : (items : List Item) → rules_of (all_bared items) ≡ rules_of items
 rules-bared items = ap (λ (f : ℕ → CommRule). rule.World ∷ map f (range_with_len 1 15)) (fun_ext (λ comm. first-bared items comm))
@@ -95,25 +102,25 @@ run-bared nue past =
 open-bared : (past : List Item) → open_of (all_bared past) ≡ open_of past
 open-bared [] = refl
 open-bared (item ∷ past) =
-    bare-same (λ s. opened s (length (all_bared past)) (open_of (all_bared past))) (λ times end. refl) item.stmt
-    ∙ ap (λ (n : ℕ). opened item.stmt n (open_of (all_bared past))) (length-map past bared)
-    ∙ ap (opened item.stmt (length past)) (open-bared past)
+    ap (λ (e : Effect). opened e.nesting (length (all_bared past)) (open_of (all_bared past))) (effect-bare item.stmt)
+    ∙ ap (λ (n : ℕ). opened (effect_of item.stmt).nesting n (open_of (all_bared past))) (length-map past bared)
+    ∙ ap (opened (effect_of item.stmt).nesting (length past)) (open-bared past)
 
 split-bared : (past : List Item) (rank comm : ℕ) → has_split (all_bared past) rank comm ≡ has_split past rank comm
 split-bared [] rank comm = refl
 split-bared (item ∷ past) rank comm =
-    ap (λ (is : Bool). has_split (all_bared past) rank comm || (has_rank item.who rank && is)) (bare-same (λ s. is_split_of s comm) (λ times end. refl) item.stmt)
-    ∙ ap (λ (had : Bool). had || (has_rank item.who rank && is_split_of item.stmt comm)) (split-bared past rank comm)
+    ap (λ (e : Effect). has_split (all_bared past) rank comm || (has_rank item.who rank && is_split_of e.group comm)) (effect-bare item.stmt)
+    ∙ ap (λ (had : Bool). had || (has_rank item.who rank && is_split_of (effect_of item.stmt).group comm)) (split-bared past rank comm)
 
-abbrev length_behind : Item → ℕ → ℕ → SetupView → (ℕ → Option ℕ) → Stmt → Option ℕ
-length_behind item rank reg run had s = option_or (had reg) (cond (has_rank item.who rank) (sets_to (set_by run had s rank) reg) None)
+abbrev length_behind : Item → ℕ → ℕ → SetupView → (ℕ → Option ℕ) → Effect → Option ℕ
+length_behind item rank reg run had e = option_or (had reg) (cond (has_rank item.who rank) (sets_to (set_by run had e rank) reg) None)
 
 length-bared : (nue : ℕ) (past : List Item) (rank reg : ℕ) → length_at nue (all_bared past) rank reg ≡ length_at nue past rank reg
 length-bared nue [] rank reg = refl
 length-bared nue (item ∷ past) rank reg =
-    bare-same (length_behind item rank reg (run_of nue (all_bared past)) (length_at nue (all_bared past) rank)) (λ times end. refl) item.stmt
-    ∙ ap (λ (run : SetupView). length_behind item rank reg run (length_at nue (all_bared past) rank) item.stmt) (run-bared nue past)
-    ∙ ap (λ (had : ℕ → Option ℕ). length_behind item rank reg (run_of nue past) had item.stmt) (fun_ext (λ r. length-bared nue past rank r))
+    ap (length_behind item rank reg (run_of nue (all_bared past)) (length_at nue (all_bared past) rank)) (effect-bare item.stmt)
+    ∙ ap (λ (run : SetupView). length_behind item rank reg run (length_at nue (all_bared past) rank) (effect_of item.stmt)) (run-bared nue past)
+    ∙ ap (λ (had : ℕ → Option ℕ). length_behind item rank reg (run_of nue past) had (effect_of item.stmt)) (fun_ext (λ r. length-bared nue past rank r))
 
 lengths-bared : (nue : ℕ) (past : List Item) (rank : ℕ) → length_at nue (all_bared past) rank ≡ length_at nue past rank
 lengths-bared nue past rank = fun_ext (λ reg. length-bared nue past rank reg)
@@ -125,55 +132,51 @@ operations-bared : (nue : ℕ) (past : List Item) (rank : ℕ) → operations nu
 operations-bared nue [] rank = refl
 operations-bared nue (item ∷ past) rank =
     ap (done_behind item rank (operations nue (all_bared past) rank) (open_of (all_bared past)))
-    (bare-same (λ s. cost_of (run_of nue (all_bared past)) s rank) (λ times end. refl) item.stmt ∙ ap (λ (run : SetupView). cost_of run item.stmt rank) (run-bared nue past))
-    ∙ ap (λ (repeats : List Open). done_behind item rank (operations nue (all_bared past) rank) repeats (cost_of (run_of nue past) item.stmt rank)) (open-bared past)
-    ∙ ap (λ (done : ℕ). done_behind item rank done (open_of past) (cost_of (run_of nue past) item.stmt rank)) (operations-bared nue past rank)
+    (ap (λ (e : Effect). cost_of (run_of nue (all_bared past)) e.cost rank) (effect-bare item.stmt) ∙ ap (λ (run : SetupView). cost_of run (effect_of item.stmt).cost rank) (run-bared nue past))
+    ∙ ap (λ (repeats : List Open). done_behind item rank (operations nue (all_bared past) rank) repeats (cost_of (run_of nue past) (effect_of item.stmt).cost rank)) (open-bared past)
+    ∙ ap (λ (done : ℕ). done_behind item rank done (open_of past) (cost_of (run_of nue past) (effect_of item.stmt).cost rank)) (operations-bared nue past rank)
 
 printed-bared : (nue : ℕ) (past : List Item) (rank : ℕ) → printed nue (all_bared past) rank ≡ printed nue past rank
 printed-bared nue [] rank = refl
 printed-bared nue (item ∷ past) rank =
     ap (done_behind item rank (printed nue (all_bared past) rank) (open_of (all_bared past)))
-    (bare-same (λ s. prints (length_at nue (all_bared past) rank) s) (λ times end. refl) item.stmt ∙ ap (λ (had : ℕ → Option ℕ). prints had item.stmt) (lengths-bared nue past rank))
-    ∙ ap (λ (repeats : List Open). done_behind item rank (printed nue (all_bared past) rank) repeats (prints (length_at nue past rank) item.stmt)) (open-bared past)
-    ∙ ap (λ (done : ℕ). done_behind item rank done (open_of past) (prints (length_at nue past rank) item.stmt)) (printed-bared nue past rank)
+    (ap (prints (length_at nue (all_bared past) rank)) (effect-bare item.stmt) ∙ ap (λ (had : ℕ → Option ℕ). prints had (effect_of item.stmt)) (lengths-bared nue past rank))
+    ∙ ap (λ (repeats : List Open). done_behind item rank (printed nue (all_bared past) rank) repeats (prints (length_at nue past rank) (effect_of item.stmt))) (open-bared past)
+    ∙ ap (λ (done : ℕ). done_behind item rank done (open_of past) (prints (length_at nue past rank) (effect_of item.stmt))) (printed-bared nue past rank)
 
-abbrev too_long : Stmt → ℕ → List Open → (ℕ → Option ℕ) → Bool
-too_long s done repeats had = posts_too_much had s || prints_too_much had done (turns_in repeats) s
+abbrev too_long : Effect → ℕ → List Open → (ℕ → Option ℕ) → Bool
+too_long e done repeats had = posts_too_much had e || prints_too_much had done (turns_in repeats) e
 
-refuses-bared : (check : RankCheck) (nue : ℕ) (past : List Item) (s : Stmt) (rank : ℕ) → refuses check nue (all_bared past) (bare s) rank ≡ refuses check nue past s rank
-refuses-bared check.RootRange nue past s rank =
-    bare-same (λ s. has_no_root (run_of nue (all_bared past)) s rank) (λ times end. refl) s
-    ∙ ap (λ (run : SetupView). has_no_root run s rank) (run-bared nue past)
-refuses-bared check.SelfMessage nue past s rank = bare-same (λ s. is_to_self nue s rank) (λ times end. refl) s
-refuses-bared check.NotSplit nue past s rank =
-    bare-same (λ s. is_not_split (has_split (all_bared past) rank) s) (λ times end. refl) s
-    ∙ ap (λ (split : ℕ → Bool). is_not_split split s) (fun_ext (λ comm. split-bared past rank comm))
-refuses-bared check.Unset nue past s rank =
-    bare-same (λ s. is_unset (run_of nue (all_bared past)) (length_at nue (all_bared past) rank) s rank) (λ times end. refl) s
-    ∙ ap (λ (run : SetupView). is_unset run (length_at nue (all_bared past) rank) s rank) (run-bared nue past)
-    ∙ ap (λ (had : ℕ → Option ℕ). is_unset (run_of nue past) had s rank) (lengths-bared nue past rank)
-refuses-bared check.Shape nue past s rank =
-    bare-same (λ s. is_misshapen (run_of nue (all_bared past)) (length_at nue (all_bared past) rank) s rank) (λ times end. refl) s
-    ∙ ap (λ (run : SetupView). is_misshapen run (length_at nue (all_bared past) rank) s rank) (run-bared nue past)
-    ∙ ap (λ (had : ℕ → Option ℕ). is_misshapen (run_of nue past) had s rank) (lengths-bared nue past rank)
-refuses-bared check.TooManyOps nue past s rank =
-    bare-same (λ s. is_overworked (run_of nue (all_bared past)) (operations nue (all_bared past) rank) (turns_in (open_of (all_bared past))) s rank) (λ times end. refl) s
-    ∙ ap (λ (run : SetupView). is_overworked run (operations nue (all_bared past) rank) (turns_in (open_of (all_bared past))) s rank) (run-bared nue past)
-    ∙ ap (λ (done : ℕ). is_overworked (run_of nue past) done (turns_in (open_of (all_bared past))) s rank) (operations-bared nue past rank)
-    ∙ ap (λ (repeats : List Open). is_overworked (run_of nue past) (operations nue past rank) (turns_in repeats) s rank) (open-bared past)
-refuses-bared check.TooLong nue past s rank =
-    bare-same (λ s. too_long s (printed nue (all_bared past) rank) (open_of (all_bared past)) (length_at nue (all_bared past) rank)) (λ times end. refl) s
-    ∙ ap (too_long s (printed nue (all_bared past) rank) (open_of (all_bared past))) (lengths-bared nue past rank)
-    ∙ ap (λ (repeats : List Open). too_long s (printed nue (all_bared past) rank) repeats (length_at nue past rank)) (open-bared past)
-    ∙ ap (λ (done : ℕ). too_long s done (open_of past) (length_at nue past rank)) (printed-bared nue past rank)
+refuses-past : (kind : FaultKind) (nue : ℕ) (past : List Item) (e : Effect) (rank : ℕ) → refuses kind nue (all_bared past) e rank ≡ refuses kind nue past e rank
+refuses-past kind.RankRange nue past e rank = ap (λ (run : SetupView). has_no_root run e rank) (run-bared nue past)
+refuses-past kind.SelfMessage nue past e rank = refl
+refuses-past kind.NotSplit nue past e rank = ap (λ (split : ℕ → Bool). is_not_split split e.group) (fun_ext (λ comm. split-bared past rank comm))
+refuses-past kind.Unset nue past e rank =
+    ap (λ (run : SetupView). is_unset run (length_at nue (all_bared past) rank) e rank) (run-bared nue past)
+    ∙ ap (λ (had : ℕ → Option ℕ). is_unset (run_of nue past) had e rank) (lengths-bared nue past rank)
+refuses-past kind.Shape nue past e rank =
+    ap (λ (run : SetupView). is_misshapen run (length_at nue (all_bared past) rank) e rank) (run-bared nue past)
+    ∙ ap (λ (had : ℕ → Option ℕ). is_misshapen (run_of nue past) had e rank) (lengths-bared nue past rank)
+refuses-past kind.TooManyOps nue past e rank =
+    ap (λ (run : SetupView). is_overworked run (operations nue (all_bared past) rank) (turns_in (open_of (all_bared past))) e.cost rank) (run-bared nue past)
+    ∙ ap (λ (done : ℕ). is_overworked (run_of nue past) done (turns_in (open_of (all_bared past))) e.cost rank) (operations-bared nue past rank)
+    ∙ ap (λ (repeats : List Open). is_overworked (run_of nue past) (operations nue past rank) (turns_in repeats) e.cost rank) (open-bared past)
+refuses-past kind.TooLong nue past e rank =
+    ap (too_long e (printed nue (all_bared past) rank) (open_of (all_bared past))) (lengths-bared nue past rank)
+    ∙ ap (λ (repeats : List Open). too_long e (printed nue (all_bared past) rank) repeats (length_at nue past rank)) (open-bared past)
+    ∙ ap (λ (done : ℕ). too_long e done (open_of past) (length_at nue past rank)) (printed-bared nue past rank)
+refuses-past _ nue past e rank = refl
+
+refuses-bared : (kind : FaultKind) (nue : ℕ) (past : List Item) (s : Stmt) (rank : ℕ) → refuses kind nue (all_bared past) (effect_of (bare s)) rank ≡ refuses kind nue past (effect_of s) rank
+refuses-bared kind nue past s rank = ap (λ (e : Effect). refuses kind nue (all_bared past) e rank) (effect-bare s) ∙ refuses-past kind nue past (effect_of s) rank
 
 passed-bare : (nue : ℕ) (past : List Item) → ArePassed nue past → ArePassed nue (all_bared past)
 passed-bare nue [] all = tt
-passed-bare nue (item ∷ past) all = (passed-bare nue past all.0, λ check rank below has. refuses-bared check nue past item.stmt rank ∙ all.1 check rank below has)
+passed-bare nue (item ∷ past) all = (passed-bare nue past all.0, λ kind rank below has. refuses-bared kind nue past item.stmt rank ∙ all.1 kind rank below has)
 
 passed-whole : (nue : ℕ) (past : List Item) → ArePassed nue (all_bared past) → ArePassed nue past
 passed-whole nue [] all = tt
-passed-whole nue (item ∷ past) all = (passed-whole nue past all.0, λ check rank below has. sym (refuses-bared check nue past item.stmt rank) ∙ all.1 check rank below has)
+passed-whole nue (item ∷ past) all = (passed-whole nue past all.0, λ kind rank below has. sym (refuses-bared kind nue past item.stmt rank) ∙ all.1 kind rank below has)
 
 -- what no check refuses, none refuses where the repeats are told their ends
 pub passed-with_ends : (nue n : ℕ) (items : List Item) → ArePassed nue (reverse items) → ArePassed nue (reverse (with_ends n items))
@@ -187,25 +190,28 @@ passed-with_ends nue n items passed =
 rules-back : (past : List Item) → rules_of (reverse (all_bared past)) ≡ rules_of (reverse past)
 rules-back past = ap rules_of (sym (bared-reverse past)) ∙ rules-bared (reverse past)
 
-needed-bare : (s : Stmt) → comm_needed (bare s) ≡ comm_needed s
-needed-bare s = bare-same comm_needed (λ times end. refl) s
+needed-bare : (s : Stmt) → comm_needed (effect_of (bare s)).group ≡ comm_needed (effect_of s).group
+needed-bare s = ap (λ (e : Effect). comm_needed e.group) (effect-bare s)
 
-deep-bare : (past : List Item) (s : Stmt) → is_too_deep (open_of (all_bared past)) (bare s) ≡ is_too_deep (open_of past) s
-deep-bare past s = bare-same (λ s. is_too_deep (open_of (all_bared past)) s) (λ times end. refl) s ∙ ap (λ (repeats : List Open). is_too_deep repeats s) (open-bared past)
+deep-bare : (past : List Item) (s : Stmt) → is_too_deep (open_of (all_bared past)) (effect_of (bare s)).nesting ≡ is_too_deep (open_of past) (effect_of s).nesting
+deep-bare past s =
+    ap (λ (e : Effect). is_too_deep (open_of (all_bared past)) e.nesting) (effect-bare s)
+    ∙ ap (λ (repeats : List Open). is_too_deep repeats (effect_of s).nesting) (open-bared past)
+
+abbrev IsSizedAs : Effect → Type 0
+IsSizedAs e = IfSome e.sets (λ set. IsSizedBy set.size)
 
 sized-bare : (s : Stmt) → IsSized s → IsSized (bare s)
-sized-bare (stmt.Repeat times end) sized = tt
-sized-bare s sized = sized
+sized-bare s sized = subst (λ (e : Effect). IsSizedAs e) (sym (effect-bare s)) sized
 
 sized-whole : (s : Stmt) → IsSized (bare s) → IsSized s
-sized-whole (stmt.Repeat times end) sized = tt
-sized-whole s sized = sized
+sized-whole s sized = subst (λ (e : Effect). IsSizedAs e) (effect-bare s) sized
 
 line-bare : (nue : ℕ) (past : List Item) (item : Item) → IsInLine nue past item → IsInLine nue (all_bared past) (bared item)
 line-bare nue past item l = record {
   rules = subst (λ (r : List CommRule). AreRules r) (sym (rules-back past)) l.rules;
   present = λ rank below has.
-      subst (λ (r : List CommRule). rule_of r (comm_needed (bare item.stmt)) ≡ rule.Absent → ⊥) (sym (rules-back past))
+      subst (λ (r : List CommRule). rule_of r (comm_needed (effect_of (bare item.stmt)).group) ≡ rule.Absent → ⊥) (sym (rules-back past))
       (subst (λ (c : ℕ). rule_of (rules_of (reverse past)) c ≡ rule.Absent → ⊥) (sym (needed-bare item.stmt)) (l.present rank below has));
   sized = sized-bare item.stmt l.sized;
   flat = deep-bare past item.stmt ∙ l.flat;
@@ -215,7 +221,7 @@ line-whole : (nue : ℕ) (past : List Item) (item : Item) → IsInLine nue (all_
 line-whole nue past item l = record {
   rules = subst (λ (r : List CommRule). AreRules r) (rules-back past) l.rules;
   present = λ rank below has.
-      subst (λ (r : List CommRule). rule_of r (comm_needed item.stmt) ≡ rule.Absent → ⊥) (rules-back past)
+      subst (λ (r : List CommRule). rule_of r (comm_needed (effect_of item.stmt).group) ≡ rule.Absent → ⊥) (rules-back past)
       (subst (λ (c : ℕ). rule_of (rules_of (reverse (all_bared past))) c ≡ rule.Absent → ⊥) (needed-bare item.stmt) (l.present rank below has));
   sized = sized-whole item.stmt l.sized;
   flat = sym (deep-bare past item.stmt) ∙ l.flat;
@@ -240,23 +246,21 @@ lines-with_ends nue n items lines =
 pub open-with_ends : (n : ℕ) (items : List Item) → open_of (reverse (with_ends n items)) ≡ open_of (reverse items)
 open-with_ends n items = sym (open-bared (reverse (with_ends n items))) ∙ ap open_of (sym (bared-reverse-ends n items)) ∙ open-bared (reverse items)
 
-closes-bare : (repeats : List Open) (s : Stmt) → Closes repeats s → Closes repeats (bare s)
-closes-bare repeats (stmt.Repeat times end) closes = tt
-closes-bare repeats s closes = closes
-
-closes-whole : (repeats : List Open) (s : Stmt) → Closes repeats (bare s) → Closes repeats s
-closes-whole repeats (stmt.Repeat times end) closes = tt
-closes-whole repeats s closes = closes
-
 matched-bare : (past : List Item) → AreMatched past → AreMatched (all_bared past)
 matched-bare [] matched = tt
-matched-bare (item ∷ past) matched =
-    (matched-bare past matched.0, subst (λ (repeats : List Open). Closes repeats (bare item.stmt)) (sym (open-bared past)) (closes-bare (open_of past) item.stmt matched.1))
+matched-bare (item ∷ past) matched = (
+  matched-bare past matched.0,
+  subst (λ (e : Effect). Closes (open_of (all_bared past)) e.nesting) (sym (effect-bare item.stmt))
+      (subst (λ (repeats : List Open). Closes repeats (effect_of item.stmt).nesting) (sym (open-bared past)) matched.1),
+)
 
 matched-whole : (past : List Item) → AreMatched (all_bared past) → AreMatched past
 matched-whole [] matched = tt
-matched-whole (item ∷ past) matched =
-    (matched-whole past matched.0, closes-whole (open_of past) item.stmt (subst (λ (repeats : List Open). Closes repeats (bare item.stmt)) (open-bared past) matched.1))
+matched-whole (item ∷ past) matched = (
+  matched-whole past matched.0,
+  subst (λ (repeats : List Open). Closes repeats (effect_of item.stmt).nesting) (open-bared past)
+      (subst (λ (e : Effect). Closes (open_of (all_bared past)) e.nesting) (effect-bare item.stmt) matched.1),
+)
 
 pub matched-with_ends : (n : ℕ) (items : List Item) → AreMatched (reverse items) → AreMatched (reverse (with_ends n items))
 matched-with_ends n items matched =
@@ -279,21 +283,13 @@ within-whole (item ∷ past) all = (within-whole past all.0, λ some. sym (lates
 pub within-with_ends : (n : ℕ) (items : List Item) → AreWithin (reverse items) → AreWithin (reverse (with_ends n items))
 within-with_ends n items all = within-whole (reverse (with_ends n items)) (subst (λ (past : List Item). AreWithin past) (bared-reverse-ends n items) (within-bare (reverse items) all))
 
-once-bare : (s : Stmt) → HasPass s → HasPass (bare s)
-once-bare (stmt.Repeat times end) once = once
-once-bare s once = once
+once-bare : (past : List Item) → HavePasses past → HavePasses (all_bared past)
+once-bare [] all = tt
+once-bare (item ∷ past) all = (once-bare past all.0, subst (λ (e : Effect). HasPass e.nesting) (sym (effect-bare item.stmt)) all.1)
 
-once-whole : (s : Stmt) → HasPass (bare s) → HasPass s
-once-whole (stmt.Repeat times end) once = once
-once-whole s once = once
-
-all-once-bare : (past : List Item) → HavePasses past → HavePasses (all_bared past)
-all-once-bare [] all = tt
-all-once-bare (item ∷ past) all = (all-once-bare past all.0, once-bare item.stmt all.1)
-
-all-once-whole : (past : List Item) → HavePasses (all_bared past) → HavePasses past
-all-once-whole [] all = tt
-all-once-whole (item ∷ past) all = (all-once-whole past all.0, once-whole item.stmt all.1)
+once-whole : (past : List Item) → HavePasses (all_bared past) → HavePasses past
+once-whole [] all = tt
+once-whole (item ∷ past) all = (once-whole past all.0, subst (λ (e : Effect). HasPass e.nesting) (effect-bare item.stmt) all.1)
 
 pub once-with_ends : (n : ℕ) (items : List Item) → HavePasses (reverse items) → HavePasses (reverse (with_ends n items))
-once-with_ends n items all = all-once-whole (reverse (with_ends n items)) (subst (λ (past : List Item). HavePasses past) (bared-reverse-ends n items) (all-once-bare (reverse items) all))
+once-with_ends n items all = once-whole (reverse (with_ends n items)) (subst (λ (past : List Item). HavePasses past) (bared-reverse-ends n items) (once-bare (reverse items) all))

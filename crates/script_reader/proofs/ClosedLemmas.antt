@@ -5,42 +5,58 @@ use Rattle.std.proofs.lemmas.Bool.Decides.{eqb_tells}
 use Rattle.std.proofs.lemmas.List.{append-nil, length-reverse, reverse-append, reverse-reverse}
 use Rattle.std.proofs.lemmas.Option.{slice_get-map, slice_get_within}
 use Rattle.std.specs.Option.{option_map, option_map_or}
+use Rattle.script_reader.specs.declared.effect.Nesting.{Nesting}
+use Rattle.script_reader.specs.declared.effect.Nesting.TheVariants as nesting
 use Rattle.script_reader.specs.declared.repeats.Open.{Open}
 use Rattle.script_reader.specs.declared.script.Item.{Item}
 use Rattle.script_reader.specs.declared.script.Stmt.{Stmt}
 use Rattle.script_reader.specs.declared.script.Stmt.TheVariants as stmt
 use Rattle.script_reader.specs.Checks.{innermost, open_of, opened, turns_in}
 use Rattle.script_reader.specs.Closed.{AreMatched, AreWithin, Closes, HavePasses, IsClosed, stmt_at}
+use Rattle.script_reader.specs.Effects.{effect_of}
 use Rattle.script_reader.specs.Ends.{ended, told, told_at, with_end, with_ends}
 use Rattle.script_reader.proofs.BareLemmas.{all_bared, bare, bared, bared-with_ends, matched-with_ends, once-with_ends, open-with_ends, within-with_ends}
 use Rattle.script_reader.proofs.EndLemmas.{length-with_ends}
 
 -- a statement that is no repeat and no end
 record IsOther (s : Stmt) : Type 0 where
-  opens : (place : ℕ) (repeats : List Open) → opened s place repeats ≡ repeats
-  tells : (items : List Item) (place : ℕ) → told items place s ≡ items
-  ends : (items : List Item) (start place : ℕ) (item : Item) → with_end items start place item s ≡ items
+  stays : (effect_of s).nesting ≡ nesting.Stays
   no_repeat : (times end : ℕ) → s ≡ stmt.Repeat times end → ⊥
   no_end : (start : ℕ) → s ≡ stmt.End start → ⊥
   same : bare s ≡ s
+
+opens_stays : (times : ℕ) → nesting.Opens times ≡ nesting.Stays → ⊥
+opens_stays times is = cc
+
+closes_stays : (start : ℕ) → nesting.Closes start ≡ nesting.Stays → ⊥
+closes_stays start is = cc
+
+-- what stays within the repeats is none of them
+other-of : (s : Stmt) → (effect_of s).nesting ≡ nesting.Stays → bare s ≡ s → IsOther s
+other-of s stays same = record {
+  stays = stays;
+  no_repeat = λ times end is. opens_stays times (sym (ap (λ (s : Stmt). (effect_of s).nesting) is) ∙ stays);
+  no_end = λ start is. closes_stays start (sym (ap (λ (s : Stmt). (effect_of s).nesting) is) ∙ stays);
+  same = same;
+}
 
 -- what is true of repeats, of ends and of the others
 sorted : (P : Stmt → Type 0) → ((times end : ℕ) → P (stmt.Repeat times end)) → ((start : ℕ) → P (stmt.End start)) → ((s : Stmt) → IsOther s → P s) → (s : Stmt) → P s
 sorted P repeats ends others (stmt.Repeat times end) = repeats times end
 sorted P repeats ends others (stmt.End start) = ends start
-sorted P repeats ends others (stmt.Bytes reg bytes) = others (stmt.Bytes reg bytes) (record { opens = λ place repeats. refl; tells = λ items place. refl; ends = λ items first place item. refl; no_repeat = λ times end is. cc; no_end = λ first is. cc; same = refl })
-sorted P repeats ends others (stmt.Fill reg len start) = others (stmt.Fill reg len start) (record { opens = λ place repeats. refl; tells = λ items place. refl; ends = λ items first place item. refl; no_repeat = λ times end is. cc; no_end = λ first is. cc; same = refl })
-sorted P repeats ends others (stmt.RankOf reg ty) = others (stmt.RankOf reg ty) (record { opens = λ place repeats. refl; tells = λ items place. refl; ends = λ items first place item. refl; no_repeat = λ times end is. cc; no_end = λ first is. cc; same = refl })
-sorted P repeats ends others (stmt.Apply op ty dst src) = others (stmt.Apply op ty dst src) (record { opens = λ place repeats. refl; tells = λ items place. refl; ends = λ items first place item. refl; no_repeat = λ times end is. cc; no_end = λ first is. cc; same = refl })
-sorted P repeats ends others (stmt.Send peer reg) = others (stmt.Send peer reg) (record { opens = λ place repeats. refl; tells = λ items place. refl; ends = λ items first place item. refl; no_repeat = λ times end is. cc; no_end = λ first is. cc; same = refl })
-sorted P repeats ends others (stmt.Post peer reg) = others (stmt.Post peer reg) (record { opens = λ place repeats. refl; tells = λ items place. refl; ends = λ items first place item. refl; no_repeat = λ times end is. cc; no_end = λ first is. cc; same = refl })
-sorted P repeats ends others (stmt.Recv peer reg len) = others (stmt.Recv peer reg len) (record { opens = λ place repeats. refl; tells = λ items place. refl; ends = λ items first place item. refl; no_repeat = λ times end is. cc; no_end = λ first is. cc; same = refl })
-sorted P repeats ends others (stmt.Print reg form) = others (stmt.Print reg form) (record { opens = λ place repeats. refl; tells = λ items place. refl; ends = λ items first place item. refl; no_repeat = λ times end is. cc; no_end = λ first is. cc; same = refl })
-sorted P repeats ends others (stmt.Barrier comm) = others (stmt.Barrier comm) (record { opens = λ place repeats. refl; tells = λ items place. refl; ends = λ items first place item. refl; no_repeat = λ times end is. cc; no_end = λ first is. cc; same = refl })
-sorted P repeats ends others (stmt.Split comm by) = others (stmt.Split comm by) (record { opens = λ place repeats. refl; tells = λ items place. refl; ends = λ items first place item. refl; no_repeat = λ times end is. cc; no_end = λ first is. cc; same = refl })
-sorted P repeats ends others (stmt.Bcast comm root reg len) = others (stmt.Bcast comm root reg len) (record { opens = λ place repeats. refl; tells = λ items place. refl; ends = λ items first place item. refl; no_repeat = λ times end is. cc; no_end = λ first is. cc; same = refl })
-sorted P repeats ends others (stmt.Reduce comm root op ty dst src) = others (stmt.Reduce comm root op ty dst src) (record { opens = λ place repeats. refl; tells = λ items place. refl; ends = λ items first place item. refl; no_repeat = λ times end is. cc; no_end = λ first is. cc; same = refl })
-sorted P repeats ends others (stmt.Allreduce comm op ty dst src) = others (stmt.Allreduce comm op ty dst src) (record { opens = λ place repeats. refl; tells = λ items place. refl; ends = λ items first place item. refl; no_repeat = λ times end is. cc; no_end = λ first is. cc; same = refl })
+sorted P repeats ends others (stmt.Bytes reg bytes) = others (stmt.Bytes reg bytes) (other-of (stmt.Bytes reg bytes) refl refl)
+sorted P repeats ends others (stmt.Fill reg len start) = others (stmt.Fill reg len start) (other-of (stmt.Fill reg len start) refl refl)
+sorted P repeats ends others (stmt.RankOf reg ty) = others (stmt.RankOf reg ty) (other-of (stmt.RankOf reg ty) refl refl)
+sorted P repeats ends others (stmt.Apply op ty dst src) = others (stmt.Apply op ty dst src) (other-of (stmt.Apply op ty dst src) refl refl)
+sorted P repeats ends others (stmt.Send peer reg) = others (stmt.Send peer reg) (other-of (stmt.Send peer reg) refl refl)
+sorted P repeats ends others (stmt.Post peer reg) = others (stmt.Post peer reg) (other-of (stmt.Post peer reg) refl refl)
+sorted P repeats ends others (stmt.Recv peer reg len) = others (stmt.Recv peer reg len) (other-of (stmt.Recv peer reg len) refl refl)
+sorted P repeats ends others (stmt.Print reg form) = others (stmt.Print reg form) (other-of (stmt.Print reg form) refl refl)
+sorted P repeats ends others (stmt.Barrier comm) = others (stmt.Barrier comm) (other-of (stmt.Barrier comm) refl refl)
+sorted P repeats ends others (stmt.Split comm by) = others (stmt.Split comm by) (other-of (stmt.Split comm by) refl refl)
+sorted P repeats ends others (stmt.Bcast comm root reg len) = others (stmt.Bcast comm root reg len) (other-of (stmt.Bcast comm root reg len) refl refl)
+sorted P repeats ends others (stmt.Reduce comm root op ty dst src) = others (stmt.Reduce comm root op ty dst src) (other-of (stmt.Reduce comm root op ty dst src) refl refl)
+sorted P repeats ends others (stmt.Allreduce comm op ty dst src) = others (stmt.Allreduce comm op ty dst src) (other-of (stmt.Allreduce comm op ty dst src) refl refl)
 
 -- the statement at a place that is set, and at another one
 set_here : (items : List Item) (place : ℕ) (item new : Item) → slice_get items place ≡ Some item → stmt_at (slice_set items place new) place ≡ Some new.stmt
@@ -100,18 +116,18 @@ other_repeat items list place s times end same other here is =
     other.no_repeat times 0 (sym other.same ∙ alike)
 
 -- what an end tells, and that no other statement tells anything
-none_in : (items : List Item) (place : ℕ) (o : Option Item) → ((start : ℕ) → option_map (λ item. item.stmt) o ≡ Some (stmt.End start) → ⊥) → option_map_or (λ item. told items place item.stmt) o items ≡ items
+none_in : (items : List Item) (place : ℕ) (o : Option Item) → ((start : ℕ) → option_map (λ item. item.stmt) o ≡ Some (stmt.End start) → ⊥) → option_map_or (λ item. told items place (effect_of item.stmt).nesting) o items ≡ items
 none_in items place None none = refl
 none_in items place (Some item) none =
-    sorted (λ s. ((start : ℕ) → Some s ≡ Some (stmt.End start) → ⊥) → told items place s ≡ items)
-    (λ times end no. refl) (λ start no. absurd (no start refl)) (λ s other no. other.tells items place) item.stmt none
+    sorted (λ s. ((start : ℕ) → Some s ≡ Some (stmt.End start) → ⊥) → told items place (effect_of s).nesting ≡ items)
+    (λ times end no. refl) (λ start no. absurd (no start refl)) (λ s other no. ap (told items place) other.stays) item.stmt none
 
 tells_none : (items : List Item) (place : ℕ) → ((start : ℕ) → stmt_at items place ≡ Some (stmt.End start) → ⊥) → told_at items place ≡ items
 tells_none items place none = none_in items place (slice_get items place) none
 
-tells_in : (items : List Item) (place start : ℕ) (o : Option Item) → option_map (λ item. item.stmt) o ≡ Some (stmt.End start) → option_map_or (λ item. told items place item.stmt) o items ≡ ended items start place
+tells_in : (items : List Item) (place start : ℕ) (o : Option Item) → option_map (λ item. item.stmt) o ≡ Some (stmt.End start) → option_map_or (λ item. told items place (effect_of item.stmt).nesting) o items ≡ ended items start place
 tells_in items place start None is = absurd cc
-tells_in items place start (Some item) is = let same : item.stmt ≡ stmt.End start = cc in ap (told items place) same
+tells_in items place start (Some item) is = let same : item.stmt ≡ stmt.End start = cc in ap (λ (s : Stmt). told items place (effect_of s).nesting) same
 
 tells_end : (items : List Item) (place start : ℕ) → stmt_at items place ≡ Some (stmt.End start) → told_at items place ≡ ended items start place
 tells_end items place start is = tells_in items place start (slice_get items place) is
@@ -149,16 +165,16 @@ told_repeat items start told place times end item new turns found is at =
     ]
 
 told_in : (items : List Item) (start told place times end : ℕ) (item : Item) (s : Stmt) → slice_get items start ≡ Some item → item.stmt ≡ s
-    → stmt_at (with_end items start told item s) place ≡ Some (stmt.Repeat times end) → AfterEnd items start told place times end
+    → stmt_at (with_end items start told item (effect_of s).nesting) place ≡ Some (stmt.Repeat times end) → AfterEnd items start told place times end
 told_in items start told place times end item s found is at =
-    sorted (λ t. item.stmt ≡ t → stmt_at (with_end items start told item t) place ≡ Some (stmt.Repeat times end) → AfterEnd items start told place times end)
+    sorted (λ t. item.stmt ≡ t → stmt_at (with_end items start told item (effect_of t).nesting) place ≡ Some (stmt.Repeat times end) → AfterEnd items start told place times end)
     (λ turns old same there. told_repeat items start told place times end item (record item { stmt = stmt.Repeat turns told }) turns found refl there)
     (λ first same there.
     as_before items start told place times end (λ turns old repeat. clash (stmt_at items start) turns old first repeat (holds items start item (stmt.End first) found same)) there)
     (λ t other same there.
     as_before items start told place times end
     (λ turns old repeat. other.no_repeat turns old (some_same t (stmt.Repeat turns old) (sym (holds items start item t found same) ∙ repeat)))
-    (sym (ap (λ (list : List Item). stmt_at list place) (other.ends items start told item)) ∙ there))
+    (sym (ap (λ (n : Nesting). stmt_at (with_end items start told item n) place) other.stays) ∙ there))
     s is at
 
 nothing : (o : Option Item) (turns old : ℕ) → o ≡ None → option_map (λ item. item.stmt) o ≡ Some (stmt.Repeat turns old) → ⊥
@@ -166,7 +182,7 @@ nothing None turns old found is = cc
 nothing (Some item) turns old found is = cc
 
 ended_in : (items : List Item) (start told place times end : ℕ) (o : Option Item) → slice_get items start ≡ o
-    → stmt_at (option_map_or (λ item. with_end items start told item item.stmt) o items) place ≡ Some (stmt.Repeat times end) → AfterEnd items start told place times end
+    → stmt_at (option_map_or (λ item. with_end items start told item (effect_of item.stmt).nesting) o items) place ≡ Some (stmt.Repeat times end) → AfterEnd items start told place times end
 ended_in items start told place times end None found at = as_before items start told place times end (λ turns old repeat. nothing (slice_get items start) turns old found repeat) at
 ended_in items start told place times end (Some item) found at = told_in items start told place times end item item.stmt found refl at
 
@@ -216,24 +232,24 @@ abbrev AreTold : List Item → ℕ → List Open → List Item → Type 0
 AreTold items n repeats list = (place times end : ℕ) → place < n → stmt_at list place ≡ Some (stmt.Repeat times end) → IsOpen place repeats ⊎ IsTold items place end
 
 step_repeat : (items list : List Item) (n : ℕ) (repeats : List Open) (turns old : ℕ) → all_bared list ≡ all_bared items → AreTold items n repeats list → stmt_at items n ≡ Some (stmt.Repeat turns old)
-    → AreTold items (suc n) (opened (stmt.Repeat turns old) n repeats) (told_at list n)
+    → AreTold items (suc n) (opened (nesting.Opens turns) n repeats) (told_at list n)
 step_repeat items list n repeats turns old same before here =
-    subst (λ (l : List Item). AreTold items (suc n) (opened (stmt.Repeat turns old) n repeats) l)
+    subst (λ (l : List Item). AreTold items (suc n) (opened (nesting.Opens turns) n repeats) l)
     (sym (tells_none list n (λ start is. clash (stmt_at items n) turns old start here (end_stays list items n start same is))))
     (λ place times end below is.
     elim (cases_lt place n) [
       | inl less ↦ elim (before place times end less is) [ inl stays ↦ inl (open-push place (record { start = n; turns = turns_in repeats * turns }) repeats stays) | inr told ↦ inr told ]
       | inr past ↦
           let last : place ≡ n = omega (arith, below, past) in
-          inl (subst (λ (k : ℕ). IsOpen k (opened (stmt.Repeat turns old) n repeats)) (sym last) (open-last (record { start = n; turns = turns_in repeats * turns }) repeats))
+          inl (subst (λ (k : ℕ). IsOpen k (opened (nesting.Opens turns) n repeats)) (sym last) (open-last (record { start = n; turns = turns_in repeats * turns }) repeats))
     ])
 
 step_other : (items list : List Item) (n : ℕ) (repeats : List Open) (s : Stmt) → IsOther s → all_bared list ≡ all_bared items → AreTold items n repeats list → stmt_at items n ≡ Some s
-    → AreTold items (suc n) (opened s n repeats) (told_at list n)
+    → AreTold items (suc n) (opened (effect_of s).nesting n repeats) (told_at list n)
 step_other items list n repeats s other same before here =
-    subst (λ (l : List Item). AreTold items (suc n) (opened s n repeats) l)
+    subst (λ (l : List Item). AreTold items (suc n) (opened (effect_of s).nesting n repeats) l)
     (sym (tells_none list n (λ start is. other_end (stmt_at items n) s start other here (end_stays list items n start same is))))
-    (subst (λ (r : List Open). AreTold items (suc n) r list) (sym (other.opens n repeats))
+    (subst (λ (r : List Open). AreTold items (suc n) r list) (sym (ap (λ (m : Nesting). opened m n repeats) other.stays))
     (λ place times end below is.
     elim (cases_lt place n) [
       | inl less ↦ before place times end less is
@@ -243,7 +259,7 @@ step_other items list n repeats s other same before here =
     ]))
 
 step_end : (items list : List Item) (n : ℕ) (repeats : List Open) (start : ℕ) → all_bared list ≡ all_bared items → all_bared (told_at list n) ≡ all_bared items → AreTold items n repeats list
-    → stmt_at items n ≡ Some (stmt.End start) → start ≡ innermost repeats → AreTold items (suc n) (opened (stmt.End start) n repeats) (told_at list n)
+    → stmt_at items n ≡ Some (stmt.End start) → start ≡ innermost repeats → AreTold items (suc n) (opened (nesting.Closes start) n repeats) (told_at list n)
 step_end items list n repeats start same after before here names =
     λ place times end below is.
     elim (cases_lt place n) [
@@ -266,7 +282,7 @@ told-with_ends (item ∷ past) rest items is matched =
     let n = length past in
     let before = told-with_ends past (item ∷ rest) items seam matched.0 in
     sorted
-    (λ s. stmt_at items n ≡ Some s → Closes (open_of past) s → AreTold items (suc n) (opened s n (open_of past)) (told_at (with_ends n items) n))
+    (λ s. stmt_at items n ≡ Some s → Closes (open_of past) (effect_of s).nesting → AreTold items (suc n) (opened (effect_of s).nesting n (open_of past)) (told_at (with_ends n items) n))
     (λ times end here closes. step_repeat items (with_ends n items) n (open_of past) times end (bared-with_ends n items) before here)
     (λ start here closes. step_end items (with_ends n items) n (open_of past) start (bared-with_ends n items) (bared-with_ends (suc n) items) before here closes.1)
     (λ s other here closes. step_other items (with_ends n items) n (open_of past) s other (bared-with_ends n items) before here)

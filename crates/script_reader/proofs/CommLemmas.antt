@@ -1,11 +1,13 @@
 -- No statement of a script that was read names a communicator past the last one of its version.
-use Rattle.std.proofs.Common.{◌≡◌, ◌≤◌, ℕ, Bool, true, false, cond, List, [], ◌∷◌, All, Some, Option, Result, Ok, Err, length, refl, arith, subst}
+use Rattle.std.proofs.Common.{◌≡◌, ◌≤◌, ℕ, Bool, true, false, List, [], ◌∷◌, All, Some, None, Option, Result, Ok, Err, length, refl, arith, subst}
 use Rattle.std.proofs.lemmas.Bool.{ltb-false}
 use Rattle.std.proofs.lemmas.List.Elements.{All-append, All-cons, All-nil}
-use Rattle.std.specs.Option.{option_map_or}
+use Rattle.std.specs.Option.{ok_or, option_map_or}
 use Rattle.std.specs.Prelude.{◌+◌, ◌==◌, ◌||◌, IfOk, nat_lt}
 use Rattle.scc_base.specs.Setups.{SetupView}
-use Rattle.script_reader.specs.declared.checks.RankCheck.TheVariants as check
+use Rattle.script_reader.specs.declared.effect.Effect.{Effect}
+use Rattle.script_reader.specs.declared.effect.Group.{Group}
+use Rattle.script_reader.specs.declared.effect.Group.TheVariants as comms
 use Rattle.script_reader.specs.declared.fault.FaultKind.{FaultKind}
 use Rattle.script_reader.specs.declared.fault.FaultKind.TheVariants as kind
 use Rattle.script_reader.specs.declared.said.Collective.{Collective}
@@ -25,13 +27,15 @@ use Rattle.script_reader.specs.declared.script.Who.{Who}
 use Rattle.script_reader.specs.declared.script.Who.TheVariants as who
 use Rattle.script_reader.specs.declared.version.Version.{Version}
 use Rattle.script_reader.specs.Checks.{innermost, is_badly_split, is_unknown, last_comm, open_of, run_of}
+use Rattle.script_reader.specs.Effects.{comm_named, effect_of}
 use Rattle.script_reader.specs.Faults.{◌>>=◌}
-use Rattle.script_reader.specs.Progress.{Progress, after, after_group, after_local, after_message, after_section, checked, checked_in, is_refused, named, open_section, past, peer_in, place, rank_said, register_of, rule_said, small, start}
+use Rattle.script_reader.specs.Progress.{Progress, after, after_group, after_local, after_message, after_section, checked, first_fault, named, open_section, past, peer_in, place, rank_said, register_of, rule_said, small, start}
 use Rattle.script_reader.specs.Reading.{at_end, at_line, begun, most_script_bytes, read_all_lines, read_as, read_file, read_line, read_lines, read_words, script_of, version_of}
 use Rattle.script_reader.specs.Said.{said_of}
-use Rattle.script_reader.specs.Settled.{NamesCommsTo, comm_named}
+use Rattle.script_reader.specs.Settled.{NamesCommsTo}
 use Rattle.script_reader.specs.Words.{is_text, line_count, lines_of, words_of}
 use Rattle.script_reader.proofs.EndLemmas.{comms-with_ends}
+use Rattle.script_reader.proofs.FaultLemmas.{no-fault}
 use Rattle.script_reader.proofs.VersionLemmas.{behind, either, then}
 
 -- a communicator that is known is none past the last one
@@ -39,50 +43,37 @@ low-split : (a b : Bool) → (a || b) ≡ false → a ≡ false
 low-split true b is = absurd (cc)
 low-split false b is = refl
 
-known-low : (v : Version) (run : SetupView) (s : Stmt) → is_unknown v run s ≡ false → comm_named s ≤ last_comm v
-known-low v run (stmt.Barrier comm) is = ltb-false (last_comm v) comm is
-known-low v run (stmt.Split comm rule) is = ltb-false (last_comm v) comm (low-split (nat_lt (last_comm v) comm) (is_badly_split run comm rule) is)
-known-low v run (stmt.Bcast comm root reg len) is = ltb-false (last_comm v) comm is
-known-low v run (stmt.Reduce comm root op ty dst src) is = ltb-false (last_comm v) comm is
-known-low v run (stmt.Allreduce comm op ty dst src) is = ltb-false (last_comm v) comm is
-known-low v run (stmt.Bytes reg bytes) is = omega arith
-known-low v run (stmt.Fill reg len start) is = omega arith
-known-low v run (stmt.RankOf reg ty) is = omega arith
-known-low v run (stmt.Apply op ty dst src) is = omega arith
-known-low v run (stmt.Send peer reg) is = omega arith
-known-low v run (stmt.Post peer reg) is = omega arith
-known-low v run (stmt.Recv peer reg len) is = omega arith
-known-low v run (stmt.Print reg form) is = omega arith
-known-low v run (stmt.Repeat times end) is = omega arith
-known-low v run (stmt.End start) is = omega arith
+known-low : (v : Version) (run : SetupView) (g : Group) → is_unknown v run g ≡ false → comm_named g ≤ last_comm v
+known-low v run comms.World is = omega arith
+known-low v run (comms.Of comm) is = ltb-false (last_comm v) comm is
+known-low v run (comms.Split comm rule) is = ltb-false (last_comm v) comm (low-split (nat_lt (last_comm v) comm) (is_badly_split run comm rule) is)
 
--- what a check refuses is not placed
-refused : (P : Progress → Type 0) (a b c : Bool) (rest : Option FaultKind) (x : Result Who FaultKind) (next : Who → Result Progress FaultKind) → c ≡ true
-    → IfOk (option_map_or Err (cond a (Some kind.RankRange) (cond b (Some kind.SelfMessage) (cond c (Some kind.UnknownComm) rest))) x >>= next) P
-refused P true b c rest x next is = tt
-refused P false true c rest x next is = tt
-refused P false false true rest x next is = tt
-refused P false false false rest x next is = absurd (cc)
+-- what has a fault is not placed
+placed-well : (P : Progress → Type 0) (p : Progress) (e : Effect) (next : Who → Result Progress FaultKind)
+    → (first_fault p e ≡ None → (who : Who) → IfOk (next who) P) → IfOk (checked p e >>= next) P
+placed-well P p e next each = by (first_fault p e) refl (ok_or p.section kind.NoSection)
+  where
+    by : (fault : Option FaultKind) → first_fault p e ≡ fault → (section : Result Who FaultKind) → IfOk (option_map_or Err fault section >>= next) P
+    by (Some fault) is section = tt
+    by None is (Err fault) = tt
+    by None is (Ok who) = each is who
 
 module _ (v : Version) where
   -- an item names no communicator past the last one of the version
   abbrev IsLowItem : Item → Type 0
-  IsLowItem item = comm_named item.stmt ≤ last_comm v
+  IsLowItem item = comm_named (effect_of item.stmt).group ≤ last_comm v
 
   -- the lines so far are of this version, and name no communicator past its last one
   abbrev IsLow : Progress → Type 0
   IsLow p = (p.version ≡ v) × All IsLowItem p.items
 
   place-low : (line : ℕ) (p : Progress) (s : Stmt) → IsLow p → IfOk (place line p s) IsLow
-  place-low line p s low = by (is_unknown p.version (run_of p.nue (past p)) s) refl
-    where
-      by : (b : Bool) → is_unknown p.version (run_of p.nue (past p)) s ≡ b → IfOk (place line p s) IsLow
-      by true is = refused IsLow (is_refused check.RootRange p s) (is_refused check.SelfMessage p s) (is_unknown p.version (run_of p.nue (past p)) s) _ (checked_in p s p.section) _ is
-      by false is =
-          let here : comm_named s ≤ last_comm v = subst (λ (w : Version). comm_named s ≤ last_comm w) low.0 (known-low p.version (run_of p.nue (past p)) s is) in
-          then IsLow (checked p s) _ (λ who.
-          let item : Item = record { line = line; who = who; stmt = s } in
-          (low.0, All-append IsLowItem p.items (item ∷ []) low.1 (All-cons IsLowItem item [] here (All-nil IsLowItem))))
+  place-low line p s low =
+      placed-well IsLow p (effect_of s) _ (λ none who.
+      let known = known-low p.version (run_of p.nue (past p)) (effect_of s).group (no-fault p (effect_of s) none).unknown in
+      let item : Item = record { line = line; who = who; stmt = s } in
+      let here : comm_named (effect_of s).group ≤ last_comm v = subst (λ (w : Version). comm_named (effect_of s).group ≤ last_comm w) low.0 known in
+      (low.0, All-append IsLowItem p.items (item ∷ []) low.1 (All-cons IsLowItem item [] here (All-nil IsLowItem))))
 
   open-low : (p : Progress) (ranks : Who) → IsLow p → IfOk (open_section p ranks) IsLow
   open-low p ranks low = either IsLow (length (open_of (past p)) == 0) (Ok (record p { section = Some ranks })) (Err kind.UnclosedRepeat) low tt

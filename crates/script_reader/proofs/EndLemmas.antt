@@ -7,74 +7,71 @@ use Rattle.std.specs.List.{range_with_len}
 use Rattle.std.specs.Option.{option_map_or}
 use Rattle.scc_base.specs.declared.communicators.CommRule.{CommRule}
 use Rattle.scc_base.specs.declared.communicators.CommRule.TheVariants as rule
+use Rattle.script_reader.specs.declared.effect.Nesting.{Nesting}
+use Rattle.script_reader.specs.declared.effect.Nesting.TheVariants as nesting
 use Rattle.script_reader.specs.declared.script.Item.{Item}
 use Rattle.script_reader.specs.declared.script.Stmt.{Stmt}
 use Rattle.script_reader.specs.declared.script.Stmt.TheVariants as stmt
 use Rattle.script_reader.specs.Ends.{told, with_end, with_ends}
-use Rattle.script_reader.specs.Script.{IsSized, first_split, or_rule, rules_of, split_rule}
-use Rattle.script_reader.specs.Settled.{IsNamed, comm_named}
+use Rattle.script_reader.specs.Effects.{comm_named, effect_of, split_rule}
+use Rattle.script_reader.specs.Script.{IsSized, first_split, or_rule, rules_of}
+use Rattle.script_reader.specs.Settled.{IsNamed}
 
 -- what a list has, whatever its repeats say of their ends
 pub record IsKeptBy (P : List Item → Type 0) : Type 0 where
   pub keeps : (items : List Item) (start place : ℕ) (item : Item) (times end : ℕ) → slice_get items start ≡ Some item → item.stmt ≡ stmt.Repeat times end → P items → P (slice_set items start (record item { stmt = stmt.Repeat times place }))
 
-with_end-keeps : (P : List Item → Type 0) → IsKeptBy P → (items : List Item) (start place : ℕ) (item : Item) (s : Stmt) → item.stmt ≡ s → slice_get items start ≡ Some item → P items → P (with_end items start place item s)
-with_end-keeps P k items start place item (stmt.Repeat times end) is found p = k.keeps items start place item times end found is p
-with_end-keeps P k items start place item (stmt.Bytes reg bytes) is found p = p
-with_end-keeps P k items start place item (stmt.Fill reg len start0) is found p = p
-with_end-keeps P k items start place item (stmt.RankOf reg ty) is found p = p
-with_end-keeps P k items start place item (stmt.Apply op ty dst src) is found p = p
-with_end-keeps P k items start place item (stmt.Send peer reg) is found p = p
-with_end-keeps P k items start place item (stmt.Post peer reg) is found p = p
-with_end-keeps P k items start place item (stmt.Recv peer reg len) is found p = p
-with_end-keeps P k items start place item (stmt.Print reg form) is found p = p
-with_end-keeps P k items start place item (stmt.Barrier comm) is found p = p
-with_end-keeps P k items start place item (stmt.Split comm by) is found p = p
-with_end-keeps P k items start place item (stmt.Bcast comm root reg len) is found p = p
-with_end-keeps P k items start place item (stmt.Reduce comm root op ty dst src) is found p = p
-with_end-keeps P k items start place item (stmt.Allreduce comm op ty dst src) is found p = p
-with_end-keeps P k items start place item (stmt.End first) is found p = p
+opens_same : (a b : ℕ) → nesting.Opens a ≡ nesting.Opens b → a ≡ b
+opens_same a b is = cc
 
-ended-keeps : (P : List Item → Type 0) → IsKeptBy P → (items : List Item) (start place : ℕ) (o : Option Item) → slice_get items start ≡ o → P items → P (option_map_or (λ item. with_end items start place item item.stmt) o items)
+closes_opens : (start times : ℕ) → nesting.Closes start ≡ nesting.Opens times → ⊥
+closes_opens start times is = cc
+
+stays_opens : (times : ℕ) → nesting.Stays ≡ nesting.Opens times → ⊥
+stays_opens times is = cc
+
+-- what opens a repeat is one
+repeat-of : (s : Stmt) (times : ℕ) → (effect_of s).nesting ≡ nesting.Opens times → (end : ℕ) × (s ≡ stmt.Repeat times end)
+repeat-of (stmt.Repeat turns end) times is = (end, ap (λ (n : ℕ). stmt.Repeat n end) (opens_same turns times is))
+repeat-of (stmt.End start) times is = absurd (closes_opens start times is)
+repeat-of _ times is = absurd (stays_opens times is)
+
+with_end-keeps : (P : List Item → Type 0) → IsKeptBy P → (items : List Item) (start place : ℕ) (item : Item) (n : Nesting) → (effect_of item.stmt).nesting ≡ n → slice_get items start ≡ Some item → P items → P (with_end items start place item n)
+with_end-keeps P k items start place item (nesting.Opens times) is found p =
+    let repeat = repeat-of item.stmt times is in
+    k.keeps items start place item times repeat.0 found repeat.1 p
+with_end-keeps P k items start place item (nesting.Closes other) is found p = p
+with_end-keeps P k items start place item nesting.Stays is found p = p
+
+ended-keeps : (P : List Item → Type 0) → IsKeptBy P → (items : List Item) (start place : ℕ) (o : Option Item) → slice_get items start ≡ o → P items
+    → P (option_map_or (λ item. with_end items start place item (effect_of item.stmt).nesting) o items)
 ended-keeps P k items start place None found p = p
-ended-keeps P k items start place (Some item) found p = with_end-keeps P k items start place item item.stmt refl found p
+ended-keeps P k items start place (Some item) found p = with_end-keeps P k items start place item (effect_of item.stmt).nesting refl found p
 
-told-keeps : (P : List Item → Type 0) → IsKeptBy P → (items : List Item) (place : ℕ) (s : Stmt) → P items → P (told items place s)
-told-keeps P k items place (stmt.End start) p = ended-keeps P k items start place (slice_get items start) refl p
-told-keeps P k items place (stmt.Bytes reg bytes) p = p
-told-keeps P k items place (stmt.Fill reg len start) p = p
-told-keeps P k items place (stmt.RankOf reg ty) p = p
-told-keeps P k items place (stmt.Apply op ty dst src) p = p
-told-keeps P k items place (stmt.Send peer reg) p = p
-told-keeps P k items place (stmt.Post peer reg) p = p
-told-keeps P k items place (stmt.Recv peer reg len) p = p
-told-keeps P k items place (stmt.Print reg form) p = p
-told-keeps P k items place (stmt.Barrier comm) p = p
-told-keeps P k items place (stmt.Split comm by) p = p
-told-keeps P k items place (stmt.Bcast comm root reg len) p = p
-told-keeps P k items place (stmt.Reduce comm root op ty dst src) p = p
-told-keeps P k items place (stmt.Allreduce comm op ty dst src) p = p
-told-keeps P k items place (stmt.Repeat times end) p = p
+told-keeps : (P : List Item → Type 0) → IsKeptBy P → (items : List Item) (place : ℕ) (n : Nesting) → P items → P (told items place n)
+told-keeps P k items place (nesting.Opens times) p = p
+told-keeps P k items place (nesting.Closes start) p = ended-keeps P k items start place (slice_get items start) refl p
+told-keeps P k items place nesting.Stays p = p
 
-told_at-keeps : (P : List Item → Type 0) → IsKeptBy P → (items : List Item) (place : ℕ) (o : Option Item) → P items → P (option_map_or (λ item. told items place item.stmt) o items)
+told_at-keeps : (P : List Item → Type 0) → IsKeptBy P → (items : List Item) (place : ℕ) (o : Option Item) → P items → P (option_map_or (λ item. told items place (effect_of item.stmt).nesting) o items)
 told_at-keeps P k items place None p = p
-told_at-keeps P k items place (Some item) p = told-keeps P k items place item.stmt p
+told_at-keeps P k items place (Some item) p = told-keeps P k items place (effect_of item.stmt).nesting p
 
 pub with_ends-keeps : (P : List Item → Type 0) → IsKeptBy P → (n : ℕ) (items : List Item) → P items → P (with_ends n items)
 with_ends-keeps P k zero items p = p
 with_ends-keeps P k (suc n) items p = told_at-keeps P k (with_ends n items) n (slice_get (with_ends n items) n) (with_ends-keeps P k n items p)
 
 -- the first split of a communicator stays
-split-of : (c : ℕ) (first item : Item) (items : List Item) (times end place : ℕ) → Some first ≡ Some item → item.stmt ≡ stmt.Repeat times end → or_rule (split_rule first.stmt c) (first_split items c) ≡ first_split items c
+split-of : (c : ℕ) (first item : Item) (items : List Item) (times end place : ℕ) → Some first ≡ Some item → item.stmt ≡ stmt.Repeat times end → or_rule (split_rule (effect_of first.stmt).group c) (first_split items c) ≡ first_split items c
 split-of c first item items times end place found is =
     let same : first ≡ item = cc in
-    ap (λ (s : Stmt). or_rule (split_rule s c) (first_split items c)) (ap (λ (i : Item). i.stmt) same ∙ is)
+    ap (λ (s : Stmt). or_rule (split_rule (effect_of s).group c) (first_split items c)) (ap (λ (i : Item). i.stmt) same ∙ is)
 
 split-stays : (c : ℕ) (items : List Item) (start place : ℕ) (item : Item) (times end : ℕ) → slice_get items start ≡ Some item → item.stmt ≡ stmt.Repeat times end
     → first_split (slice_set items start (record item { stmt = stmt.Repeat times place })) c ≡ first_split items c
 split-stays c [] start place item times end found is = refl
 split-stays c (first ∷ items) zero place item times end found is = sym (split-of c first item items times end place found is)
-split-stays c (first ∷ items) (suc start) place item times end found is = ap (or_rule (split_rule first.stmt c)) (split-stays c items start place item times end found is)
+split-stays c (first ∷ items) (suc start) place item times end found is = ap (or_rule (split_rule (effect_of first.stmt).group c)) (split-stays c items start place item times end found is)
 
 pub rules-with_ends : (n : ℕ) (items : List Item) → rules_of (with_ends n items) ≡ rules_of items
 rules-with_ends n items =
@@ -92,12 +89,15 @@ sized-with_ends n items all =
     with_ends-keeps (λ list. All (λ (i : Item). IsSized i.stmt) list)
     (record { keeps = λ list start place item times end found is p. All-set (λ (i : Item). IsSized i.stmt) list start (record item { stmt = stmt.Repeat times place }) tt p }) n items all
 
-pub named-with_ends : (count n : ℕ) (items : List Item) → All (λ (i : Item). IsNamed count i.stmt) items → All (λ (i : Item). IsNamed count i.stmt) (with_ends n items)
+pub named-with_ends : (count n : ℕ) (items : List Item) → All (λ (i : Item). IsNamed count (effect_of i.stmt)) items → All (λ (i : Item). IsNamed count (effect_of i.stmt)) (with_ends n items)
 named-with_ends count n items all =
-    with_ends-keeps (λ list. All (λ (i : Item). IsNamed count i.stmt) list)
-    (record { keeps = λ list start place item times end found is p. All-set (λ (i : Item). IsNamed count i.stmt) list start (record item { stmt = stmt.Repeat times place }) tt p }) n items all
+    with_ends-keeps (λ list. All (λ (i : Item). IsNamed count (effect_of i.stmt)) list)
+    (record { keeps = λ list start place item times end found is p. All-set (λ (i : Item). IsNamed count (effect_of i.stmt)) list start (record item { stmt = stmt.Repeat times place }) (tt, tt) p }) n items all
 
-pub comms-with_ends : (last n : ℕ) (items : List Item) → All (λ (i : Item). comm_named i.stmt ≤ last) items → All (λ (i : Item). comm_named i.stmt ≤ last) (with_ends n items)
+none_past : (last : ℕ) → 0 ≤ last
+none_past last = omega arith
+
+pub comms-with_ends : (last n : ℕ) (items : List Item) → All (λ (i : Item). comm_named (effect_of i.stmt).group ≤ last) items → All (λ (i : Item). comm_named (effect_of i.stmt).group ≤ last) (with_ends n items)
 comms-with_ends last n items all =
-    with_ends-keeps (λ list. All (λ (i : Item). comm_named i.stmt ≤ last) list)
-    (record { keeps = λ list start place item times end found is p. All-set (λ (i : Item). comm_named i.stmt ≤ last) list start (record item { stmt = stmt.Repeat times place }) (omega arith) p }) n items all
+    with_ends-keeps (λ list. All (λ (i : Item). comm_named (effect_of i.stmt).group ≤ last) list)
+    (record { keeps = λ list start place item times end found is p. All-set (λ (i : Item). comm_named (effect_of i.stmt).group ≤ last) list start (record item { stmt = stmt.Repeat times place }) (none_past last) p }) n items all

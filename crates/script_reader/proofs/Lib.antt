@@ -5,6 +5,7 @@ pub mod ClosedLemmas
 pub mod CountLemmas
 pub mod DecimalLemmas
 pub mod EndLemmas
+pub mod FaultLemmas
 pub mod RankLemmas
 pub mod ReaderLemmas
 pub mod RuleLemmas

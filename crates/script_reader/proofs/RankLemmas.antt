@@ -20,6 +20,7 @@ use Rattle.script_reader.specs.declared.script.Who.{Who}
 use Rattle.script_reader.specs.declared.script.Who.TheVariants as ranks
 use Rattle.script_reader.specs.declared.version.Version.{Version}
 use Rattle.script_reader.specs.Checks.{innermost, open_of}
+use Rattle.script_reader.specs.Effects.{effect_of}
 use Rattle.script_reader.specs.Faults.{◌>>=◌}
 use Rattle.script_reader.specs.Progress.{Progress, after, after_group, after_local, after_message, after_section, checked, named, open_section, past, peer_in, place, rank_said, register_of, rule_said, small, start}
 use Rattle.script_reader.specs.Reading.{at_end, at_line, begun, most_script_bytes, parse_script, read_all_lines, read_line, read_lines, read_words, script_of, version_of}
@@ -46,7 +47,7 @@ either nue true x y one other = one
 either nue false x y one other = other
 
 placed : (line : ℕ) (p : Progress) (stmt : Stmt) → Keeps p.nue (place line p stmt)
-placed line p stmt = bind p.nue (checked p stmt) _ (λ who. refl)
+placed line p stmt = bind p.nue (checked p (effect_of stmt)) _ (λ who. refl)
 
 sectioned : (p : Progress) (who : Who) → Keeps p.nue (open_section p who)
 sectioned p who = either p.nue (length (open_of (past p)) == 0) (Ok (record p { section = Some who })) (Err kind.UnclosedRepeat) refl tt

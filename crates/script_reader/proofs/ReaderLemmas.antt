@@ -1,21 +1,25 @@
 -- What the reader keeps after one more statement.
-use Rattle.std.proofs.Common.{◌≡◌, ℕ, ◌<◌, false, List, [], ◌∷◌, ◌++◌, Some, length, get_or, reverse, sym, ap, ◌∙◌, subst}
+use Rattle.std.proofs.Common.{◌≡◌, ℕ, ◌<◌, false, List, [], ◌∷◌, ◌++◌, Option, Some, None, length, get_or, reverse, sym, ap, ◌∙◌, subst}
 use Rattle.std.proofs.lemmas.Bool.{ltb-false}
 use Rattle.std.proofs.lemmas.List.{length-reverse, reverse-reverse}
 use Rattle.std.proofs.lemmas.List.Elements.{All-push}
+use Rattle.std.specs.Option.{option_map_or}
+use Rattle.std.specs.Prelude.{IfSome}
 use Rattle.scc_base.specs.Communicators.{AreRules, rule_of}
 use Rattle.scc_base.specs.Setups.{SetupView}
 use Rattle.scc_base.specs.declared.communicators.CommRule.{CommRule}
 use Rattle.scc_base.specs.declared.communicators.CommRule.TheVariants as rule
 use Rattle.scc_base.specs.declared.layouts.Layout.TheVariants as layout
+use Rattle.script_reader.specs.declared.effect.Size.{Size}
+use Rattle.script_reader.specs.declared.effect.Size.TheVariants as sizes
+use Rattle.script_reader.specs.declared.effect.Target.{Target}
+use Rattle.script_reader.specs.declared.fault.FaultKind.{FaultKind}
 use Rattle.script_reader.specs.declared.repeats.Open.{Open}
 use Rattle.script_reader.specs.declared.script.Item.{Item}
-use Rattle.script_reader.specs.declared.script.Stmt.{Stmt}
-use Rattle.script_reader.specs.declared.script.Stmt.TheVariants as stmt
 use Rattle.script_reader.specs.declared.tally.Tally.{Tally}
-use Rattle.script_reader.specs.Checks.{comm_needed, is_too_deep, is_too_long, is_unknown, open_of, opened, refuses, run_of, some_rank, turns_in}
-use Rattle.script_reader.specs.declared.checks.RankCheck.{RankCheck}
-use Rattle.script_reader.specs.Script.{IsSized, or_rule, rules_of, split_rule}
+use Rattle.script_reader.specs.Checks.{is_past_most, is_too_deep, is_too_long, is_unknown, open_of, opened, refuses, run_of, some_rank, turns_in}
+use Rattle.script_reader.specs.Effects.{IsSizedBy, comm_needed, effect_of, split_rule}
+use Rattle.script_reader.specs.Script.{IsSized, or_rule, rules_of}
 use Rattle.script_reader.specs.declared.version.Version.{Version}
 use Rattle.script_reader.specs.Tally.{AreTallies, IsKept, IsMade, noted_at}
 use Rattle.script_reader.proofs.RuleLemmas.{first_split-more, past-more, run-straight, split-low}
@@ -23,22 +27,13 @@ use Rattle.script_reader.proofs.SettledLemmas.{made-rule, none-of, settled-push}
 use Rattle.script_reader.proofs.TallyLemmas.{AreTallies-more}
 use Rattle.script_reader.specs.Settled.{AreInLine, ArePassed, HaveRules, IsInLine, IsNamed, IsSettled}
 
-short-sized : (s : Stmt) → is_too_long s ≡ false → IsSized s
-short-sized (stmt.Bytes reg bytes) short = ltb-false 65536 (length bytes) short
-short-sized (stmt.Fill reg len start) short = ltb-false 65536 len short
-short-sized (stmt.Recv peer reg len) short = ltb-false 65536 len short
-short-sized (stmt.Bcast comm root reg len) short = ltb-false 65536 len short
-short-sized (stmt.RankOf reg ty) short = tt
-short-sized (stmt.Apply op ty dst src) short = tt
-short-sized (stmt.Send peer reg) short = tt
-short-sized (stmt.Post peer reg) short = tt
-short-sized (stmt.Print reg form) short = tt
-short-sized (stmt.Barrier comm) short = tt
-short-sized (stmt.Split comm rule) short = tt
-short-sized (stmt.Reduce comm root op ty dst src) short = tt
-short-sized (stmt.Allreduce comm op ty dst src) short = tt
-short-sized (stmt.Repeat times end) short = tt
-short-sized (stmt.End start) short = tt
+size-short : (size : Size) → is_past_most size ≡ false → IsSizedBy size
+size-short (sizes.Bytes len) short = ltb-false 65536 len short
+size-short (sizes.Same reg) short = tt
+
+short-sized : (o : Option Target) → option_map_or (λ target. is_past_most target.size) o false ≡ false → IfSome o (λ target. IsSizedBy target.size)
+short-sized None short = tt
+short-sized (Some target) short = size-short target.size short
 
 -- a run of the rules behind these statements
 pub run-after : (nue : ℕ) (items : List Item) (rules : List CommRule) → rules ≡ rules_of items → record { nue = nue; layout = layout.LineFlags; hosts = []; comms = rules } ≡ run_of nue (reverse items)
@@ -49,43 +44,46 @@ pub run-stays : (nue : ℕ) (items : List Item) (item : Item) (run : SetupView) 
 run-stays nue items item run is same = is ∙ run-straight nue items ∙ run-after nue (items ++ item ∷ []) (rules_of items) (sym same)
 
 -- what the checks of its line leave of a statement
-in_line-new : (nue : ℕ) (items : List Item) (item : Item) → AreRules (rules_of items) → IsSettled nue (rules_of items) item → is_too_long item.stmt ≡ false → is_too_deep (open_of (reverse items)) item.stmt ≡ false → IsInLine nue (reverse items) item
+in_line-new : (nue : ℕ) (items : List Item) (item : Item) → AreRules (rules_of items) → IsSettled nue (rules_of items) item → is_too_long (effect_of item.stmt) ≡ false
+    → is_too_deep (open_of (reverse items)) (effect_of item.stmt).nesting ≡ false → IsInLine nue (reverse items) item
 in_line-new nue items item rules settled short flat = record {
   rules = subst (λ (list : List Item). AreRules (rules_of list)) (sym (reverse-reverse items)) rules;
-  present = λ rank below has. subst (λ (list : List Item). rule_of (rules_of list) (comm_needed item.stmt) ≡ rule.Absent → ⊥) (sym (reverse-reverse items)) (settled.present rank below has);
-  sized = short-sized item.stmt short;
+  present = λ rank below has. subst (λ (list : List Item). rule_of (rules_of list) (comm_needed (effect_of item.stmt).group) ≡ rule.Absent → ⊥) (sym (reverse-reverse items)) (settled.present rank below has);
+  sized = short-sized (effect_of item.stmt).sets short;
   flat = flat;
 }
 
 pub kept-more : (version : Version) (nue : ℕ) (items : List Item) (names : List (List ℕ)) (item : Item) (run after : SetupView) (repeats later : List Open) (tallies noted : List Tally)
-    → IsKept version nue items names run repeats tallies → is_unknown version (run_of nue (reverse items)) item.stmt ≡ false → IsMade item.stmt → IsNamed (length names) item.stmt → is_too_long item.stmt ≡ false
-    → is_too_deep (open_of (reverse items)) item.stmt ≡ false → after ≡ run_of nue (reverse (items ++ item ∷ []))
-    → later ≡ opened item.stmt (length items) repeats → AreRules (rules_of (items ++ item ∷ [])) → length noted ≡ nue → IsSettled nue (rules_of items) item
-    → ((check : RankCheck) → some_rank nue (Some item.who) (refuses check nue (reverse items) item.stmt) ≡ false)
-    → ((rank : ℕ) (d : Tally) → rank < nue → get_or noted rank d ≡ noted_at run (turns_in repeats) item rank (get_or tallies rank d))
+    → IsKept version nue items names run repeats tallies → is_unknown version (run_of nue (reverse items)) (effect_of item.stmt).group ≡ false → IsMade (effect_of item.stmt)
+    → IsNamed (length names) (effect_of item.stmt) → is_too_long (effect_of item.stmt) ≡ false
+    → is_too_deep (open_of (reverse items)) (effect_of item.stmt).nesting ≡ false → after ≡ run_of nue (reverse (items ++ item ∷ []))
+    → later ≡ opened (effect_of item.stmt).nesting (length items) repeats → AreRules (rules_of (items ++ item ∷ [])) → length noted ≡ nue → IsSettled nue (rules_of items) item
+    → ((kind : FaultKind) → some_rank nue (Some item.who) (refuses kind nue (reverse items) (effect_of item.stmt)) ≡ false)
+    → ((rank : ℕ) (d : Tally) → rank < nue → get_or noted rank d ≡ noted_at run (turns_in repeats) item.who (effect_of item.stmt) rank (get_or tallies rank d))
     → IsKept version nue (items ++ item ∷ []) names after later noted
 kept-more version nue items names item run after repeats later tallies noted k known made named short flat is opens rules long new none counts =
+    let e = effect_of item.stmt in
     let counted = λ (rank : ℕ) (d : Tally) (below : rank < nue).
     counts rank d below
-    ∙ ap (λ (r : SetupView). noted_at r (turns_in repeats) item rank (get_or tallies rank d)) k.run_is
-    ∙ ap (λ (r : List Open). noted_at (run_of nue (reverse items)) (turns_in r) item rank (get_or tallies rank d)) k.repeats_are in
+    ∙ ap (λ (r : SetupView). noted_at r (turns_in repeats) item.who e rank (get_or tallies rank d)) k.run_is
+    ∙ ap (λ (r : List Open). noted_at (run_of nue (reverse items)) (turns_in r) item.who e rank (get_or tallies rank d)) k.repeats_are in
     record {
       some = k.some;
       most = k.most;
-      sized = All-push (λ (item : Item). IsSized item.stmt) items item k.sized (short-sized item.stmt short);
+      sized = All-push (λ (item : Item). IsSized item.stmt) items item k.sized (short-sized e.sets short);
       run_is = is;
       repeats_are =
           opens
-          ∙ ap (λ (r : List Open). opened item.stmt (length items) r) k.repeats_are
-          ∙ ap (λ (n : ℕ). opened item.stmt n (open_of (reverse items))) (sym (length-reverse items))
+          ∙ ap (λ (r : List Open). opened e.nesting (length items) r) k.repeats_are
+          ∙ ap (λ (n : ℕ). opened e.nesting n (open_of (reverse items))) (sym (length-reverse items))
           ∙ ap open_of (sym (past-more items item));
       rules = rules;
       settled = settled-push nue items item k.rules k.settled new;
-      have = subst HaveRules (sym (past-more items item)) (k.have, made-rule item.stmt made);
-      low = λ comm above. first_split-more items item comm ∙ ap (λ (r : CommRule). or_rule r (split_rule item.stmt comm)) (k.low comm above) ∙ split-low item.stmt version (run_of nue (reverse items)) comm known above;
-      passed = subst (λ (past : List Item). ArePassed nue past) (sym (past-more items item)) (k.passed, λ check. none-of nue item.who (refuses check nue (reverse items) item.stmt) (none check));
+      have = subst HaveRules (sym (past-more items item)) (k.have, made-rule e.group made.split);
+      low = λ comm above. first_split-more items item comm ∙ ap (λ (r : CommRule). or_rule r (split_rule e.group comm)) (k.low comm above) ∙ split-low e.group version (run_of nue (reverse items)) comm known above;
+      passed = subst (λ (past : List Item). ArePassed nue past) (sym (past-more items item)) (k.passed, λ kind. none-of nue item.who (refuses kind nue (reverse items) e) (none kind));
       in_line = subst (λ (past : List Item). AreInLine nue past) (sym (past-more items item)) (k.in_line, in_line-new nue items item k.rules new short flat);
-      named = All-push (λ (i : Item). IsNamed (length names) i.stmt) items item k.named named;
+      named = All-push (λ (i : Item). IsNamed (length names) (effect_of i.stmt)) items item k.named named;
       ranked = long;
       tallied = subst (λ (past : List Item). AreTallies noted nue past) (sym (past-more items item)) (AreTallies-more tallies noted nue (reverse items) item made k.tallied counted);
     }

@@ -12,14 +12,16 @@ use Rattle.scc_base.specs.Setups.{SetupView}
 use Rattle.scc_base.specs.declared.communicators.CommRule.{CommRule}
 use Rattle.scc_base.specs.declared.communicators.CommRule.TheVariants as rule
 use Rattle.script_reader.specs.declared.script.Item.{Item}
-use Rattle.script_reader.specs.declared.script.Stmt.{Stmt}
-use Rattle.script_reader.specs.declared.script.Stmt.TheVariants as stmt
-use Rattle.script_reader.specs.Checks.{differs_from, has_no_parent, is_absent, is_badly_split, is_known, is_unknown, last_comm, parent_of, run_of}
-use Rattle.script_reader.specs.Script.{first_split, or_rule, rules_of, split_rule}
-use Rattle.script_reader.specs.Tally.{IsMade, IsParted, is_new_split}
+use Rattle.script_reader.specs.declared.effect.Group.{Group}
+use Rattle.script_reader.specs.declared.effect.Group.TheVariants as group
+use Rattle.script_reader.specs.Checks.{differs_from, has_no_parent, is_absent, is_badly_split, is_known, is_unknown, last_comm, run_of}
+use Rattle.script_reader.specs.Effects.{effect_of, parent_of, split_rule}
+use Rattle.script_reader.specs.Script.{first_split, or_rule, rules_of}
+use Rattle.script_reader.specs.Tally.{IsSplitMade, IsParted, is_new_split}
 use Rattle.script_reader.specs.declared.version.Version.{Version}
 use Rattle.script_reader.specs.declared.version.Version.TheVariants as version
 use Rattle.scc_base.specs.declared.layouts.Layout.TheVariants as layout
+use Rattle.script_reader.proofs.CheckLemmas.{false-left, false-right}
 
 pub past-more : (items : List Item) (item : Item) → reverse (items ++ item ∷ []) ≡ item ∷ reverse items
 past-more items item = reverse-append items (item ∷ [])
@@ -36,11 +38,11 @@ or_absent rule.World = refl
 or_absent (rule.Mod parent k) = refl
 or_absent (rule.Div parent k) = refl
 
-pub first_split-more : (items : List Item) (item : Item) (comm : ℕ) → first_split (items ++ item ∷ []) comm ≡ or_rule (first_split items comm) (split_rule item.stmt comm)
-first_split-more [] item comm = or_absent (split_rule item.stmt comm)
+pub first_split-more : (items : List Item) (item : Item) (comm : ℕ) → first_split (items ++ item ∷ []) comm ≡ or_rule (first_split items comm) (split_rule (effect_of item.stmt).group comm)
+first_split-more [] item comm = or_absent (split_rule (effect_of item.stmt).group comm)
 first_split-more (first ∷ items) item comm =
-    ap (or_rule (split_rule first.stmt comm)) (first_split-more items item comm)
-    ∙ or_rule-assoc (split_rule first.stmt comm) (first_split items comm) (split_rule item.stmt comm)
+    ap (or_rule (split_rule (effect_of first.stmt).group comm)) (first_split-more items item comm)
+    ∙ or_rule-assoc (split_rule (effect_of first.stmt).group comm) (first_split items comm) (split_rule (effect_of item.stmt).group comm)
 
 -- the rule of a communicator but the world is that of its first split
 pub split-at : (items : List Item) (comm : ℕ) → 1 ≤ comm → comm < 16 → rule_of (rules_of items) comm ≡ first_split items comm
@@ -48,9 +50,9 @@ split-at items zero some below = absurd (omega arith)
 split-at items (suc c) some below = get_or-map-range_with_len (first_split items) 1 15 c (suc c) rule.Absent (omega arith) (omega arith)
 
 pub rule-more : (items : List Item) (item : Item) (comm : ℕ) → 1 ≤ comm → comm < 16
-    → rule_of (rules_of (items ++ item ∷ [])) comm ≡ or_rule (rule_of (rules_of items) comm) (split_rule item.stmt comm)
+    → rule_of (rules_of (items ++ item ∷ [])) comm ≡ or_rule (rule_of (rules_of items) comm) (split_rule (effect_of item.stmt).group comm)
 rule-more items item comm some below =
-    split-at (items ++ item ∷ []) comm some below ∙ first_split-more items item comm ∙ ap (λ r. or_rule r (split_rule item.stmt comm)) (sym (split-at items comm some below))
+    split-at (items ++ item ∷ []) comm some below ∙ first_split-more items item comm ∙ ap (λ r. or_rule r (split_rule (effect_of item.stmt).group comm)) (sym (split-at items comm some below))
 
 pub or_rule-kept : (a b : CommRule) → (a ≡ rule.Absent → ⊥) → or_rule a b ≡ a
 or_rule-kept rule.Absent b there = absurd (there refl)
@@ -63,7 +65,7 @@ present-more : (items : List Item) (item : Item) (comm : ℕ) → comm < 16 → 
 present-more items item zero below there = there
 present-more items item (suc c) below there = λ gone.
     let more = rule-more items item (suc c) (omega arith) below in
-    there (sym (or_rule-kept (rule_of (rules_of items) (suc c)) (split_rule item.stmt (suc c)) there) ∙ sym more ∙ gone)
+    there (sym (or_rule-kept (rule_of (rules_of items) (suc c)) (split_rule (effect_of item.stmt).group (suc c)) there) ∙ sym more ∙ gone)
 
 IsRule-more : (items : List Item) (item : Item) (comm : ℕ) (r : CommRule) → comm < 16 → IsRule (rules_of items) comm r → IsRule (rules_of (items ++ item ∷ [])) comm r
 IsRule-more items item comm rule.Absent below is = is
@@ -91,20 +93,20 @@ split-made comms split comm r some is =
     ]
 
 -- the rules after a split that may be made
-AreRules-split : (items : List Item) (item : Item) (split : ℕ) (r : CommRule) → item.stmt ≡ stmt.Split split r → split < 16 → IsParted r → parent_of r < split
+AreRules-split : (items : List Item) (item : Item) (split : ℕ) (r : CommRule) → (effect_of item.stmt).group ≡ group.Split split r → split < 16 → IsParted r → parent_of r < split
     → (rule_of (rules_of items) (parent_of r) ≡ rule.Absent → ⊥) → AreRules (rules_of items) → AreRules (rules_of (items ++ item ∷ []))
 AreRules-split items item split r is top made below there rules zero low = refl
 AreRules-split items item split r is top made below there rules (suc c) low =
     let after = rules_of (items ++ item ∷ []) in
     let parent = present-more items item (parent_of r) (omega arith) there in
     let new = split-made after split (suc c) r (omega arith) (rule-made after split r made below parent) in
-    let given = subst (λ (s : Stmt). IsRule after (suc c) (split_rule s (suc c))) (sym is) new in
+    let given = subst (λ (g : Group). IsRule after (suc c) (split_rule g (suc c))) (sym is) new in
     let old = IsRule-more items item (suc c) (rule_of (rules_of items) (suc c)) low (rules (suc c) low) in
     subst (λ (r : CommRule). IsRule after (suc c) r) (sym (rule-more items item (suc c) (omega arith) low))
-    (or_rule-either (λ r. IsRule after (suc c) r) (rule_of (rules_of items) (suc c)) (split_rule item.stmt (suc c)) old given)
+    (or_rule-either (λ r. IsRule after (suc c) r) (rule_of (rules_of items) (suc c)) (split_rule (effect_of item.stmt).group (suc c)) old given)
 
 -- the rules after a statement that splits nothing new
-rules-same : (items : List Item) (item : Item) → ((comm : ℕ) → or_rule (first_split items comm) (split_rule item.stmt comm) ≡ first_split items comm) → rules_of (items ++ item ∷ []) ≡ rules_of items
+rules-same : (items : List Item) (item : Item) → ((comm : ℕ) → or_rule (first_split items comm) (split_rule (effect_of item.stmt).group comm) ≡ first_split items comm) → rules_of (items ++ item ∷ []) ≡ rules_of items
 rules-same items item kept = ap (λ (f : ℕ → CommRule). rule.World ∷ map f (range_with_len 1 15)) (fun_ext (λ comm. first_split-more items item comm ∙ kept comm))
 
 split-kept : (items : List Item) (split : ℕ) (r : CommRule) → (first_split items split ≡ rule.Absent → ⊥) → (comm : ℕ) → or_rule (first_split items comm) (cond (eqb split comm) r rule.Absent) ≡ first_split items comm
@@ -113,14 +115,6 @@ split-kept items split r there comm =
       | inl same ↦ or_rule-kept (first_split items comm) _ (subst (λ c. first_split items c ≡ rule.Absent → ⊥) same.1 there)
       | inr other ↦ rw other.0 (or_absent _)
     ]
-
-or-false-left : (a b : Bool) → (a || b) ≡ false → a ≡ false
-or-false-left false b h = refl
-or-false-left true b h = cc
-
-or-false-right : (a b : Bool) → (a || b) ≡ false → b ≡ false
-or-false-right false b h = h
-or-false-right true b h = cc
 
 not-false-is : (a : Bool) → not a ≡ false → a ≡ true
 not-false-is true h = refl
@@ -136,13 +130,13 @@ pub last-within : (version : Version) → last_comm version < 16
 last-within version.One = lit< tt
 last-within version.Two = lit< tt
 
-pub splittable : (version : Version) (run : SetupView) (split : ℕ) (r : CommRule) → is_unknown version run (stmt.Split split r) ≡ false → IsSplittable split r
+pub splittable : (version : Version) (run : SetupView) (split : ℕ) (r : CommRule) → is_unknown version run (group.Split split r) ≡ false → IsSplittable split r
 splittable version run split r known =
-    let top = ltb-false (last_comm version) split (or-false-left (ltb (last_comm version) split) (is_badly_split run split r) known) in
-    let good = or-false-right (ltb (last_comm version) split) (is_badly_split run split r) known in
-    let front = or-false-left (split == 0 || not (nat_lt (parent_of r) split)) (differs_from (rule_of run.comms split) r) good in
-    let some = eqb-false split 0 (or-false-left (split == 0) (not (nat_lt (parent_of r) split)) front) in
-    let below = ltb-true (parent_of r) split (not-false-is (nat_lt (parent_of r) split) (or-false-right (split == 0) (not (nat_lt (parent_of r) split)) front)) in
+    let top = ltb-false (last_comm version) split (false-left (ltb (last_comm version) split) (is_badly_split run split r) known) in
+    let good = false-right (ltb (last_comm version) split) (is_badly_split run split r) known in
+    let front = false-left (split == 0 || not (nat_lt (parent_of r) split)) (differs_from (rule_of run.comms split) r) good in
+    let some = eqb-false split 0 (false-left (split == 0) (not (nat_lt (parent_of r) split)) front) in
+    let below = ltb-true (parent_of r) split (not-false-is (nat_lt (parent_of r) split) (false-right (split == 0) (not (nat_lt (parent_of r) split)) front)) in
     record {
       some = elim (cases_lt 0 split) [ inl h ↦ h | inr h ↦ absurd (some (omega arith)) ];
       top = omega (arith, top, last-within version);
@@ -160,70 +154,34 @@ pub run-straight : (nue : ℕ) (items : List Item) → run_of nue (reverse items
 run-straight nue items = rw reverse-reverse refl
 
 -- the rules stay where a statement splits nothing new
-pub rules-kept : (s : Stmt) (items : List Item) (item : Item) (version : Version) (nue : ℕ) → item.stmt ≡ s → is_unknown version (run_of nue (reverse items)) s ≡ false → is_new_split (run_of nue (reverse items)) s ≡ false → rules_of (items ++ item ∷ []) ≡ rules_of items
-rules-kept (stmt.Split split r) items item version nue is known old =
+pub rules-kept : (g : Group) (items : List Item) (item : Item) (version : Version) (nue : ℕ) → (effect_of item.stmt).group ≡ g → is_unknown version (run_of nue (reverse items)) g ≡ false → is_new_split (run_of nue (reverse items)) g ≡ false → rules_of (items ++ item ∷ []) ≡ rules_of items
+rules-kept (group.Split split r) items item version nue is known old =
     let ok = splittable version (run_of nue (reverse items)) split r known in
     let there = known-there (run_of nue (reverse items)) split (not-false-is _ old) in
     let straight = subst (λ (list : List Item). rule_of (rules_of list) split ≡ rule.Absent → ⊥) (reverse-reverse items) there in
     let first = subst (λ (r : CommRule). r ≡ rule.Absent → ⊥) (split-at items split ok.some ok.top) straight in
-    rules-same items item (λ comm. subst (λ (s : Stmt). or_rule (first_split items comm) (split_rule s comm) ≡ first_split items comm) (sym is) (split-kept items split r first comm))
-rules-kept (stmt.Bytes reg bytes) items item version nue is known old = rules-same items item (λ c. subst (λ (s : Stmt). or_rule (first_split items c) (split_rule s c) ≡ first_split items c) (sym is) (or_absent _))
-rules-kept (stmt.Fill reg len start) items item version nue is known old = rules-same items item (λ c. subst (λ (s : Stmt). or_rule (first_split items c) (split_rule s c) ≡ first_split items c) (sym is) (or_absent _))
-rules-kept (stmt.RankOf reg ty) items item version nue is known old = rules-same items item (λ c. subst (λ (s : Stmt). or_rule (first_split items c) (split_rule s c) ≡ first_split items c) (sym is) (or_absent _))
-rules-kept (stmt.Apply op ty dst src) items item version nue is known old = rules-same items item (λ c. subst (λ (s : Stmt). or_rule (first_split items c) (split_rule s c) ≡ first_split items c) (sym is) (or_absent _))
-rules-kept (stmt.Send peer reg) items item version nue is known old = rules-same items item (λ c. subst (λ (s : Stmt). or_rule (first_split items c) (split_rule s c) ≡ first_split items c) (sym is) (or_absent _))
-rules-kept (stmt.Post peer reg) items item version nue is known old = rules-same items item (λ c. subst (λ (s : Stmt). or_rule (first_split items c) (split_rule s c) ≡ first_split items c) (sym is) (or_absent _))
-rules-kept (stmt.Recv peer reg len) items item version nue is known old = rules-same items item (λ c. subst (λ (s : Stmt). or_rule (first_split items c) (split_rule s c) ≡ first_split items c) (sym is) (or_absent _))
-rules-kept (stmt.Print reg form) items item version nue is known old = rules-same items item (λ c. subst (λ (s : Stmt). or_rule (first_split items c) (split_rule s c) ≡ first_split items c) (sym is) (or_absent _))
-rules-kept (stmt.Barrier comm) items item version nue is known old = rules-same items item (λ c. subst (λ (s : Stmt). or_rule (first_split items c) (split_rule s c) ≡ first_split items c) (sym is) (or_absent _))
-rules-kept (stmt.Bcast comm root reg len) items item version nue is known old = rules-same items item (λ c. subst (λ (s : Stmt). or_rule (first_split items c) (split_rule s c) ≡ first_split items c) (sym is) (or_absent _))
-rules-kept (stmt.Reduce comm root op ty dst src) items item version nue is known old = rules-same items item (λ c. subst (λ (s : Stmt). or_rule (first_split items c) (split_rule s c) ≡ first_split items c) (sym is) (or_absent _))
-rules-kept (stmt.Allreduce comm op ty dst src) items item version nue is known old = rules-same items item (λ c. subst (λ (s : Stmt). or_rule (first_split items c) (split_rule s c) ≡ first_split items c) (sym is) (or_absent _))
-rules-kept (stmt.Repeat times end) items item version nue is known old = rules-same items item (λ c. subst (λ (s : Stmt). or_rule (first_split items c) (split_rule s c) ≡ first_split items c) (sym is) (or_absent _))
-rules-kept (stmt.End start) items item version nue is known old = rules-same items item (λ c. subst (λ (s : Stmt). or_rule (first_split items c) (split_rule s c) ≡ first_split items c) (sym is) (or_absent _))
+    rules-same items item (λ comm. subst (λ (g : Group). or_rule (first_split items comm) (split_rule g comm) ≡ first_split items comm) (sym is) (split-kept items split r first comm))
+rules-kept group.World items item version nue is known old = rules-same items item (λ c. subst (λ (g : Group). or_rule (first_split items c) (split_rule g c) ≡ first_split items c) (sym is) (or_absent _))
+rules-kept (group.Of place) items item version nue is known old = rules-same items item (λ c. subst (λ (g : Group). or_rule (first_split items c) (split_rule g c) ≡ first_split items c) (sym is) (or_absent _))
 
 -- the rules are rules where a statement splits something
-pub rules-made : (s : Stmt) (items : List Item) (item : Item) (version : Version) (nue : ℕ) → item.stmt ≡ s → IsMade s → is_unknown version (run_of nue (reverse items)) s ≡ false → has_no_parent (run_of nue (reverse items)) s ≡ false
-    → is_new_split (run_of nue (reverse items)) s ≡ true → AreRules (rules_of items) → AreRules (rules_of (items ++ item ∷ []))
-rules-made (stmt.Split split r) items item version nue is made known parented new rules =
+pub rules-made : (g : Group) (items : List Item) (item : Item) (version : Version) (nue : ℕ) → (effect_of item.stmt).group ≡ g → IsSplitMade g → is_unknown version (run_of nue (reverse items)) g ≡ false → has_no_parent (run_of nue (reverse items)) g ≡ false
+    → is_new_split (run_of nue (reverse items)) g ≡ true → AreRules (rules_of items) → AreRules (rules_of (items ++ item ∷ []))
+rules-made (group.Split split r) items item version nue is made known parented new rules =
     let ok = splittable version (run_of nue (reverse items)) split r known in
     let there = known-there (run_of nue (reverse items)) (parent_of r) (not-false-is _ parented) in
     let straight = subst (λ (list : List Item). rule_of (rules_of list) (parent_of r) ≡ rule.Absent → ⊥) (reverse-reverse items) there in
     AreRules-split items item split r is ok.top made.1 ok.below straight rules
-rules-made (stmt.Bytes reg bytes) items item version nue is made known parented new rules = absurd (false≢true new)
-rules-made (stmt.Fill reg len start) items item version nue is made known parented new rules = absurd (false≢true new)
-rules-made (stmt.RankOf reg ty) items item version nue is made known parented new rules = absurd (false≢true new)
-rules-made (stmt.Apply op ty dst src) items item version nue is made known parented new rules = absurd (false≢true new)
-rules-made (stmt.Send peer reg) items item version nue is made known parented new rules = absurd (false≢true new)
-rules-made (stmt.Post peer reg) items item version nue is made known parented new rules = absurd (false≢true new)
-rules-made (stmt.Recv peer reg len) items item version nue is made known parented new rules = absurd (false≢true new)
-rules-made (stmt.Print reg form) items item version nue is made known parented new rules = absurd (false≢true new)
-rules-made (stmt.Barrier comm) items item version nue is made known parented new rules = absurd (false≢true new)
-rules-made (stmt.Bcast comm root reg len) items item version nue is made known parented new rules = absurd (false≢true new)
-rules-made (stmt.Reduce comm root op ty dst src) items item version nue is made known parented new rules = absurd (false≢true new)
-rules-made (stmt.Allreduce comm op ty dst src) items item version nue is made known parented new rules = absurd (false≢true new)
-rules-made (stmt.Repeat times end) items item version nue is made known parented new rules = absurd (false≢true new)
-rules-made (stmt.End start) items item version nue is made known parented new rules = absurd (false≢true new)
+rules-made group.World items item version nue is made known parented new rules = absurd (false≢true new)
+rules-made (group.Of comm) items item version nue is made known parented new rules = absurd (false≢true new)
 
 -- a communicator past the last one has no split
-pub split-low : (s : Stmt) (version : Version) (run : SetupView) (comm : ℕ) → is_unknown version run s ≡ false → last_comm version < comm → split_rule s comm ≡ rule.Absent
-split-low (stmt.Split split r) version run comm known above =
-    let top = ltb-false (last_comm version) split (or-false-left (ltb (last_comm version) split) (is_badly_split run split r) known) in
+pub split-low : (g : Group) (version : Version) (run : SetupView) (comm : ℕ) → is_unknown version run g ≡ false → last_comm version < comm → split_rule g comm ≡ rule.Absent
+split-low (group.Split split r) version run comm known above =
+    let top = ltb-false (last_comm version) split (false-left (ltb (last_comm version) split) (is_badly_split run split r) known) in
     elim (eqb_tells split comm) [
       | inl same ↦ absurd (omega (arith, top, above, same.1))
       | inr other ↦ rw other.0 refl
     ]
-split-low (stmt.Bytes reg bytes) version run comm known above = refl
-split-low (stmt.Fill reg len start) version run comm known above = refl
-split-low (stmt.RankOf reg ty) version run comm known above = refl
-split-low (stmt.Apply op ty dst src) version run comm known above = refl
-split-low (stmt.Send peer reg) version run comm known above = refl
-split-low (stmt.Post peer reg) version run comm known above = refl
-split-low (stmt.Recv peer reg len) version run comm known above = refl
-split-low (stmt.Print reg form) version run comm known above = refl
-split-low (stmt.Barrier place) version run comm known above = refl
-split-low (stmt.Bcast place root reg len) version run comm known above = refl
-split-low (stmt.Reduce place root op ty dst src) version run comm known above = refl
-split-low (stmt.Allreduce place op ty dst src) version run comm known above = refl
-split-low (stmt.Repeat times end) version run comm known above = refl
-split-low (stmt.End start) version run comm known above = refl
+split-low group.World version run comm known above = refl
+split-low (group.Of place) version run comm known above = refl

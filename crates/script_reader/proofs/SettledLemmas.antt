@@ -1,32 +1,39 @@
 -- What stays true of a statement when more follow, and what is true of a new one.
-use Rattle.std.proofs.Common.{◌≡◌, ℕ, zero, suc, ◌+◌, ◌*◌, ◌%◌, ◌/◌, ◌<◌, ◌≤◌, Bool, true, false, not, ◌||◌, ◌&&◌, List, [], ◌∷◌, ◌++◌, All, length, get_or, reverse, Option, Some, eqb, refl, sym, ap, ◌∙◌, arith, subst, inl, inr, lit<}
+use Rattle.std.proofs.Common.{◌≡◌, ℕ, zero, suc, ◌+◌, ◌*◌, ◌%◌, ◌/◌, ◌<◌, ◌≤◌, Bool, true, false, not, ◌||◌, ◌&&◌, List, [], ◌∷◌, ◌++◌, All, length, get_or, reverse, Option, Some, None, eqb, refl, sym, ap, ◌∙◌, arith, subst, inl, inr, lit<}
 use Rattle.std.proofs.lemmas.Bool.Decides.{eqb_tells}
 use Rattle.std.proofs.Math.Path.{fun_ext}
 use Rattle.std.proofs.lemmas.Bool.{and_parts, cases_lt, false≢true, ltb-false, not-false}
 use Rattle.std.proofs.lemmas.List.{get_or_past, reverse-append, reverse-reverse}
 use Rattle.std.proofs.lemmas.List.Elements.{All-push, All-set}
 use Rattle.std.proofs.lemmas.List.FromFn.{length-map-range_with_len}
-use Rattle.std.specs.Prelude.{◌⊎◌, nat_lt}
+use Rattle.std.specs.Option.{option_map_or}
+use Rattle.std.specs.Prelude.{◌⊎◌, IfSome, nat_lt}
 use Rattle.scc_base.specs.Communicators.{AreRules, IsRule, key_of, key_under, key_within, rule_of}
 use Rattle.scc_base.specs.Groups.{place_in, size_in}
 use Rattle.scc_base.specs.Setups.{SetupView}
 use Rattle.scc_base.specs.declared.communicators.CommRule.{CommRule}
 use Rattle.scc_base.specs.declared.communicators.CommRule.TheVariants as rule
 use Rattle.script_reader.specs.declared.script.Item.{Item}
-use Rattle.script_reader.specs.declared.script.Stmt.{Stmt}
 use Rattle.script_reader.specs.declared.script.Stmt.TheVariants as stmt
 use Rattle.script_reader.specs.declared.script.Who.{Who}
-use Rattle.script_reader.specs.declared.checks.RankCheck.{RankCheck}
-use Rattle.script_reader.specs.declared.checks.RankCheck.TheVariants as check
+use Rattle.script_reader.specs.declared.effect.Effect.{Effect}
+use Rattle.script_reader.specs.declared.effect.Group.{Group}
+use Rattle.script_reader.specs.declared.effect.Group.TheVariants as group
+use Rattle.script_reader.specs.declared.fault.FaultKind.{FaultKind}
+use Rattle.script_reader.specs.declared.fault.FaultKind.TheVariants as kind
 use Rattle.script_reader.specs.declared.version.Version.{Version}
-use Rattle.script_reader.specs.Checks.{comm_needed, has_no_root, has_split, is_absent, is_not_split, is_past_group, is_split_of, is_unknown, last_comm, refuses, run_of, some_below, some_rank}
+use Rattle.script_reader.specs.Checks.{has_no_root, has_split, is_absent, is_not_split, is_past_group, is_unknown, last_comm, refuses, run_of, some_below, some_rank}
+use Rattle.script_reader.specs.Effects.{comm_needed, effect_of, is_split_of, split_rule}
+use Rattle.script_reader.specs.Progress.{Progress, is_refused}
 use Rattle.script_reader.specs.Ends.{with_ends}
-use Rattle.script_reader.specs.Tally.{IsAimed, IsMade, IsParted, IsWithin}
+use Rattle.script_reader.specs.Tally.{IsAimed, IsSplitMade, IsParted, IsWithin}
 use Rattle.script_reader.specs.declared.script.Peer.{Peer}
 use Rattle.script_reader.specs.declared.script.Peer.TheVariants as peer
+use Rattle.script_reader.proofs.CheckLemmas.{false-left, false-right, nobody}
 use Rattle.script_reader.proofs.EndLemmas.{with_ends-keeps}
-use Rattle.script_reader.specs.Script.{first_split, has_rank, or_rule, peer_of, rules_of, split_rule}
-use Rattle.script_reader.specs.Settled.{HasPeer, HasRule, HaveRules, IsSettled, run_with}
+use Rattle.script_reader.proofs.FaultLemmas.{IsSound}
+use Rattle.script_reader.specs.Script.{first_split, has_rank, or_rule, peer_of, rules_of}
+use Rattle.script_reader.specs.Settled.{HasRule, HaveRules, IsSettled, run_with}
 use Rattle.script_reader.proofs.RuleLemmas.{first_split-more, last-within, or_rule-kept, rule-more, run-straight, split-at, splittable}
 
 -- the rules behind one more statement have the same rule where there was one
@@ -48,7 +55,7 @@ present-low items c there =
 pub same-more : (items : List Item) (item : Item) (c : ℕ) → (rule_of (rules_of items) c ≡ rule.Absent → ⊥) → rule_of (rules_of (items ++ item ∷ [])) c ≡ rule_of (rules_of items) c
 same-more items item zero there = refl
 same-more items item (suc c) there =
-    rule-more items item (suc c) (omega arith) (present-low items (suc c) there) ∙ or_rule-kept (rule_of (rules_of items) (suc c)) (split_rule item.stmt (suc c)) there
+    rule-more items item (suc c) (omega arith) (present-low items (suc c) there) ∙ or_rule-kept (rule_of (rules_of items) (suc c)) (split_rule (effect_of item.stmt).group (suc c)) there
 
 pub extends : (items : List Item) (item : Item) → AreRules (rules_of items) → Extends (rules_of items) (rules_of (items ++ item ∷ []))
 extends items item rules = record { same = same-more items item; low = present-low items; rules = rules }
@@ -78,31 +85,18 @@ past-same nue comms after c rank root rules keys =
     ap (λ (rl : CommRule). not (is_absent rl) && not (nat_lt root (size_in nue (key_of after c) rank))) rules
     ∙ ap (λ (key : ℕ → ℕ). not (is_absent (rule_of comms c)) && not (nat_lt root (size_in nue key rank))) keys
 
-root-same : (s : Stmt) (nue : ℕ) (comms after : List CommRule) (rank : ℕ) → Extends comms after → (rule_of comms (comm_needed s) ≡ rule.Absent → ⊥)
-    → has_no_root (run_with nue after) s rank ≡ has_no_root (run_with nue comms) s rank
-root-same (stmt.Bcast comm root reg len) nue comms after rank e there = past-same nue comms after comm rank root (e.same comm there) (key-same comms after e comm there)
-root-same (stmt.Reduce comm root op ty dst src) nue comms after rank e there = past-same nue comms after comm rank root (e.same comm there) (key-same comms after e comm there)
-root-same (stmt.Bytes reg bytes) nue comms after rank e there = refl
-root-same (stmt.Fill reg len start) nue comms after rank e there = refl
-root-same (stmt.RankOf reg ty) nue comms after rank e there = refl
-root-same (stmt.Apply op ty dst src) nue comms after rank e there = refl
-root-same (stmt.Send peer reg) nue comms after rank e there = refl
-root-same (stmt.Post peer reg) nue comms after rank e there = refl
-root-same (stmt.Recv peer reg len) nue comms after rank e there = refl
-root-same (stmt.Print reg form) nue comms after rank e there = refl
-root-same (stmt.Barrier comm) nue comms after rank e there = refl
-root-same (stmt.Split comm by) nue comms after rank e there = refl
-root-same (stmt.Allreduce comm op ty dst src) nue comms after rank e there = refl
-root-same (stmt.Repeat times end) nue comms after rank e there = refl
-root-same (stmt.End start) nue comms after rank e there = refl
+root-same : (root : Option ℕ) (nue : ℕ) (comms after : List CommRule) (c rank : ℕ) → Extends comms after → (rule_of comms c ≡ rule.Absent → ⊥)
+    → option_map_or (is_past_group (run_with nue after) c rank) root false ≡ option_map_or (is_past_group (run_with nue comms) c rank) root false
+root-same None nue comms after c rank e there = refl
+root-same (Some root) nue comms after c rank e there = past-same nue comms after c rank root (e.same c there) (key-same comms after e c there)
 
 -- what is settled stays so
 IsSettled-more : (nue : ℕ) (comms after : List CommRule) (item : Item) → Extends comms after → IsSettled nue comms item → IsSettled nue after item
 IsSettled-more nue comms after item e s = record {
   below = s.below;
   other = s.other;
-  present = λ rank below has gone. s.present rank below has (sym (e.same (comm_needed item.stmt) (s.present rank below has)) ∙ gone);
-  rooted = λ rank below has. root-same item.stmt nue comms after rank e (s.present rank below has) ∙ s.rooted rank below has;
+  present = λ rank below has gone. s.present rank below has (sym (e.same (comm_needed (effect_of item.stmt).group) (s.present rank below has)) ∙ gone);
+  rooted = λ rank below has. root-same (effect_of item.stmt).root nue comms after (comm_needed (effect_of item.stmt).group) rank e (s.present rank below has) ∙ s.rooted rank below has;
 }
 
 pub settled-push : (nue : ℕ) (items : List Item) (item : Item) → AreRules (rules_of items) → All (IsSettled nue (rules_of items)) items → IsSettled nue (rules_of items) item
@@ -114,14 +108,6 @@ settled-push nue items item rules all new =
     (IsSettled-more nue (rules_of items) (rules_of (items ++ item ∷ [])) item e new)
 
 -- where no rank of a section is refused, none is
-pub false-left : (a b : Bool) → (a || b) ≡ false → a ≡ false
-false-left false b h = refl
-false-left true b h = cc
-
-pub false-right : (a b : Bool) → (a || b) ≡ false → b ≡ false
-false-right false b h = h
-false-right true b h = cc
-
 none-below : (n : ℕ) (test : ℕ → Bool) → some_below n test ≡ false → (k : ℕ) → k < n → test k ≡ false
 none-below zero test none k below = absurd (omega arith)
 none-below (suc n) test none k below =
@@ -143,22 +129,10 @@ or_rule-there rule.World b there gone = cc
 or_rule-there (rule.Mod parent k) b there gone = cc
 or_rule-there (rule.Div parent k) b there gone = cc
 
-split-there : (s : Stmt) (comm : ℕ) → HasRule s → is_split_of s comm ≡ true → split_rule s comm ≡ rule.Absent → ⊥
-split-there (stmt.Split split by) comm has is gone = has (sym (rw is refl) ∙ gone)
-split-there (stmt.Bytes reg bytes) comm has is gone = absurd (false≢true is)
-split-there (stmt.Fill reg len start) comm has is gone = absurd (false≢true is)
-split-there (stmt.RankOf reg ty) comm has is gone = absurd (false≢true is)
-split-there (stmt.Apply op ty dst src) comm has is gone = absurd (false≢true is)
-split-there (stmt.Send peer reg) comm has is gone = absurd (false≢true is)
-split-there (stmt.Post peer reg) comm has is gone = absurd (false≢true is)
-split-there (stmt.Recv peer reg len) comm has is gone = absurd (false≢true is)
-split-there (stmt.Print reg form) comm has is gone = absurd (false≢true is)
-split-there (stmt.Barrier place) comm has is gone = absurd (false≢true is)
-split-there (stmt.Bcast place root reg len) comm has is gone = absurd (false≢true is)
-split-there (stmt.Reduce place root op ty dst src) comm has is gone = absurd (false≢true is)
-split-there (stmt.Allreduce place op ty dst src) comm has is gone = absurd (false≢true is)
-split-there (stmt.Repeat times end) comm has is gone = absurd (false≢true is)
-split-there (stmt.End start) comm has is gone = absurd (false≢true is)
+split-there : (g : Group) (comm : ℕ) → HasRule g → is_split_of g comm ≡ true → split_rule g comm ≡ rule.Absent → ⊥
+split-there (group.Split split by) comm has is gone = has (sym (rw is refl) ∙ gone)
+split-there group.World comm has is gone = absurd (false≢true is)
+split-there (group.Of place) comm has is gone = absurd (false≢true is)
 
 or-cases : (a b : Bool) → (a || b) ≡ true → (a ≡ true) ⊎ (b ≡ true)
 or-cases true b h = inl refl
@@ -168,52 +142,40 @@ first-there : (past : List Item) (rank comm : ℕ) → HaveRules past → has_sp
 first-there [] rank comm have is = absurd (false≢true is)
 first-there (item ∷ past) rank comm have is = λ gone.
     let more = ap (λ (items : List Item). first_split items comm) (reverse-append (item ∷ []) past) ∙ first_split-more (reverse past) item comm in
-    elim (or-cases (has_split past rank comm) (has_rank item.who rank && is_split_of item.stmt comm) is) [
+    elim (or-cases (has_split past rank comm) (has_rank item.who rank && is_split_of (effect_of item.stmt).group comm) is) [
       | inl before ↦
           let there = first-there past rank comm have.0 before in
-          there (sym (or_rule-kept (first_split (reverse past) comm) (split_rule item.stmt comm) there) ∙ sym more ∙ gone)
-      | inr here ↦ or_rule-there (first_split (reverse past) comm) (split_rule item.stmt comm) (split-there item.stmt comm have.1 (and_parts (has_rank item.who rank) (is_split_of item.stmt comm) here).1) (sym more ∙ gone)
+          there (sym (or_rule-kept (first_split (reverse past) comm) (split_rule (effect_of item.stmt).group comm) there) ∙ sym more ∙ gone)
+      | inr here ↦ or_rule-there (first_split (reverse past) comm) (split_rule (effect_of item.stmt).group comm) (split-there (effect_of item.stmt).group comm have.1 (and_parts (has_rank item.who rank) (is_split_of (effect_of item.stmt).group comm) here).1) (sym more ∙ gone)
     ]
 
 world-there : rule.World ≡ rule.Absent → ⊥
 world-there gone = cc
 
 -- the communicator that a statement needs has a rule, where a rank has split it
-needed-there : (items : List Item) (s : Stmt) (rank c : ℕ) → HaveRules (reverse items) → (c ≡ 0) ⊎ (has_split (reverse items) rank c ≡ true) → c < 16 → rule_of (rules_of items) c ≡ rule.Absent → ⊥
-needed-there items s rank zero have split low gone = world-there gone
-needed-there items s rank (suc c) have split low gone =
+needed-there : (items : List Item) (rank c : ℕ) → HaveRules (reverse items) → (c ≡ 0) ⊎ (has_split (reverse items) rank c ≡ true) → c < 16 → rule_of (rules_of items) c ≡ rule.Absent → ⊥
+needed-there items rank zero have split low gone = world-there gone
+needed-there items rank (suc c) have split low gone =
     elim split [
       | inl none ↦ absurd (omega (arith, none))
       | inr is ↦
           first-there (reverse items) rank (suc c) have is (ap (λ (list : List Item). first_split list (suc c)) (reverse-reverse items) ∙ sym (split-at items (suc c) (omega arith) low) ∙ gone)
     ]
 
-split-cases : (split : ℕ → Bool) (s : Stmt) → is_not_split split s ≡ false → (comm_needed s ≡ 0) ⊎ (split (comm_needed s) ≡ true)
-split-cases split s none =
-    elim (eqb_tells (comm_needed s) 0) [
+split-cases : (split : ℕ → Bool) (g : Group) → is_not_split split g ≡ false → (comm_needed g ≡ 0) ⊎ (split (comm_needed g) ≡ true)
+split-cases split g none =
+    elim (eqb_tells (comm_needed g) 0) [
       | inl same ↦ inl same.1
-      | inr other ↦ inr (not-false (split (comm_needed s)) (and-false (not (eqb (comm_needed s) 0)) (not (split (comm_needed s))) (ap not other.0) none))
+      | inr other ↦ inr (not-false (split (comm_needed g)) (and-false (not (eqb (comm_needed g) 0)) (not (split (comm_needed g))) (ap not other.0) none))
     ]
 
 low-known : (version : Version) (comm : ℕ) → nat_lt (last_comm version) comm ≡ false → comm < 16
 low-known version comm known = omega (arith, ltb-false (last_comm version) comm known, last-within version)
 
-needed-low : (s : Stmt) (version : Version) (run : SetupView) → is_unknown version run s ≡ false → comm_needed s < 16
-needed-low (stmt.Barrier comm) version run known = low-known version comm known
-needed-low (stmt.Bcast comm root reg len) version run known = low-known version comm known
-needed-low (stmt.Reduce comm root op ty dst src) version run known = low-known version comm known
-needed-low (stmt.Allreduce comm op ty dst src) version run known = low-known version comm known
-needed-low (stmt.Split comm by) version run known = let ok = splittable version run comm by known in omega (arith, ok.below, ok.top)
-needed-low (stmt.Bytes reg bytes) version run known = lit< tt
-needed-low (stmt.Fill reg len start) version run known = lit< tt
-needed-low (stmt.RankOf reg ty) version run known = lit< tt
-needed-low (stmt.Apply op ty dst src) version run known = lit< tt
-needed-low (stmt.Send peer reg) version run known = lit< tt
-needed-low (stmt.Post peer reg) version run known = lit< tt
-needed-low (stmt.Recv peer reg len) version run known = lit< tt
-needed-low (stmt.Print reg form) version run known = lit< tt
-needed-low (stmt.Repeat times end) version run known = lit< tt
-needed-low (stmt.End start) version run known = lit< tt
+needed-low : (g : Group) (version : Version) (run : SetupView) → is_unknown version run g ≡ false → comm_needed g < 16
+needed-low group.World version run known = lit< tt
+needed-low (group.Of comm) version run known = low-known version comm known
+needed-low (group.Split comm by) version run known = let ok = splittable version run comm by known in omega (arith, ok.below, ok.top)
 
 peer-within : (nue : ℕ) (p : Peer) → 1 ≤ nue → IsWithin nue p → (caller : ℕ) → peer_of nue p caller < nue
 peer-within nue (peer.Abs rank) some within caller = within
@@ -221,29 +183,29 @@ peer-within nue (peer.Plus up) some within caller = omega arith
 peer-within nue (peer.Minus down) some within caller = omega arith
 
 -- the other rank of a message is one of the run, where a rank that is named is one
-peer-below : (nue : ℕ) (s : Stmt) → 1 ≤ nue → IsAimed nue s → (rank : ℕ) → HasPeer nue s rank
-peer-below nue (stmt.Send other reg) some aimed rank = peer-within nue other some aimed rank
-peer-below nue (stmt.Post other reg) some aimed rank = peer-within nue other some aimed rank
-peer-below nue (stmt.Recv other reg len) some aimed rank = peer-within nue other some aimed rank
-peer-below nue _ some aimed rank = tt
+peer-below : (nue : ℕ) (o : Option Peer) → 1 ≤ nue → IfSome o (IsWithin nue) → (rank : ℕ) → IfSome o (λ peer. peer_of nue peer rank < nue)
+peer-below nue None some aimed rank = tt
+peer-below nue (Some other) some aimed rank = peer-within nue other some aimed rank
 
 -- a statement that the checks of a line have not refused is settled
-pub settled-new : (version : Version) (nue : ℕ) (items : List Item) (item : Item) → 1 ≤ nue → IsAimed nue item.stmt → HaveRules (reverse items) → is_unknown version (run_of nue (reverse items)) item.stmt ≡ false
-    → some_rank nue (Some item.who) (refuses check.SelfMessage nue (reverse items) item.stmt) ≡ false
-    → some_rank nue (Some item.who) (refuses check.RootRange nue (reverse items) item.stmt) ≡ false
-    → some_rank nue (Some item.who) (refuses check.NotSplit nue (reverse items) item.stmt) ≡ false
+pub settled-new : (version : Version) (nue : ℕ) (items : List Item) (item : Item) → 1 ≤ nue → IsAimed nue (effect_of item.stmt) → HaveRules (reverse items) → is_unknown version (run_of nue (reverse items)) (effect_of item.stmt).group ≡ false
+    → some_rank nue (Some item.who) (refuses kind.SelfMessage nue (reverse items) (effect_of item.stmt)) ≡ false
+    → some_rank nue (Some item.who) (refuses kind.RankRange nue (reverse items) (effect_of item.stmt)) ≡ false
+    → some_rank nue (Some item.who) (refuses kind.NotSplit nue (reverse items) (effect_of item.stmt)) ≡ false
     → IsSettled nue (rules_of items) item
-settled-new version nue items item some aimed have known other rooted split = record {
-  below = λ rank below has. peer-below nue item.stmt some aimed rank;
-  other = λ rank below has. none-of nue item.who (refuses check.SelfMessage nue (reverse items) item.stmt) other rank below has;
-  present = λ rank below has.
-      needed-there items item.stmt rank (comm_needed item.stmt) have
-      (split-cases (has_split (reverse items) rank) item.stmt (none-of nue item.who (refuses check.NotSplit nue (reverse items) item.stmt) split rank below has))
-      (needed-low item.stmt version (run_of nue (reverse items)) known);
-  rooted = λ rank below has.
-      subst (λ (run : SetupView). has_no_root run item.stmt rank ≡ false) (run-straight nue items)
-      (none-of nue item.who (refuses check.RootRange nue (reverse items) item.stmt) rooted rank below has);
-}
+settled-new version nue items item some aimed have known other rooted split =
+    let e = effect_of item.stmt in
+    record {
+      below = λ rank below has. peer-below nue e.peer some aimed rank;
+      other = λ rank below has. none-of nue item.who (refuses kind.SelfMessage nue (reverse items) e) other rank below has;
+      present = λ rank below has.
+          needed-there items rank (comm_needed e.group) have
+          (split-cases (has_split (reverse items) rank) e.group (none-of nue item.who (refuses kind.NotSplit nue (reverse items) e) split rank below has))
+          (needed-low e.group version (run_of nue (reverse items)) known);
+      rooted = λ rank below has.
+          subst (λ (run : SetupView). has_no_root run e rank ≡ false) (run-straight nue items)
+          (none-of nue item.who (refuses kind.RankRange nue (reverse items) e) rooted rank below has);
+    }
 
 parted-there : (r : CommRule) → IsParted r → r ≡ rule.Absent → ⊥
 parted-there rule.Absent made gone = absurd made
@@ -251,22 +213,10 @@ parted-there rule.World made gone = absurd made
 parted-there (rule.Mod parent k) made gone = cc
 parted-there (rule.Div parent k) made gone = cc
 
-pub made-rule : (s : Stmt) → IsMade s → HasRule s
-made-rule (stmt.Split comm by) made = parted-there by made.1
-made-rule (stmt.Bytes reg bytes) made = tt
-made-rule (stmt.Fill reg len start) made = tt
-made-rule (stmt.RankOf reg ty) made = tt
-made-rule (stmt.Apply op ty dst src) made = tt
-made-rule (stmt.Send peer reg) made = tt
-made-rule (stmt.Post peer reg) made = tt
-made-rule (stmt.Recv peer reg len) made = tt
-made-rule (stmt.Print reg form) made = tt
-made-rule (stmt.Barrier comm) made = tt
-made-rule (stmt.Bcast comm root reg len) made = tt
-made-rule (stmt.Reduce comm root op ty dst src) made = tt
-made-rule (stmt.Allreduce comm op ty dst src) made = tt
-made-rule (stmt.Repeat times end) made = tt
-made-rule (stmt.End start) made = tt
+pub made-rule : (g : Group) → IsSplitMade g → HasRule g
+made-rule (group.Split comm by) made = parted-there by made.1
+made-rule group.World made = tt
+made-rule (group.Of comm) made = tt
 
 pub settled-with_ends : (nue n : ℕ) (comms : List CommRule) (items : List Item) → (rule_of comms 0 ≡ rule.Absent → ⊥) → All (IsSettled nue comms) items → All (IsSettled nue comms) (with_ends n items)
 settled-with_ends nue n comms items world all =
@@ -280,18 +230,27 @@ settled-with_ends nue n comms items world all =
 pub world-present : (items : List Item) → rule_of (rules_of items) 0 ≡ rule.Absent → ⊥
 world-present items gone = world-there gone
 
--- what each check has not refused
-pub passed-all : (nue : ℕ) (past : List Item) (who : Option Who) (s : Stmt) → some_rank nue who (refuses check.RootRange nue past s) ≡ false → some_rank nue who (refuses check.SelfMessage nue past s) ≡ false
-    → some_rank nue who (refuses check.NotSplit nue past s) ≡ false → some_rank nue who (refuses check.Unset nue past s) ≡ false → some_rank nue who (refuses check.Shape nue past s) ≡ false
-    → some_rank nue who (refuses check.TooManyOps nue past s) ≡ false → some_rank nue who (refuses check.TooLong nue past s) ≡ false
-    → (check : RankCheck) → some_rank nue who (refuses check nue past s) ≡ false
-passed-all nue past who s a b c d e f g check.RootRange = a
-passed-all nue past who s a b c d e f g check.SelfMessage = b
-passed-all nue past who s a b c d e f g check.NotSplit = c
-passed-all nue past who s a b c d e f g check.Unset = d
-passed-all nue past who s a b c d e f g check.Shape = e
-passed-all nue past who s a b c d e f g check.TooManyOps = f
-passed-all nue past who s a b c d e f g check.TooLong = g
+-- a statement without a fault has none for a rank of its section
+pub passed-all : (p : Progress) (e : Effect) → IsSound p e → (kind : FaultKind) → is_refused kind p e ≡ false
+passed-all p e sound kind.RankRange = sound.rooted
+passed-all p e sound kind.SelfMessage = sound.other
+passed-all p e sound kind.NotSplit = sound.split
+passed-all p e sound kind.Unset = sound.set
+passed-all p e sound kind.Shape = sound.shaped
+passed-all p e sound kind.TooManyOps = sound.worked
+passed-all p e sound kind.TooLong = sound.printed
+passed-all p e sound kind.NotText = nobody p.nue p.section (λ rank. false) (λ rank. refl)
+passed-all p e sound kind.UnknownStatement = nobody p.nue p.section (λ rank. false) (λ rank. refl)
+passed-all p e sound kind.WrongCount = nobody p.nue p.section (λ rank. false) (λ rank. refl)
+passed-all p e sound kind.BadNumber = nobody p.nue p.section (λ rank. false) (λ rank. refl)
+passed-all p e sound kind.BadHex = nobody p.nue p.section (λ rank. false) (λ rank. refl)
+passed-all p e sound kind.BadName = nobody p.nue p.section (λ rank. false) (λ rank. refl)
+passed-all p e sound kind.UnknownComm = nobody p.nue p.section (λ rank. false) (λ rank. refl)
+passed-all p e sound kind.NoSection = nobody p.nue p.section (λ rank. false) (λ rank. refl)
+passed-all p e sound kind.UnclosedRepeat = nobody p.nue p.section (λ rank. false) (λ rank. refl)
+passed-all p e sound kind.StrayEnd = nobody p.nue p.section (λ rank. false) (λ rank. refl)
+passed-all p e sound kind.TooDeep = nobody p.nue p.section (λ rank. false) (λ rank. refl)
+passed-all p e sound kind.TooManyNames = nobody p.nue p.section (λ rank. false) (λ rank. refl)
 
 pub rules-low : (items : List Item) (comm : ℕ) → 1 ≤ comm → first_split items comm ≡ rule.Absent → rule_of (rules_of items) comm ≡ rule.Absent
 rules-low items comm some none =

@@ -1,23 +1,25 @@
 -- The tallies before the first statement, and after one more.
-use Rattle.std.proofs.Common.{◌≡◌, ℕ, ◌+◌, ◌*◌, ◌<◌, Bool, true, false, ◌||◌, cond, eqb, ltb, min, List, [], ◌∷◌, ◌++◌, length, get_or, set, take, slice_set, is_none, unwrap_or, replicate, Option, Some, None, refl, sym, ap, ◌∙◌, arith, subst, inl, inr}
+use Rattle.std.proofs.Common.{◌≡◌, ℕ, ◌+◌, ◌*◌, ◌<◌, Bool, true, false, ◌||◌, cond, eqb, ltb, min, List, [], ◌∷◌, ◌++◌, length, get_or, set, take, slice_set, is_none, replicate, Option, Some, None, refl, sym, ap, ◌∙◌, arith, subst, inl, inr}
 use Rattle.std.proofs.Math.Path.{fun_ext}
 use Rattle.std.proofs.lemmas.Bool.Decides.{eqb_tells, nat_tests}
 use Rattle.std.proofs.lemmas.Bool.{cases_lt}
 use Rattle.std.proofs.lemmas.List.{length-replicate, length-set, take-append-le, take_all, get_or-set_other, get_or-replicate, get_or_append_left, get_or_push, get_or_past}
 use Rattle.std.proofs.lemmas.Grind.{get_or-set_at}
-use Rattle.std.specs.Option.{option_or}
+use Rattle.std.specs.Option.{option_map_or, option_or}
 use Rattle.std.specs.Prelude.{IfSome}
-use Rattle.scc_base.specs.Setups.{SetupView}
-use Rattle.script_reader.specs.declared.checks.RankCheck.{RankCheck}
-use Rattle.script_reader.specs.declared.checks.RankCheck.TheVariants as check
+use Rattle.script_reader.specs.declared.effect.Effect.{Effect}
+use Rattle.script_reader.specs.declared.effect.Group.{Group}
+use Rattle.script_reader.specs.declared.effect.Group.TheVariants as group
+use Rattle.script_reader.specs.declared.effect.Target.{Target}
+use Rattle.script_reader.specs.declared.fault.FaultKind.{FaultKind}
+use Rattle.script_reader.specs.declared.fault.FaultKind.TheVariants as kind
 use Rattle.script_reader.specs.declared.script.Item.{Item}
-use Rattle.script_reader.specs.declared.script.Stmt.{Stmt}
-use Rattle.script_reader.specs.declared.script.Stmt.TheVariants as stmt
 use Rattle.script_reader.specs.declared.tally.Setting.{Setting}
 use Rattle.script_reader.specs.declared.tally.Tally.{Tally}
-use Rattle.script_reader.specs.Checks.{cost_of, is_at, is_misshapen, is_not_split, is_split_of, is_unset, length_at, open_of, operations, posts_too_much, printed, prints, prints_too_much, refuses, run_of, set_by, setting, sets_to, turns_in}
+use Rattle.script_reader.specs.Checks.{cost_of, counts_at, is_misshapen, is_not_split, is_unset, length_at, open_of, operations, posts_too_much, printed, prints, prints_too_much, refuses, run_of, set_by, set_if, sets_to, turns_in}
+use Rattle.script_reader.specs.Effects.{effect_of, is_split_of}
 use Rattle.script_reader.specs.Script.{has_rank}
-use Rattle.script_reader.specs.Tally.{AreTallies, IsMade, IsTally, empty_tally, length_in, noted, noted_at, refuses_by, with_length, with_split}
+use Rattle.script_reader.specs.Tally.{AreTallies, IsMade, IsSplitMade, IsTally, empty_tally, length_in, noted, noted_at, refuses_by, with_length, with_split}
 
 -- a default stands everywhere in a list of defaults
 defaults : {A : Type 0} (n k : ℕ) (d : A) → get_or (replicate n d) k d ≡ d
@@ -83,27 +85,14 @@ with_length-room : (lengths : List (Option ℕ)) (set : Option Setting) → leng
 with_length-room lengths None = refl
 with_length-room lengths (Some set) = set-room lengths set.reg set.len (get_or lengths set.reg None)
 
-placed_cond : (b : Bool) (x y : Option Setting) → IsPlaced x → IsPlaced y → IsPlaced (cond b x y)
-placed_cond true x y px py = px
-placed_cond false x y px py = py
-
 -- the register that a statement sets has a place
-set-placed : (stmt : Stmt) (run : SetupView) (had : ℕ → Option ℕ) (rank : ℕ) → IsMade stmt → IsPlaced (set_by run had stmt rank)
-set-placed (stmt.Bytes reg bytes) run had rank made = made
-set-placed (stmt.Fill reg len start) run had rank made = made
-set-placed (stmt.RankOf reg ty) run had rank made = made
-set-placed (stmt.Apply op ty dst src) run had rank made = tt
-set-placed (stmt.Send peer reg) run had rank made = tt
-set-placed (stmt.Post peer reg) run had rank made = tt
-set-placed (stmt.Recv peer reg len) run had rank made = made
-set-placed (stmt.Print reg form) run had rank made = tt
-set-placed (stmt.Barrier comm) run had rank made = tt
-set-placed (stmt.Split comm rule) run had rank made = tt
-set-placed (stmt.Bcast comm root reg len) run had rank made = placed_cond (is_at run comm rank root) None (setting reg len) tt made
-set-placed (stmt.Reduce comm root op ty dst src) run had rank made = placed_cond (is_at run comm rank root) (setting dst (unwrap_or (had src) 0)) None made tt
-set-placed (stmt.Allreduce comm op ty dst src) run had rank made = made
-set-placed (stmt.Repeat times end) run had rank made = tt
-set-placed (stmt.End start) run had rank made = tt
+placed-if : (b : Bool) (had : ℕ → Option ℕ) (t : Target) → t.reg < 256 → IsPlaced (set_if had t b)
+placed-if true had t placed = placed
+placed-if false had t placed = tt
+
+set-placed : (o : Option Target) (had : ℕ → Option ℕ) (counts : Target → Bool) → IfSome o (λ target. target.reg < 256) → IsPlaced (option_map_or (λ target. set_if had target (counts target)) o None)
+set-placed None had counts made = tt
+set-placed (Some target) had counts made = placed-if (counts target) had target made
 
 -- the splits with one more
 mark-split : (splits : List Bool) (split comm : ℕ) → split < length splits → get_or (slice_set splits split true) comm false ≡ (get_or splits comm false || eqb split comm)
@@ -113,66 +102,45 @@ mark-split splits split comm within =
       | inr other ↦ rw other.0 (get_or-set_other splits split comm true false (λ e. other.1 (sym e)) ∙ sym (or_false _))
     ]
 
-split-marked : (stmt : Stmt) (splits : List Bool) (comm : ℕ) → length splits ≡ 256 → IsMade stmt → get_or (with_split splits stmt) comm false ≡ (get_or splits comm false || is_split_of stmt comm)
-split-marked (stmt.Split split rule) splits comm long made = mark-split splits split comm (omega (arith, long, made.0))
-split-marked (stmt.Bytes reg bytes) splits comm long made = sym (or_false _)
-split-marked (stmt.Fill reg len start) splits comm long made = sym (or_false _)
-split-marked (stmt.RankOf reg ty) splits comm long made = sym (or_false _)
-split-marked (stmt.Apply op ty dst src) splits comm long made = sym (or_false _)
-split-marked (stmt.Send peer reg) splits comm long made = sym (or_false _)
-split-marked (stmt.Post peer reg) splits comm long made = sym (or_false _)
-split-marked (stmt.Recv peer reg len) splits comm long made = sym (or_false _)
-split-marked (stmt.Print reg form) splits comm long made = sym (or_false _)
-split-marked (stmt.Barrier comm) splits place long made = sym (or_false _)
-split-marked (stmt.Bcast comm root reg len) splits place long made = sym (or_false _)
-split-marked (stmt.Reduce comm root op ty dst src) splits place long made = sym (or_false _)
-split-marked (stmt.Allreduce comm op ty dst src) splits place long made = sym (or_false _)
-split-marked (stmt.Repeat times end) splits comm long made = sym (or_false _)
-split-marked (stmt.End start) splits comm long made = sym (or_false _)
+split-marked : (g : Group) (splits : List Bool) (comm : ℕ) → length splits ≡ 256 → IsSplitMade g → get_or (with_split splits g) comm false ≡ (get_or splits comm false || is_split_of g comm)
+split-marked (group.Split split rule) splits comm long made = mark-split splits split comm (omega (arith, long, made.0))
+split-marked group.World splits comm long made = sym (or_false _)
+split-marked (group.Of place) splits comm long made = sym (or_false _)
 
-with_split-room : (stmt : Stmt) (splits : List Bool) → length (with_split splits stmt) ≡ length splits
-with_split-room (stmt.Split split rule) splits = length-set splits split true
-with_split-room (stmt.Bytes reg bytes) splits = refl
-with_split-room (stmt.Fill reg len start) splits = refl
-with_split-room (stmt.RankOf reg ty) splits = refl
-with_split-room (stmt.Apply op ty dst src) splits = refl
-with_split-room (stmt.Send peer reg) splits = refl
-with_split-room (stmt.Post peer reg) splits = refl
-with_split-room (stmt.Recv peer reg len) splits = refl
-with_split-room (stmt.Print reg form) splits = refl
-with_split-room (stmt.Barrier comm) splits = refl
-with_split-room (stmt.Bcast comm root reg len) splits = refl
-with_split-room (stmt.Reduce comm root op ty dst src) splits = refl
-with_split-room (stmt.Allreduce comm op ty dst src) splits = refl
-with_split-room (stmt.Repeat times end) splits = refl
-with_split-room (stmt.End start) splits = refl
+with_split-room : (g : Group) (splits : List Bool) → length (with_split splits g) ≡ length splits
+with_split-room (group.Split split rule) splits = length-set splits split true
+with_split-room group.World splits = refl
+with_split-room (group.Of place) splits = refl
 
 capped : (a b c x m : ℕ) → a ≡ min b m → c ≡ b + x → min (a + x) m ≡ min c m
 capped a b c x m is more = omega arith
 
 -- the lengths after a statement of the rank
-lengths-noted : (item : Item) (tally : Tally) (nue : ℕ) (past : List Item) (rank : ℕ) → has_rank item.who rank ≡ true → IsMade item.stmt → IsTally tally nue past rank → (reg : ℕ)
-    → get_or (with_length tally.lengths (set_by (run_of nue past) (length_in tally) item.stmt rank)) reg None ≡ length_at nue (item ∷ past) rank reg
+lengths-noted : (item : Item) (tally : Tally) (nue : ℕ) (past : List Item) (rank : ℕ) → has_rank item.who rank ≡ true → IsMade (effect_of item.stmt) → IsTally tally nue past rank → (reg : ℕ)
+    → get_or (with_length tally.lengths (set_by (run_of nue past) (length_in tally) (effect_of item.stmt) rank)) reg None ≡ length_at nue (item ∷ past) rank reg
 lengths-noted item tally nue past rank has made t reg =
     let run = run_of nue past in
-    let placed = set-placed item.stmt run (length_in tally) rank made in
-    length-set_once tally.lengths (set_by run (length_in tally) item.stmt rank) reg t.lengths_room placed
-    ∙ ap (λ o. option_or o (sets_to (set_by run (length_in tally) item.stmt rank) reg)) (t.lengths_are reg)
-    ∙ ap (λ (had : ℕ → Option ℕ). option_or (length_at nue past rank reg) (sets_to (set_by run had item.stmt rank) reg)) (fun_ext t.lengths_are)
+    let e = effect_of item.stmt in
+    let placed = set-placed e.sets (length_in tally) (λ target. counts_at run e rank target.at) made.set in
+    length-set_once tally.lengths (set_by run (length_in tally) e rank) reg t.lengths_room placed
+    ∙ ap (λ o. option_or o (sets_to (set_by run (length_in tally) e rank) reg)) (t.lengths_are reg)
+    ∙ ap (λ (had : ℕ → Option ℕ). option_or (length_at nue past rank reg) (sets_to (set_by run had e rank) reg)) (fun_ext t.lengths_are)
     ∙ sym (rw has refl)
 
-noted-tally : (item : Item) (tally : Tally) (nue : ℕ) (past : List Item) (rank : ℕ) (has : Bool) → has_rank item.who rank ≡ has → IsMade item.stmt → IsTally tally nue past rank
-    → IsTally (cond has (noted (run_of nue past) (turns_in (open_of past)) item.stmt rank tally) tally) nue (item ∷ past) rank
-noted-tally item tally nue past rank true has made t = record {
-  operations_are = capped tally.operations (operations nue past rank) (operations nue (item ∷ past) rank) (turns_in (open_of past) * cost_of (run_of nue past) item.stmt rank) 100001 t.operations_are (rw has refl);
-  printed_are =
-      ap (λ (had : ℕ → Option ℕ). min (tally.printed + turns_in (open_of past) * prints had item.stmt) 1048577) (fun_ext t.lengths_are)
-      ∙ capped tally.printed (printed nue past rank) (printed nue (item ∷ past) rank) (turns_in (open_of past) * prints (length_at nue past rank) item.stmt) 1048577 t.printed_are (rw has refl);
-  lengths_are = lengths-noted item tally nue past rank has made t;
-  splits_are = λ comm. split-marked item.stmt tally.splits comm t.splits_room made ∙ ap (λ b. b || is_split_of item.stmt comm) (t.splits_are comm) ∙ sym (rw has refl);
-  lengths_room = with_length-room tally.lengths (set_by (run_of nue past) (length_in tally) item.stmt rank) ∙ t.lengths_room;
-  splits_room = with_split-room item.stmt tally.splits ∙ t.splits_room;
-}
+noted-tally : (item : Item) (tally : Tally) (nue : ℕ) (past : List Item) (rank : ℕ) (has : Bool) → has_rank item.who rank ≡ has → IsMade (effect_of item.stmt) → IsTally tally nue past rank
+    → IsTally (cond has (noted (run_of nue past) (turns_in (open_of past)) (effect_of item.stmt) rank tally) tally) nue (item ∷ past) rank
+noted-tally item tally nue past rank true has made t =
+    let e = effect_of item.stmt in
+    record {
+      operations_are = capped tally.operations (operations nue past rank) (operations nue (item ∷ past) rank) (turns_in (open_of past) * cost_of (run_of nue past) e.cost rank) 100001 t.operations_are (rw has refl);
+      printed_are =
+          ap (λ (had : ℕ → Option ℕ). min (tally.printed + turns_in (open_of past) * prints had e) 1048577) (fun_ext t.lengths_are)
+          ∙ capped tally.printed (printed nue past rank) (printed nue (item ∷ past) rank) (turns_in (open_of past) * prints (length_at nue past rank) e) 1048577 t.printed_are (rw has refl);
+      lengths_are = lengths-noted item tally nue past rank has made t;
+      splits_are = λ comm. split-marked e.group tally.splits comm t.splits_room made.split ∙ ap (λ b. b || is_split_of e.group comm) (t.splits_are comm) ∙ sym (rw has refl);
+      lengths_room = with_length-room tally.lengths (set_by (run_of nue past) (length_in tally) e rank) ∙ t.lengths_room;
+      splits_room = with_split-room e.group tally.splits ∙ t.splits_room;
+    }
 noted-tally item tally nue past rank false has made t = record {
   operations_are = let same : operations nue (item ∷ past) rank ≡ operations nue past rank + 0 = rw has refl in omega (arith, t.operations_are);
   printed_are = let same : printed nue (item ∷ past) rank ≡ printed nue past rank + 0 = rw has refl in omega (arith, t.printed_are);
@@ -183,8 +151,8 @@ noted-tally item tally nue past rank false has made t = record {
 }
 
 -- the tallies after one more item
-pub AreTallies-more : (tallies after : List Tally) (nue : ℕ) (past : List Item) (item : Item) → IsMade item.stmt → AreTallies tallies nue past
-    → ((rank : ℕ) (d : Tally) → rank < nue → get_or after rank d ≡ noted_at (run_of nue past) (turns_in (open_of past)) item rank (get_or tallies rank d)) → AreTallies after nue (item ∷ past)
+pub AreTallies-more : (tallies after : List Tally) (nue : ℕ) (past : List Item) (item : Item) → IsMade (effect_of item.stmt) → AreTallies tallies nue past
+    → ((rank : ℕ) (d : Tally) → rank < nue → get_or after rank d ≡ noted_at (run_of nue past) (turns_in (open_of past)) item.who (effect_of item.stmt) rank (get_or tallies rank d)) → AreTallies after nue (item ∷ past)
 AreTallies-more tallies after nue past item made are noted rank d below =
     subst (λ t. IsTally t nue (item ∷ past) rank) (sym (noted rank d below)) (noted-tally item (get_or tallies rank d) nue past rank (has_rank item.who rank) refl made (are rank d below))
 
@@ -195,15 +163,14 @@ written-back n xs ys same = take-append-le n xs ys (omega arith) ∙ take_all n 
 over-cap : (a b x m : ℕ) → a ≡ min b (m + 1) → ltb m (a + x) ≡ ltb m (b + x)
 over-cap a b x m is = grind (arith, nat_tests)
 
--- a check over what is kept is the check over the statements
-pub refuses-same : (check : RankCheck) (tally : Tally) (nue : ℕ) (past : List Item) (stmt : Stmt) (rank : ℕ) → IsTally tally nue past rank
-    → refuses_by check (run_of nue past) tally (turns_in (open_of past)) stmt rank ≡ refuses check nue past stmt rank
-refuses-same check.RootRange tally nue past stmt rank t = refl
-refuses-same check.SelfMessage tally nue past stmt rank t = refl
-refuses-same check.NotSplit tally nue past stmt rank t = ap (λ (split : ℕ → Bool). is_not_split split stmt) (fun_ext t.splits_are)
-refuses-same check.Unset tally nue past stmt rank t = ap (λ (had : ℕ → Option ℕ). is_unset (run_of nue past) had stmt rank) (fun_ext t.lengths_are)
-refuses-same check.Shape tally nue past stmt rank t = ap (λ (had : ℕ → Option ℕ). is_misshapen (run_of nue past) had stmt rank) (fun_ext t.lengths_are)
-refuses-same check.TooManyOps tally nue past stmt rank t = over-cap tally.operations (operations nue past rank) (turns_in (open_of past) * cost_of (run_of nue past) stmt rank) 100000 t.operations_are
-refuses-same check.TooLong tally nue past stmt rank t =
-    ap (λ (had : ℕ → Option ℕ). posts_too_much had stmt || prints_too_much had tally.printed (turns_in (open_of past)) stmt) (fun_ext t.lengths_are)
-    ∙ ap (λ b. posts_too_much (length_at nue past rank) stmt || b) (over-cap tally.printed (printed nue past rank) (turns_in (open_of past) * prints (length_at nue past rank) stmt) 1048576 t.printed_are)
+-- a fault over what is kept is the fault over the statements
+pub refuses-same : (kind : FaultKind) (tally : Tally) (nue : ℕ) (past : List Item) (e : Effect) (rank : ℕ) → IsTally tally nue past rank
+    → refuses_by kind (run_of nue past) tally (turns_in (open_of past)) e rank ≡ refuses kind nue past e rank
+refuses-same kind.NotSplit tally nue past e rank t = ap (λ (split : ℕ → Bool). is_not_split split e.group) (fun_ext t.splits_are)
+refuses-same kind.Unset tally nue past e rank t = ap (λ (had : ℕ → Option ℕ). is_unset (run_of nue past) had e rank) (fun_ext t.lengths_are)
+refuses-same kind.Shape tally nue past e rank t = ap (λ (had : ℕ → Option ℕ). is_misshapen (run_of nue past) had e rank) (fun_ext t.lengths_are)
+refuses-same kind.TooManyOps tally nue past e rank t = over-cap tally.operations (operations nue past rank) (turns_in (open_of past) * cost_of (run_of nue past) e.cost rank) 100000 t.operations_are
+refuses-same kind.TooLong tally nue past e rank t =
+    ap (λ (had : ℕ → Option ℕ). posts_too_much had e || prints_too_much had tally.printed (turns_in (open_of past)) e) (fun_ext t.lengths_are)
+    ∙ ap (λ b. posts_too_much (length_at nue past rank) e || b) (over-cap tally.printed (printed nue past rank) (turns_in (open_of past) * prints (length_at nue past rank) e) 1048576 t.printed_are)
+refuses-same _ tally nue past e rank t = refl

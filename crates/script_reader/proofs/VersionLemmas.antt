@@ -34,12 +34,13 @@ use Rattle.script_reader.specs.declared.script.Who.{Who}
 use Rattle.script_reader.specs.declared.script.Who.TheVariants as who
 use Rattle.script_reader.specs.declared.version.Version.{Version}
 use Rattle.script_reader.specs.declared.version.Version.TheVariants as version
-use Rattle.script_reader.specs.Checks.{innermost, open_of, parent_of}
+use Rattle.script_reader.specs.Checks.{innermost, open_of}
+use Rattle.script_reader.specs.Effects.{effect_of, parent_of, split_rule}
 use Rattle.script_reader.specs.Faults.{◌>>=◌, Gives}
 use Rattle.script_reader.specs.Progress.{Progress, after, after_group, after_local, after_message, after_section, checked, named, open_section, past, peer_in, place, rank_said, register_of, rule_said, small, start}
 use Rattle.script_reader.specs.Reading.{at_end, at_line, begun, most_script_bytes, read_all_lines, read_as, read_line, read_lines, read_words, script_of}
 use Rattle.script_reader.specs.Said.{of_said, version_number, allreduce_said, alone, apply_said, barrier_said, bcast_said, bytes_said, colour_said, dash_of, fill_said, hex_said, name_said, number_said, operation_said, peer_said, range_said, type_said, values_said, group_said, numbers_said, post_said, print_said, ranks_said, rank_of_said, rcce_said, recv_said, reduce_said, register_said, repeat_said, said_of, section_said, send_said, span_said, split_said, ue_said, values_named}
-use Rattle.script_reader.specs.Script.{Script, first_split, rules_of, split_rule}
+use Rattle.script_reader.specs.Script.{Script, first_split, rules_of}
 use Rattle.script_reader.specs.Settled.{SplitsWorldAlone}
 use Rattle.script_reader.specs.Words.{is_text, line_count, lines_of, words_of}
 use Rattle.script_reader.proofs.EndLemmas.{rules-with_ends}
@@ -239,11 +240,11 @@ module _ (v : Version) where
 abbrev IsFlat : Progress → Type 0
 IsFlat p = (p.version ≡ version.One) × ((comm : ℕ) → parent_of (first_split p.items comm) ≡ 0)
 
-place-flat : (line : ℕ) (p : Progress) (s : Stmt) → IsFlat p → ((comm : ℕ) → parent_of (split_rule s comm) ≡ 0) → IfOk (place line p s) IsFlat
+place-flat : (line : ℕ) (p : Progress) (s : Stmt) → IsFlat p → ((comm : ℕ) → parent_of (split_rule (effect_of s).group comm) ≡ 0) → IfOk (place line p s) IsFlat
 place-flat line p s flat is =
-    then IsFlat (checked p s) _ (λ who.
+    then IsFlat (checked p (effect_of s)) _ (λ who.
     let item : Item = record { line = line; who = who; stmt = s } in
-    (flat.0, λ comm. ap parent_of (first_split-more p.items item comm) ∙ or_rule-either (λ (r : CommRule). parent_of r ≡ 0) (first_split p.items comm) (split_rule s comm) (flat.1 comm) (is comm)))
+    (flat.0, λ comm. ap parent_of (first_split-more p.items item comm) ∙ or_rule-either (λ (r : CommRule). parent_of r ≡ 0) (first_split p.items comm) (split_rule (effect_of s).group comm) (flat.1 comm) (is comm)))
 
 open-flat : (p : Progress) (ranks : Who) → IsFlat p → IfOk (open_section p ranks) IsFlat
 open-flat p ranks flat = either IsFlat (length (open_of (past p)) == 0) (Ok (record p { section = Some ranks })) (Err kind.UnclosedRepeat) flat tt

@@ -2,9 +2,9 @@
 use Rattle.std.proofs.Common.{◌≡◌, ℕ, ◌+◌, ◌≤◌, ◌==◌, Bool, true, false, if◌then◌else◌, Option, Some, None, List, [], ◌∷◌, ◌++◌, length, reverse, refl, sym, ap, ◌∙◌, subst, arith, lit≤, Result, Ok, Err, nat_lt}
 use Rattle.std.proofs.lemmas.Bool.{eqb-true, ltb-false}
 use Rattle.std.proofs.lemmas.List.{reverse-append}
-use Rattle.std.specs.Option.{option_map_or}
-use Rattle.std.specs.Prelude.{IfOk, ◌||◌}
-use Rattle.script_reader.specs.declared.checks.RankCheck.TheVariants as check
+use Rattle.std.specs.Option.{ok_or, option_map_or}
+use Rattle.std.specs.Prelude.{IfOk}
+use Rattle.script_reader.specs.declared.effect.Effect.{Effect}
 use Rattle.script_reader.specs.declared.fault.FaultKind.{FaultKind}
 use Rattle.script_reader.specs.declared.fault.FaultKind.TheVariants as kind
 use Rattle.script_reader.specs.declared.fault.ReadFault.{ReadFault}
@@ -25,15 +25,17 @@ use Rattle.script_reader.specs.declared.script.Stmt.TheVariants as stmt
 use Rattle.script_reader.specs.declared.script.Who.{Who}
 use Rattle.script_reader.specs.declared.script.Who.TheVariants as ranks
 use Rattle.script_reader.specs.declared.version.Version.{Version}
-use Rattle.script_reader.specs.Checks.{innermost, is_stray, is_too_deep, is_too_long, open_of, turns_in, turns_too_often}
+use Rattle.script_reader.specs.Checks.{innermost, is_stray, open_of}
 use Rattle.script_reader.specs.Closed.{AreMatched, AreWithin, Closes, HasPass, HavePasses, IsClosed, latest_section}
+use Rattle.script_reader.specs.Effects.{effect_of}
 use Rattle.script_reader.specs.Faults.{◌>>=◌}
-use Rattle.script_reader.specs.Progress.{Progress, after, after_group, after_local, after_message, after_section, checked, checked_in, fault_before, is_refused, named, open_section, past, peer_in, place, rank_said, register_of, rule_said, small, start}
+use Rattle.script_reader.specs.Progress.{Progress, after, after_group, after_local, after_message, after_section, checked, first_fault, named, open_section, past, peer_in, place, rank_said, register_of, rule_said, small, start}
 use Rattle.script_reader.specs.Reading.{at_end, at_line, begun, most_script_bytes, parse_script, read_all_lines, read_line, read_lines, read_words, script_of, version_of}
 use Rattle.script_reader.specs.Said.{said_of}
 use Rattle.script_reader.specs.Script.{Script}
 use Rattle.script_reader.specs.Words.{is_text, line_count, lines_of, words_of}
 use Rattle.script_reader.proofs.ClosedLemmas.{closed-of}
+use Rattle.script_reader.proofs.FaultLemmas.{IsSound, no-fault}
 use Rattle.script_reader.proofs.VersionLemmas.{IsPlain, said-plain}
 
 -- the lines so far: they name at most 64 registers, each end names the innermost repeat that is open before it, each repeat
@@ -68,35 +70,25 @@ either true x y one other = one
 either false x y one other = other
 
 -- what the checks of a line leave of names and of open repeats
-record IsPassed (p : Progress) (stmt : Stmt) (who : Who) : Type 0 where
+record IsPassed (p : Progress) (e : Effect) (who : Who) : Type 0 where
   few : length p.names ≤ 64
-  inside : is_stray (open_of (past p)) stmt ≡ false
+  inside : is_stray (open_of (past p)) e.nesting ≡ false
   here : p.section ≡ Some who
 
-unless : (b : Bool) (fault : FaultKind) (r : Result Who FaultKind) (F : Who → Type 0) → (b ≡ false → IfOk r F) → IfOk (if b then Err fault else r) F
-unless true fault r F given = tt
-unless false fault r F given = given refl
+section_passes : (p : Progress) (e : Effect) (section : Option Who) → p.section ≡ section → IsSound p e → IfOk (ok_or section kind.NoSection) (IsPassed p e)
+section_passes p e None here sound = tt
+section_passes p e (Some who) here sound = record { few = omega (arith, ltb-false 64 (length p.names) sound.few); inside = sound.inside; here = here }
 
-section_passes : (p : Progress) (stmt : Stmt) (section : Option Who) → p.section ≡ section → IfOk (checked_in p stmt section) (IsPassed p stmt)
-section_passes p stmt None here = tt
-section_passes p stmt (Some who) here =
-    unless (is_stray (open_of (past p)) stmt) kind.StrayEnd _ (IsPassed p stmt) (λ inside.
-    unless (is_too_deep (open_of (past p)) stmt) kind.TooDeep _ (IsPassed p stmt) (λ flat.
-    unless (turns_too_often (turns_in (open_of (past p))) stmt || is_refused check.TooManyOps p stmt) kind.TooManyOps _ (IsPassed p stmt) (λ worked.
-    unless (is_too_long stmt || is_refused check.TooLong p stmt) kind.TooLong _ (IsPassed p stmt) (λ short.
-    unless (nat_lt 64 (length p.names)) kind.TooManyNames (Ok who) (IsPassed p stmt) (λ few.
-    record { few = omega (arith, ltb-false 64 (length p.names) few); inside = inside; here = here })))))
+fault_passes : (p : Progress) (e : Effect) (fault : Option FaultKind) → first_fault p e ≡ fault → IfOk (option_map_or Err fault (ok_or p.section kind.NoSection)) (IsPassed p e)
+fault_passes p e None is = section_passes p e p.section refl (no-fault p e is)
+fault_passes p e (Some fault) is = tt
 
-fault_passes : (fault : Option FaultKind) (r : Result Who FaultKind) (F : Who → Type 0) → IfOk r F → IfOk (option_map_or Err fault r) F
-fault_passes None r F given = given
-fault_passes (Some fault) r F given = tt
+passes : (p : Progress) (e : Effect) → IfOk (checked p e) (IsPassed p e)
+passes p e = fault_passes p e (first_fault p e) refl
 
-passes : (p : Progress) (stmt : Stmt) → IfOk (checked p stmt) (IsPassed p stmt)
-passes p stmt = fault_passes (fault_before p stmt) (checked_in p stmt p.section) (IsPassed p stmt) (section_passes p stmt p.section refl)
-
-placed_in : (line : ℕ) (p : Progress) (stmt : Stmt) → IsLaid p → HasPass stmt → (is_stray (open_of (past p)) stmt ≡ false → Closes (open_of (past p)) stmt) → Keeps (place line p stmt)
+placed_in : (line : ℕ) (p : Progress) (stmt : Stmt) → IsLaid p → HasPass (effect_of stmt).nesting → (is_stray (open_of (past p)) (effect_of stmt).nesting ≡ false → Closes (open_of (past p)) (effect_of stmt).nesting) → Keeps (place line p stmt)
 placed_in line p stmt laid once closes =
-    bind_given (IsPassed p stmt) (checked p stmt) _ (passes p stmt) (λ who passed.
+    bind_given (IsPassed p (effect_of stmt)) (checked p (effect_of stmt)) _ (passes p (effect_of stmt)) (λ who passed.
     let item : Item = record { line = line; who = who; stmt = stmt } in
     let list : item ∷ past p ≡ reverse (p.items ++ item ∷ []) = sym (reverse-append p.items (item ∷ [])) in
     record {
@@ -118,7 +110,8 @@ renamed p q items section laid = record {
   here = λ some. ap (λ (l : List Item). latest_section (reverse l)) (sym items) ∙ laid.here (subst (λ (l : List Item). 1 ≤ length (open_of (reverse l))) (sym items) some) ∙ section;
 }
 
-placed : (line : ℕ) (p q : Progress) (stmt : Stmt) → p.items ≡ q.items → p.section ≡ q.section → IsLaid p → HasPass stmt → (is_stray (open_of (past q)) stmt ≡ false → Closes (open_of (past q)) stmt) → Keeps (place line q stmt)
+placed : (line : ℕ) (p q : Progress) (stmt : Stmt) → p.items ≡ q.items → p.section ≡ q.section → IsLaid p → HasPass (effect_of stmt).nesting
+    → (is_stray (open_of (past q)) (effect_of stmt).nesting ≡ false → Closes (open_of (past q)) (effect_of stmt).nesting) → Keeps (place line q stmt)
 placed line p q stmt items section laid once closes = placed_in line q stmt (renamed p q items section laid) once closes
 
 none_left : (repeats : List Open) → (length repeats == 0) ≡ true → 1 ≤ length repeats → ⊥

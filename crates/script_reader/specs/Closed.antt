@@ -1,23 +1,27 @@
 -- How the repeats of a script that was read are closed (this project's profile).
 use Rattle.std.specs.Prelude.{◌≡◌, ℕ, ◌<◌, ◌≤◌, List, [], ◌∷◌, length, reverse, slice_get, Option, Some, None}
 use Rattle.std.specs.Option.{option_map}
+use Rattle.script_reader.specs.declared.effect.Nesting.{Nesting}
+use Rattle.script_reader.specs.declared.effect.Nesting.TheVariants as nesting
 use Rattle.script_reader.specs.declared.repeats.Open.{Open}
 use Rattle.script_reader.specs.declared.script.Item.{Item}
 use Rattle.script_reader.specs.declared.script.Stmt.{Stmt}
 use Rattle.script_reader.specs.declared.script.Stmt.TheVariants as stmt
 use Rattle.script_reader.specs.declared.script.Who.{Who}
 use Rattle.script_reader.specs.Checks.{innermost, open_of}
+use Rattle.script_reader.specs.Effects.{effect_of}
 use Rattle.script_reader.specs.Script.{Script}
 
 -- where repeats are open, a statement that is an end names the innermost one; where none is, it is no end
-abbrev pub Closes : List Open → Stmt → Type 0
-Closes repeats (stmt.End start) = (1 ≤ length repeats) × (start ≡ innermost repeats)
-Closes repeats _ = Unit {0}
+abbrev pub Closes : List Open → Nesting → Type 0
+Closes repeats (nesting.Opens times) = Unit {0}
+Closes repeats (nesting.Closes start) = (1 ≤ length repeats) × (start ≡ innermost repeats)
+Closes repeats nesting.Stays = Unit {0}
 
 -- each end among these statements, the latest first, names the innermost repeat that is open before it
 abbrev pub AreMatched : List Item → Type 0
 AreMatched [] = Unit {0}
-AreMatched (item ∷ past) = AreMatched past × Closes (open_of past) item.stmt
+AreMatched (item ∷ past) = AreMatched past × Closes (open_of past) (effect_of item.stmt).nesting
 
 -- the statement at a place, if there is one
 abbrev pub stmt_at : List Item → ℕ → Option Stmt
@@ -37,15 +41,16 @@ abbrev pub AreWithin : List Item → Type 0
 AreWithin [] = Unit {0}
 AreWithin (item ∷ past) = AreWithin past × (1 ≤ length (open_of past) → latest_section past ≡ Some item.who)
 
--- a repeat is done at least once, and so is each one among these statements
-abbrev pub HasPass : Stmt → Type 0
-HasPass (stmt.Repeat times end) = 1 ≤ times
-HasPass _ = Unit {0}
+-- a repeat is done at least once
+abbrev pub HasPass : Nesting → Type 0
+HasPass (nesting.Opens times) = 1 ≤ times
+HasPass (nesting.Closes start) = Unit {0}
+HasPass nesting.Stays = Unit {0}
 
 -- each repeat among the statements is done at least once
 abbrev pub HavePasses : List Item → Type 0
 HavePasses [] = Unit {0}
-HavePasses (item ∷ past) = HavePasses past × HasPass item.stmt
+HavePasses (item ∷ past) = HavePasses past × HasPass (effect_of item.stmt).nesting
 
 -- no repeat is open behind the last statement of a script, each end is that of the innermost repeat that is open before it,
 -- each repeat has the place of its end, stands with it in one section, and is done at least once

@@ -1,12 +1,11 @@
 -- The fourth layer of the grammar: what stands after a line (this project's profile).
-use Rattle.std.specs.Prelude.{ℕ, Bool, true, ◌||◌, ◌==◌, nat_lt, min, if◌then◌else◌, List, [], ◌∷◌, ◌++◌, length, reverse, Option, Some, None, Result, Ok, Err}
-use Rattle.std.specs.List.{position_or_len}
-use Rattle.std.specs.Option.{option_map_or}
+use Rattle.std.specs.Prelude.{ℕ, Bool, true, false, ◌||◌, ◌==◌, is_none, nat_lt, min, if◌then◌else◌, List, [], ◌∷◌, ◌++◌, length, reverse, Option, Some, None, Result, Ok, Err}
+use Rattle.std.specs.List.{find, position_or_len}
+use Rattle.std.specs.Option.{ok_or, option_map_or}
 use Rattle.std.specs.Str.{bytes_eq}
 use Rattle.scc_base.specs.declared.communicators.CommRule.{CommRule}
 use Rattle.scc_base.specs.declared.communicators.CommRule.TheVariants as rule
-use Rattle.script_reader.specs.declared.checks.RankCheck.{RankCheck}
-use Rattle.script_reader.specs.declared.checks.RankCheck.TheVariants as check
+use Rattle.script_reader.specs.declared.effect.Effect.{Effect}
 use Rattle.script_reader.specs.declared.fault.FaultKind.{FaultKind}
 use Rattle.script_reader.specs.declared.fault.FaultKind.TheVariants as kind
 use Rattle.script_reader.specs.declared.said.Collective.{Collective}
@@ -32,6 +31,7 @@ use Rattle.script_reader.specs.declared.script.Who.{Who}
 use Rattle.script_reader.specs.declared.script.Who.TheVariants as ranks
 use Rattle.script_reader.specs.declared.version.Version.{Version}
 use Rattle.script_reader.specs.Checks.{has_no_parent, innermost, is_stray, is_too_deep, is_too_long, is_unknown, open_of, refuses, run_of, some_rank, turns_in, turns_too_often}
+use Rattle.script_reader.specs.Effects.{effect_of}
 use Rattle.script_reader.specs.Faults.{◌>>=◌}
 
 -- what the lines so far have given: the statements, the names of the registers, the section that is open, and whether no
@@ -64,50 +64,50 @@ with_name names name = if register_of names name == length names then names ++ n
 abbrev pub named : Progress → List ℕ → Progress
 named p name = record p { names = with_name p.names name }
 
--- whether a check refuses the statement for some rank of the section
-abbrev pub is_refused : RankCheck → Progress → Stmt → Bool
-is_refused check p stmt = some_rank p.nue p.section (refuses check p.nue (past p) stmt)
+-- whether the statement has the fault for some rank of the section
+abbrev pub is_refused : FaultKind → Progress → Effect → Bool
+is_refused kind p e = some_rank p.nue p.section (refuses kind p.nue (past p) e)
 
--- the checks that come once a section is open, in their order
-abbrev pub checked_in : Progress → Stmt → Option Who → Result Who FaultKind
-checked_in p stmt None = Err kind.NoSection
-checked_in p stmt (Some who) =
-    if is_stray (open_of (past p)) stmt then Err kind.StrayEnd
-    else if is_too_deep (open_of (past p)) stmt then Err kind.TooDeep
-    else if turns_too_often (turns_in (open_of (past p))) stmt || is_refused check.TooManyOps p stmt then Err kind.TooManyOps
-    else if is_too_long stmt || is_refused check.TooLong p stmt then Err kind.TooLong
-    else if nat_lt 64 (length p.names) then Err kind.TooManyNames
-    else Ok who
+-- whether a statement with this effect has a fault behind the lines so far. (The words of its line are none of it.)
+abbrev pub has_fault : Progress → Effect → FaultKind → Bool
+has_fault p e kind.NotText = false
+has_fault p e kind.UnknownStatement = false
+has_fault p e kind.WrongCount = false
+has_fault p e kind.BadNumber = false
+has_fault p e kind.BadHex = false
+has_fault p e kind.BadName = false
+has_fault p e kind.RankRange = is_refused kind.RankRange p e
+has_fault p e kind.SelfMessage = is_refused kind.SelfMessage p e
+has_fault p e kind.UnknownComm = is_unknown p.version (run_of p.nue (past p)) e.group
+has_fault p e kind.NotSplit = has_no_parent (run_of p.nue (past p)) e.group || is_refused kind.NotSplit p e
+has_fault p e kind.Unset = is_refused kind.Unset p e
+has_fault p e kind.Shape = is_refused kind.Shape p e
+has_fault p e kind.NoSection = is_none p.section
+has_fault p e kind.UnclosedRepeat = false
+has_fault p e kind.StrayEnd = is_stray (open_of (past p)) e.nesting
+has_fault p e kind.TooDeep = is_too_deep (open_of (past p)) e.nesting
+has_fault p e kind.TooManyOps = turns_too_often (turns_in (open_of (past p))) e.nesting || is_refused kind.TooManyOps p e
+has_fault p e kind.TooLong = is_too_long e || is_refused kind.TooLong p e
+has_fault p e kind.TooManyNames = nat_lt 64 (length p.names)
 
--- the first of the checks of registers
-abbrev pub register_fault : Progress → Stmt → Option FaultKind
-register_fault p stmt =
-    if is_refused check.Unset p stmt then Some kind.Unset
-    else if is_refused check.Shape p stmt then Some kind.Shape
-    else None
+-- the faults that a statement may have, in the order of the fault table: the first that it has counts
+abbrev pub fault_table : List FaultKind
+fault_table =
+    kind.RankRange ∷ kind.SelfMessage ∷ kind.UnknownComm ∷ kind.NotSplit ∷ kind.Unset ∷ kind.Shape ∷ kind.NoSection
+    ∷ kind.StrayEnd ∷ kind.TooDeep ∷ kind.TooManyOps ∷ kind.TooLong ∷ kind.TooManyNames ∷ []
 
--- the first of the checks of communicators, and then of registers
-abbrev pub group_fault : Progress → Stmt → Option FaultKind
-group_fault p stmt =
-    if is_unknown p.version (run_of p.nue (past p)) stmt then Some kind.UnknownComm
-    else if has_no_parent (run_of p.nue (past p)) stmt || is_refused check.NotSplit p stmt then Some kind.NotSplit
-    else register_fault p stmt
+-- the first fault of a statement
+abbrev pub first_fault : Progress → Effect → Option FaultKind
+first_fault p e = find (has_fault p e) fault_table
 
--- the first of the checks that come before it is asked whether a section is open
-abbrev pub fault_before : Progress → Stmt → Option FaultKind
-fault_before p stmt =
-    if is_refused check.RootRange p stmt then Some kind.RankRange
-    else if is_refused check.SelfMessage p stmt then Some kind.SelfMessage
-    else group_fault p stmt
-
--- the section of a statement behind the lines so far, or the first check that refuses it
-abbrev pub checked : Progress → Stmt → Result Who FaultKind
-checked p stmt = option_map_or Err (fault_before p stmt) (checked_in p stmt p.section)
+-- the section of a statement behind the lines so far, or its first fault
+abbrev pub checked : Progress → Effect → Result Who FaultKind
+checked p e = option_map_or Err (first_fault p e) (ok_or p.section kind.NoSection)
 
 -- the statement behind the others, unless a check refuses it
 abbrev pub place : ℕ → Progress → Stmt → Result Progress FaultKind
 place line p stmt = do
-  who ← checked p stmt
+  who ← checked p (effect_of stmt)
   Ok (record p { items = p.items ++ (record { line = line; who = who; stmt = stmt }) ∷ [] })
 
 -- a number as a rank

@@ -1,4 +1,4 @@
-use Rattle.std.specs.Prelude.{ℕ, ◌+◌, ◌-◌, ◌%◌, ◌≤◌, ◌==◌, Bool, true, ◌&&◌, nat_le, if◌then◌else◌, List, [], ◌∷◌, length, map}
+use Rattle.std.specs.Prelude.{ℕ, ◌+◌, ◌-◌, ◌%◌, ◌==◌, Bool, true, ◌&&◌, nat_le, List, [], ◌∷◌, IfSome, map}
 use Rattle.std.specs.List.{range_with_len}
 use Rattle.scc_base.specs.declared.communicators.CommRule.{CommRule}
 use Rattle.scc_base.specs.declared.communicators.CommRule.TheVariants as rule
@@ -6,9 +6,9 @@ use Rattle.script_reader.specs.declared.script.Item.{Item}
 use Rattle.script_reader.specs.declared.script.Peer.{Peer}
 use Rattle.script_reader.specs.declared.script.Peer.TheVariants as peer
 use Rattle.script_reader.specs.declared.script.Stmt.{Stmt}
-use Rattle.script_reader.specs.declared.script.Stmt.TheVariants as stmt
 use Rattle.script_reader.specs.declared.script.Who.{Who}
 use Rattle.script_reader.specs.declared.script.Who.TheVariants as who
+use Rattle.script_reader.specs.Effects.{IsSizedBy, effect_of, split_rule}
 
 -- A script that was read: how many ranks it runs on, its statements in the order of the file, and the names of its
 -- registers in the order of their first appearance (this project's profile). A register's number is its place there.
@@ -30,11 +30,6 @@ peer_of nue (peer.Abs rank) caller = rank
 peer_of nue (peer.Plus up) caller = (caller + up) % nue
 peer_of nue (peer.Minus down) caller = (caller + (nue - down % nue)) % nue
 
--- the rule by which a statement splits a communicator, if it does
-abbrev pub split_rule : Stmt → ℕ → CommRule
-split_rule (stmt.Split split by) comm = if split == comm then by else rule.Absent
-split_rule _ comm = rule.Absent
-
 -- the first of two rules
 abbrev pub or_rule : CommRule → CommRule → CommRule
 or_rule rule.Absent next = next
@@ -45,7 +40,7 @@ or_rule (rule.Div parent k) next = rule.Div parent k
 -- the rule of the first split of a communicator
 abbrev pub first_split : List Item → ℕ → CommRule
 first_split [] comm = rule.Absent
-first_split (item ∷ items) comm = or_rule (split_rule item.stmt comm) (first_split items comm)
+first_split (item ∷ items) comm = or_rule (split_rule (effect_of item.stmt).group comm) (first_split items comm)
 
 -- the rules of the sixteen communicators: communicator 0 is the world, and each other one has the rule of its first split
 abbrev pub rules_of : List Item → List CommRule
@@ -53,8 +48,4 @@ rules_of items = rule.World ∷ map (first_split items) (range_with_len 1 15)
 
 -- a length that the statement sets is at most 65,536, the most that a message has (this project's profile)
 abbrev pub IsSized : Stmt → Type 0
-IsSized (stmt.Bytes reg bytes) = length bytes ≤ 65536
-IsSized (stmt.Fill reg len start) = len ≤ 65536
-IsSized (stmt.Recv peer reg len) = len ≤ 65536
-IsSized (stmt.Bcast comm root reg len) = len ≤ 65536
-IsSized _ = Unit {0}
+IsSized stmt = IfSome (effect_of stmt).sets (λ set. IsSizedBy set.size)

@@ -1,25 +1,30 @@
 -- What the reader keeps, so that no check goes through the statements again: what it is, and what it becomes with a statement.
-use Rattle.std.specs.Prelude.{◌≡◌, ℕ, ◌+◌, ◌*◌, ◌<◌, ◌≤◌, ◌||◌, min, not, replicate, is_none, Bool, true, false, if◌then◌else◌, List, length, reverse, All, slice_index_or, slice_set, Option, Some, None}
+use Rattle.std.specs.Prelude.{◌≡◌, ℕ, ◌+◌, ◌*◌, ◌<◌, ◌≤◌, ◌||◌, ◌==◌, IfSome, min, not, replicate, is_none, is_some, Bool, true, false, if◌then◌else◌, List, length, reverse, All, slice_index_or, slice_set, Option, Some, None}
 use Rattle.scc_base.specs.Communicators.{AreRules}
 use Rattle.scc_base.specs.Setups.{SetupView}
 use Rattle.scc_base.specs.declared.communicators.CommRule.{CommRule}
 use Rattle.scc_base.specs.declared.communicators.CommRule.TheVariants as rule
-use Rattle.script_reader.specs.declared.checks.RankCheck.{RankCheck}
-use Rattle.script_reader.specs.declared.checks.RankCheck.TheVariants as check
+use Rattle.script_reader.specs.declared.effect.Effect.{Effect}
+use Rattle.script_reader.specs.declared.effect.Group.{Group}
+use Rattle.script_reader.specs.declared.effect.Group.TheVariants as group
+use Rattle.script_reader.specs.declared.effect.Uses.{Uses}
+use Rattle.script_reader.specs.declared.effect.Uses.TheVariants as uses
+use Rattle.script_reader.specs.declared.fault.FaultKind.{FaultKind}
+use Rattle.script_reader.specs.declared.fault.FaultKind.TheVariants as kind
+use Rattle.script_reader.specs.declared.reader.Pair.{Pair}
 use Rattle.script_reader.specs.declared.repeats.Open.{Open}
 use Rattle.script_reader.specs.declared.script.Item.{Item}
-use Rattle.script_reader.specs.declared.script.Stmt.{Stmt}
-use Rattle.script_reader.specs.declared.script.Stmt.TheVariants as stmt
-use Rattle.script_reader.specs.declared.tally.Setting.{Setting}
-use Rattle.script_reader.specs.declared.tally.Tally.{Tally}
-use Rattle.script_reader.specs.Checks.{last_comm, cost_of, has_no_parent, has_no_root, has_split, is_known, is_misshapen, is_not_split, is_overworked, is_to_self, is_too_deep, is_too_long, is_unknown, is_unset, length_at, open_of, operations, posts_too_much, printed, prints, prints_too_much, run_of, set_by, turns_in, turns_too_often}
-use Rattle.script_reader.specs.Progress.{Progress, is_refused, named, past, register_of}
-use Rattle.script_reader.specs.declared.reader.Pair.{Pair}
 use Rattle.script_reader.specs.declared.script.Peer.{Peer}
 use Rattle.script_reader.specs.declared.script.Peer.TheVariants as peer
-use Rattle.script_reader.specs.Settled.{AreInLine, ArePassed, HaveRules, IsNamed, IsSettled}
-use Rattle.script_reader.specs.Script.{IsSized, first_split, has_rank, rules_of}
+use Rattle.script_reader.specs.declared.script.Who.{Who}
+use Rattle.script_reader.specs.declared.tally.Setting.{Setting}
+use Rattle.script_reader.specs.declared.tally.Tally.{Tally}
 use Rattle.script_reader.specs.declared.version.Version.{Version}
+use Rattle.script_reader.specs.Checks.{cost_of, has_no_root, has_split, is_known, is_misshapen, is_not_split, is_overworked, is_to_self, is_unset, last_comm, length_at, open_of, operations, posts_too_much, printed, prints, prints_too_much, run_of, set_by}
+use Rattle.script_reader.specs.Effects.{comm_needed, effect_of}
+use Rattle.script_reader.specs.Progress.{Progress, named, register_of}
+use Rattle.script_reader.specs.Script.{IsSized, first_split, has_rank, rules_of}
+use Rattle.script_reader.specs.Settled.{AreInLine, ArePassed, HaveRules, IsNamed, IsSettled}
 
 -- the length that a tally has for a register, and whether it has a split of a communicator
 abbrev pub length_in : Tally → ℕ → Option ℕ
@@ -57,7 +62,7 @@ pub record IsKept (version : Version) (nue : ℕ) (items : List Item) (names : L
   pub low : (comm : ℕ) → last_comm version < comm → first_split items comm ≡ rule.Absent
   pub passed : ArePassed nue (reverse items)
   pub in_line : AreInLine nue (reverse items)
-  pub named : All (λ item. IsNamed (length names) item.stmt) items
+  pub named : All (λ item. IsNamed (length names) (effect_of item.stmt)) items
   pub ranked : length tallies ≡ nue
   pub tallied : AreTallies tallies nue (reverse items)
 
@@ -71,22 +76,23 @@ with_length lengths None = lengths
 with_length lengths (Some set) = if is_none (slice_index_or lengths set.reg None) then slice_set lengths set.reg (Some set.len) else lengths
 
 -- the splits with that of a statement
-abbrev pub with_split : List Bool → Stmt → List Bool
-with_split splits (stmt.Split comm rule) = slice_set splits comm true
-with_split splits _ = splits
+abbrev pub with_split : List Bool → Group → List Bool
+with_split splits group.World = splits
+with_split splits (group.Of comm) = splits
+with_split splits (group.Split comm rule) = slice_set splits comm true
 
 -- a tally after one more statement of its rank, which runs so many times
-abbrev pub noted : SetupView → ℕ → Stmt → ℕ → Tally → Tally
-noted run turns stmt rank tally = record {
-  operations = min (tally.operations + turns * cost_of run stmt rank) 100001;
-  printed = min (tally.printed + turns * prints (length_in tally) stmt) 1048577;
-  lengths = with_length tally.lengths (set_by run (length_in tally) stmt rank);
-  splits = with_split tally.splits stmt;
+abbrev pub noted : SetupView → ℕ → Effect → ℕ → Tally → Tally
+noted run turns e rank tally = record {
+  operations = min (tally.operations + turns * cost_of run e.cost rank) 100001;
+  printed = min (tally.printed + turns * prints (length_in tally) e) 1048577;
+  lengths = with_length tally.lengths (set_by run (length_in tally) e rank);
+  splits = with_split tally.splits e.group;
 }
 
--- a tally of a rank after one more item of the script
-abbrev pub noted_at : SetupView → ℕ → Item → ℕ → Tally → Tally
-noted_at run turns item rank tally = if has_rank item.who rank then noted run turns item.stmt rank tally else tally
+-- a tally of a rank after one more item of the script, whose statement has this effect
+abbrev pub noted_at : SetupView → ℕ → Who → Effect → ℕ → Tally → Tally
+noted_at run turns who e rank tally = if has_rank who rank then noted run turns e rank tally else tally
 
 -- a split's number of parts is one that a rule may have
 abbrev pub IsParted : CommRule → Type 0
@@ -95,68 +101,82 @@ IsParted rule.World = ⊥
 IsParted (rule.Mod parent k) = (1 ≤ k) × (k ≤ 48)
 IsParted (rule.Div parent k) = (1 ≤ k) × (k ≤ 48)
 
+-- what the reader knows of the communicator that a statement names
+abbrev pub IsSplitMade : Group → Type 0
+IsSplitMade group.World = Unit {0}
+IsSplitMade (group.Of comm) = Unit {0}
+IsSplitMade (group.Split comm rule) = (comm < 256) × IsParted rule
+
 -- what the reader knows of a statement that it has made
-abbrev pub IsMade : Stmt → Type 0
-IsMade (stmt.Bytes reg bytes) = reg < 256
-IsMade (stmt.Fill reg len start) = reg < 256
-IsMade (stmt.RankOf reg ty) = reg < 256
-IsMade (stmt.Recv peer reg len) = reg < 256
-IsMade (stmt.Bcast comm root reg len) = reg < 256
-IsMade (stmt.Reduce comm root op ty dst src) = dst < 256
-IsMade (stmt.Allreduce comm op ty dst src) = dst < 256
-IsMade (stmt.Split comm rule) = (comm < 256) × IsParted rule
-IsMade _ = Unit {0}
+pub record IsMade (e : Effect) : Type 0 where
+  pub set : IfSome e.sets (λ target. target.reg < 256)
+  pub split : IsSplitMade e.group
 
 -- a rank that a statement names is a rank of the run
 abbrev pub IsWithin : ℕ → Peer → Type 0
 IsWithin nue (peer.Abs rank) = rank < nue
-IsWithin nue _ = Unit {0}
+IsWithin nue (peer.Plus up) = Unit {0}
+IsWithin nue (peer.Minus down) = Unit {0}
 
-abbrev pub IsAimed : ℕ → Stmt → Type 0
-IsAimed nue (stmt.Send other reg) = IsWithin nue other
-IsAimed nue (stmt.Post other reg) = IsWithin nue other
-IsAimed nue (stmt.Recv other reg len) = IsWithin nue other
-IsAimed nue _ = Unit {0}
+-- the other rank of a message is one of the run, where it is named
+abbrev pub IsAimed : ℕ → Effect → Type 0
+IsAimed nue e = IfSome e.peer (IsWithin nue)
 
--- the checks over what is kept, one beside another
-abbrev pub refuses_by : RankCheck → SetupView → Tally → ℕ → Stmt → ℕ → Bool
-refuses_by check.RootRange run tally turns stmt rank = has_no_root run stmt rank
-refuses_by check.SelfMessage run tally turns stmt rank = is_to_self run.nue stmt rank
-refuses_by check.NotSplit run tally turns stmt rank = is_not_split (split_in tally) stmt
-refuses_by check.Unset run tally turns stmt rank = is_unset run (length_in tally) stmt rank
-refuses_by check.Shape run tally turns stmt rank = is_misshapen run (length_in tally) stmt rank
-refuses_by check.TooManyOps run tally turns stmt rank = is_overworked run tally.operations turns stmt rank
-refuses_by check.TooLong run tally turns stmt rank = posts_too_much (length_in tally) stmt || prints_too_much (length_in tally) tally.printed turns stmt
+-- the faults of a statement for a rank of its section, over what is kept
+abbrev pub refuses_by : FaultKind → SetupView → Tally → ℕ → Effect → ℕ → Bool
+refuses_by kind.RankRange run tally turns e rank = has_no_root run e rank
+refuses_by kind.SelfMessage run tally turns e rank = is_to_self run.nue e rank
+refuses_by kind.NotSplit run tally turns e rank = is_not_split (split_in tally) e.group
+refuses_by kind.Unset run tally turns e rank = is_unset run (length_in tally) e rank
+refuses_by kind.Shape run tally turns e rank = is_misshapen run (length_in tally) e rank
+refuses_by kind.TooManyOps run tally turns e rank = is_overworked run tally.operations turns e.cost rank
+refuses_by kind.TooLong run tally turns e rank = posts_too_much (length_in tally) e || prints_too_much (length_in tally) tally.printed turns e
+refuses_by kind.NotText run tally turns e rank = false
+refuses_by kind.UnknownStatement run tally turns e rank = false
+refuses_by kind.WrongCount run tally turns e rank = false
+refuses_by kind.BadNumber run tally turns e rank = false
+refuses_by kind.BadHex run tally turns e rank = false
+refuses_by kind.BadName run tally turns e rank = false
+refuses_by kind.UnknownComm run tally turns e rank = false
+refuses_by kind.NoSection run tally turns e rank = false
+refuses_by kind.UnclosedRepeat run tally turns e rank = false
+refuses_by kind.StrayEnd run tally turns e rank = false
+refuses_by kind.TooDeep run tally turns e rank = false
+refuses_by kind.TooManyNames run tally turns e rank = false
 
--- a statement that the checks of communicators have not refused
-pub record IsKnown (p : Progress) (stmt : Stmt) : Type 0 where
-  pub known : is_unknown p.version (run_of p.nue (past p)) stmt ≡ false
-  pub parented : has_no_parent (run_of p.nue (past p)) stmt ≡ false
-  pub split : is_refused check.NotSplit p stmt ≡ false
+-- a statement reads a register
+abbrev pub reads : Uses → Bool
+reads uses.Nothing = false
+reads (uses.One first) = true
+reads (uses.Two first second) = true
 
--- a statement that the checks of roots and of messages have not refused
-pub record IsAddressed (p : Progress) (stmt : Stmt) : Type 0 where
-  pub rooted : is_refused check.RootRange p stmt ≡ false
-  pub other : is_refused check.SelfMessage p stmt ≡ false
-
--- a statement that the checks of registers have not refused
-pub record IsShaped (p : Progress) (stmt : Stmt) : Type 0 where
-  pub set : is_refused check.Unset p stmt ≡ false
-  pub shaped : is_refused check.Shape p stmt ≡ false
-
--- a statement that the checks of repeats, lengths and names have not refused
-pub record IsAddable (p : Progress) (stmt : Stmt) : Type 0 where
-  pub flat : is_too_deep (open_of (past p)) stmt ≡ false
-  pub turning : turns_too_often (turns_in (open_of (past p))) stmt ≡ false
-  pub worked : is_refused check.TooManyOps p stmt ≡ false
-  pub short : is_too_long stmt ≡ false
-  pub printed : is_refused check.TooLong p stmt ≡ false
-  pub named : length p.names ≤ 64
+-- a statement can have this fault for some rank: a message to oneself needs a peer, and so on
+abbrev pub can_have : FaultKind → Effect → Bool
+can_have kind.RankRange e = is_some e.root
+can_have kind.SelfMessage e = is_some e.peer
+can_have kind.NotSplit e = not (comm_needed e.group == 0)
+can_have kind.Unset e = reads e.uses
+can_have kind.Shape e = reads e.uses || is_some e.sets
+can_have kind.TooManyOps e = true
+can_have kind.TooLong e = true
+can_have kind.NotText e = false
+can_have kind.UnknownStatement e = false
+can_have kind.WrongCount e = false
+can_have kind.BadNumber e = false
+can_have kind.BadHex e = false
+can_have kind.BadName e = false
+can_have kind.UnknownComm e = false
+can_have kind.NoSection e = false
+can_have kind.UnclosedRepeat e = false
+can_have kind.StrayEnd e = false
+can_have kind.TooDeep e = false
+can_have kind.TooManyNames e = false
 
 -- a statement that splits a communicator without a rule
-abbrev pub is_new_split : SetupView → Stmt → Bool
-is_new_split run (stmt.Split comm rule) = not (is_known run comm)
-is_new_split run _ = false
+abbrev pub is_new_split : SetupView → Group → Bool
+is_new_split run group.World = false
+is_new_split run (group.Of comm) = false
+is_new_split run (group.Split comm rule) = not (is_known run comm)
 
 -- the lines so far have given at most as many statements as there are lines, and at most 64 names; the version stays
 pub record IsUpTo (version : Version) (line : ℕ) (p : Progress) : Type 0 where

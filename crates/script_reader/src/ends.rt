@@ -4,6 +4,7 @@ ghost use Rattle.std.specs.Prelude.{◌≡◌, ◌<◌, ◌≤◌, ◌^◌, All,
 ghost use Rattle.script_reader.specs.Ends.{ended, told_at, with_ends};
 ghost use Rattle.script_reader.specs.Script.{IsSized};
 
+use crate::effect::{Nesting, effect_of};
 use crate::script::{Item, Stmt};
 
 /// Gives the repeat at a place the place of its end.
@@ -13,11 +14,10 @@ fn end_at(items: &mut [Item], start: usize, place: u32)
     if start >= items.len() {
         return;
     }
-    let Stmt::Repeat { times, .. } = &items[start].stmt else {
-        return;
-    };
-    let times = *times;
-    items[start].stmt = Stmt::Repeat { times, end: place };
+    match effect_of(&items[start].stmt).nesting {
+        Nesting::Opens(times) => items[start].stmt = Stmt::Repeat { times, end: place },
+        Nesting::Closes(_) | Nesting::Stays => {}
+    }
 }
 
 /// Tells a repeat the place of its end, if that stands here.
@@ -26,11 +26,10 @@ fn tell_at(items: &mut [Item], place: usize)
     requires few { length items.old < 2 ^ 32 }
     ensures gives { items.new ≡ told_at items.old place }
 {
-    let Stmt::End { start } = &items[place].stmt else {
-        return;
-    };
-    let start = *start as usize;
-    end_at(items, start, place as u32);
+    match effect_of(&items[place].stmt).nesting {
+        Nesting::Closes(start) => end_at(items, start as usize, place as u32),
+        Nesting::Opens(_) | Nesting::Stays => {}
+    }
 }
 
 /// Tells each repeat the place of its end.

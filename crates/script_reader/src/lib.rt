@@ -3,6 +3,7 @@
 
 mod bytes;
 mod checks;
+mod effect;
 mod ends;
 mod fault;
 mod laws;
@@ -21,7 +22,9 @@ mod version;
 mod words;
 
 pub use bytes::Bytes;
-pub use checks::RankCheck;
+pub use effect::{
+    At, Cost, Effect, Fit, Group, Nesting, Size, Target, Use, Uses, effect_of, parent_of,
+};
 pub use fault::{FaultKind, ReadFault, ReadStop};
 pub use laws::{decimal_law, script_law, version_law};
 pub use reading::{MOST_SCRIPT_BYTES, read_script};

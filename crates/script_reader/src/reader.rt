@@ -1,6 +1,7 @@
 //! The lines so far, and what a line adds to them.
 
-use crate::checks::{RankCheck, has_no_parent, is_too_long, is_unknown, refuses_by};
+use crate::checks::{can_have, has_no_parent, is_new_split, is_too_long, is_unknown, refuses_by};
+use crate::effect::{Effect, effect_of};
 use crate::ends::tell_ends;
 use crate::fault::{FaultKind, LineStop};
 use crate::name::Name;
@@ -17,6 +18,22 @@ use std::marker::Model;
 
 /// How many names a file may have.
 const MOST_NAMES: usize = 64;
+
+/// The faults that a statement may have, in the order of the fault table: the first that it has counts.
+const FAULT_TABLE: [FaultKind; 12] = [
+    FaultKind::RankRange,
+    FaultKind::SelfMessage,
+    FaultKind::UnknownComm,
+    FaultKind::NotSplit,
+    FaultKind::Unset,
+    FaultKind::Shape,
+    FaultKind::NoSection,
+    FaultKind::StrayEnd,
+    FaultKind::TooDeep,
+    FaultKind::TooManyOps,
+    FaultKind::TooLong,
+    FaultKind::TooManyNames,
+];
 
 /// Two registers of a statement.
 #[derive(Clone, Copy)]
@@ -58,14 +75,15 @@ impl Model for Reader {
 }
 
 impl Reader {
-    ghost use Rattle.std.specs.Prelude.{◌≡◌, ◌+◌, ◌^◌, ◌<◌, ◌≤◌, ◌==◌, ◌&&◌, ◌++◌, ◌∷◌, [], false, IfNone, IfOk, MatchResult, OnOk, length};
-    ghost use Rattle.script_reader.specs.Checks.{has_no_parent, innermost, is_unknown, last_comm, open_of, refuses, run_of, some_below};
+    ghost use Rattle.std.specs.Prelude.{◌≡◌, ◌+◌, ◌^◌, ◌<◌, ◌≤◌, ◌==◌, ◌&&◌, ◌++◌, ◌∷◌, [], false, IfOk, MatchResult, None, OnOk, Some, length};
+    ghost use Rattle.script_reader.specs.Checks.{innermost, last_comm, open_of, refuses, some_below};
+    ghost use Rattle.script_reader.specs.Effects.{effect_of};
     ghost use Rattle.script_reader.specs.Faults.{LineGives};
-    ghost use Rattle.script_reader.specs.Progress.{checked, checked_in, fault_before, group_fault, is_refused, named, open_section, past, place, register_fault, register_of, start};
+    ghost use Rattle.script_reader.specs.Progress.{checked, first_fault, has_fault, is_refused, named, open_section, past, place, register_of, start};
     ghost use Rattle.script_reader.specs.Settled.{HasCommsTo, IsNamed};
     ghost use Rattle.script_reader.specs.Reading.{script_of};
-    ghost use Rattle.script_reader.specs.Script.{IsSized, has_rank};
-    ghost use Rattle.script_reader.specs.Tally.{IsAddable, IsAddressed, IsAimed, IsKnown, IsMade, IsShaped, IsUpTo, pair_of};
+    ghost use Rattle.script_reader.specs.Script.{has_rank};
+    ghost use Rattle.script_reader.specs.Tally.{IsAimed, IsMade, IsUpTo, pair_of};
 
     /// Before the first line.
     pub(crate) fn new(alloc: Global, version: Version, nue: u8) -> Result<Reader, AllocError>
@@ -150,141 +168,99 @@ impl Reader {
         innermost(self.repeats.as_slice())
     }
 
-    /// Whether the check refuses the statement for a rank.
-    fn refuses(&self, check: RankCheck, stmt: &Stmt, rank: u8) -> bool
+    /// Whether the statement has the fault for a rank.
+    fn refuses(&self, kind: FaultKind, effect: &Effect, rank: u8) -> bool
         requires { rank < self.now.nue }
-        ensures { result ≡ refuses check self.now.nue (past self.now) stmt.now rank }
+        ensures { result ≡ refuses kind self.now.nue (past self.now) effect.now rank }
     {
         let turns = turns_in(self.repeats.as_slice());
         refuses_by(
-            check,
+            kind,
             &self.run,
             &self.tallies[rank as usize],
             turns,
-            stmt,
+            effect,
             rank,
         )
     }
 
-    /// Whether the check refuses the statement for some of these ranks.
-    fn is_refused_by(&self, who: &Who, check: RankCheck, stmt: &Stmt) -> bool
-        ensures { result ≡ some_below self.now.nue (λ rank. has_rank who.now rank && refuses check self.now.nue (past self.now) stmt.now rank) }
+    /// Whether the statement has the fault for some of these ranks.
+    fn is_refused_by(&self, who: &Who, kind: FaultKind, effect: &Effect) -> bool
+        ensures { result ≡ some_below self.now.nue (λ rank. has_rank who.now rank && refuses kind self.now.nue (past self.now) effect.now rank) }
     {
         for rank in 0..self.nue {
-            if who.has(rank) && self.refuses(check, stmt, rank) {
+            if who.has(rank) && self.refuses(kind, effect, rank) {
                 return true;
             }
         }
         false
     }
 
-    /// Whether the check refuses the statement for some rank of the section.
-    fn is_refused(&self, check: RankCheck, stmt: &Stmt) -> bool
-        ensures { result ≡ is_refused check self.now stmt.now }
+    /// Whether the statement has the fault for some rank of the section.
+    fn is_refused(&self, kind: FaultKind, effect: &Effect) -> bool
+        ensures { result ≡ is_refused kind self.now effect.now }
     {
+        if !can_have(kind, effect) {
+            return false;
+        }
         match &self.section {
-            Some(who) => self.is_refused_by(who, check, stmt),
+            Some(who) => self.is_refused_by(who, kind, effect),
             None => false,
         }
     }
 
-    /// The checks that come once a section is open.
-    fn checked_in(&self, who: &Who, stmt: &Stmt) -> Result<Who, FaultKind>
-        ensures same { result ≡ checked_in self.now stmt.now (Some who.now) }
-        ensures copied { IfOk result (λ copy. copy ≡ who.now) }
-        ensures addable { OnOk result (IsAddable self.now stmt.now) }
+    /// Whether the statement has the fault behind the lines so far.
+    fn has_fault(&self, effect: &Effect, kind: FaultKind) -> bool
+        ensures { result ≡ has_fault self.now effect.now kind }
     {
-        let turns = turns_in(self.repeats.as_slice());
-        if is_stray(self.repeats.as_slice(), stmt) {
-            return Err(FaultKind::StrayEnd);
+        let repeats = self.repeats.as_slice();
+        match kind {
+            FaultKind::NotText
+            | FaultKind::UnknownStatement
+            | FaultKind::WrongCount
+            | FaultKind::BadNumber
+            | FaultKind::BadHex
+            | FaultKind::BadName
+            | FaultKind::UnclosedRepeat => false,
+            FaultKind::RankRange | FaultKind::SelfMessage | FaultKind::Unset | FaultKind::Shape =>
+                self.is_refused(kind, effect),
+            FaultKind::UnknownComm => is_unknown(self.version, &self.run, effect.group),
+            FaultKind::NotSplit => {
+                has_no_parent(&self.run, effect.group) || self.is_refused(kind, effect)
+            }
+            FaultKind::NoSection => self.section.is_none(),
+            FaultKind::StrayEnd => is_stray(repeats, effect.nesting),
+            FaultKind::TooDeep => is_too_deep(repeats, effect.nesting),
+            FaultKind::TooManyOps => {
+                turns_too_often(turns_in(repeats), effect.nesting) || self.is_refused(kind, effect)
+            }
+            FaultKind::TooLong => is_too_long(effect) || self.is_refused(kind, effect),
+            FaultKind::TooManyNames => self.names.len() > MOST_NAMES,
         }
-        if is_too_deep(self.repeats.as_slice(), stmt) {
-            return Err(FaultKind::TooDeep);
-        }
-        if turns_too_often(turns, stmt) || self.is_refused(RankCheck::TooManyOps, stmt) {
-            return Err(FaultKind::TooManyOps);
-        }
-        if is_too_long(stmt) || self.is_refused(RankCheck::TooLong, stmt) {
-            return Err(FaultKind::TooLong);
-        }
-        if self.names.len() > MOST_NAMES {
-            return Err(FaultKind::TooManyNames);
-        }
-        Ok(who.copy())
     }
 
-    /// The first of the checks that come before it is asked whether a section is open.
-    fn fault_before(&self, stmt: &Stmt) -> Option<FaultKind>
-        ensures same { result ≡ fault_before self.now stmt.now }
-        ensures known { IfNone result (IsKnown self.now stmt.now) }
-        ensures shaped { IfNone result (IsShaped self.now stmt.now) }
-        ensures addressed { IfNone result (IsAddressed self.now stmt.now) }
+    /// The first fault of the statement in the order of the fault table.
+    fn first_fault(&self, effect: &Effect) -> Option<FaultKind>
+        ensures { result ≡ first_fault self.now effect.now }
     {
-        if self.is_refused(RankCheck::RootRange, stmt) {
-            return Some(FaultKind::RankRange);
-        }
-        if self.is_refused(RankCheck::SelfMessage, stmt) {
-            return Some(FaultKind::SelfMessage);
-        }
-        self.group_fault(stmt)
-    }
-
-    /// Whether the statement names a communicator that it may not name.
-    fn is_unknown(&self, stmt: &Stmt) -> bool
-        ensures { result ≡ is_unknown self.now.version (run_of self.now.nue (past self.now)) stmt.now }
-    {
-        is_unknown(self.version, &self.run, stmt)
-    }
-
-    /// Whether the statement splits a parent that no earlier line splits.
-    fn has_no_parent(&self, stmt: &Stmt) -> bool
-        ensures { result ≡ has_no_parent (run_of self.now.nue (past self.now)) stmt.now }
-    {
-        has_no_parent(&self.run, stmt)
-    }
-
-    /// The first of the checks of communicators, and then of registers.
-    fn group_fault(&self, stmt: &Stmt) -> Option<FaultKind>
-        ensures same { result ≡ group_fault self.now stmt.now }
-        ensures known { IfNone result (IsKnown self.now stmt.now) }
-        ensures shaped { IfNone result (IsShaped self.now stmt.now) }
-    {
-        if self.is_unknown(stmt) {
-            return Some(FaultKind::UnknownComm);
-        }
-        if self.has_no_parent(stmt) || self.is_refused(RankCheck::NotSplit, stmt) {
-            return Some(FaultKind::NotSplit);
-        }
-        self.register_fault(stmt)
-    }
-
-    /// The first of the checks of registers.
-    fn register_fault(&self, stmt: &Stmt) -> Option<FaultKind>
-        ensures same { result ≡ register_fault self.now stmt.now }
-        ensures shaped { IfNone result (IsShaped self.now stmt.now) }
-    {
-        if self.is_refused(RankCheck::Unset, stmt) {
-            return Some(FaultKind::Unset);
-        }
-        if self.is_refused(RankCheck::Shape, stmt) {
-            return Some(FaultKind::Shape);
+        for kind in FAULT_TABLE {
+            if self.has_fault(effect, kind) {
+                return Some(kind);
+            }
         }
         None
     }
 
-    /// The section of a statement behind the lines so far, or the first check that refuses it.
-    fn checked(&self, stmt: &Stmt) -> Result<Who, FaultKind>
-        ensures same { result ≡ checked self.now stmt.now }
-        ensures addable { OnOk result (IsAddable self.now stmt.now) }
-        ensures known { OnOk result (IsKnown self.now stmt.now) }
-        ensures shaped { OnOk result (IsShaped self.now stmt.now) }
-        ensures addressed { OnOk result (IsAddressed self.now stmt.now) }
+    /// The section of a statement behind the lines so far, or its first fault.
+    fn checked(&self, effect: &Effect) -> Result<Who, FaultKind>
+        ensures same { result ≡ checked self.now effect.now }
+        ensures passed { OnOk result (first_fault self.now effect.now ≡ None) }
         ensures opened { IfOk result (λ who. self.now.section ≡ Some who) }
     {
-        match self.fault_before(stmt) {
+        match self.first_fault(effect) {
             Some(kind) => Err(kind),
             None => match &self.section {
-                Some(who) => self.checked_in(who, stmt),
+                Some(who) => Ok(who.copy()),
                 None => Err(FaultKind::NoSection),
             },
         }
@@ -319,43 +295,42 @@ impl Reader {
         Ok(Pair { dst, src })
     }
 
-    /// Puts an item behind the others.
-    fn add_item(&mut self, item: Item) -> Result<(), AllocError>
-        requires made { IsMade item.stmt }
-        requires named { IsNamed (length self.old.names) item.stmt }
-        requires aimed { IsAimed self.old.nue item.stmt }
-        requires addable { IsAddable self.old item.stmt }
-        requires known { IsKnown self.old item.stmt }
-        requires shaped { IsShaped self.old item.stmt }
-        requires addressed { IsAddressed self.old item.stmt }
+    /// Puts an item behind the others, whose statement has this effect.
+    fn add_item(&mut self, item: Item, effect: &Effect) -> Result<(), AllocError>
+        requires meant { effect.now ≡ effect_of item.stmt }
+        requires made { IsMade effect.now }
+        requires named { IsNamed (length self.old.names) effect.now }
+        requires aimed { IsAimed self.old.nue effect.now }
+        requires passed { first_fault self.old effect.now ≡ None }
         requires opened { self.old.section ≡ Some item.who }
         requires counted { length self.old.items < item.line }
         ensures { OnOk result (self.new ≡ record self.old { items = self.old.items ++ item ∷ [] }) }
     {
         let turns = turns_in(self.repeats.as_slice());
         let place = self.items.len();
-        let is_split = is_new_split(&self.run, &item.stmt);
+        let is_split = is_new_split(&self.run, effect.group);
         self.items.push(item)?;
         let last = &self.items[place];
-        note_item(&mut self.tallies, &self.run, turns, last);
-        note_repeat(&mut self.repeats, &last.stmt, place as u32);
+        note_item(&mut self.tallies, &self.run, turns, &last.who, effect);
+        note_repeat(&mut self.repeats, effect.nesting, place as u32);
         if is_split {
             self.run = Run::new(self.nue, rules_of(self.items.as_slice()));
         }
         Ok(())
     }
 
-    /// Puts a statement behind the others, unless a check refuses it.
+    /// Puts a statement behind the others, unless it has a fault.
     pub(crate) fn place(&mut self, line: u32, stmt: Stmt) -> Result<(), LineStop>
-        requires made { IsMade stmt }
-        requires named { IsNamed (length self.old.names) stmt }
-        requires aimed { IsAimed self.old.nue stmt }
+        requires made { IsMade (effect_of stmt) }
+        requires named { IsNamed (length self.old.names) (effect_of stmt) }
+        requires aimed { IsAimed self.old.nue (effect_of stmt) }
         requires counted { length self.old.items < line }
         ensures gives { LineGives (λ _. self.new) result (place line self.old stmt) }
         ensures kept { OnOk result (IsUpTo self.old.version line self.new) }
     {
-        let who = self.checked(&stmt)?;
-        self.add_item(Item { line, who, stmt })?;
+        let effect = effect_of(&stmt);
+        let who = self.checked(&effect)?;
+        self.add_item(Item { line, who, stmt }, &effect)?;
         Ok(())
     }
 
@@ -374,17 +349,6 @@ impl Reader {
 ghost use Rattle.std.specs.Prelude.{◌≡◌, ◌≤◌, length};
 ghost use Rattle.std.specs.List.{position_or_len};
 ghost use Rattle.std.specs.Str.{bytes_eq};
-ghost use Rattle.script_reader.specs.Tally.{is_new_split};
-
-/// Whether a statement splits a communicator that has no rule yet.
-fn is_new_split(run: &Run, stmt: &Stmt) -> bool
-    ensures { result ≡ is_new_split run.now stmt.now }
-{
-    match stmt {
-        Stmt::Split { comm, .. } => !run.is_known(*comm),
-        _ => false,
-    }
-}
 
 /// The place of a name among others, or their number where it is none of them.
 fn place_of(names: &[Name], name: &Name) -> usize

@@ -3,7 +3,7 @@
 ghost use Rattle.std.specs.Prelude.{◌≡◌, false};
 ghost use Rattle.script_reader.specs.Checks.{innermost, is_stray, is_too_deep, opened, turns_in, turns_too_often};
 
-use crate::script::Stmt;
+use crate::effect::Nesting;
 use arrayvec::ArrayVec;
 
 /// How many repeats may be open.
@@ -40,52 +40,52 @@ pub(crate) fn innermost(repeats: &[Open]) -> u32
 }
 
 /// Whether a statement is an end with no open repeat.
-pub(crate) fn is_stray(repeats: &[Open], stmt: &Stmt) -> bool
-    ensures { result ≡ is_stray repeats.now stmt.now }
+pub(crate) fn is_stray(repeats: &[Open], nesting: Nesting) -> bool
+    ensures { result ≡ is_stray repeats.now nesting }
 {
-    match stmt {
-        Stmt::End { .. } => repeats.is_empty(),
-        _ => false,
+    match nesting {
+        Nesting::Closes(_) => repeats.is_empty(),
+        Nesting::Opens(_) | Nesting::Stays => false,
     }
 }
 
 /// Whether a statement opens one repeat too many.
-pub(crate) fn is_too_deep(repeats: &[Open], stmt: &Stmt) -> bool
-    ensures { result ≡ is_too_deep repeats.now stmt.now }
+pub(crate) fn is_too_deep(repeats: &[Open], nesting: Nesting) -> bool
+    ensures { result ≡ is_too_deep repeats.now nesting }
 {
-    match stmt {
-        Stmt::Repeat { .. } => repeats.len() >= MOST_OPEN,
-        _ => false,
+    match nesting {
+        Nesting::Opens(_) => repeats.len() >= MOST_OPEN,
+        Nesting::Closes(_) | Nesting::Stays => false,
     }
 }
 
 /// Whether statements in this repeat would run too often.
-pub(crate) fn turns_too_often(turns: u32, stmt: &Stmt) -> bool
-    ensures { result ≡ turns_too_often turns stmt.now }
+pub(crate) fn turns_too_often(turns: u32, nesting: Nesting) -> bool
+    ensures { result ≡ turns_too_often turns nesting }
 {
-    match stmt {
-        Stmt::Repeat { times, .. } => (turns as u64).saturating_mul(*times as u64) > MOST_TURNS,
-        _ => false,
+    match nesting {
+        Nesting::Opens(times) => (turns as u64).saturating_mul(times as u64) > MOST_TURNS,
+        Nesting::Closes(_) | Nesting::Stays => false,
     }
 }
 
 /// Opens or closes a repeat, if the statement does that.
-pub(crate) fn note_repeat(repeats: &mut ArrayVec<Open, MOST_OPEN>, stmt: &Stmt, place: u32)
-    requires flat { is_too_deep repeats.old.items stmt.now ≡ false }
-    requires turning { turns_too_often (turns_in repeats.old.items) stmt.now ≡ false }
-    ensures { repeats.new.items ≡ opened stmt.now place repeats.old.items }
+pub(crate) fn note_repeat(repeats: &mut ArrayVec<Open, MOST_OPEN>, nesting: Nesting, place: u32)
+    requires flat { is_too_deep repeats.old.items nesting ≡ false }
+    requires turning { turns_too_often (turns_in repeats.old.items) nesting ≡ false }
+    ensures { repeats.new.items ≡ opened nesting place repeats.old.items }
 {
-    match stmt {
-        Stmt::Repeat { times, .. } => {
-            let turns = (turns_in(repeats.as_slice()) as u64).saturating_mul(*times as u64);
+    match nesting {
+        Nesting::Opens(times) => {
+            let turns = (turns_in(repeats.as_slice()) as u64).saturating_mul(times as u64);
             repeats.push(Open {
                 start: place,
                 turns: turns as u32,
             });
         }
-        Stmt::End { .. } => {
+        Nesting::Closes(_) => {
             repeats.pop();
         }
-        _ => {}
+        Nesting::Stays => {}
     }
 }

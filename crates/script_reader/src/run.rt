@@ -55,7 +55,7 @@ impl Run {
     ghost use Rattle.scc_base.specs.declared.layouts.Layout.TheVariants.{LineFlags};
     ghost use Rattle.scc_base.specs.declared.communicators.CommRule.TheVariants.{Absent};
     ghost use Rattle.groups.specs.declared.collectives.Coll.TheVariants.{Bcast, Reduce, Allreduce};
-    ghost use Rattle.script_reader.specs.Checks.{has_place, is_at, is_known, is_past_group, steps_in};
+    ghost use Rattle.script_reader.specs.Checks.{has_place, is_at, is_known, is_past_group, of_no_bytes, steps_in};
 
     pub(crate) fn new(nue: u8, comms: [CommRule; 16]) -> Run
         requires some { 1 ≤ nue }
@@ -125,7 +125,7 @@ impl Run {
     }
 
     /// The steps of a rank in a bcast, as many as can be known.
-    pub(crate) fn bcast_steps(&self, comm: u8, root: u8, rank: u8) -> u32
+    fn bcast_steps(&self, comm: u8, root: u8, rank: u8) -> u32
         requires { rank < self.now.nue }
         ensures { result ≡ steps_in self.now rank (Bcast comm root 0) }
     {
@@ -138,7 +138,7 @@ impl Run {
     }
 
     /// The steps of a rank in a reduce, as many as can be known.
-    pub(crate) fn reduce_steps(&self, comm: u8, root: u8, rank: u8) -> u32
+    fn reduce_steps(&self, comm: u8, root: u8, rank: u8) -> u32
         requires { rank < self.now.nue }
         ensures { result ≡ steps_in self.now rank (Reduce comm root 0) }
     {
@@ -155,7 +155,7 @@ impl Run {
     }
 
     /// The steps of a rank in an allreduce, as many as can be known.
-    pub(crate) fn allreduce_steps(&self, comm: u8, rank: u8) -> u32
+    fn allreduce_steps(&self, comm: u8, rank: u8) -> u32
         requires { rank < self.now.nue }
         ensures { result ≡ steps_in self.now rank (Allreduce comm 0) }
     {
@@ -164,6 +164,18 @@ impl Run {
             steps(&self.setup, Rank::of(rank), Coll::Allreduce { comm, len })
         } else {
             0
+        }
+    }
+
+    /// The steps of a rank in a collective call, as many as can be known.
+    pub(crate) fn steps(&self, call: Coll, rank: u8) -> u32
+        requires { rank < self.now.nue }
+        ensures { result ≡ steps_in self.now rank (of_no_bytes call) }
+    {
+        match call {
+            Coll::Bcast { comm, root, .. } => self.bcast_steps(comm, root, rank),
+            Coll::Reduce { comm, root, .. } => self.reduce_steps(comm, root, rank),
+            Coll::Allreduce { comm, .. } => self.allreduce_steps(comm, rank),
         }
     }
 }

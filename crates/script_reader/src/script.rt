@@ -1,9 +1,10 @@
 //! Statements as types, and a script that was read.
 
 ghost use Rattle.std.specs.Prelude.{◌≡◌, ◌<◌, ◌≤◌};
-ghost use Rattle.script_reader.specs.Script.{IsSized, first_split, has_rank, peer_of, rules_of, split_rule};
+ghost use Rattle.script_reader.specs.Script.{IsSized, first_split, has_rank, peer_of, rules_of};
 
 use crate::bytes::Bytes;
+use crate::effect::effect_of;
 use crate::name::Name;
 use groups::{Op, Ty};
 use scc_base::{CommRule, CoreId, Layout, Rank, Setup};
@@ -46,7 +47,7 @@ impl Who {
 }
 
 /// The other rank of a message.
-#[derive(Drop)]
+#[derive(Clone, Copy)]
 pub enum Peer {
     Abs(Rank),
     /// So many ranks above the caller, counted round the run.
@@ -220,6 +221,7 @@ impl Scripts {
     ghost use Rattle.scc_base.specs.Setups.{AreApart};
     ghost use Rattle.script_reader.specs.Acceptance.{ForEachRun, IsFitting, IsPostable, IsReadable, groups_of, length_before, length_of};
     ghost use Rattle.script_reader.specs.Checks.{open_of, operations, printed};
+    ghost use Rattle.script_reader.specs.Effects.{effect_of};
     ghost use Rattle.script_reader.specs.Script.{rules_of};
     ghost use Rattle.script_reader.specs.Settled.{ArePassed, IsAccepted, IsNamed, IsSettled, IsWhole};
     ghost use Rattle.std.specs.Prelude.{◌≡◌, ◌<◌, ◌≤◌, ℕ, All, [], length, reverse, slice_get, slice_index_or, take};
@@ -284,12 +286,12 @@ impl Scripts {
         // A message has another rank of the run, a communicator that is used has a rule, a root is a place of the group.
         ensures settled { All (IsSettled self.now.nue (rules_of self.now.items)) self.now.items }
         // A register that is read has been set by the rank in an earlier line.
-        ensures set { ForEachRun self.now (λ place stmt rank. IsReadable (groups_of self.now) (length_before self.now place rank) stmt rank) }
+        ensures set { ForEachRun self.now (λ place effect rank. IsReadable (groups_of self.now) (length_before self.now place rank) effect rank) }
         // A register of a rank has one length in the whole script.
         ensures stays { (place rank reg len : ℕ) → length_before self.now place rank reg ≡ Some len → length_of self.now rank reg ≡ Some len }
         // It is the one that each statement gives it or needs; those of a fold are equal, and whole values.
-        ensures fitting { ForEachRun self.now (λ place stmt rank. IsFitting (groups_of self.now) (length_of self.now rank) stmt rank) }
-        ensures postable { ForEachRun self.now (λ place stmt rank. IsPostable (length_of self.now rank) stmt) }
+        ensures fitting { ForEachRun self.now (λ place effect rank. IsFitting (groups_of self.now) (length_of self.now rank) effect rank) }
+        ensures postable { ForEachRun self.now (λ place effect rank. IsPostable (length_of self.now rank) effect) }
     {
         let _ranks = self.ranks;
     }
@@ -299,7 +301,7 @@ impl Scripts {
         ensures short { (rank reg len : ℕ) → length_of self.now rank reg ≡ Some len → len ≤ 65536 }
         ensures worked { (rank : ℕ) → rank < self.now.nue → operations self.now.nue (reverse self.now.items) rank ≤ 100000 }
         ensures printed { (rank : ℕ) → rank < self.now.nue → printed self.now.nue (reverse self.now.items) rank ≤ 1048576 }
-        ensures named { All (λ item. IsNamed (length self.now.names) item.stmt) self.now.items }
+        ensures named { All (λ item. IsNamed (length self.now.names) (effect_of item.stmt)) self.now.items }
         // Before each statement, and at the end.
         ensures shallow { (place : ℕ) → length (open_of (reverse (take place self.now.items))) ≤ 8 }
     {
@@ -327,22 +329,12 @@ impl Scripts {
     }
 }
 
-/// The rule by which a statement splits a communicator, if it does.
-fn split_rule(stmt: &Stmt, comm: u8) -> CommRule
-    ensures { result ≡ split_rule stmt.now comm }
-{
-    match stmt {
-        Stmt::Split { comm: split, rule } if *split == comm => *rule,
-        _ => CommRule::Absent,
-    }
-}
-
 /// The rule of the first split of a communicator.
 fn first_split(items: &[Item], comm: u8) -> CommRule
     ensures { result ≡ first_split items.now comm }
 {
     for item in items {
-        match split_rule(&item.stmt, comm) {
+        match effect_of(&item.stmt).group.split_rule(comm) {
             CommRule::Absent => {}
             rule => return rule,
         }

@@ -6,8 +6,9 @@ ghost use Rattle.script_reader.specs.declared.tally.Tally.{Tally};
 ghost use Rattle.script_reader.specs.Tally.{AreTallies, noted_at};
 
 use crate::checks::{cost_of, prints, set_by};
+use crate::effect::{Effect, Group};
 use crate::run::Run;
-use crate::script::{Item, Stmt};
+use crate::script::Who;
 use std::alloc::{AllocError, Global};
 
 /// How many operations a rank may have.
@@ -64,42 +65,43 @@ impl Tally {
     }
 
     /// Marks a split.
-    fn set_split(&mut self, stmt: &Stmt)
-        ensures { self.new ≡ record self.old { splits = with_split self.old.splits stmt.now } }
+    fn set_split(&mut self, group: Group)
+        ensures { self.new ≡ record self.old { splits = with_split self.old.splits group } }
     {
-        if let Stmt::Split { comm, .. } = stmt {
-            self.splits[*comm as usize] = true;
+        match group {
+            Group::World | Group::Of(_) => {}
+            Group::Split(comm, _) => self.splits[comm as usize] = true,
         }
     }
 
     /// Counts one more statement of the rank, which runs so many times.
-    fn note(&mut self, run: &Run, turns: u32, stmt: &Stmt, rank: u8)
+    fn note(&mut self, run: &Run, turns: u32, effect: &Effect, rank: u8)
         requires { rank < run.now.nue }
-        ensures { self.new ≡ noted run.now turns stmt.now rank self.old }
+        ensures { self.new ≡ noted run.now turns effect.now rank self.old }
     {
-        let operations = (turns as u64).saturating_mul(cost_of(run, stmt, rank) as u64);
-        let printed = (turns as u64).saturating_mul(prints(self, stmt));
-        let set = set_by(run, self, stmt, rank);
+        let operations = (turns as u64).saturating_mul(cost_of(run, effect.cost, rank) as u64);
+        let printed = (turns as u64).saturating_mul(prints(self, effect));
+        let set = set_by(run, self, effect, rank);
         self.operations = self
             .operations
             .saturating_add(operations)
             .min(MOST_OPERATIONS + 1);
         self.printed = self.printed.saturating_add(printed).min(MOST_PRINTED + 1);
         self.set_length(set);
-        self.set_split(stmt);
+        self.set_split(effect.group);
     }
 }
 
 /// Counts one more item of the script, for each rank of its section.
-pub(crate) fn note_item(tallies: &mut [Tally], run: &Run, turns: u32, item: &Item)
+pub(crate) fn note_item(tallies: &mut [Tally], run: &Run, turns: u32, who: &Who, effect: &Effect)
     requires ranks { length tallies.old ≡ run.now.nue }
     requires most { run.now.nue ≤ 48 }
     ensures { (rank : ℕ) (d : Tally) → rank < run.now.nue
-        → slice_index_or tallies.new rank d ≡ noted_at run.now turns item.now rank (slice_index_or tallies.old rank d) }
+        → slice_index_or tallies.new rank d ≡ noted_at run.now turns who.now effect.now rank (slice_index_or tallies.old rank d) }
 {
     for rank in 0..tallies.len() {
-        if item.who.has(rank as u8) {
-            tallies[rank].note(run, turns, &item.stmt, rank as u8);
+        if who.has(rank as u8) {
+            tallies[rank].note(run, turns, effect, rank as u8);
         }
     }
 }

@@ -1,5 +1,5 @@
 use Rattle.std.proofs.Common.{◌∙◌, ℕ, List, [], ap, length, refl}
-use Rattle.script_plain.specs.declared.machines.Held.{Held}
+use Rattle.script_plain.specs.declared.held.Held.{Held}
 use Rattle.script_plain.specs.Holds.{local_with, rooms_with}
 use Rattle.script_plain.specs.Lengths.{lengths_of}
 use Rattle.script_plain.specs.Rooms.{nothing_held, rooms_of}

@@ -1,6 +1,6 @@
 use Rattle.std.proofs.Common.{◌≡◌, ◌∙◌, true, [], ap, drop, refl, sym}
 use Rattle.script_plain.specs.Holds.{local_with, rooms_with}
-use Rattle.script_plain.specs.declared.machines.Held.{Held}
+use Rattle.script_plain.specs.declared.held.Held.{Held}
 use Rattle.script_plain.specs.Lengths.{lengths_of}
 use Rattle.script_plain.specs.Local.{Local, local_next, next_by_act}
 use Rattle.script_plain.specs.Machine.{MachineView}

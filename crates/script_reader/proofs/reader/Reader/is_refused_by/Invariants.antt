@@ -6,4 +6,4 @@ use Rattle.script_reader.proofs.reader.Reader.is_refused_by.Given as goal
 
 -- no rank so far is refused
 abbrev pub invariant-loop-rank : goal.invariant-loop-rank
-invariant-loop-rank l = some_below l.rank (λ rank. has_rank l.who rank && refuses l.check l.self.nue (past l.self) l.stmt rank) ≡ false
+invariant-loop-rank l = some_below l.rank (λ rank. has_rank l.who rank && refuses l.kind l.self.nue (past l.self) l.effect rank) ≡ false

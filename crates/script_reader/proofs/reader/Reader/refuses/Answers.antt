@@ -11,13 +11,13 @@ pub returns : goal.returns
 returns c =
     let inside = c.self.inside in
     let before = reverse inside.items.items in
-    let stmt = c.args.stmt.now in
+    let e = c.args.effect.now in
     let tally = c.index.result.now in
-    let same = subst (λ (p : Progress). c.args.rank < p.nue → refuses c.args.check inside.nue before stmt c.args.rank ≡ refuses c.args.check p.nue (past p) stmt c.args.rank) c.self.view_is (λ _. refl) in
+    let same = subst (λ (p : Progress). c.args.rank < p.nue → refuses c.args.kind inside.nue before e c.args.rank ≡ refuses c.args.kind p.nue (past p) e c.args.rank) c.self.view_is (λ _. refl) in
     let below = subst (λ (p : Progress). c.args.rank < p.nue → c.args.rank < inside.nue) c.self.view_is (λ h. h) c.requires in
     c.refuses_by.ensures
-    ∙ ap (λ (run : SetupView). refuses_by c.args.check run tally c.turns_in-turns.result stmt c.args.rank) c.self.invariant.run_is
-    ∙ ap (λ (turns : ℕ). refuses_by c.args.check (run_of inside.nue before) tally turns stmt c.args.rank) (c.turns_in-turns.ensures ∙ ap turns_in (c.as_slice.ensures.value ∙ c.self.invariant.repeats_are))
-    ∙ ap (λ (t : Tally). refuses_by c.args.check (run_of inside.nue before) t (turns_in (open_of before)) stmt c.args.rank) c.index.ensures
-    ∙ refuses-same c.args.check (get_or inside.tallies.items c.args.rank tally) inside.nue before stmt c.args.rank (c.self.invariant.tallied c.args.rank tally below)
+    ∙ ap (λ (run : SetupView). refuses_by c.args.kind run tally c.turns_in-turns.result e c.args.rank) c.self.invariant.run_is
+    ∙ ap (λ (turns : ℕ). refuses_by c.args.kind (run_of inside.nue before) tally turns e c.args.rank) (c.turns_in-turns.ensures ∙ ap turns_in (c.as_slice.ensures.value ∙ c.self.invariant.repeats_are))
+    ∙ ap (λ (t : Tally). refuses_by c.args.kind (run_of inside.nue before) t (turns_in (open_of before)) e c.args.rank) c.index.ensures
+    ∙ refuses-same c.args.kind (get_or inside.tallies.items c.args.rank tally) inside.nue before e c.args.rank (c.self.invariant.tallied c.args.rank tally below)
     ∙ same c.requires

@@ -1,5 +1,5 @@
 use Rattle.std.proofs.Common.{rules}
-use Rattle.script_plain.proofs.machines.Held.work.Goals as goal
+use Rattle.script_plain.proofs.held.Held.work.Goals as goal
 
 -- Answered by name, so that a body which turns this is refused at once, with no search for what else might be written.
 pub returns-in-Accept : goal.returns-in-Accept

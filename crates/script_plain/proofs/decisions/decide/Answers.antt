@@ -4,7 +4,7 @@ use Rattle.scc_base.specs.Setups.{setup_key}
 use Rattle.script_plain.specs.Code.{call_decision, decision}
 use Rattle.script_plain.specs.declared.steps.Step.TheVariants as step
 use Rattle.script_plain.proofs.StandLaws.{decided, decided_going}
-use Rattle.script_plain.proofs.steps.decide.Goals as goal
+use Rattle.script_plain.proofs.decisions.decide.Goals as goal
 
 pub returns-then-is_going : goal.returns-then-is_going
 returns-then-is_going c =

@@ -2,7 +2,7 @@ use Rattle.std.proofs.Common.{◌∙◌, ap, sym, Some}
 use Rattle.script_plain.specs.Program.{part_of}
 use Rattle.script_plain.proofs.BegunLaws.{steps_made}
 use Rattle.script_plain.proofs.WalkLaws.{part_called}
-use Rattle.script_plain.proofs.prims.take_part.Goals as goal
+use Rattle.script_plain.proofs.statements.take_part.Goals as goal
 
 pub begins-begun-requires : goal.begins-begun-requires
 begins-begun-requires c = (steps_made c.args.setup.now c.args.rank c.args.call.coll c.args.k c.requires).0

@@ -1,5 +1,5 @@
 use Rattle.std.proofs.Common.{◌∙◌, ℕ, List, [], ap, length, replicate}
-use Rattle.script_plain.proofs.machines.Held.new.Goals as goal
+use Rattle.script_plain.proofs.held.Held.new.Goals as goal
 
 pub returns : goal.returns
 returns c =

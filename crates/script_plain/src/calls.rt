@@ -1,0 +1,193 @@
+//! What stands next at a rank: the call, the bytes that it sends and the bytes that it asks for.
+#![tactic(auto, unfolding(crate::specs::Local::local_next))]
+
+ghost use Rattle.std.specs.Prelude.{◌≡◌};
+ghost use Rattle.script_plain.specs.Code.{is_own};
+
+use crate::facing::Facing;
+use crate::machines::{Machine, with_length};
+use crate::posts::OnItsWay;
+use crate::prims::{Action, Primitive, Source};
+use scc_base::Call;
+
+impl<'s> Machine<'s> {
+    ghost use Rattle.std.specs.Prelude.{◌≡◌, ◌≤◌, length};
+    ghost use Rattle.script_plain.specs.Facing.{facing_of};
+    ghost use Rattle.script_plain.specs.Local.{local_next};
+    ghost use Rattle.script_plain.specs.Matches.{line_of};
+    ghost use Rattle.script_plain.specs.Moves.{bytes_out, length_in, line_out, post_of};
+    ghost use Rattle.script_plain.specs.Next.{call_of, is_going};
+
+    /// Whether a statement of the rank alone stands next.
+    pub fn is_going(&self) -> bool
+        ensures { result ≡ is_going (local_next self.now.local) }
+    {
+        match self.prim() {
+            Some(prim) => is_own(&prim.action),
+            None => false,
+        }
+    }
+
+    /// The call that stands next.
+    pub fn call(&self) -> Option<Call>
+        ensures { result ≡ call_of (local_next self.now.local) }
+    {
+        let Some(prim) = self.prim() else {
+            return None;
+        };
+        match &prim.action {
+            Action::Send { to, head, source } => Some(Call::Send {
+                to: *to,
+                head: with_length(*head, self.source(*source).len() as u32),
+            }),
+            Action::Post { to, reg } => Some(Call::Post {
+                to: *to,
+                head: self.post_head(*reg),
+            }),
+            Action::Recv { from, head, .. } => Some(Call::Recv {
+                from: *from,
+                head: *head,
+            }),
+            Action::Gather { from, head, sized } => Some(Call::Recv {
+                from: *from,
+                head: self.asked_head(*head, *sized),
+            }),
+            Action::Bar { comm } => Some(Call::Bar { comm: *comm }),
+            Action::Set { .. }
+            | Action::Apply { .. }
+            | Action::Print { .. }
+            | Action::Begin { .. }
+            | Action::Fold { .. }
+            | Action::Accept { .. }
+            | Action::Finish { .. } => None,
+        }
+    }
+
+    /// Whom the rank faces in what stands next.
+    pub(crate) fn facing(&self) -> Facing
+        ensures { result ≡ facing_of (local_next self.now.local) }
+    {
+        let Some(prim) = self.prim() else {
+            return Facing::Nobody;
+        };
+        match &prim.action {
+            Action::Send { to, .. } => Facing::One { rank: *to },
+            Action::Recv { from, .. } => Facing::One { rank: *from },
+            Action::Gather { from, .. } => Facing::One { rank: *from },
+            Action::Bar { .. } => Facing::Group,
+            Action::Set { .. }
+            | Action::Apply { .. }
+            | Action::Print { .. }
+            | Action::Post { .. }
+            | Action::Begin { .. }
+            | Action::Fold { .. }
+            | Action::Accept { .. }
+            | Action::Finish { .. } => Facing::Nobody,
+        }
+    }
+
+    /// The bytes of the send or post that stands next; none where something else does.
+    pub fn bytes(&self) -> &[u8]
+        ensures { result.now ≡ bytes_out (local_next self.now.local) }
+    {
+        self.sent()
+    }
+
+    /// The same bytes: no more than a message may have.
+    pub(crate) fn sent(&self) -> &[u8]
+        ensures same { result.now ≡ bytes_out (local_next self.now.local) }
+        ensures within { length (bytes_out (local_next self.now.local)) ≤ 65536 }
+    {
+        match self.prim() {
+            Some(
+                Primitive {
+                    action: Action::Send { source, .. },
+                    ..
+                },
+            ) => self.source(*source),
+            Some(
+                Primitive {
+                    action: Action::Post { reg, .. },
+                    ..
+                },
+            ) => self.source(Source::Own { reg: *reg }),
+            _ => &[],
+        }
+    }
+
+    /// The line of the statement that stands next; 0 where nothing does.
+    pub fn stands_at(&self) -> u32
+        ensures { result ≡ line_of self.now.local }
+    {
+        match self.prim() {
+            Some(prim) => prim.line,
+            None => 0,
+        }
+    }
+
+    /// The post that stands next, without its bytes.
+    pub fn post(&self) -> Option<OnItsWay>
+        ensures { result ≡ post_of (local_next self.now.local) }
+    {
+        let Some(prim) = self.prim() else {
+            return None;
+        };
+        match &prim.action {
+            Action::Post { to, reg } => Some(OnItsWay {
+                line: prim.line,
+                to: *to,
+                head: self.post_head(*reg),
+            }),
+            _ => None,
+        }
+    }
+
+    /// The line of the post that stands next; 0 where something else does.
+    pub fn line(&self) -> u32
+        ensures { result ≡ line_out (local_next self.now.local) }
+    {
+        match self.prim() {
+            Some(
+                Primitive {
+                    line,
+                    action: Action::Post { .. },
+                },
+            ) => *line,
+            _ => 0,
+        }
+    }
+
+    /// How many bytes the receive that stands next asks for; 0 where something else stands.
+    pub fn asked(&self) -> usize
+        ensures { result ≡ length_in (local_next self.now.local) }
+    {
+        let Some(prim) = self.prim() else {
+            return 0;
+        };
+        match &prim.action {
+            Action::Recv { head, .. } => head.len() as usize,
+            Action::Gather { head, sized, .. } => self.asked_head(*head, *sized).len() as usize,
+            _ => 0,
+        }
+    }
+}
+
+/// Whether a primitive is one of the rank alone.
+fn is_own(action: &Action) -> bool
+    ensures { result ≡ is_own action.now }
+{
+    match action {
+        Action::Set { .. }
+        | Action::Apply { .. }
+        | Action::Print { .. }
+        | Action::Begin { .. }
+        | Action::Fold { .. }
+        | Action::Accept { .. }
+        | Action::Finish { .. } => true,
+        Action::Send { .. }
+        | Action::Post { .. }
+        | Action::Recv { .. }
+        | Action::Gather { .. }
+        | Action::Bar { .. } => false,
+    }
+}

@@ -1,0 +1,132 @@
+-- What a statement without a fault has not.
+use Rattle.std.proofs.Common.{◌≡◌, ℕ, Bool, true, false, ◌&&◌, ◌==◌, not, ap, cond, List, [], ◌∷◌, Option, Some, None, length, refl, subst}
+use Rattle.std.specs.List.{find}
+use Rattle.std.specs.Option.{option_map_or}
+use Rattle.std.specs.Prelude.{is_none, is_some, nat_lt}
+use Rattle.script_reader.specs.declared.effect.Effect.{Effect}
+use Rattle.script_reader.specs.declared.effect.Target.{Target}
+use Rattle.script_reader.specs.declared.effect.Use.{Use}
+use Rattle.script_reader.specs.declared.effect.Uses.{Uses}
+use Rattle.script_reader.specs.declared.effect.Uses.TheVariants as uses
+use Rattle.script_reader.specs.declared.fault.FaultKind.{FaultKind}
+use Rattle.script_reader.specs.declared.fault.FaultKind.TheVariants as kind
+use Rattle.script_reader.specs.declared.script.Item.{Item}
+use Rattle.script_reader.specs.declared.script.Stmt.{Stmt}
+use Rattle.script_reader.specs.declared.tally.Setting.{Setting}
+use Rattle.script_reader.specs.Checks.{counts_at, has_no_parent, has_split, is_past_group, is_stray, is_too_deep, is_too_long, is_unfit, is_unknown, length_at, misfits, open_of, refuses, resizes, run_of, set_by, set_if, turns_in, turns_too_often}
+use Rattle.script_reader.specs.Effects.{comm_needed, effect_of, some_use}
+use Rattle.script_reader.specs.Progress.{Progress, first_fault, has_fault, is_refused, past}
+use Rattle.script_reader.specs.Script.{peer_of}
+use Rattle.script_reader.specs.Tally.{can_have, reads}
+use Rattle.script_reader.proofs.CheckLemmas.{false-left, false-right, neither, nobody}
+
+-- where the search for a fault finds none, no kind of the list is one
+none-first : (test : FaultKind → Bool) (kind : FaultKind) (b : Bool) (rest : Option FaultKind) → test kind ≡ b → cond b (Some kind) rest ≡ None → (test kind ≡ false) × (rest ≡ None)
+none-first test kind true rest is none = absurd cc
+none-first test kind false rest is none = (is, none)
+
+none-here : (test : FaultKind → Bool) (kind : FaultKind) (rest : List FaultKind) → find test (kind ∷ rest) ≡ None → (test kind ≡ false) × (find test rest ≡ None)
+none-here test kind rest none = none-first test kind (test kind) (find test rest) refl none
+
+-- a statement without a fault, by the tests of the fault table
+pub record IsSound (p : Progress) (e : Effect) : Type 0 where
+  pub rooted : is_refused kind.RankRange p e ≡ false
+  pub other : is_refused kind.SelfMessage p e ≡ false
+  pub unknown : is_unknown p.version (run_of p.nue (past p)) e.group ≡ false
+  pub parented : has_no_parent (run_of p.nue (past p)) e.group ≡ false
+  pub split : is_refused kind.NotSplit p e ≡ false
+  pub set : is_refused kind.Unset p e ≡ false
+  pub shaped : is_refused kind.Shape p e ≡ false
+  pub inside : is_stray (open_of (past p)) e.nesting ≡ false
+  pub flat : is_too_deep (open_of (past p)) e.nesting ≡ false
+  pub turning : turns_too_often (turns_in (open_of (past p))) e.nesting ≡ false
+  pub worked : is_refused kind.TooManyOps p e ≡ false
+  pub short : is_too_long e ≡ false
+  pub printed : is_refused kind.TooLong p e ≡ false
+  pub few : nat_lt 64 (length p.names) ≡ false
+
+pub no-fault : (p : Progress) (e : Effect) → first_fault p e ≡ None → IsSound p e
+no-fault p e none =
+    let test = has_fault p e in
+    let a = none-here test kind.RankRange (kind.SelfMessage ∷ kind.UnknownComm ∷ kind.NotSplit ∷ kind.Unset ∷ kind.Shape ∷ kind.NoSection ∷ kind.StrayEnd ∷ kind.TooDeep ∷ kind.TooManyOps ∷ kind.TooLong ∷ kind.TooManyNames ∷ []) none in
+    let b = none-here test kind.SelfMessage (kind.UnknownComm ∷ kind.NotSplit ∷ kind.Unset ∷ kind.Shape ∷ kind.NoSection ∷ kind.StrayEnd ∷ kind.TooDeep ∷ kind.TooManyOps ∷ kind.TooLong ∷ kind.TooManyNames ∷ []) a.1 in
+    let c = none-here test kind.UnknownComm (kind.NotSplit ∷ kind.Unset ∷ kind.Shape ∷ kind.NoSection ∷ kind.StrayEnd ∷ kind.TooDeep ∷ kind.TooManyOps ∷ kind.TooLong ∷ kind.TooManyNames ∷ []) b.1 in
+    let d = none-here test kind.NotSplit (kind.Unset ∷ kind.Shape ∷ kind.NoSection ∷ kind.StrayEnd ∷ kind.TooDeep ∷ kind.TooManyOps ∷ kind.TooLong ∷ kind.TooManyNames ∷ []) c.1 in
+    let f = none-here test kind.Unset (kind.Shape ∷ kind.NoSection ∷ kind.StrayEnd ∷ kind.TooDeep ∷ kind.TooManyOps ∷ kind.TooLong ∷ kind.TooManyNames ∷ []) d.1 in
+    let g = none-here test kind.Shape (kind.NoSection ∷ kind.StrayEnd ∷ kind.TooDeep ∷ kind.TooManyOps ∷ kind.TooLong ∷ kind.TooManyNames ∷ []) f.1 in
+    let h = none-here test kind.NoSection (kind.StrayEnd ∷ kind.TooDeep ∷ kind.TooManyOps ∷ kind.TooLong ∷ kind.TooManyNames ∷ []) g.1 in
+    let i = none-here test kind.StrayEnd (kind.TooDeep ∷ kind.TooManyOps ∷ kind.TooLong ∷ kind.TooManyNames ∷ []) h.1 in
+    let j = none-here test kind.TooDeep (kind.TooManyOps ∷ kind.TooLong ∷ kind.TooManyNames ∷ []) i.1 in
+    let k = none-here test kind.TooManyOps (kind.TooLong ∷ kind.TooManyNames ∷ []) j.1 in
+    let l = none-here test kind.TooLong (kind.TooManyNames ∷ []) k.1 in
+    let m = none-here test kind.TooManyNames [] l.1 in
+    record {
+      rooted = a.0;
+      other = b.0;
+      unknown = c.0;
+      parented = false-left (has_no_parent (run_of p.nue (past p)) e.group) (is_refused kind.NotSplit p e) d.0;
+      split = false-right (has_no_parent (run_of p.nue (past p)) e.group) (is_refused kind.NotSplit p e) d.0;
+      set = f.0;
+      shaped = g.0;
+      inside = i.0;
+      flat = j.0;
+      turning = false-left (turns_too_often (turns_in (open_of (past p))) e.nesting) (is_refused kind.TooManyOps p e) k.0;
+      worked = false-right (turns_too_often (turns_in (open_of (past p))) e.nesting) (is_refused kind.TooManyOps p e) k.0;
+      short = false-left (is_too_long e) (is_refused kind.TooLong p e) l.0;
+      printed = false-right (is_too_long e) (is_refused kind.TooLong p e) l.0;
+      few = m.0;
+    }
+
+-- where an effect is that of a statement
+pub sound-at : (p : Progress) (e : Effect) (s : Stmt) → e ≡ effect_of s → first_fault p e ≡ None → IsSound p (effect_of s)
+sound-at p e s is none = no-fault p (effect_of s) (subst (λ (e : Effect). first_fault p e ≡ None) is none)
+
+no-value : {A : Type 0} (o : Option A) (test : A → Bool) → is_some o ≡ false → option_map_or test o false ≡ false
+no-value None test none = refl
+no-value (Some x) test none = cc
+
+no-setting : {A : Type 0} (o : Option A) (f : A → Option Setting) → is_some o ≡ false → option_map_or f o None ≡ None
+no-setting None f none = refl
+no-setting (Some x) f none = absurd (cc)
+
+no-use : (used : Uses) (test : Use → Bool) → reads used ≡ false → some_use test used ≡ false
+no-use uses.Nothing test none = refl
+no-use (uses.One first) test none = cc
+no-use (uses.Two first second) test none = cc
+
+and-left : (a b : Bool) → a ≡ false → (a && b) ≡ false
+and-left true b h = cc
+and-left false b h = refl
+
+-- a fault that a statement cannot have is one at no rank
+pub cannot-refuse : (kind : FaultKind) (e : Effect) (nue : ℕ) (before : List Item) (rank : ℕ) → can_have kind e ≡ false → refuses kind nue before e rank ≡ false
+cannot-refuse kind.RankRange e nue before rank none = no-value e.root (is_past_group (run_of nue before) (comm_needed e.group) rank) none
+cannot-refuse kind.SelfMessage e nue before rank none = no-value e.peer (λ peer. peer_of nue peer rank == rank) none
+cannot-refuse kind.NotSplit e nue before rank none = and-left (not (comm_needed e.group == 0)) (not (has_split before rank (comm_needed e.group))) none
+cannot-refuse kind.Unset e nue before rank none =
+    no-use e.uses (λ used. counts_at (run_of nue before) e rank used.at && is_none (length_at nue before rank used.reg)) none
+cannot-refuse kind.Shape e nue before rank none =
+    let run = run_of nue before in
+    let had = length_at nue before rank in
+    let unread = false-left (reads e.uses) (is_some e.sets) none in
+    let unset = no-setting e.sets (λ (target : Target). set_if had target (counts_at run e rank target.at)) (false-right (reads e.uses) (is_some e.sets) none) in
+    neither (resizes had (set_by run had e rank)) (misfits run had e rank) (ap (resizes had) unset)
+    (no-use e.uses (λ used. counts_at run e rank used.at && is_unfit had used.reg used.fit) unread)
+cannot-refuse kind.TooManyOps e nue before rank none = absurd (cc)
+cannot-refuse kind.TooLong e nue before rank none = absurd (cc)
+cannot-refuse kind.NotText e nue before rank none = refl
+cannot-refuse kind.UnknownStatement e nue before rank none = refl
+cannot-refuse kind.WrongCount e nue before rank none = refl
+cannot-refuse kind.BadNumber e nue before rank none = refl
+cannot-refuse kind.BadHex e nue before rank none = refl
+cannot-refuse kind.BadName e nue before rank none = refl
+cannot-refuse kind.UnknownComm e nue before rank none = refl
+cannot-refuse kind.NoSection e nue before rank none = refl
+cannot-refuse kind.UnclosedRepeat e nue before rank none = refl
+cannot-refuse kind.StrayEnd e nue before rank none = refl
+cannot-refuse kind.TooDeep e nue before rank none = refl
+cannot-refuse kind.TooManyNames e nue before rank none = refl
+
+-- and so it refuses no statement
+pub cannot-have : (kind : FaultKind) (p : Progress) (e : Effect) → can_have kind e ≡ false → is_refused kind p e ≡ false
+cannot-have kind p e none = nobody p.nue p.section (refuses kind p.nue (past p) e) (λ rank. cannot-refuse kind e p.nue (past p) rank none)

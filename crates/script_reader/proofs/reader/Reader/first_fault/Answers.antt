@@ -1,0 +1,16 @@
+use Rattle.std.proofs.Common.{◌≡◌, ◌∙◌, ℕ, ◌<◌, ◌+◌, suc, Bool, false, List, Some, add-one, ap, cond, drop, drop-cons, get_or, length, sym}
+use Rattle.std.specs.List.{find}
+use Rattle.script_reader.specs.declared.fault.FaultKind.{FaultKind}
+use Rattle.script_reader.specs.Progress.{fault_table, has_fault}
+use Rattle.script_reader.proofs.reader.Reader.first_fault.Goals as goal
+
+-- a search goes on behind an element that fails
+behind : (test : FaultKind → Bool) (kinds : List FaultKind) (i : ℕ) (d : FaultKind) → i < length kinds → test (get_or kinds i d) ≡ false → find test (drop (i + 1) kinds) ≡ find test (drop i kinds)
+behind test kinds i d below fails =
+    let here = ap (find test) (drop-cons kinds i d below) in
+    let on = ap (λ (b : Bool). cond b (Some (get_or kinds i d)) (find test (drop (suc i) kinds))) fails in
+    ap (λ (n : ℕ). find test (drop n kinds)) (add-one i) ∙ sym (here ∙ on)
+
+pub loop-kind-preserved : goal.loop-kind-preserved
+loop-kind-preserved c =
+    behind (has_fault c.args.self.now c.args.effect.now) fault_table c.loop-kind.kind-index _ c.loop-kind-test.true (sym c.has_fault.ensures ∙ c.if-has_fault.false) ∙ c.loop-kind.invariant

@@ -1,0 +1,18 @@
+use Rattle.std.proofs.Common.{◌≤◌, ap, arith, length, length-append}
+use Rattle.std.proofs.lemmas.Bool.{ltb-false}
+use Rattle.script_reader.specs.declared.script.Item.{Item}
+use Rattle.script_reader.specs.Progress.{Progress}
+use Rattle.script_reader.proofs.FaultLemmas.{no-fault}
+use Rattle.script_reader.proofs.reader.Reader.place.Goals as goal
+
+-- a statement without a fault stands behind at most 64 names
+pub returns-clause-kept : goal.returns-clause-kept
+returns-clause-kept c =
+    let new = c.in_ok-add_item.ensures in
+    let sound = no-fault c.args.self.now c.effect_of-effect.result c.in_ok-who.ensures.passed in
+    let few : length c.args.self.now.names ≤ 64 = ltb-false 64 (length c.args.self.now.names) sound.few in
+    record {
+      same = ap (λ (p : Progress). p.version) new;
+      named = omega (arith, few, ap (λ (p : Progress). length p.names) new);
+      counted = omega (arith, c.requires.counted, ap (λ (p : Progress). length p.items) new, length-append {A = Item});
+    }
