@@ -54,7 +54,9 @@ run_of nue past = record { nue = nue; layout = layout.LineFlags; hosts = []; com
 -- the communicator has no rule
 abbrev pub is_absent : CommRule → Bool
 is_absent rule.Absent = true
-is_absent _ = false
+is_absent rule.World = false
+is_absent (rule.Mod parent k) = false
+is_absent (rule.Div parent k) = false
 
 -- whether the rule of a communicator is known
 abbrev pub is_known : SetupView → ℕ → Bool
@@ -95,12 +97,26 @@ abbrev pub last_comm : Version → ℕ
 last_comm version.One = 7
 last_comm version.Two = 15
 
+-- whether a rule splits this parent by the remainder by k
+abbrev pub is_mod_of : CommRule → ℕ → ℕ → Bool
+is_mod_of rule.Absent parent k = false
+is_mod_of rule.World parent k = false
+is_mod_of (rule.Mod other l) parent k = parent == other && k == l
+is_mod_of (rule.Div other l) parent k = false
+
+-- whether a rule splits this parent by the quotient by k
+abbrev pub is_div_of : CommRule → ℕ → ℕ → Bool
+is_div_of rule.Absent parent k = false
+is_div_of rule.World parent k = false
+is_div_of (rule.Mod other l) parent k = false
+is_div_of (rule.Div other l) parent k = parent == other && k == l
+
 -- whether a rule is there, and is not this one
 abbrev pub differs_from : CommRule → CommRule → Bool
-differs_from rule.Absent rule = false
-differs_from (rule.Mod parent k) (rule.Mod other l) = not (parent == other && k == l)
-differs_from (rule.Div parent k) (rule.Div other l) = not (parent == other && k == l)
-differs_from _ _ = true
+differs_from rule.Absent by = false
+differs_from rule.World by = true
+differs_from (rule.Mod parent k) by = not (is_mod_of by parent k)
+differs_from (rule.Div parent k) by = not (is_div_of by parent k)
 
 -- a split is of the world, has a parent that is not before it, or is of a communicator that an earlier line splits by another rule
 abbrev pub is_badly_split : SetupView → ℕ → CommRule → Bool

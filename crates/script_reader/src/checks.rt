@@ -1,7 +1,7 @@
 //! The checks of a statement against the statements before it.
 
 ghost use Rattle.std.specs.Prelude.{◌≡◌, ◌<◌, ◌≤◌};
-ghost use Rattle.script_reader.specs.Checks.{cost_of, counts_at, differs, differs_from, has_no_parent, has_no_root, is_badly_split, is_misshapen, is_not_split, is_overworked, is_past_most, is_ragged, is_root, is_to_self, is_too_long, is_unfit, is_unknown, is_unset, last_comm, length_given, misfits, posts_too_much, prints, prints_too_much, resizes, set_by};
+ghost use Rattle.script_reader.specs.Checks.{cost_of, counts_at, differs, differs_from, has_no_parent, has_no_root, is_badly_split, is_div_of, is_misshapen, is_mod_of, is_not_split, is_overworked, is_past_most, is_ragged, is_root, is_to_self, is_too_long, is_unfit, is_unknown, is_unset, last_comm, length_given, misfits, posts_too_much, prints, prints_too_much, resizes, set_by};
 ghost use Rattle.script_reader.specs.Tally.{can_have, is_new_split, length_in, reads, refuses_by, split_in};
 
 use crate::effect::{At, Cost, Effect, Fit, Group, Size, Use, Uses, parent_of};
@@ -73,16 +73,41 @@ fn last_comm(version: Version) -> u8
     }
 }
 
+/// Whether a rule splits this parent by the remainder by `k`.
+fn is_mod_of(rule: CommRule, parent: u8, k: u8) -> bool
+    ensures { result ≡ is_mod_of rule parent k }
+{
+    match rule {
+        CommRule::Mod {
+            parent: other,
+            k: parts,
+        } => parent == other && k == parts,
+        CommRule::Absent | CommRule::World | CommRule::Div { .. } => false,
+    }
+}
+
+/// Whether a rule splits this parent by the quotient by `k`.
+fn is_div_of(rule: CommRule, parent: u8, k: u8) -> bool
+    ensures { result ≡ is_div_of rule parent k }
+{
+    match rule {
+        CommRule::Div {
+            parent: other,
+            k: parts,
+        } => parent == other && k == parts,
+        CommRule::Absent | CommRule::World | CommRule::Mod { .. } => false,
+    }
+}
+
 /// Whether a rule is there, and is not the other one.
 fn differs_from(rule: CommRule, other: CommRule) -> bool
     ensures { result ≡ differs_from rule other }
 {
-    match (rule, other) {
-        (CommRule::Absent, _) => false,
-        (CommRule::Mod { parent, k }, CommRule::Mod { parent: p, k: l })
-        | (CommRule::Div { parent, k }, CommRule::Div { parent: p, k: l }) => !(parent == p
-            && k == l),
-        _ => true,
+    match rule {
+        CommRule::Absent => false,
+        CommRule::World => true,
+        CommRule::Mod { parent, k } => !is_mod_of(other, parent, k),
+        CommRule::Div { parent, k } => !is_div_of(other, parent, k),
     }
 }
 
