@@ -129,7 +129,7 @@ impl Sizes {
         }
     }
 
-    /// Past a primitive.
+    /// Applies a primitive to the lengths.
     pub fn go(&mut self, action: &Action)
         requires { IsShort action.now }
         ensures { HasSameSizes (lengths_after self.old (act_meant action.now)) self.new }

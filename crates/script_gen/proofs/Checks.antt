@@ -1,9 +1,9 @@
 -- A statement that no check refuses stands behind the others.
 use Rattle.std.proofs.Common.{◌≡◌, ℕ, zero, suc, ◌+◌, ◌*◌, ◌<◌, ◌≤◌, Bool, true, false, cond, ◌&&◌, ◌||◌, List, [], ◌∷◌, ◌++◌, length, reverse, Option, Some, None, Result, Ok, Err, refl, ◌∙◌, ap, arith, length-append}
 use Rattle.std.specs.Prelude.{nat_lt, slice_index, ◌==◌}
-use Rattle.std.specs.List.{remove}
+use Rattle.std.specs.List.{find, remove}
 use Rattle.std.specs.Option.{option_map_or}
-use Rattle.std.proofs.lemmas.Bool.{cond-false, le-ltb}
+use Rattle.std.proofs.lemmas.Bool.{le-ltb}
 use Rattle.scc_base.specs.Groups.{list_below, is_with}
 use Rattle.scc_base.specs.Setups.{SetupView, members_of, place_of, setup_key}
 use Rattle.groups.specs.Collectives.{fold_each, head_of, others_of, other_steps, root_steps, send_each, steps_of}
@@ -20,7 +20,7 @@ use Rattle.script_reader.specs.declared.version.Version.TheVariants as version
 use Rattle.script_reader.specs.Checks.{cost_of, has_no_parent, has_no_root, has_split, is_misshapen, is_not_split, is_stray, is_to_self, is_too_deep, is_too_long, is_unknown, is_unset, length_at, open_of, operations, posts_too_much, printed, prints, refuses, run_of, some_below, turns_in, turns_too_often}
 use Rattle.script_reader.specs.Effects.{effect_of}
 use Rattle.script_reader.specs.Faults.{◌>>=◌}
-use Rattle.script_reader.specs.Progress.{Progress, first_fault, is_refused, place}
+use Rattle.script_reader.specs.Progress.{Progress, fault_table, first_fault, has_fault, is_refused, place}
 use Rattle.script_reader.specs.Script.{has_rank}
 use Rattle.script_gen.specs.Scripts.{item_of}
 
@@ -37,6 +37,15 @@ none_below (suc n) who test clear =
     one : (b : Bool) → has_rank who n ≡ b → (has_rank who n && test n) ≡ false
     one true is = ap (λ (b : Bool). b && test n) is ∙ clear n (omega arith) is
     one false is = ap (λ (b : Bool). b && test n) is
+
+-- kinds of which the test fails
+abbrev AreAbsent : (FaultKind → Bool) → List FaultKind → Type 0
+AreAbsent test [] = Unit {0}
+AreAbsent test (kind ∷ kinds) = (test kind ≡ false) × AreAbsent test kinds
+
+none_found : (test : FaultKind → Bool) (kinds : List FaultKind) → AreAbsent test kinds → find test kinds ≡ None
+none_found test [] absent = refl
+none_found test (kind ∷ kinds) absent = ap (λ (b : Bool). cond b (Some kind) (find test kinds)) absent.0 ∙ none_found test kinds absent.1
 
 -- what the checks ask of a statement behind others
 pub record Passes (nue : ℕ) (past : List Item) (who : Who) (s : Stmt) : Type 0 where
@@ -59,22 +68,26 @@ module _ (nue : ℕ) (items : List Item) (names : List (List ℕ)) (who : Who) (
   -- no fault of the table, in its order
   sound : nat_lt 64 (length names) ≡ false → first_fault (stage nue items names who) (effect_of s) ≡ None
   sound few =
-      cond-false _ _ _ (not_refused kind.RankRange)
-      ∙ cond-false _ _ _ (not_refused kind.SelfMessage)
-      ∙ cond-false _ _ _ p.known
-      ∙ cond-false _ _ _ (or_false _ _ p.parented (not_refused kind.NotSplit))
-      ∙ cond-false _ _ _ (not_refused kind.Unset)
-      ∙ cond-false _ _ _ (not_refused kind.Shape)
-      ∙ cond-false _ _ _ refl
-      ∙ cond-false _ _ _ p.closed
-      ∙ cond-false _ _ _ p.flat
-      ∙ cond-false _ _ _ (or_false _ _ p.turning (not_refused kind.TooManyOps))
-      ∙ cond-false _ _ _ (or_false _ _ p.short (not_refused kind.TooLong))
-      ∙ cond-false _ _ _ few
+      none_found (has_fault (stage nue items names who) (effect_of s)) fault_table (
+        not_refused kind.RankRange,
+        not_refused kind.SelfMessage,
+        p.known,
+        or_false _ _ p.parented (not_refused kind.NotSplit),
+        not_refused kind.Unset,
+        not_refused kind.Shape,
+        refl,
+        p.closed,
+        p.flat,
+        or_false _ _ p.turning (not_refused kind.TooManyOps),
+        or_false _ _ p.short (not_refused kind.TooLong),
+        few,
+        tt,
+      )
 
   pub placed : (line : ℕ) → nat_lt 64 (length names) ≡ false → place line (stage nue items names who) s ≡ Ok (stage nue (items ++ item_of line who s ∷ []) names who)
   placed line few =
-      ap (λ (o : Option FaultKind). option_map_or Err o (Ok {E = FaultKind} who) >>= λ w. Ok (record (stage nue items names who) { items = items ++ item_of line w s ∷ [] })) (sound few)
+      let found : Result Who FaultKind = Ok who in
+      ap (λ (o : Option FaultKind). option_map_or Err o found >>= λ w. Ok (record (stage nue items names who) { items = items ++ item_of line w s ∷ [] })) (sound few)
 
 pub not_above : (limit n : ℕ) → n ≤ limit → nat_lt limit n ≡ false
 not_above limit n within = le-ltb limit n within

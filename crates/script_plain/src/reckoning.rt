@@ -262,7 +262,7 @@ impl Reckoning {
         }
     }
 
-    /// Past a primitive.
+    /// Applies a primitive to the lengths.
     fn go(&mut self, action: &Action) -> Result<(), AllocError>
         requires { IsShort action.now }
         ensures after { OnOk result (self.new.lengths ≡ lengths_after self.old.lengths (act_meant action.now)) }
