@@ -381,4 +381,4 @@ marked_by_script s rank script ranks communicators =
 
 -- an item that ends a pass is one mark
 pub one_mark : (s : SetupView) (rank : ℕ) (item : Item) → is_closing (nesting_at rank item) ≡ true → length (marks_of s rank item) ≡ 1
-one_mark s rank item ends = closes_by s rank item (closing (nesting_at rank item) ends)
+one_mark s rank item ends = let closes = closing (nesting_at rank item) ends in closes_by s rank item closes.0 closes.1
