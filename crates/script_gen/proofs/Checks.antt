@@ -68,21 +68,12 @@ module _ (nue : ℕ) (items : List Item) (names : List (List ℕ)) (who : Who) (
   -- no fault of the table, in its order
   sound : nat_lt 64 (length names) ≡ false → first_fault (stage nue items names who) (effect_of s) ≡ None
   sound few =
-      none_found (has_fault (stage nue items names who) (effect_of s)) fault_table (
-        not_refused kind.RankRange,
-        not_refused kind.SelfMessage,
-        p.known,
-        or_false _ _ p.parented (not_refused kind.NotSplit),
-        not_refused kind.Unset,
-        not_refused kind.Shape,
-        refl,
-        p.closed,
-        p.flat,
-        or_false _ _ p.turning (not_refused kind.TooManyOps),
-        or_false _ _ p.short (not_refused kind.TooLong),
-        few,
-        tt,
-      )
+      let test = has_fault (stage nue items names who) (effect_of s) in
+      let last : AreAbsent test (kind.StrayEnd ∷ kind.TooDeep ∷ kind.TooManyOps ∷ kind.TooLong ∷ kind.TooManyNames ∷ []) =
+      (p.closed, (p.flat, (or_false _ _ p.turning (not_refused kind.TooManyOps), (or_false _ _ p.short (not_refused kind.TooLong), (few, tt))))) in
+      let first : AreAbsent test (kind.NotSplit ∷ kind.Unset ∷ kind.Shape ∷ kind.NoSection ∷ kind.StrayEnd ∷ kind.TooDeep ∷ kind.TooManyOps ∷ kind.TooLong ∷ kind.TooManyNames ∷ []) =
+      (or_false _ _ p.parented (not_refused kind.NotSplit), (not_refused kind.Unset, (not_refused kind.Shape, (refl, last)))) in
+      none_found test fault_table (not_refused kind.RankRange, (not_refused kind.SelfMessage, (p.known, first)))
 
   pub placed : (line : ℕ) → nat_lt 64 (length names) ≡ false → place line (stage nue items names who) s ≡ Ok (stage nue (items ++ item_of line who s ∷ []) names who)
   placed line few =
