@@ -17,6 +17,7 @@ impl<'s, V: Evict> Worker for Ue<'s, V> {
         (answer, port)
     }
 
+    #[inline(always)]
     fn stretch<P: Port>(&mut self, port: P) -> (Turn, P) {
         let mut port = port;
         if self.move_lines(&mut port) {

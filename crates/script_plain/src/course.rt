@@ -103,6 +103,7 @@ impl<'s> Course<'s> {
     }
 
     /// Whether the end of a pass comes next.
+    #[inline(always)]
     pub fn is_at_end(&self) -> bool
         ensures { result ≡ is_end (slice_get self.now.left 0) }
     {
@@ -113,6 +114,7 @@ impl<'s> Course<'s> {
     }
 
     /// The primitive that comes next: none where the end of a pass does.
+    #[inline(always)]
     pub fn front(&self) -> Option<Primitive<'s>>
         ensures same { option_map prim_meant result ≡ prim_of (slice_get self.now.left 0) }
         ensures short { IfSome result (λ p. IsShort p.action) }
@@ -158,6 +160,7 @@ impl<'s> Course<'s> {
     }
 
     /// Goes past the mark that comes next.
+    #[inline(always)]
     pub fn advance(&mut self)
         ensures { self.new ≡ record self.old { left = drop 1 self.old.left } }
     {
@@ -187,6 +190,7 @@ impl<'s> Course<'s> {
 }
 
 /// How many primitives an item is for a rank.
+#[inline(always)]
 fn count_prims(setup: &Setup, rank: Rank, item: &Item) -> u32
     requires within { rank < setup.now.nue }
     requires sized { IsSized item.now.stmt }
@@ -200,6 +204,7 @@ fn count_prims(setup: &Setup, rank: Rank, item: &Item) -> u32
 }
 
 /// How many marks an item is for a rank.
+#[inline(always)]
 fn count_at(setup: &Setup, rank: Rank, item: &Item) -> u32
     requires within { rank < setup.now.nue }
     requires sized { IsSized item.now.stmt }

@@ -85,6 +85,7 @@ pub struct Primitive<'s> {
 impl<'s> Content<'s> {
     ghost use Rattle.std.specs.Prelude.{◌≡◌};
 
+    #[inline(always)]
     fn copy(&self) -> Content<'s>
         ensures { result ≡ self.now }
     {
@@ -105,6 +106,7 @@ impl<'s> Content<'s> {
 impl<'s> Action<'s> {
     ghost use Rattle.std.specs.Prelude.{◌≡◌};
 
+    #[inline(always)]
     fn copy(&self) -> Action<'s>
         ensures { result ≡ self.now }
     {
@@ -152,6 +154,7 @@ impl<'s> Primitive<'s> {
     ghost use Rattle.std.specs.Prelude.{◌≡◌};
 
     /// The same primitive once more.
+    #[inline(always)]
     pub(crate) fn copy(&self) -> Primitive<'s>
         ensures { result ≡ self.now }
     {

@@ -14,6 +14,7 @@ use scc_base::{Rank, Setup};
 use script_reader::{Stmt, parent_of};
 
 /// The primitive of a statement that is one.
+#[inline(always)]
 fn single_of<'s>(nue: u8, rank: Rank, stmt: &'s Stmt) -> Option<Action<'s>>
     requires some { 1 ≤ nue }
     requires most { nue ≤ 48 }
@@ -78,6 +79,7 @@ fn single_of<'s>(nue: u8, rank: Rank, stmt: &'s Stmt) -> Option<Action<'s>>
 }
 
 /// The collective call of a statement that is one.
+#[inline(always)]
 fn collective_of(stmt: &Stmt) -> Option<Collective>
     ensures { result ≡ collective_of stmt.now }
 {
@@ -190,6 +192,7 @@ fn take_part<'s>(setup: &Setup, rank: Rank, call: Collective, k: u32) -> Action<
 }
 
 /// How many primitives a statement is that is no collective call.
+#[inline(always)]
 fn count_single(stmt: &Stmt) -> u32
     ensures { (nue rank : ℕ) → result ≡ length (option_to_list (single_of nue rank stmt.now)) }
 {
@@ -213,6 +216,7 @@ fn count_single(stmt: &Stmt) -> u32
 }
 
 /// How many primitives a statement is for a rank.
+#[inline(always)]
 pub fn count(setup: &Setup, rank: Rank, stmt: &Stmt) -> u32
     requires within { rank < setup.now.nue }
     requires sized { IsSized stmt.now }
@@ -225,6 +229,7 @@ pub fn count(setup: &Setup, rank: Rank, stmt: &Stmt) -> u32
 }
 
 /// A primitive that a statement is for a rank.
+#[inline(always)]
 pub fn action_of<'s>(setup: &Setup, rank: Rank, stmt: &'s Stmt, k: u32) -> Action<'s>
     requires within { rank < setup.now.nue }
     requires sized { IsSized stmt.now }

@@ -118,6 +118,7 @@ impl<'s> Walk<'s> {
 }
 
 /// Goes past the ends of passes that come next, and gives the primitive that stands there then.
+#[inline(always)]
 fn pass_ends<'s>(course: &mut Course<'s>) -> Option<Primitive<'s>>
     ensures same { prims_in course.new.left ≡ prims_in course.old.left }
     ensures script { course.new.script ≡ course.old.script }
