@@ -1,31 +1,25 @@
 -- The script of a number for two ranks and more: what the reader reads in its text.
-use Rattle.std.proofs.Common.{◌≡◌, ℕ, ◌+◌, ◌*◌, ◌%◌, ◌≤◌, ◌||◌, Bool, true, false, cond, List, [], ◌∷◌, ◌++◌, length, map, reverse, take, drop, codes, decimal, Option, Some, None, unwrap_or, Result, Ok, refl, ◌∙◌, ap, arith}
-use Rattle.std.specs.Prelude.{◌==◌, is_none, nat_lt}
+use Rattle.std.proofs.Common.{◌≡◌, ℕ, ◌≤◌, Bool, false, cond, List, [], ◌∷◌, length, map, take, codes, decimal, Result, Ok, refl, ◌∙◌, ap, arith}
+use Rattle.std.specs.Prelude.{nat_lt}
 use Rattle.std.proofs.lemmas.Fmt.{length-decimal-le}
 use Rattle.groups.specs.declared.operations.Op.TheVariants as op
 use Rattle.groups.specs.declared.operations.Ty.TheVariants as ty
 use Rattle.script_reader.specs.declared.fault.ReadFault.{ReadFault}
 use Rattle.script_reader.specs.declared.script.Form.TheVariants as form
-use Rattle.script_reader.specs.declared.script.Item.{Item}
 use Rattle.script_reader.specs.declared.script.Stmt.TheVariants as stmt
-use Rattle.script_reader.specs.declared.script.Who.{Who}
 use Rattle.script_reader.specs.declared.script.Who.TheVariants as who
 use Rattle.script_reader.specs.declared.version.Version.TheVariants as version
-use Rattle.script_reader.specs.Checks.{cost_of, differs, is_ragged, length_at, open_of, operations, printed, run_of, turns_in}
 use Rattle.script_reader.specs.Faults.{◌>>=◌}
-use Rattle.script_reader.specs.Effects.{effect_of}
 use Rattle.script_reader.specs.Progress.{Progress, start}
 use Rattle.script_reader.specs.Reading.{at_end, most_script_bytes, parse_script, read_all_lines, read_lines, version_of}
 use Rattle.script_reader.specs.Words.{line_count, lines_of}
-use Rattle.script_gen.specs.Scripts.{item_of, recv_last, ring_script, send_next}
+use Rattle.script_gen.specs.Scripts.{recv_last, ring_script, send_next}
 use Rattle.script_gen.specs.Texts.{text_of_lines, turns_of}
-use Rattle.script_gen.proofs.Checks.{AreLight, Passes, clears, not_above, placed, stage}
-use Rattle.script_gen.proofs.Facts.{light_sum, odd_other, recv_other, send_other, work}
+use Rattle.script_gen.proofs.Checks.{not_above, placed, stage}
 use Rattle.script_gen.proofs.Lines.{AreLines, AreWords, decimal_word, line_of, lines_of_text}
 use Rattle.script_gen.proofs.BothScripts.{end_are, even_are, fill_are, names_1, names_2, odd_are, printme_are, rank_are, repeat_are, sum_are}
-use Rattle.script_gen.proofs.Others.{AreOthers, others_none, others_shown, print_more, print_within, silent, still_within}
 use Rattle.script_gen.proofs.Reading.{allreduce_is, fill_is, go, recv_is, repeat_is, send_is, text_short, too_long}
-use Rattle.script_gen.proofs.RingSaid.{at, length_10, length_12, length_13, length_14, length_16, length_17, more, names_3, past, rest, ring_said, ring_words}
+use Rattle.script_gen.proofs.RingSaid.{at, names_3, rest, ring_said, ring_words}
 use Rattle.script_gen.proofs.RingPasses.{pass_0, pass_1, pass_2, pass_3, pass_4, pass_5, pass_6, pass_7, pass_8, pass_9, pass_10, pass_11, pass_12, pass_13, pass_14, pass_15, pass_16, pass_17}
 
 module _ (nue s t : ℕ) (some : 2 ≤ nue) (most : nue ≤ 48) (small : s ≤ 65535) (least : 1 ≤ t) (few : t ≤ 10) where

@@ -1,30 +1,18 @@
 -- The ring as the reader takes it: its lines, the statements that they say, and the lengths of its registers.
-use Rattle.std.proofs.Common.{◌≡◌, ℕ, ◌+◌, ◌*◌, ◌%◌, ◌≤◌, ◌||◌, Bool, true, false, cond, List, [], ◌∷◌, ◌++◌, length, map, reverse, take, drop, codes, decimal, Option, Some, None, unwrap_or, Result, Ok, refl, ◌∙◌, ap, arith}
-use Rattle.std.specs.Prelude.{◌==◌, is_none, nat_lt}
-use Rattle.std.proofs.lemmas.Fmt.{length-decimal-le}
+use Rattle.std.proofs.Common.{◌≡◌, ℕ, ◌%◌, true, List, [], ◌∷◌, ◌++◌, map, reverse, take, drop, codes, decimal, Some, None}
+use Rattle.std.specs.Prelude.{◌==◌}
 use Rattle.groups.specs.declared.operations.Op.TheVariants as op
 use Rattle.groups.specs.declared.operations.Ty.TheVariants as ty
-use Rattle.script_reader.specs.declared.fault.ReadFault.{ReadFault}
 use Rattle.script_reader.specs.declared.script.Form.TheVariants as form
 use Rattle.script_reader.specs.declared.script.Item.{Item}
 use Rattle.script_reader.specs.declared.script.Stmt.TheVariants as stmt
 use Rattle.script_reader.specs.declared.script.Who.{Who}
 use Rattle.script_reader.specs.declared.script.Who.TheVariants as who
-use Rattle.script_reader.specs.declared.version.Version.TheVariants as version
-use Rattle.script_reader.specs.Checks.{cost_of, differs, is_ragged, length_at, open_of, operations, printed, run_of, turns_in}
-use Rattle.script_reader.specs.Faults.{◌>>=◌}
-use Rattle.script_reader.specs.Effects.{effect_of}
-use Rattle.script_reader.specs.Progress.{Progress, start}
-use Rattle.script_reader.specs.Reading.{at_end, most_script_bytes, parse_script, read_all_lines, read_lines, version_of}
-use Rattle.script_reader.specs.Words.{line_count, lines_of}
-use Rattle.script_gen.specs.Scripts.{item_of, recv_last, ring_script, send_next}
-use Rattle.script_gen.specs.Texts.{text_of_lines, turns_of}
-use Rattle.script_gen.proofs.Checks.{AreLight, Passes, clears, not_above, placed, stage}
-use Rattle.script_gen.proofs.Facts.{light_sum, odd_other, recv_other, send_other, work}
-use Rattle.script_gen.proofs.Lines.{AreLines, AreWords, decimal_word, line_of, lines_of_text}
-use Rattle.script_gen.proofs.BothScripts.{end_are, even_are, fill_are, names_1, names_2, odd_are, printme_are, rank_are, repeat_are, sum_are}
-use Rattle.script_gen.proofs.Others.{AreOthers, others_none, others_shown, print_more, print_within, silent, still_within}
-use Rattle.script_gen.proofs.Reading.{allreduce_is, fill_is, go, recv_is, repeat_is, send_is, text_short, too_long}
+use Rattle.script_reader.specs.Checks.{length_at}
+use Rattle.script_reader.specs.Progress.{Progress}
+use Rattle.script_gen.specs.Scripts.{item_of, recv_last, send_next}
+use Rattle.script_gen.proofs.Checks.{stage}
+use Rattle.script_gen.proofs.Lines.{line_of}
 
 -- the names of the registers, once the third has come
 abbrev pub names_3 : List (List ℕ)

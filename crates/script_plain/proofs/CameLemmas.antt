@@ -1,42 +1,28 @@
 -- What the laws of who came to a collective call stand on: the state of each rank, and what a rank has received.
-use Rattle.std.proofs.Common.{◌≡◌, ℕ, zero, suc, ◌+◌, ◌*◌, ◌<◌, ◌≤◌, ◌==◌, true, false, List, [], ◌∷◌, ◌++◌, length, Option, Some, None, refl, sym, ap, ◌∙◌, subst, arith, slice_get, slice_set, length-append, inl, inr, ⊎_elim}
+use Rattle.std.proofs.Common.{◌≡◌, ℕ, zero, suc, ◌+◌, ◌*◌, ◌<◌, ◌≤◌, ◌==◌, true, false, List, [], ◌∷◌, ◌++◌, length, Option, Some, None, refl, sym, ap, ◌∙◌, subst, arith, slice_get, length-append, inl, inr}
 use Rattle.std.specs.Prelude.{slice_index}
-use Rattle.std.proofs.lemmas.Bool.{cases_lt, ltb-true}
-use Rattle.std.proofs.lemmas.Option.{get_or_from_slice_get, slice_get_within}
+use Rattle.std.proofs.lemmas.Bool.{ltb-true}
+use Rattle.std.proofs.lemmas.Option.{get_or_from_slice_get}
 use Rattle.scc_base.specs.Calls.{DataCall, Message}
-use Rattle.scc_base.specs.Heads.{MessageHead, kind_number}
+use Rattle.scc_base.specs.Heads.{MessageHead}
 use Rattle.scc_base.specs.Setups.{SetupView, members_of, place_of, setup_key, size_of}
-use Rattle.scc_base.specs.declared.kinds.Kind.{Kind}
-use Rattle.scc_base.specs.declared.kinds.Kind.TheVariants as kind_of
 use Rattle.scc_base.proofs.GroupFacts.{member_at_place, place_found}
-use Rattle.groups.specs.Collectives.{head_of, others_of}
-use Rattle.groups.specs.declared.collectives.Coll.{Coll}
 use Rattle.groups.specs.declared.collectives.Coll.TheVariants as coll
-use Rattle.groups.specs.declared.operations.Op.{Op}
-use Rattle.groups.specs.declared.operations.Ty.{Ty}
 use Rattle.script_reader.specs.Script.{Script}
 use Rattle.script_reader.specs.declared.script.Stmt.{Stmt}
 use Rattle.script_reader.specs.declared.script.Stmt.TheVariants as stmt
 use Rattle.script_plain.specs.declared.prims.Operands.{Operands}
-use Rattle.script_plain.specs.declared.prims.Source.TheVariants as source_of
-use Rattle.script_plain.specs.Collectives.{AllCame, AllGive, AreOwnWays, CameTo, Casts, Gives, IsOther, OthersGave, OthersGaveToAll, RootCame, Tells, gone_through}
-use Rattle.script_plain.specs.Local.{register_at}
+use Rattle.script_plain.specs.Collectives.{IsOther, gone_through}
 use Rattle.script_plain.specs.Meaning.{State}
-use Rattle.script_plain.specs.Messages.{AreDelivered, is_of, received_by, sent_by}
-use Rattle.script_plain.specs.Program.{Act, Prim, acts_of, can_call, setup_of}
-use Rattle.script_plain.specs.Program.Act.{Begin, Finish, Gather, Accept, Send}
+use Rattle.script_plain.specs.Messages.{is_of, received_by}
+use Rattle.script_plain.specs.Program.{Act, Prim, can_call}
+use Rattle.script_plain.specs.Program.Act.{Begin}
 use Rattle.script_plain.specs.Step.{Configuration}
-use Rattle.script_plain.proofs.BroadcastLaws.{bcast_accepts, broadcast, faces, own_kind}
-use Rattle.script_plain.proofs.CollectiveFits.{AreFit}
-use Rattle.script_plain.proofs.CollectiveGroups.{gathers, is_in_others}
+use Rattle.script_plain.proofs.CollectiveGroups.{gathers}
 use Rattle.script_plain.proofs.CollectivePaths.{Facing, IsIn, chosen, chosen_append, grows, through_both}
-use Rattle.script_plain.proofs.CountLaws.{counted}
-use Rattle.script_plain.proofs.FoundCalls.{CameToSend, sender_came}
-use Rattle.script_plain.proofs.MessageCounts.{all_counted, gathers_get_each, gathers_send_none, got_in, got_so_far, has_kind, receipts_counted, sends_counted, sent_in, sent_so_far, some_counted, total_of}
-use Rattle.script_plain.proofs.MessageLaws.{received_as_sent}
-use Rattle.script_plain.proofs.ReductionLaws.{all_reduced, allreduce_at_other, allreduce_at_root, comes_in, down_sends, reduce_at_other, reduce_at_root, reduced, tells, told_accepts}
-use Rattle.script_plain.proofs.ReductionPaths.{fold_operands, gathers_length, split_at}
-use Rattle.script_plain.proofs.StatementSends.{IsBcastOf, IsCallOf, IsReduceOf, MakesOne, all_down_makes, all_up_makes, bcast_makes, reduce_makes}
+use Rattle.script_plain.proofs.MessageCounts.{all_counted, gathers_get_each, gathers_send_none, got_in, got_so_far, has_kind, receipts_counted, sends_counted, sent_in, sent_so_far, some_counted}
+use Rattle.script_plain.proofs.ReductionPaths.{gathers_length, split_at}
+use Rattle.script_plain.proofs.StatementSends.{IsCallOf, IsReduceOf, MakesOne}
 use Rattle.script_plain.proofs.StepLaws as steps
 
 -- each rank of the script has a state

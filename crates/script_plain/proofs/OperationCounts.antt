@@ -1,20 +1,15 @@
 -- The marks of a rank are as many as its operations: a statement makes as many as it costs, and a repeat's body comes as
 -- often as its statements are counted.
-use Rattle.std.proofs.Common.{◌≡◌, ℕ, zero, suc, ◌+◌, ◌-◌, ◌*◌, ◌<◌, ◌≤◌, ◌==◌, Bool, true, false, cond, ◌&&◌, List, [], ◌∷◌, ◌++◌, length, map, reverse, take, Some, None, refl, sym, ap, subst, ◌∙◌, arith, slice_get, append_assoc, inl, inr, Option}
-use Rattle.std.proofs.Math.Nat.{mul_assoc, suc-mul, zero-mul}
-use Rattle.std.proofs.Math.Seq.{take-append_seam}
+use Rattle.std.proofs.Common.{◌≡◌, ℕ, ◌+◌, ◌-◌, ◌*◌, ◌<◌, ◌≤◌, ◌==◌, Bool, true, false, cond, ◌&&◌, List, [], ◌∷◌, ◌++◌, length, reverse, take, Some, None, refl, sym, ap, subst, ◌∙◌, arith, slice_get, append_assoc, inl, inr, Option}
 use Rattle.std.proofs.lemmas.Bool.{and_parts, cases_lt}
-use Rattle.std.proofs.lemmas.List.{append-nil, length-append, length-map, length-take-le, reverse-append}
-use Rattle.std.specs.Option.{option_map_or}
-use Rattle.std.specs.Prelude.{nat_lt, remove, slice_index}
+use Rattle.std.proofs.lemmas.List.{append-nil, length-map, length-take-le, reverse-append}
+use Rattle.std.specs.Prelude.{remove, slice_index}
 use Rattle.scc_base.specs.Communicators.{key_of, rule_of}
-use Rattle.scc_base.specs.Groups.{members_in, place_in, size_in}
-use Rattle.scc_base.specs.Setups.{SetupView}
+use Rattle.scc_base.specs.Groups.{members_in, place_in}
 use Rattle.scc_base.specs.declared.communicators.CommRule.TheVariants as rule
-use Rattle.groups.specs.Collectives.{comm_of, other_steps, root_place, root_steps, steps_of}
+use Rattle.groups.specs.Collectives.{comm_of, steps_of}
 use Rattle.groups.specs.declared.collectives.Coll.{Coll}
 use Rattle.groups.specs.declared.collectives.Coll.TheVariants as coll
-use Rattle.groups.specs.declared.collectives.Step.{Step}
 use Rattle.groups.specs.declared.operations.Op.TheVariants as op_of
 use Rattle.groups.specs.declared.operations.Ty.TheVariants as ty_of
 use Rattle.script_reader.specs.Checks.{cost_of, has_root, is_known, open_of, opened, operations, run_of, steps_in, turns_in}
@@ -27,16 +22,16 @@ use Rattle.script_reader.specs.declared.script.Stmt.{Stmt}
 use Rattle.script_reader.specs.declared.script.Stmt.TheVariants as stmt
 use Rattle.script_reader.specs.declared.script.Who.{Who}
 use Rattle.script_reader.proofs.AcceptanceLemmas.{worked-law}
-use Rattle.script_reader.proofs.SettledLemmas.{Extends, key-same, present-low, same-more}
+use Rattle.script_reader.proofs.SettledLemmas.{Extends, key-same, present-low}
 use Rattle.script_reader.specs.declared.effect.Nesting.{Nesting}
 use Rattle.script_reader.specs.declared.effect.Nesting.TheVariants as nesting
 use Rattle.script_plain.specs.declared.prims.Operands.{Operands}
-use Rattle.script_plain.specs.Program.{Act, Prim, Unrolled, acts_of, begins, call_steps, can_call, collective_of, copies, in_front, marked, marks_by, marks_in, part_of, parts_of, program_of, repeated, setup_of}
+use Rattle.script_plain.specs.Program.{Prim, Unrolled, acts_of, begins, call_steps, can_call, collective_of, in_front, marked, marks_by, marks_in, part_of, parts_of, program_of, setup_of}
 use Rattle.script_plain.proofs.CallableLaws.{callable, known}
 use Rattle.script_plain.proofs.MarkLaws.{fewer_prims, program_is}
 use Rattle.script_plain.proofs.ReductionPaths.{fold_operands}
 use Rattle.script_plain.proofs.StepLaws as steps
-use Rattle.script_plain.proofs.RepeatCounts.{Counts, IsOther, IsStack, cast_steps, counts_closes, counts_repeated, counts_stays, in_line, length_copies, line_back, lined_up, matched_back, once_back, one_less, one_opened, passes, popped, root_by_key, rule_on, same_stack, seam, sorted, spread, steps_by, top, top_of, turns_opened, weigh, within_back}
+use Rattle.script_plain.proofs.RepeatCounts.{Counts, IsOther, IsStack, cast_steps, counts_closes, counts_repeated, counts_stays, in_line, line_back, lined_up, matched_back, once_back, one_opened, popped, root_by_key, rule_on, same_stack, seam, sorted, steps_by, top_of, within_back}
 
 module _ (script : Script) (whole : IsWhole script.nue script.items) (rank : ℕ) (below : rank < script.nue) where
   -- a call of a statement costs the steps that it makes

@@ -1,15 +1,13 @@
 -- That the others of a group came to a collective call: who has received a message of it, received it from a rank that was
 -- there.
-use Rattle.std.proofs.Common.{◌≡◌, ℕ, zero, suc, ◌+◌, ◌*◌, ◌<◌, ◌≤◌, ◌==◌, true, false, List, [], ◌∷◌, ◌++◌, length, Option, Some, None, refl, sym, ap, ◌∙◌, subst, arith, slice_get, slice_set, length-append, inl, inr, ⊎_elim}
-use Rattle.std.specs.Prelude.{slice_index}
-use Rattle.std.proofs.lemmas.Bool.{cases_lt, ltb-true}
-use Rattle.std.proofs.lemmas.Option.{get_or_from_slice_get, slice_get_within}
+use Rattle.std.proofs.Common.{◌≡◌, ℕ, suc, ◌+◌, ◌*◌, ◌<◌, ◌≤◌, ◌==◌, true, false, List, [], ◌∷◌, ◌++◌, length, Option, Some, None, refl, sym, ap, ◌∙◌, subst, arith, slice_get, slice_set, length-append, ⊎_elim}
+use Rattle.std.proofs.lemmas.Bool.{cases_lt}
+use Rattle.std.proofs.lemmas.Option.{slice_get_within}
 use Rattle.scc_base.specs.Calls.{DataCall, Message}
-use Rattle.scc_base.specs.Heads.{MessageHead, kind_number}
-use Rattle.scc_base.specs.Setups.{SetupView, members_of, place_of, setup_key, size_of}
+use Rattle.scc_base.specs.Heads.{kind_number}
+use Rattle.scc_base.specs.Setups.{SetupView}
 use Rattle.scc_base.specs.declared.kinds.Kind.{Kind}
 use Rattle.scc_base.specs.declared.kinds.Kind.TheVariants as kind_of
-use Rattle.scc_base.proofs.GroupFacts.{member_at_place, place_found}
 use Rattle.groups.specs.Collectives.{head_of, others_of}
 use Rattle.groups.specs.declared.collectives.Coll.{Coll}
 use Rattle.groups.specs.declared.collectives.Coll.TheVariants as coll
@@ -30,16 +28,15 @@ use Rattle.script_plain.specs.Step.{Configuration}
 use Rattle.script_plain.proofs.BroadcastLaws.{bcast_accepts, broadcast, faces, own_kind}
 use Rattle.script_plain.proofs.CollectiveFits.{AreFit}
 use Rattle.script_plain.proofs.CollectiveGroups.{gathers, is_in_others}
-use Rattle.script_plain.proofs.CollectivePaths.{Facing, IsIn, chosen, chosen_append, grows, through_both}
+use Rattle.script_plain.proofs.CollectivePaths.{Facing, chosen, through_both}
 use Rattle.script_plain.proofs.CountLaws.{counted}
 use Rattle.script_plain.proofs.FoundCalls.{CameToSend, sender_came}
-use Rattle.script_plain.proofs.MessageCounts.{all_counted, gathers_get_each, gathers_send_none, got_in, got_so_far, has_kind, receipts_counted, sends_counted, sent_in, sent_so_far, some_counted, total_of}
+use Rattle.script_plain.proofs.MessageCounts.{got_so_far, sent_in, sent_so_far, total_of}
 use Rattle.script_plain.proofs.MessageLaws.{received_as_sent}
 use Rattle.script_plain.proofs.ReductionLaws.{all_reduced, allreduce_at_other, allreduce_at_root, comes_in, down_sends, reduce_at_other, reduce_at_root, reduced, tells, told_accepts}
-use Rattle.script_plain.proofs.ReductionPaths.{fold_operands, gathers_length, split_at}
-use Rattle.script_plain.proofs.StatementSends.{IsBcastOf, IsCallOf, IsReduceOf, MakesOne, all_down_makes, all_up_makes, bcast_makes, reduce_makes}
-use Rattle.script_plain.proofs.StepLaws as steps
-use Rattle.script_plain.proofs.CameLemmas.{cell_at, gets_each, makes_such, message_at, reduce_is, root_below, root_place_is, sends_none, still_got}
+use Rattle.script_plain.proofs.ReductionPaths.{fold_operands, gathers_length}
+use Rattle.script_plain.proofs.StatementSends.{IsBcastOf, IsCallOf, MakesOne, all_down_makes, all_up_makes, bcast_makes, reduce_makes}
+use Rattle.script_plain.proofs.CameLemmas.{cell_at, gets_each, makes_such, message_at, reduce_is, sends_none, still_got}
 
 module _ (script : Script) (c : Configuration State) (delivered : AreDelivered c) (fit : AreFit script c) (own : AreOwnWays script c) (even : length c.cells ≡ script.nue) where
   -- each of the others gave the bytes that came to the root

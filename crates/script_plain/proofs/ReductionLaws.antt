@@ -1,7 +1,7 @@
 -- What a reduction gives, and a reduction to all.
 use Rattle.std.proofs.Common.{◌≡◌, ℕ, suc, ◌+◌, ◌*◌, ◌%◌, ◌<◌, ◌≤◌, ◌==◌, Bool, true, ◌&&◌, List, [], ◌∷◌, ◌++◌, length, map, Some, refl, sym, ap, ◌∙◌, subst, arith, slice_get, slice_set, length-append, append_assoc, inl, ⊎_elim}
 use Rattle.std.proofs.lemmas.Bool.{cases_lt, ltb-true}
-use Rattle.std.proofs.lemmas.List.{append-nil, length-map, map-append}
+use Rattle.std.proofs.lemmas.List.{length-map, map-append}
 use Rattle.std.proofs.lemmas.Option.{slice_get_past}
 use Rattle.scc_base.specs.Calls.{DataCall, Message}
 use Rattle.scc_base.specs.Calls.DataCall.{Recv}
@@ -17,20 +17,19 @@ use Rattle.groups.specs.declared.collectives.Step.TheVariants as step
 use Rattle.groups.specs.declared.operations.Op.{Op}
 use Rattle.groups.specs.declared.operations.Ty.{Ty}
 use Rattle.script_reader.specs.Script.{Script}
-use Rattle.script_reader.specs.Settled.{IsWhole}
 use Rattle.script_reader.specs.declared.script.Stmt.{Stmt}
 use Rattle.script_reader.specs.declared.script.Stmt.TheVariants as stmt
 use Rattle.script_plain.specs.declared.prims.Operands.{Operands}
 use Rattle.script_plain.specs.declared.prims.Source.TheVariants as source_of
-use Rattle.script_plain.specs.Collectives.{AreReduced, AreReducedToAll, AreToldAll, AreUntouched, CameTo, Gives, HasDone, IsOther, gone_by, gone_through}
+use Rattle.script_plain.specs.Collectives.{AreReduced, AreReducedToAll, AreToldAll, CameTo, Gives, HasDone, IsOther, gone_by, gone_through}
 use Rattle.script_plain.specs.Local.{asked_head, folded, gone_on, gone_on_folding, gone_on_gathering, register_at, with_length}
 use Rattle.script_plain.specs.Meaning.{State, next_of}
 use Rattle.script_plain.specs.Messages.{AreDelivered, is_of, received_by, sent_by}
 use Rattle.script_plain.specs.Program.{Act, Prim, acts_of, can_call, part_of, parts_of, setup_of}
 use Rattle.script_plain.specs.Program.Act.{Send, Gather, Begin, Fold, Accept, Finish}
 use Rattle.script_plain.specs.Step.{Configuration}
-use Rattle.script_plain.proofs.BroadcastLaws.{Unchanged, accepts, bcast_at_root, faces, own_kind, past_sends}
-use Rattle.script_plain.proofs.CollectiveFits.{AreFit, came_to, may_cast, may_reduce}
+use Rattle.script_plain.proofs.BroadcastLaws.{Unchanged, accepts, faces, own_kind, past_sends}
+use Rattle.script_plain.proofs.CollectiveFits.{AreFit, came_to}
 use Rattle.script_plain.proofs.CollectiveGroups.{AreApart, Each, each_on, folds_parts, gathers, is_in_others, other_has, others_apart, others_each, root_has, sends_parts}
 use Rattle.script_plain.proofs.CollectivePaths.{Facing, by_send, chosen, chosen_none, faced, first_sent, past, through_both}
 use Rattle.script_plain.proofs.MessageLaws.{received_as_sent}

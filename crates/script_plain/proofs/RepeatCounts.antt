@@ -1,40 +1,29 @@
 -- How the marks of repeats are counted: a repeat's body comes as often as its statements are counted.
-use Rattle.std.proofs.Common.{◌≡◌, ℕ, zero, suc, ◌+◌, ◌-◌, ◌*◌, ◌<◌, ◌≤◌, ◌==◌, Bool, true, false, cond, ◌&&◌, List, [], ◌∷◌, ◌++◌, length, map, reverse, take, Some, None, refl, sym, ap, subst, ◌∙◌, arith, slice_get, append_assoc, inl, inr, Option}
+use Rattle.std.proofs.Common.{◌≡◌, ℕ, zero, suc, ◌+◌, ◌-◌, ◌*◌, ◌≤◌, ◌==◌, Bool, true, false, cond, List, [], ◌∷◌, ◌++◌, length, map, take, Some, refl, sym, ap, ◌∙◌, arith, slice_get, append_assoc, Option}
 use Rattle.std.proofs.Math.Nat.{mul_assoc, suc-mul, zero-mul}
 use Rattle.std.proofs.Math.Seq.{take-append_seam}
-use Rattle.std.proofs.lemmas.Bool.{and_parts, cases_lt}
-use Rattle.std.proofs.lemmas.List.{append-nil, length-append, length-map, length-take-le, reverse-append}
+use Rattle.std.proofs.lemmas.List.{append-nil, length-append, length-map}
 use Rattle.std.specs.Option.{option_map_or}
 use Rattle.std.specs.Prelude.{nat_lt, remove, slice_index}
 use Rattle.scc_base.specs.Communicators.{key_of, rule_of}
 use Rattle.scc_base.specs.Groups.{members_in, place_in, size_in}
 use Rattle.scc_base.specs.Setups.{SetupView}
 use Rattle.scc_base.specs.declared.communicators.CommRule.TheVariants as rule
-use Rattle.groups.specs.Collectives.{comm_of, other_steps, root_place, root_steps, steps_of}
+use Rattle.groups.specs.Collectives.{comm_of, other_steps, root_place, root_steps}
 use Rattle.groups.specs.declared.collectives.Coll.{Coll}
 use Rattle.groups.specs.declared.collectives.Coll.TheVariants as coll
 use Rattle.groups.specs.declared.collectives.Step.{Step}
-use Rattle.groups.specs.declared.operations.Op.TheVariants as op_of
-use Rattle.groups.specs.declared.operations.Ty.TheVariants as ty_of
-use Rattle.script_reader.specs.Checks.{cost_of, has_root, is_known, open_of, opened, operations, run_of, steps_in, turns_in}
-use Rattle.script_reader.specs.Closed.{AreMatched, AreWithin, Closes, HasPass, HavePasses, IsClosed, latest_section}
-use Rattle.script_reader.specs.Effects.{comm_needed, effect_of}
-use Rattle.script_reader.specs.Script.{Script, has_rank, rules_of}
-use Rattle.script_reader.specs.Settled.{AreInLine, IsInLine, IsWhole}
+use Rattle.script_reader.specs.Checks.{has_root, open_of, opened, turns_in}
+use Rattle.script_reader.specs.Closed.{AreMatched, AreWithin, HavePasses}
+use Rattle.script_reader.specs.Effects.{effect_of}
+use Rattle.script_reader.specs.Script.{rules_of}
+use Rattle.script_reader.specs.Settled.{AreInLine}
 use Rattle.script_reader.specs.declared.script.Item.{Item}
 use Rattle.script_reader.specs.declared.script.Stmt.{Stmt}
 use Rattle.script_reader.specs.declared.script.Stmt.TheVariants as stmt
-use Rattle.script_reader.specs.declared.script.Who.{Who}
-use Rattle.script_reader.proofs.AcceptanceLemmas.{worked-law}
-use Rattle.script_reader.proofs.SettledLemmas.{Extends, key-same, present-low, same-more}
-use Rattle.script_reader.specs.declared.effect.Nesting.{Nesting}
+use Rattle.script_reader.proofs.SettledLemmas.{same-more}
 use Rattle.script_reader.specs.declared.effect.Nesting.TheVariants as nesting
-use Rattle.script_plain.specs.declared.prims.Operands.{Operands}
-use Rattle.script_plain.specs.Program.{Act, Prim, Unrolled, acts_of, begins, call_steps, can_call, collective_of, copies, in_front, marked, marks_by, marks_in, part_of, parts_of, program_of, repeated, setup_of}
-use Rattle.script_plain.proofs.CallableLaws.{callable, known}
-use Rattle.script_plain.proofs.MarkLaws.{fewer_prims, program_is}
-use Rattle.script_plain.proofs.ReductionPaths.{fold_operands}
-use Rattle.script_plain.proofs.StepLaws as steps
+use Rattle.script_plain.specs.Program.{Act, Prim, Unrolled, copies, in_front, repeated}
 
 -- what a statement does, in its line
 abbrev pub in_line : ℕ → List Act → List Prim

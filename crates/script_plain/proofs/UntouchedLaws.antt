@@ -1,41 +1,21 @@
 -- What a collective call leaves as it was: the registers of the root of a broadcast, and of the others in a reduction.
-use Rattle.std.proofs.Common.{◌≡◌, ℕ, suc, ◌+◌, ◌*◌, ◌%◌, ◌<◌, ◌≤◌, ◌==◌, Bool, true, ◌&&◌, List, [], ◌∷◌, ◌++◌, length, map, Some, refl, sym, ap, ◌∙◌, subst, arith, slice_get, slice_set, length-append, append_assoc, inl, ⊎_elim}
-use Rattle.std.proofs.lemmas.Bool.{cases_lt, ltb-true}
-use Rattle.std.proofs.lemmas.List.{append-nil, length-map, map-append}
-use Rattle.std.proofs.lemmas.Option.{slice_get_past}
-use Rattle.scc_base.specs.Calls.{DataCall, Message}
-use Rattle.scc_base.specs.Calls.DataCall.{Recv}
-use Rattle.scc_base.specs.Heads.{MessageHead, kind_number}
-use Rattle.scc_base.specs.Setups.{SetupView, place_of}
-use Rattle.scc_base.specs.declared.kinds.Kind.{Kind}
+use Rattle.std.proofs.Common.{◌≡◌, ℕ, List, [], ◌∷◌, ◌++◌, length, map, sym, ap, ◌∙◌}
+use Rattle.std.proofs.lemmas.List.{append-nil, length-map}
+use Rattle.scc_base.specs.Heads.{MessageHead}
+use Rattle.scc_base.specs.Setups.{SetupView}
 use Rattle.scc_base.specs.declared.kinds.Kind.TheVariants as kind_of
-use Rattle.groups.specs.Collectives.{fold_each, head_of, others_of, send_each}
-use Rattle.groups.specs.Folds.{bytes_in, fold_of}
-use Rattle.groups.specs.declared.collectives.Coll.{Coll}
-use Rattle.groups.specs.declared.collectives.Coll.TheVariants as coll
-use Rattle.groups.specs.declared.collectives.Step.TheVariants as step
-use Rattle.groups.specs.declared.operations.Op.{Op}
-use Rattle.groups.specs.declared.operations.Ty.{Ty}
+use Rattle.groups.specs.Collectives.{head_of, others_of}
 use Rattle.script_reader.specs.Script.{Script}
 use Rattle.script_reader.specs.Settled.{IsWhole}
 use Rattle.script_reader.specs.declared.script.Stmt.{Stmt}
 use Rattle.script_reader.specs.declared.script.Stmt.TheVariants as stmt
-use Rattle.script_plain.specs.declared.prims.Operands.{Operands}
 use Rattle.script_plain.specs.declared.prims.Source.TheVariants as source_of
-use Rattle.script_plain.specs.Collectives.{AreReduced, AreReducedToAll, AreToldAll, AreUntouched, CameTo, Gives, HasDone, IsOther, gone_by, gone_through}
-use Rattle.script_plain.specs.Local.{asked_head, folded, gone_on, gone_on_folding, gone_on_gathering, register_at, with_length}
-use Rattle.script_plain.specs.Meaning.{State, next_of}
-use Rattle.script_plain.specs.Messages.{AreDelivered, is_of, received_by, sent_by}
-use Rattle.script_plain.specs.Program.{Act, Prim, acts_of, can_call, part_of, parts_of, setup_of}
-use Rattle.script_plain.specs.Program.Act.{Send, Gather, Begin, Fold, Accept, Finish}
-use Rattle.script_plain.specs.Step.{Configuration}
-use Rattle.script_plain.proofs.BroadcastLaws.{Unchanged, accepts, bcast_at_root, faces, own_kind, past_sends}
-use Rattle.script_plain.proofs.CollectiveFits.{AreFit, came_to, may_cast, may_reduce}
-use Rattle.script_plain.proofs.CollectiveGroups.{AreApart, Each, each_on, folds_parts, gathers, is_in_others, other_has, others_apart, others_each, root_has, sends_parts}
-use Rattle.script_plain.proofs.CollectivePaths.{Facing, by_send, chosen, chosen_none, faced, first_sent, past, through_both}
-use Rattle.script_plain.proofs.MessageLaws.{received_as_sent}
-use Rattle.script_plain.proofs.ReductionPaths.{AreQuiet, Comes, Counted, Folded, fold_operands, gathers_length, gathers_quiet, past_folds, split_at}
-use Rattle.script_plain.proofs.StepLaws as steps
+use Rattle.script_plain.specs.Collectives.{AreUntouched, HasDone}
+use Rattle.script_plain.specs.Meaning.{State}
+use Rattle.script_plain.specs.Program.{Prim, acts_of, setup_of}
+use Rattle.script_plain.specs.Program.Act.{Send}
+use Rattle.script_plain.proofs.BroadcastLaws.{bcast_at_root, faces, past_sends}
+use Rattle.script_plain.proofs.CollectiveFits.{may_cast, may_reduce}
 use Rattle.script_plain.proofs.ReductionLaws.{reduce_at_other}
 
 -- neither the root of a broadcast nor the others in a reduction have a register changed
