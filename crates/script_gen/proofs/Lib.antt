@@ -6,6 +6,8 @@ pub mod Lines
 pub mod Lone
 pub mod Others
 pub mod Reading
+pub mod RingSaid
+pub mod RingPasses
 pub mod Ring
 pub mod Sections
 pub mod Usual

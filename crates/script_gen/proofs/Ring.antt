@@ -1,463 +1,28 @@
 -- The script of a number for two ranks and more: what the reader reads in its text.
-use Rattle.std.proofs.Common.{◌≡◌, ℕ, ◌+◌, ◌*◌, ◌%◌, ◌≤◌, ◌||◌, Bool, true, false, cond, List, [], ◌∷◌, ◌++◌, length, map, reverse, take, drop, codes, decimal, Option, Some, None, unwrap_or, Result, Ok, refl, ◌∙◌, ap, arith}
-use Rattle.std.specs.Prelude.{◌==◌, is_none, nat_lt}
+use Rattle.std.proofs.Common.{◌≡◌, ℕ, ◌≤◌, Bool, false, cond, List, [], ◌∷◌, length, map, take, codes, decimal, Result, Ok, refl, ◌∙◌, ap, arith}
+use Rattle.std.specs.Prelude.{nat_lt}
 use Rattle.std.proofs.lemmas.Fmt.{length-decimal-le}
 use Rattle.groups.specs.declared.operations.Op.TheVariants as op
 use Rattle.groups.specs.declared.operations.Ty.TheVariants as ty
 use Rattle.script_reader.specs.declared.fault.ReadFault.{ReadFault}
 use Rattle.script_reader.specs.declared.script.Form.TheVariants as form
-use Rattle.script_reader.specs.declared.script.Item.{Item}
 use Rattle.script_reader.specs.declared.script.Stmt.TheVariants as stmt
-use Rattle.script_reader.specs.declared.script.Who.{Who}
 use Rattle.script_reader.specs.declared.script.Who.TheVariants as who
 use Rattle.script_reader.specs.declared.version.Version.TheVariants as version
-use Rattle.script_reader.specs.Checks.{cost_of, differs, is_ragged, length_at, open_of, operations, printed, run_of, turns_in}
 use Rattle.script_reader.specs.Faults.{◌>>=◌}
-use Rattle.script_reader.specs.Effects.{effect_of}
 use Rattle.script_reader.specs.Progress.{Progress, start}
 use Rattle.script_reader.specs.Reading.{at_end, most_script_bytes, parse_script, read_all_lines, read_lines, version_of}
 use Rattle.script_reader.specs.Words.{line_count, lines_of}
-use Rattle.script_gen.specs.Scripts.{item_of, recv_last, ring_script, send_next}
+use Rattle.script_gen.specs.Scripts.{recv_last, ring_script, send_next}
 use Rattle.script_gen.specs.Texts.{text_of_lines, turns_of}
-use Rattle.script_gen.proofs.Checks.{AreLight, Passes, clears, not_above, placed, stage}
-use Rattle.script_gen.proofs.Facts.{light_sum, odd_other, recv_other, send_other, work}
+use Rattle.script_gen.proofs.Checks.{not_above, placed, stage}
 use Rattle.script_gen.proofs.Lines.{AreLines, AreWords, decimal_word, line_of, lines_of_text}
 use Rattle.script_gen.proofs.BothScripts.{end_are, even_are, fill_are, names_1, names_2, odd_are, printme_are, rank_are, repeat_are, sum_are}
-use Rattle.script_gen.proofs.Others.{AreOthers, others_none, others_shown, print_more, print_within, silent, still_within}
 use Rattle.script_gen.proofs.Reading.{allreduce_is, fill_is, go, recv_is, repeat_is, send_is, text_short, too_long}
-
--- the names of the registers, once the third has come
-abbrev names_3 : List (List ℕ)
-names_3 = codes "h" ∷ codes "me" ∷ codes "g" ∷ []
-
--- its lines, as words
-abbrev pub ring_words : ℕ → ℕ → List (List (List ℕ))
-ring_words s t =
-    (codes "even" ∷ []) ∷
-    (codes "fill" ∷ codes "h" ∷ decimal s ∷ decimal s ∷ []) ∷
-    (codes "rank" ∷ codes "me" ∷ codes "long" ∷ []) ∷
-    (codes "repeat" ∷ decimal t ∷ []) ∷
-    (codes "send" ∷ codes "+1" ∷ codes "h" ∷ []) ∷
-    (codes "recv" ∷ codes "-1" ∷ codes "g" ∷ decimal s ∷ []) ∷
-    (codes "allreduce" ∷ codes "0" ∷ codes "sum" ∷ codes "long" ∷ codes "me" ∷ codes "me" ∷ []) ∷
-    (codes "end" ∷ []) ∷
-    (codes "print" ∷ codes "g" ∷ []) ∷
-    (codes "print" ∷ codes "long" ∷ codes "me" ∷ []) ∷
-    (codes "odd" ∷ []) ∷
-    (codes "fill" ∷ codes "h" ∷ decimal s ∷ decimal s ∷ []) ∷
-    (codes "rank" ∷ codes "me" ∷ codes "long" ∷ []) ∷
-    (codes "repeat" ∷ decimal t ∷ []) ∷
-    (codes "recv" ∷ codes "-1" ∷ codes "g" ∷ decimal s ∷ []) ∷
-    (codes "send" ∷ codes "+1" ∷ codes "h" ∷ []) ∷
-    (codes "allreduce" ∷ codes "0" ∷ codes "sum" ∷ codes "long" ∷ codes "me" ∷ codes "me" ∷ []) ∷
-    (codes "end" ∷ []) ∷
-    (codes "print" ∷ codes "g" ∷ []) ∷
-    (codes "print" ∷ codes "long" ∷ codes "me" ∷ []) ∷
-    []
-
--- its statements, before the repeats are told their ends
-abbrev ring_said : ℕ → ℕ → List Item
-ring_said s t =
-    item_of 2 who.Even (stmt.Fill 0 s s) ∷
-    item_of 3 who.Even (stmt.RankOf 1 ty.Long) ∷
-    item_of 4 who.Even (stmt.Repeat t 0) ∷
-    item_of 5 who.Even send_next ∷
-    item_of 6 who.Even (recv_last s) ∷
-    item_of 7 who.Even (stmt.Allreduce 0 op.Sum ty.Long 1 1) ∷
-    item_of 8 who.Even (stmt.End 2) ∷
-    item_of 9 who.Even (stmt.Print 2 form.Hex) ∷
-    item_of 10 who.Even (stmt.Print 1 (form.Decimal ty.Long)) ∷
-    item_of 12 who.Odd (stmt.Fill 0 s s) ∷
-    item_of 13 who.Odd (stmt.RankOf 1 ty.Long) ∷
-    item_of 14 who.Odd (stmt.Repeat t 0) ∷
-    item_of 15 who.Odd (recv_last s) ∷
-    item_of 16 who.Odd send_next ∷
-    item_of 17 who.Odd (stmt.Allreduce 0 op.Sum ty.Long 1 1) ∷
-    item_of 18 who.Odd (stmt.End 11) ∷
-    item_of 19 who.Odd (stmt.Print 2 form.Hex) ∷
-    item_of 20 who.Odd (stmt.Print 1 (form.Decimal ty.Long)) ∷
-    []
-
--- the statements before one, and those behind it; the lines behind one; and where the reader stands then
-abbrev past : ℕ → ℕ → ℕ → List Item
-past s t n = reverse (take n (ring_said s t))
-
-abbrev more : ℕ → ℕ → ℕ → List Item
-more s t n = reverse (drop n (ring_said s t))
-
-abbrev rest : ℕ → ℕ → ℕ → List (List ℕ)
-rest s t n = map line_of (drop n (ring_words s t)) ++ [] ∷ []
-
-abbrev at : ℕ → ℕ → ℕ → ℕ → List (List ℕ) → Who → Progress
-at nue s t n names who = stage nue (take n (ring_said s t)) names who
-
--- the lengths of the registers of an odd rank, behind statements of other ranks
-module _ (nue s t rank : ℕ) (base : List Item) (odd : (rank % 2 == 1) ≡ true) (none : (reg : ℕ) → length_at nue base rank reg ≡ None) where
-  length_10 : length_at nue (item_of 12 who.Odd (stmt.Fill 0 s s) ∷ base) rank 1 ≡ None
-  length_10 = simp (odd, none)
-
-  length_12 : length_at nue (item_of 14 who.Odd (stmt.Repeat t 0) ∷ item_of 13 who.Odd (stmt.RankOf 1 ty.Long) ∷ item_of 12 who.Odd (stmt.Fill 0 s s) ∷ base) rank 2 ≡ None
-  length_12 = simp (odd, none)
-
-  length_13 : length_at nue (item_of 15 who.Odd (recv_last s) ∷ item_of 14 who.Odd (stmt.Repeat t 0) ∷ item_of 13 who.Odd (stmt.RankOf 1 ty.Long) ∷ item_of 12 who.Odd (stmt.Fill 0 s s) ∷ base) rank 0 ≡ Some s
-  length_13 = simp (odd, none)
-
-  length_14 : length_at nue (item_of 16 who.Odd send_next ∷ item_of 15 who.Odd (recv_last s) ∷ item_of 14 who.Odd (stmt.Repeat t 0) ∷ item_of 13 who.Odd (stmt.RankOf 1 ty.Long) ∷ item_of 12 who.Odd (stmt.Fill 0 s s) ∷ base) rank 1 ≡ Some 8
-  length_14 = simp (odd, none)
-
-  length_16 : length_at nue (item_of 18 who.Odd (stmt.End 11) ∷ item_of 17 who.Odd (stmt.Allreduce 0 op.Sum ty.Long 1 1) ∷ item_of 16 who.Odd send_next ∷ item_of 15 who.Odd (recv_last s) ∷ item_of 14 who.Odd (stmt.Repeat t 0) ∷ item_of 13 who.Odd (stmt.RankOf 1 ty.Long) ∷ item_of 12 who.Odd (stmt.Fill 0 s s) ∷ base) rank 2 ≡ Some s
-  length_16 = simp (odd, none)
-
-  length_17 : length_at nue (item_of 19 who.Odd (stmt.Print 2 form.Hex) ∷ item_of 18 who.Odd (stmt.End 11) ∷ item_of 17 who.Odd (stmt.Allreduce 0 op.Sum ty.Long 1 1) ∷ item_of 16 who.Odd send_next ∷ item_of 15 who.Odd (recv_last s) ∷ item_of 14 who.Odd (stmt.Repeat t 0) ∷ item_of 13 who.Odd (stmt.RankOf 1 ty.Long) ∷ item_of 12 who.Odd (stmt.Fill 0 s s) ∷ base) rank 1 ≡ Some 8
-  length_17 = simp (odd, none)
+use Rattle.script_gen.proofs.RingSaid.{at, names_3, rest, ring_said, ring_words}
+use Rattle.script_gen.proofs.RingPasses.{pass_0, pass_1, pass_2, pass_3, pass_4, pass_5, pass_6, pass_7, pass_8, pass_9, pass_10, pass_11, pass_12, pass_13, pass_14, pass_15, pass_16, pass_17}
 
 module _ (nue s t : ℕ) (some : 2 ≤ nue) (most : nue ≤ 48) (small : s ≤ 65535) (least : 1 ≤ t) (few : t ≤ 10) where
-  light : (rank : ℕ) → AreLight nue rank (reverse (ring_said s t))
-  light rank = (
-    (
-      (
-        (
-          (
-            (
-              (
-                (
-                  (
-                    (
-                      (
-                        (
-                          (
-                            (((((tt, omega (arith, few)), omega (arith, few)), omega (arith, few)), omega (arith, few)), omega (arith, few)),
-                            light_sum nue rank (past s t 5) (omega (arith, few)) most,
-                          ),
-                          omega (arith, few),
-                        ),
-                        omega (arith, few),
-                      ),
-                      omega (arith, few),
-                    ),
-                    omega (arith, few),
-                  ),
-                  omega (arith, few),
-                ),
-                omega (arith, few),
-              ),
-              omega (arith, few),
-            ),
-            omega (arith, few),
-          ),
-          light_sum nue rank (past s t 14) (omega (arith, few)) most,
-        ),
-        omega (arith, few),
-      ),
-      omega (arith, few),
-    ),
-    omega (arith, few),
-  )
-
-  spent : (rank : ℕ) (ahead back : List Item) (item : Item) → ahead ++ item ∷ back ≡ reverse (ring_said s t) → length back ≤ 60
-      → operations nue back rank + turns_in (open_of back) * cost_of (run_of nue back) (effect_of item.stmt).cost rank ≤ 100000
-  spent rank ahead back item is short = work nue rank (reverse (ring_said s t)) ahead back item (light rank) is short
-
-  others : (rank : ℕ) → (rank % 2 == 1) ≡ true → AreOthers rank (past s t 9)
-  others rank odd =
-      let other : (rank % 2 == 0) ≡ false = odd_other rank odd in
-      (((((((((tt, other), other), other), other), other), other), other), other), other)
-
-  none_of : (rank : ℕ) → (rank % 2 == 1) ≡ true → (reg : ℕ) → length_at nue (past s t 9) rank reg ≡ None
-  none_of rank odd = others_none nue rank (past s t 9) (others rank odd)
-
-  quiet_9 : (rank : ℕ) → (rank % 2 == 1) ≡ true → printed nue (past s t 9) rank ≡ 0
-  quiet_9 rank odd = others_shown nue rank (past s t 9) (others rank odd)
-
-  quiet_10 : (rank : ℕ) → (rank % 2 == 1) ≡ true → printed nue (past s t 10) rank ≡ 0
-  quiet_10 rank odd = silent nue rank (past s t 9) (item_of 12 who.Odd (stmt.Fill 0 s s)) refl ∙ quiet_9 rank odd
-
-  quiet_11 : (rank : ℕ) → (rank % 2 == 1) ≡ true → printed nue (past s t 11) rank ≡ 0
-  quiet_11 rank odd = silent nue rank (past s t 10) (item_of 13 who.Odd (stmt.RankOf 1 ty.Long)) refl ∙ quiet_10 rank odd
-
-  quiet_12 : (rank : ℕ) → (rank % 2 == 1) ≡ true → printed nue (past s t 12) rank ≡ 0
-  quiet_12 rank odd = silent nue rank (past s t 11) (item_of 14 who.Odd (stmt.Repeat t 0)) refl ∙ quiet_11 rank odd
-
-  quiet_13 : (rank : ℕ) → (rank % 2 == 1) ≡ true → printed nue (past s t 13) rank ≡ 0
-  quiet_13 rank odd = silent nue rank (past s t 12) (item_of 15 who.Odd (recv_last s)) refl ∙ quiet_12 rank odd
-
-  quiet_14 : (rank : ℕ) → (rank % 2 == 1) ≡ true → printed nue (past s t 14) rank ≡ 0
-  quiet_14 rank odd = silent nue rank (past s t 13) (item_of 16 who.Odd send_next) refl ∙ quiet_13 rank odd
-
-  quiet_15 : (rank : ℕ) → (rank % 2 == 1) ≡ true → printed nue (past s t 15) rank ≡ 0
-  quiet_15 rank odd = silent nue rank (past s t 14) (item_of 17 who.Odd (stmt.Allreduce 0 op.Sum ty.Long 1 1)) refl ∙ quiet_14 rank odd
-
-  quiet_16 : (rank : ℕ) → (rank % 2 == 1) ≡ true → printed nue (past s t 16) rank ≡ 0
-  quiet_16 rank odd = silent nue rank (past s t 15) (item_of 18 who.Odd (stmt.End 11)) refl ∙ quiet_15 rank odd
-
-  shown_17 : (rank : ℕ) → (rank % 2 == 1) ≡ true → printed nue (past s t 17) rank ≤ s
-  shown_17 rank odd =
-      print_more (rank % 2 == 1) (printed nue (past s t 16) rank) 1 (length_at nue (past s t 16) rank 2) 0 s s
-      (omega (arith, quiet_16 rank odd)) refl (length_16 nue s t rank (past s t 9) odd (none_of rank odd)) (omega arith)
-
-  pass_0 : Passes nue (past s t 0) who.Even (stmt.Fill 0 s s)
-  pass_0 = record {
-    known = refl;
-    parented = refl;
-    closed = refl;
-    flat = refl;
-    turning = refl;
-    short = not_above 65536 s (omega (arith, small));
-    clear = λ check rank below has.
-        let even : (rank % 2 == 0) ≡ true = has in
-        clears nue (past s t 0) (stmt.Fill 0 s s) rank refl refl refl refl refl refl
-        (spent rank (more s t 1) (past s t 0) (item_of 2 who.Even (stmt.Fill 0 s s)) refl (omega arith))
-        (omega (arith, small)) check;
-  }
-
-  pass_1 : Passes nue (past s t 1) who.Even (stmt.RankOf 1 ty.Long)
-  pass_1 = record {
-    known = refl;
-    parented = refl;
-    closed = refl;
-    flat = refl;
-    turning = refl;
-    short = refl;
-    clear = λ check rank below has.
-        let even : (rank % 2 == 0) ≡ true = has in
-        clears nue (past s t 1) (stmt.RankOf 1 ty.Long) rank refl refl refl refl (simp even) refl
-        (spent rank (more s t 2) (past s t 1) (item_of 3 who.Even (stmt.RankOf 1 ty.Long)) refl (omega arith))
-        (simp even (omega (arith, small))) check;
-  }
-
-  pass_2 : Passes nue (past s t 2) who.Even (stmt.Repeat t 0)
-  pass_2 = record {
-    known = refl;
-    parented = refl;
-    closed = refl;
-    flat = refl;
-    turning = not_above 100000 (1 * t) (omega (arith, few));
-    short = refl;
-    clear = λ check rank below has.
-        let even : (rank % 2 == 0) ≡ true = has in
-        clears nue (past s t 2) (stmt.Repeat t 0) rank refl refl refl refl refl refl
-        (spent rank (more s t 3) (past s t 2) (item_of 4 who.Even (stmt.Repeat t 0)) refl (omega arith))
-        (simp even (omega (arith, small))) check;
-  }
-
-  pass_3 : Passes nue (past s t 3) who.Even send_next
-  pass_3 = record {
-    known = refl;
-    parented = refl;
-    closed = refl;
-    flat = refl;
-    turning = refl;
-    short = refl;
-    clear = λ check rank below has.
-        let even : (rank % 2 == 0) ≡ true = has in
-        clears nue (past s t 3) send_next rank refl (send_other nue rank some below) refl (simp even) refl refl
-        (spent rank (more s t 4) (past s t 3) (item_of 5 who.Even send_next) refl (omega arith))
-        (simp even (omega (arith, small))) check;
-  }
-
-  pass_4 : Passes nue (past s t 4) who.Even (recv_last s)
-  pass_4 = record {
-    known = refl;
-    parented = refl;
-    closed = refl;
-    flat = refl;
-    turning = refl;
-    short = not_above 65536 s (omega (arith, small));
-    clear = λ check rank below has.
-        let even : (rank % 2 == 0) ≡ true = has in
-        clears nue (past s t 4) (recv_last s) rank refl (recv_other nue s rank some below) refl refl (simp even) refl
-        (spent rank (more s t 5) (past s t 4) (item_of 6 who.Even (recv_last s)) refl (omega arith))
-        (simp even (omega (arith, small))) check;
-  }
-
-  pass_5 : Passes nue (past s t 5) who.Even (stmt.Allreduce 0 op.Sum ty.Long 1 1)
-  pass_5 = record {
-    known = refl;
-    parented = refl;
-    closed = refl;
-    flat = refl;
-    turning = refl;
-    short = refl;
-    clear = λ check rank below has.
-        let even : (rank % 2 == 0) ≡ true = has in
-        clears nue (past s t 5) (stmt.Allreduce 0 op.Sum ty.Long 1 1) rank refl refl refl (simp even) (simp even) refl
-        (spent rank (more s t 6) (past s t 5) (item_of 7 who.Even (stmt.Allreduce 0 op.Sum ty.Long 1 1)) refl (omega arith))
-        (simp even (omega (arith, small))) check;
-  }
-
-  pass_6 : Passes nue (past s t 6) who.Even (stmt.End 2)
-  pass_6 = record {
-    known = refl;
-    parented = refl;
-    closed = refl;
-    flat = refl;
-    turning = refl;
-    short = refl;
-    clear = λ check rank below has.
-        let even : (rank % 2 == 0) ≡ true = has in
-        clears nue (past s t 6) (stmt.End 2) rank refl refl refl refl refl refl
-        (spent rank (more s t 7) (past s t 6) (item_of 8 who.Even (stmt.End 2)) refl (omega arith))
-        (simp even (omega (arith, small))) check;
-  }
-
-  pass_7 : Passes nue (past s t 7) who.Even (stmt.Print 2 form.Hex)
-  pass_7 = record {
-    known = refl;
-    parented = refl;
-    closed = refl;
-    flat = refl;
-    turning = refl;
-    short = refl;
-    clear = λ check rank below has.
-        let even : (rank % 2 == 0) ≡ true = has in
-        clears nue (past s t 7) (stmt.Print 2 form.Hex) rank refl refl refl (simp even) refl refl
-        (spent rank (more s t 8) (past s t 7) (item_of 9 who.Even (stmt.Print 2 form.Hex)) refl (omega arith))
-        (simp even (omega (arith, small))) check;
-  }
-
-  pass_8 : Passes nue (past s t 8) who.Even (stmt.Print 1 (form.Decimal ty.Long))
-  pass_8 = record {
-    known = refl;
-    parented = refl;
-    closed = refl;
-    flat = refl;
-    turning = refl;
-    short = refl;
-    clear = λ check rank below has.
-        let even : (rank % 2 == 0) ≡ true = has in
-        clears nue (past s t 8) (stmt.Print 1 (form.Decimal ty.Long)) rank refl refl refl (simp even) (simp even) refl
-        (spent rank (more s t 9) (past s t 8) (item_of 10 who.Even (stmt.Print 1 (form.Decimal ty.Long))) refl (omega arith))
-        (simp even (omega (arith, small))) check;
-  }
-
-  pass_9 : Passes nue (past s t 9) who.Odd (stmt.Fill 0 s s)
-  pass_9 = record {
-    known = refl;
-    parented = refl;
-    closed = refl;
-    flat = refl;
-    turning = refl;
-    short = not_above 65536 s (omega (arith, small));
-    clear = λ check rank below has.
-        clears nue (past s t 9) (stmt.Fill 0 s s) rank refl refl refl refl (ap (λ (o : Option ℕ). differs o s || false) (none_of rank has 0)) refl
-        (spent rank (more s t 10) (past s t 9) (item_of 12 who.Odd (stmt.Fill 0 s s)) refl (omega arith))
-        (still_within (printed nue (past s t 9) rank) (turns_in (open_of (past s t 9))) (quiet_9 rank has)) check;
-  }
-
-  pass_10 : Passes nue (past s t 10) who.Odd (stmt.RankOf 1 ty.Long)
-  pass_10 = record {
-    known = refl;
-    parented = refl;
-    closed = refl;
-    flat = refl;
-    turning = refl;
-    short = refl;
-    clear = λ check rank below has.
-        clears nue (past s t 10) (stmt.RankOf 1 ty.Long) rank refl refl refl refl (ap (λ (o : Option ℕ). differs o 8 || false) (length_10 nue s t rank (past s t 9) has (none_of rank has))) refl
-        (spent rank (more s t 11) (past s t 10) (item_of 13 who.Odd (stmt.RankOf 1 ty.Long)) refl (omega arith))
-        (still_within (printed nue (past s t 10) rank) (turns_in (open_of (past s t 10))) (quiet_10 rank has)) check;
-  }
-
-  pass_11 : Passes nue (past s t 11) who.Odd (stmt.Repeat t 0)
-  pass_11 = record {
-    known = refl;
-    parented = refl;
-    closed = refl;
-    flat = refl;
-    turning = not_above 100000 (1 * t) (omega (arith, few));
-    short = refl;
-    clear = λ check rank below has.
-        clears nue (past s t 11) (stmt.Repeat t 0) rank refl refl refl refl refl refl
-        (spent rank (more s t 12) (past s t 11) (item_of 14 who.Odd (stmt.Repeat t 0)) refl (omega arith))
-        (still_within (printed nue (past s t 11) rank) (turns_in (open_of (past s t 11))) (quiet_11 rank has)) check;
-  }
-
-  pass_12 : Passes nue (past s t 12) who.Odd (recv_last s)
-  pass_12 = record {
-    known = refl;
-    parented = refl;
-    closed = refl;
-    flat = refl;
-    turning = refl;
-    short = not_above 65536 s (omega (arith, small));
-    clear = λ check rank below has.
-        clears nue (past s t 12) (recv_last s) rank refl (recv_other nue s rank some below) refl refl (ap (λ (o : Option ℕ). differs o s || false) (length_12 nue s t rank (past s t 9) has (none_of rank has))) refl
-        (spent rank (more s t 13) (past s t 12) (item_of 15 who.Odd (recv_last s)) refl (omega arith))
-        (still_within (printed nue (past s t 12) rank) (turns_in (open_of (past s t 12))) (quiet_12 rank has)) check;
-  }
-
-  pass_13 : Passes nue (past s t 13) who.Odd send_next
-  pass_13 = record {
-    known = refl;
-    parented = refl;
-    closed = refl;
-    flat = refl;
-    turning = refl;
-    short = refl;
-    clear = λ check rank below has.
-        clears nue (past s t 13) send_next rank refl (send_other nue rank some below) refl (ap is_none (length_13 nue s t rank (past s t 9) has (none_of rank has))) refl refl
-        (spent rank (more s t 14) (past s t 13) (item_of 16 who.Odd send_next) refl (omega arith))
-        (still_within (printed nue (past s t 13) rank) (turns_in (open_of (past s t 13))) (quiet_13 rank has)) check;
-  }
-
-  pass_14 : Passes nue (past s t 14) who.Odd (stmt.Allreduce 0 op.Sum ty.Long 1 1)
-  pass_14 = record {
-    known = refl;
-    parented = refl;
-    closed = refl;
-    flat = refl;
-    turning = refl;
-    short = refl;
-    clear = λ check rank below has.
-        clears nue (past s t 14) (stmt.Allreduce 0 op.Sum ty.Long 1 1) rank refl refl refl (ap is_none (length_14 nue s t rank (past s t 9) has (none_of rank has))) (ap (λ (o : Option ℕ). differs o (unwrap_or o 0) || is_ragged ty.Long o) (length_14 nue s t rank (past s t 9) has (none_of rank has))) refl
-        (spent rank (more s t 15) (past s t 14) (item_of 17 who.Odd (stmt.Allreduce 0 op.Sum ty.Long 1 1)) refl (omega arith))
-        (still_within (printed nue (past s t 14) rank) (turns_in (open_of (past s t 14))) (quiet_14 rank has)) check;
-  }
-
-  pass_15 : Passes nue (past s t 15) who.Odd (stmt.End 11)
-  pass_15 = record {
-    known = refl;
-    parented = refl;
-    closed = refl;
-    flat = refl;
-    turning = refl;
-    short = refl;
-    clear = λ check rank below has.
-        clears nue (past s t 15) (stmt.End 11) rank refl refl refl refl refl refl
-        (spent rank (more s t 16) (past s t 15) (item_of 18 who.Odd (stmt.End 11)) refl (omega arith))
-        (still_within (printed nue (past s t 15) rank) (turns_in (open_of (past s t 15))) (quiet_15 rank has)) check;
-  }
-
-  pass_16 : Passes nue (past s t 16) who.Odd (stmt.Print 2 form.Hex)
-  pass_16 = record {
-    known = refl;
-    parented = refl;
-    closed = refl;
-    flat = refl;
-    turning = refl;
-    short = refl;
-    clear = λ check rank below has.
-        clears nue (past s t 16) (stmt.Print 2 form.Hex) rank refl refl refl (ap is_none (length_16 nue s t rank (past s t 9) has (none_of rank has))) refl refl
-        (spent rank (more s t 17) (past s t 16) (item_of 19 who.Odd (stmt.Print 2 form.Hex)) refl (omega arith))
-        (print_within (printed nue (past s t 16) rank) (turns_in (open_of (past s t 16))) (length_at nue (past s t 16) rank 2) 0 s
-        (omega (arith, quiet_16 rank has)) refl (length_16 nue s t rank (past s t 9) has (none_of rank has)) (omega (arith, small))) check;
-  }
-
-  pass_17 : Passes nue (past s t 17) who.Odd (stmt.Print 1 (form.Decimal ty.Long))
-  pass_17 = record {
-    known = refl;
-    parented = refl;
-    closed = refl;
-    flat = refl;
-    turning = refl;
-    short = refl;
-    clear = λ check rank below has.
-        clears nue (past s t 17) (stmt.Print 1 (form.Decimal ty.Long)) rank refl refl refl (ap is_none (length_17 nue s t rank (past s t 9) has (none_of rank has))) (ap (λ (o : Option ℕ). false || is_ragged ty.Long o) (length_17 nue s t rank (past s t 9) has (none_of rank has))) refl
-        (spent rank (more s t 18) (past s t 17) (item_of 20 who.Odd (stmt.Print 1 (form.Decimal ty.Long))) refl (omega arith))
-        (print_within (printed nue (past s t 17) rank) (turns_in (open_of (past s t 17))) (length_at nue (past s t 17) rank 1) s 8
-        (shown_17 rank has) refl (length_17 nue s t rank (past s t 9) has (none_of rank has)) (omega (arith, small))) check;
-  }
-
   send_are : AreWords (codes "send" ∷ codes "+1" ∷ codes "h" ∷ [])
   send_are = ((refl, refl), ((refl, refl), ((refl, refl), tt)))
 
@@ -507,61 +72,61 @@ module _ (nue s t : ℕ) (some : 2 ≤ nue) (most : nue ≤ 48) (small : s ≤ 6
       refl
       (go 1 (at nue s t 0 [] who.Even) (at nue s t 1 names_1 who.Even) (codes "fill") (codes "h" ∷ decimal s ∷ decimal s ∷ [])
       (rest s t 2) _ (fill_are s small)
-      (fill_is 2 (at nue s t 0 [] who.Even) s small ∙ placed nue (take 0 (ring_said s t)) names_1 who.Even (stmt.Fill 0 s s) pass_0 2 refl)
+      (fill_is 2 (at nue s t 0 [] who.Even) s small ∙ placed nue (take 0 (ring_said s t)) names_1 who.Even (stmt.Fill 0 s s) (pass_0 nue s t some most small least few) 2 refl)
       (go 2 (at nue s t 1 names_1 who.Even) (at nue s t 2 names_2 who.Even) (codes "rank") (codes "me" ∷ codes "long" ∷ [])
       (rest s t 3) _ rank_are
-      (placed nue (take 1 (ring_said s t)) names_2 who.Even (stmt.RankOf 1 ty.Long) pass_1 3 refl)
+      (placed nue (take 1 (ring_said s t)) names_2 who.Even (stmt.RankOf 1 ty.Long) (pass_1 nue s t some most small least few) 3 refl)
       (go 3 (at nue s t 2 names_2 who.Even) (at nue s t 3 names_2 who.Even) (codes "repeat") (decimal t ∷ [])
       (rest s t 4) _ (repeat_are t few)
-      (repeat_is 4 (at nue s t 2 names_2 who.Even) t least few ∙ placed nue (take 2 (ring_said s t)) names_2 who.Even (stmt.Repeat t 0) pass_2 4 refl)
+      (repeat_is 4 (at nue s t 2 names_2 who.Even) t least few ∙ placed nue (take 2 (ring_said s t)) names_2 who.Even (stmt.Repeat t 0) (pass_2 nue s t some most small least few) 4 refl)
       (go 4 (at nue s t 3 names_2 who.Even) (at nue s t 4 names_2 who.Even) (codes "send") (codes "+1" ∷ codes "h" ∷ [])
       (rest s t 5) _ send_are
-      (send_is 5 (at nue s t 3 names_2 who.Even) ∙ placed nue (take 3 (ring_said s t)) names_2 who.Even send_next pass_3 5 refl)
+      (send_is 5 (at nue s t 3 names_2 who.Even) ∙ placed nue (take 3 (ring_said s t)) names_2 who.Even send_next (pass_3 nue s t some most small least few) 5 refl)
       (go 5 (at nue s t 4 names_2 who.Even) (at nue s t 5 names_3 who.Even) (codes "recv") (codes "-1" ∷ codes "g" ∷ decimal s ∷ [])
       (rest s t 6) _ recv_are
-      (recv_is 6 (at nue s t 4 names_2 who.Even) s small ∙ placed nue (take 4 (ring_said s t)) names_3 who.Even (recv_last s) pass_4 6 refl)
+      (recv_is 6 (at nue s t 4 names_2 who.Even) s small ∙ placed nue (take 4 (ring_said s t)) names_3 who.Even (recv_last s) (pass_4 nue s t some most small least few) 6 refl)
       (go 6 (at nue s t 5 names_3 who.Even) (at nue s t 6 names_3 who.Even) (codes "allreduce") (codes "0" ∷ codes "sum" ∷ codes "long" ∷ codes "me" ∷ codes "me" ∷ [])
       (rest s t 7) _ sum_are
-      (allreduce_is 7 (at nue s t 5 names_3 who.Even) ∙ placed nue (take 5 (ring_said s t)) names_3 who.Even (stmt.Allreduce 0 op.Sum ty.Long 1 1) pass_5 7 refl)
+      (allreduce_is 7 (at nue s t 5 names_3 who.Even) ∙ placed nue (take 5 (ring_said s t)) names_3 who.Even (stmt.Allreduce 0 op.Sum ty.Long 1 1) (pass_5 nue s t some most small least few) 7 refl)
       (go 7 (at nue s t 6 names_3 who.Even) (at nue s t 7 names_3 who.Even) (codes "end") []
       (rest s t 8) _ end_are
-      (placed nue (take 6 (ring_said s t)) names_3 who.Even (stmt.End 2) pass_6 8 refl)
+      (placed nue (take 6 (ring_said s t)) names_3 who.Even (stmt.End 2) (pass_6 nue s t some most small least few) 8 refl)
       (go 8 (at nue s t 7 names_3 who.Even) (at nue s t 8 names_3 who.Even) (codes "print") (codes "g" ∷ [])
       (rest s t 9) _ printg_are
-      (placed nue (take 7 (ring_said s t)) names_3 who.Even (stmt.Print 2 form.Hex) pass_7 9 refl)
+      (placed nue (take 7 (ring_said s t)) names_3 who.Even (stmt.Print 2 form.Hex) (pass_7 nue s t some most small least few) 9 refl)
       (go 9 (at nue s t 8 names_3 who.Even) (at nue s t 9 names_3 who.Even) (codes "print") (codes "long" ∷ codes "me" ∷ [])
       (rest s t 10) _ printme_are
-      (placed nue (take 8 (ring_said s t)) names_3 who.Even (stmt.Print 1 (form.Decimal ty.Long)) pass_8 10 refl)
+      (placed nue (take 8 (ring_said s t)) names_3 who.Even (stmt.Print 1 (form.Decimal ty.Long)) (pass_8 nue s t some most small least few) 10 refl)
       (go 10 (at nue s t 9 names_3 who.Even) (at nue s t 9 names_3 who.Odd) (codes "odd") []
       (rest s t 11) _ odd_are
       refl
       (go 11 (at nue s t 9 names_3 who.Odd) (at nue s t 10 names_3 who.Odd) (codes "fill") (codes "h" ∷ decimal s ∷ decimal s ∷ [])
       (rest s t 12) _ (fill_are s small)
-      (fill_is 12 (at nue s t 9 names_3 who.Odd) s small ∙ placed nue (take 9 (ring_said s t)) names_3 who.Odd (stmt.Fill 0 s s) pass_9 12 refl)
+      (fill_is 12 (at nue s t 9 names_3 who.Odd) s small ∙ placed nue (take 9 (ring_said s t)) names_3 who.Odd (stmt.Fill 0 s s) (pass_9 nue s t some most small least few) 12 refl)
       (go 12 (at nue s t 10 names_3 who.Odd) (at nue s t 11 names_3 who.Odd) (codes "rank") (codes "me" ∷ codes "long" ∷ [])
       (rest s t 13) _ rank_are
-      (placed nue (take 10 (ring_said s t)) names_3 who.Odd (stmt.RankOf 1 ty.Long) pass_10 13 refl)
+      (placed nue (take 10 (ring_said s t)) names_3 who.Odd (stmt.RankOf 1 ty.Long) (pass_10 nue s t some most small least few) 13 refl)
       (go 13 (at nue s t 11 names_3 who.Odd) (at nue s t 12 names_3 who.Odd) (codes "repeat") (decimal t ∷ [])
       (rest s t 14) _ (repeat_are t few)
-      (repeat_is 14 (at nue s t 11 names_3 who.Odd) t least few ∙ placed nue (take 11 (ring_said s t)) names_3 who.Odd (stmt.Repeat t 0) pass_11 14 refl)
+      (repeat_is 14 (at nue s t 11 names_3 who.Odd) t least few ∙ placed nue (take 11 (ring_said s t)) names_3 who.Odd (stmt.Repeat t 0) (pass_11 nue s t some most small least few) 14 refl)
       (go 14 (at nue s t 12 names_3 who.Odd) (at nue s t 13 names_3 who.Odd) (codes "recv") (codes "-1" ∷ codes "g" ∷ decimal s ∷ [])
       (rest s t 15) _ recv_are
-      (recv_is 15 (at nue s t 12 names_3 who.Odd) s small ∙ placed nue (take 12 (ring_said s t)) names_3 who.Odd (recv_last s) pass_12 15 refl)
+      (recv_is 15 (at nue s t 12 names_3 who.Odd) s small ∙ placed nue (take 12 (ring_said s t)) names_3 who.Odd (recv_last s) (pass_12 nue s t some most small least few) 15 refl)
       (go 15 (at nue s t 13 names_3 who.Odd) (at nue s t 14 names_3 who.Odd) (codes "send") (codes "+1" ∷ codes "h" ∷ [])
       (rest s t 16) _ send_are
-      (send_is 16 (at nue s t 13 names_3 who.Odd) ∙ placed nue (take 13 (ring_said s t)) names_3 who.Odd send_next pass_13 16 refl)
+      (send_is 16 (at nue s t 13 names_3 who.Odd) ∙ placed nue (take 13 (ring_said s t)) names_3 who.Odd send_next (pass_13 nue s t some most small least few) 16 refl)
       (go 16 (at nue s t 14 names_3 who.Odd) (at nue s t 15 names_3 who.Odd) (codes "allreduce") (codes "0" ∷ codes "sum" ∷ codes "long" ∷ codes "me" ∷ codes "me" ∷ [])
       (rest s t 17) _ sum_are
-      (allreduce_is 17 (at nue s t 14 names_3 who.Odd) ∙ placed nue (take 14 (ring_said s t)) names_3 who.Odd (stmt.Allreduce 0 op.Sum ty.Long 1 1) pass_14 17 refl)
+      (allreduce_is 17 (at nue s t 14 names_3 who.Odd) ∙ placed nue (take 14 (ring_said s t)) names_3 who.Odd (stmt.Allreduce 0 op.Sum ty.Long 1 1) (pass_14 nue s t some most small least few) 17 refl)
       (go 17 (at nue s t 15 names_3 who.Odd) (at nue s t 16 names_3 who.Odd) (codes "end") []
       (rest s t 18) _ end_are
-      (placed nue (take 15 (ring_said s t)) names_3 who.Odd (stmt.End 11) pass_15 18 refl)
+      (placed nue (take 15 (ring_said s t)) names_3 who.Odd (stmt.End 11) (pass_15 nue s t some most small least few) 18 refl)
       (go 18 (at nue s t 16 names_3 who.Odd) (at nue s t 17 names_3 who.Odd) (codes "print") (codes "g" ∷ [])
       (rest s t 19) _ printg_are
-      (placed nue (take 16 (ring_said s t)) names_3 who.Odd (stmt.Print 2 form.Hex) pass_16 19 refl)
+      (placed nue (take 16 (ring_said s t)) names_3 who.Odd (stmt.Print 2 form.Hex) (pass_16 nue s t some most small least few) 19 refl)
       (go 19 (at nue s t 17 names_3 who.Odd) (at nue s t 18 names_3 who.Odd) (codes "print") (codes "long" ∷ codes "me" ∷ [])
       (rest s t 20) _ printme_are
-      (placed nue (take 17 (ring_said s t)) names_3 who.Odd (stmt.Print 1 (form.Decimal ty.Long)) pass_17 20 refl)
+      (placed nue (take 17 (ring_said s t)) names_3 who.Odd (stmt.Print 1 (form.Decimal ty.Long)) (pass_17 nue s t some most small least few) 20 refl)
       refl))))))))))))))))))))
 
   fits : nat_lt most_script_bytes (length (text_of_lines (map line_of (ring_words s t)))) ≡ false

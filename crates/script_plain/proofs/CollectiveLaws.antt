@@ -12,7 +12,8 @@ use Rattle.script_plain.proofs.CountLaws.{counted}
 use Rattle.script_plain.proofs.MessageLaws.{cells_kept, delivered, received_as_sent, to_plain_end}
 use Rattle.script_plain.proofs.OthersCame.{all_came, others_gave, others_gave_to_all, root_came}
 use Rattle.script_plain.proofs.OwnWayLaws.{own_ways}
-use Rattle.script_plain.proofs.ReductionLaws.{all_reduced, all_told, reduced, untouched}
+use Rattle.script_plain.proofs.ReductionLaws.{all_reduced, all_told, reduced}
+use Rattle.script_plain.proofs.UntouchedLaws.{untouched}
 
 pub collectives : (script : Script) (c : Configuration State) → IsWhole script.nue script.items → AreFit script c → AreDelivered c → AreOwnWays script c → length c.cells ≡ script.nue → CollectivesHold script c
 collectives script c whole fit delivered own even = record {

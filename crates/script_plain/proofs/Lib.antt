@@ -35,11 +35,13 @@ pub mod LengthLaws
 pub mod CollectiveFits
 pub mod BroadcastLaws
 pub mod ReductionLaws
+pub mod UntouchedLaws
 pub mod ProgramLaws
 pub mod MessageCounts
 pub mod StatementSends
 pub mod FoundCalls
 pub mod CountLaws
+pub mod CameLemmas
 pub mod OthersCame
 pub mod CollectiveLaws
 pub mod CameDid
@@ -49,5 +51,6 @@ pub mod SaneLemmas
 pub mod ReadyLemmas
 pub mod KeptLaws
 pub mod HeldUpLaws
+pub mod RepeatCounts
 pub mod OperationCounts
 pub mod DoneLaws

@@ -3,7 +3,7 @@ use Rattle.script_plain.proofs.CollectiveFits.{are_fit}
 use Rattle.script_plain.proofs.MessageLaws.{cells_kept, delivered}
 use Rattle.script_plain.proofs.OthersCame.{root_came}
 use Rattle.script_plain.proofs.OwnWayLaws.{own_ways}
-use Rattle.script_plain.proofs.ReductionLaws.{untouched}
+use Rattle.script_plain.proofs.UntouchedLaws.{untouched}
 use Rattle.script_plain.proofs.collective_laws.broadcasts_arrive.Goals as goal
 
 pub returns-clause-law : goal.returns-clause-law
