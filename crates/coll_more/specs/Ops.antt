@@ -39,7 +39,7 @@ taking_part sight core op slot src dst = record { sight = sight; core = core; op
 abbrev pub new_more : More → ℕ → MoreAt
 new_more more len = record { more = more; len = len; ended = 0; stage = Own }
 
--- so many bytes from one on
+-- the `len` bytes from byte `first` on
 abbrev pub window : (first len : ℕ) → List ℕ → List ℕ
 window first len bytes = take len (drop first bytes)
 

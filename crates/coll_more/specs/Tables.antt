@@ -18,7 +18,7 @@ shares to first len = record { peer = to; way = Shares; first = first; len = len
 abbrev pub takes : (from first len : ℕ) → PieceCall
 takes from first len = record { peer = from; way = Takes; first = first; len = len }
 
--- these messages for each of so many ranks from one on, in order
+-- the messages with each of `count` ranks, from rank `from` on, in order
 abbrev pub for_each : (ℕ → List PieceCall) → (from count : ℕ) → List PieceCall
 for_each calls from zero = []
 for_each calls from (suc count) = calls from ++ for_each calls (from + 1) count
@@ -65,7 +65,7 @@ calls_of Scatter rank nue len = scatter_calls rank nue len
 calls_of Allgather rank nue len = gather_calls rank nue len ++ spread_calls rank nue len
 calls_of Alltoall rank nue len = alltoall_calls rank nue len
 
--- so many bytes at the root alone
+-- `len` bytes at the root, which is rank 0, and none at the others
 abbrev pub at_root : (rank len : ℕ) → ℕ
 at_root zero len = len
 at_root (suc r) len = 0

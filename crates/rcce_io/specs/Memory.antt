@@ -95,7 +95,7 @@ pub record SinkState : Type 0 where
 abbrev pub sink_seen : SinkState → SinkView
 sink_seen state = record { taken = Some state.taken; faults = state.calls.faults }
 
--- a sink with room for so many bytes, and so many at one write, that has taken none
+-- a sink that has taken nothing, with room for `room` bytes in all and `most` at one write
 abbrev pub new_sink : ℕ → ℕ → SinkState
 new_sink room most = record { taken = []; room = room; most = most; calls = no_calls }
 
@@ -103,7 +103,7 @@ new_sink room most = record { taken = []; room = room; most = most; calls = no_c
 abbrev pub write_fails : SinkState → Bool
 write_fails state = fails_next state.calls || state.room == 0
 
--- how many of so many bytes a write takes that does not fail
+-- how many of `len` bytes a write takes that does not fail
 abbrev pub write_count : SinkState → ℕ → ℕ
 write_count state len = min (min len state.most) state.room
 

@@ -30,7 +30,7 @@ pub record PrintsView : Type 0 where
 abbrev pub cut : List ℕ → Entry → Printed
 cut bytes entry = record { reg = entry.reg; form = entry.form; bytes = take entry.len (drop entry.start bytes) }
 
--- entries that lie one behind the other in so many bytes
+-- each entry ends within the first `room` bytes
 abbrev pub AreCut : ℕ → List Entry → Type 0
 AreCut room [] = Unit {0}
 AreCut room (entry ∷ table) = (entry.start + entry.len ≤ room) × AreCut room table

@@ -59,7 +59,7 @@ read_lines before p (line ∷ lines) = at_line (before + 1) (read_line (before +
 abbrev pub script_of : Progress → Script
 script_of p = record { nue = p.nue; items = with_ends (length p.items) p.items; names = p.names }
 
--- what was read, at the end of a file of so many lines: no repeat may be open there
+-- what was read, at the end of a file of `lines` lines: no repeat may be open there
 abbrev pub at_end : ℕ → Progress → Result Script ReadFault
 at_end lines p = if length (open_of (past p)) == 0 then Ok (script_of p) else Err (record { line = lines + 1; kind = kind.UnclosedRepeat })
 

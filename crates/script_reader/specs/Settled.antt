@@ -60,7 +60,7 @@ abbrev pub AreInLine : ℕ → List Item → Type 0
 AreInLine nue [] = Unit {0}
 AreInLine nue (item ∷ past) = AreInLine nue past × IsInLine nue past item
 
--- the registers of a statement are among so many names
+-- the registers of a statement are among the first `count` names
 abbrev pub IsNamed : ℕ → Effect → Type 0
 IsNamed count e = EachUse (λ used. used.reg < count) e.uses × IfSome e.sets (λ set. set.reg < count)
 

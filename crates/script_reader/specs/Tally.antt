@@ -81,7 +81,7 @@ with_split splits group.World = splits
 with_split splits (group.Of comm) = splits
 with_split splits (group.Split comm rule) = slice_set splits comm true
 
--- a tally after one more statement of its rank, which runs so many times
+-- a tally after one more statement of its rank, which runs `turns` times
 abbrev pub noted : SetupView → ℕ → Effect → ℕ → Tally → Tally
 noted run turns e rank tally = record {
   operations = min (tally.operations + turns * cost_of run e.cost rank) 100001;

@@ -49,7 +49,7 @@ digits_value limit front [] = Some front
 digits_value limit front (b ∷ rest) =
     if is_ascii_digit b && nat_le (front * 10 + (b - 48)) limit then digits_value limit (front * 10 + (b - 48)) rest else None
 
--- one to so many decimal digits with a value of at most `limit`, leading zeros accepted
+-- a number of 1 to `most` decimal digits with a value of at most `limit`, leading zeros accepted
 abbrev pub decimal_of : ℕ → ℕ → List ℕ → Option ℕ
 decimal_of most limit word = if nat_le 1 (length word) && nat_le (length word) most then digits_value limit 0 word else None
 

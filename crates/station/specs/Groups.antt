@@ -204,8 +204,8 @@ pub record HaveRun (start : GroupStart) (steps : List Step) (r : GroupRank) (aft
   pub did : StepsDo (part_in r.sight.seat r.op r.input) steps start.held after calls
   pub made : (record_in r.sight).calls ≡ start.calls ++ calls
 
--- the rank stands in this call, which began there: so many of its steps are done, and it is in its next one as the message in
--- hand says
+-- a rank stands in this call, which began at `start`: its first `r.op.at` steps are done, and it is in the next one as
+-- the message in hand says
 pub record IsInGroup (start : GroupStart) (r : GroupRank) : Type 0 where
   pub callable : IsCallable r.sight.seat.setup r.sight.seat.rank r.op.coll
   pub fits : AreFit r.op.coll r.op.folding r.input r.held

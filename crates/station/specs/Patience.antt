@@ -1,4 +1,4 @@
--- A call that goes on each time that it stalls, at most so many times (this project's profile: a call of RCCE waits without a bound).
+-- A call that goes on each time that it stalls, at most n times (this project's profile: a call of RCCE waits without a bound).
 use Rattle.std.specs.Prelude.{ℕ, ◌+◌, ◌≤◌}
 use Rattle.scc_base.specs.declared.events.Spot.{Spot}
 use Rattle.send_recv.specs.Calling.{RecvStalled, SendStalled}

@@ -30,7 +30,7 @@ spot_text (spot.Register core) = codes "register of core " ++ decimal core
 abbrev pub head_text : MessageHead → List ℕ
 head_text head = kind_text (kind_at head.kind) ++ codes " " ++ decimal head.comm ++ codes " " ++ decimal head.len
 
--- a call gave up, after so many tries, at this spot
+-- a call gave up after `polls` tries at this spot
 abbrev pub stall_text : List ℕ → Spot → ℕ → List ℕ
 stall_text call at polls = call ++ codes " stalled after " ++ decimal polls ++ codes " tries at the " ++ spot_text at
 

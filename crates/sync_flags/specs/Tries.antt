@@ -61,7 +61,7 @@ is_vain (AtFlag place bit want) e = is_unwanted want (is_set_in bit e.value)
 is_vain (AtWord place value) e = not (e.value == value)
 is_vain (AtRegister core) e = e.value == 0
 
--- how many tries there were among more events, after so many
+-- how many tries there were, with those among more events behind the first n
 abbrev pub tries_from : Aim → Bool → ℕ → List Event → ℕ
 tries_from aim changing n [] = n
 tries_from aim changing n (e ∷ es) =
@@ -77,7 +77,7 @@ abbrev pub vain_after : Aim → Bool → ℕ → Event → ℕ
 vain_after aim changing n e =
     if is_try changing aim e then (if is_vain aim e then suc n else 0) else (if is_write e.access then 0 else n)
 
--- how many of the tries were vain in a row at the end of more events, after so many
+-- how many tries were vain in a row at the end of more events, where n were so before them
 abbrev pub vain_from : Aim → Bool → ℕ → List Event → ℕ
 vain_from aim changing n [] = n
 vain_from aim changing n (e ∷ es) = vain_from aim (is_changing changing e.access e.value) (vain_after aim changing n e) es
