@@ -16,7 +16,7 @@ pub record Ran : Type 0 where
   pub out : List ℕ
   pub err : List ℕ
 
--- what has run
+-- the outcome of a run: its two texts, and the status of a run that finished or is stuck
 abbrev pub run_outcome : Ran → Outcome
 run_outcome ran = record { status = if ran.finished then status.Finished else status.Stuck; out = ran.out; err = ran.err }
 
@@ -37,7 +37,7 @@ file_refused program file line kind =
 abbrev pub too_long : List ℕ → List ℕ → Outcome
 too_long program file = file_refused program file 0 (codes "TooLong")
 
--- want of memory
+-- the outcome where memory is wanting: its status, and a line on err
 abbrev pub no_memory : List ℕ → Outcome
 no_memory program = complains status.Memory (program ∷ codes ": no memory\n" ∷ [])
 

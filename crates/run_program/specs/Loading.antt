@@ -36,7 +36,7 @@ abbrev pub LoadsPlan : Plan → (Asked → Type 0) → FilesView → FilesView �
 LoadsPlan plan asks before after (Ok loaded) = Leads plan asks before after loaded
 LoadsPlan plan asks before after (Err why) = Comes (codes "rccerun") plan before after (complaint_outcome (codes "rccerun") why)
 
--- and to words, which have a plan or not
+-- what `load` ensures for words: with a plan what the plan ensures, and without one only the text that refuses them
 abbrev pub LoadsBy : Result Plan (List ℕ) → (Asked → Type 0) → FilesView → FilesView → Result Loaded Complaint → Type 0
 LoadsBy (Ok plan) asks before after answer = LoadsPlan plan asks before after answer
 LoadsBy (Err text) asks before after (Ok loaded) = ⊥
@@ -53,7 +53,7 @@ pub record AsksOn (file : List ℕ) (told : Option (List NamedFile)) (job : Job)
   pub setup : asked.setup ≡ setup_by job hosts asked.script
   pub seed : asked.seed ≡ None
 
--- on the hosts in a file
+-- a run of the script in a file on the hosts in another file
 pub record AsksListed (list file : List ℕ) (told : Option (List NamedFile)) (job : Job) (asked : Asked) : Type 0 where
   pub hosts : List ℕ
   pub listed : HostsIn list told job.nue hosts

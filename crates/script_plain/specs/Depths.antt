@@ -7,12 +7,13 @@ use Rattle.script_plain.specs.declared.course.Open.{Open}
 use Rattle.script_reader.specs.declared.script.Item.{Item}
 use Rattle.script_reader.specs.Script.{has_rank}
 
+-- how many repeats are open behind an item, where `depth` are open before it
 abbrev pub depth_after : Nesting → ℕ → ℕ
 depth_after (nesting.Opens times) depth = depth + 1
 depth_after (nesting.Closes start) depth = depth - 1
 depth_after nesting.Stays depth = depth
 
--- before the item at a place, where `depth` are open before the first one
+-- how many repeats of a rank are open before the item at a place, where `depth` are open before the first one
 abbrev pub depth_from : ℕ → ℕ → ℕ → List Item → ℕ
 depth_from rank depth zero items = depth
 depth_from rank depth (suc place) [] = depth

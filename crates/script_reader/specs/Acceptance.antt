@@ -28,7 +28,7 @@ groups_of script = run_with script.nue (rules_of script.items)
 abbrev pub length_of : Script → ℕ → ℕ → Option ℕ
 length_of script rank = length_at script.nue (reverse script.items) rank
 
--- its length before the statement at a place, if the rank has set it in an earlier line
+-- the length of a register of a rank before the statement at a place, if the rank has set it in an earlier line
 abbrev pub length_before : Script → ℕ → ℕ → ℕ → Option ℕ
 length_before script place rank = length_at script.nue (reverse (take place script.items)) rank
 

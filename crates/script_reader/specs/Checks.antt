@@ -133,11 +133,11 @@ abbrev pub has_split : List Item → ℕ → ℕ → Bool
 has_split [] rank comm = false
 has_split (item ∷ past) rank comm = has_split past rank comm || (has_rank item.who rank && is_split_of (effect_of item.stmt).group comm)
 
--- NotSplit: a statement that needs the groups of a communicator which the rank has not split. `split` says which the rank has
+-- NotSplit: the rank has not split the communicator whose groups the statement needs. `split` says which it has
 abbrev pub is_not_split : (ℕ → Bool) → Group → Bool
 is_not_split split group = not (comm_needed group == 0) && not (split (comm_needed group))
 
--- and a split of a parent that no earlier line splits
+-- NotSplit, of the section: a split of a parent that no earlier line splits
 abbrev pub has_no_parent : SetupView → Group → Bool
 has_no_parent run group.World = false
 has_no_parent run (group.Of comm) = false
@@ -193,7 +193,7 @@ is_unfit had reg (fit.Whole ty) = is_ragged ty (had reg)
 is_unfit had reg (fit.Long len) = differs (had reg) len
 is_unfit had reg (fit.Like other) = differs (had reg) (unwrap_or (had other) 0)
 
--- and one that needs another length than its registers have
+-- Shape: a statement that needs another length than its registers have
 abbrev pub misfits : SetupView → (ℕ → Option ℕ) → Effect → ℕ → Bool
 misfits run had e rank = some_use (λ used. counts_at run e rank used.at && is_unfit had used.reg used.fit) e.uses
 
@@ -265,7 +265,7 @@ turns_too_often turns (nesting.Opens times) = nat_lt 100000 (turns * times)
 turns_too_often turns (nesting.Closes start) = false
 turns_too_often turns nesting.Stays = false
 
--- and at another statement, a rank has more than 100,000 operations with it
+-- TooManyOps: at another statement, a rank has more than 100,000 operations with it
 abbrev pub is_overworked : SetupView → ℕ → ℕ → Cost → ℕ → Bool
 is_overworked run done turns cost rank = nat_lt 100000 (done + turns * cost_of run cost rank)
 
@@ -287,11 +287,11 @@ is_past_most (size.Same reg) = false
 abbrev pub is_too_long : Effect → Bool
 is_too_long e = option_map_or (λ target. is_past_most target.size) e.sets false
 
--- a post of more than one chunk
+-- TooLong: a post of more than one chunk
 abbrev pub posts_too_much : (ℕ → Option ℕ) → Effect → Bool
 posts_too_much had e = option_map_or (λ reg. nat_lt 3584 (unwrap_or (had reg) 0)) e.posts false
 
--- and more printed bytes than a rank may have
+-- TooLong: a print with which a rank prints more than 1,048,576 bytes
 abbrev pub prints_too_much : (ℕ → Option ℕ) → ℕ → ℕ → Effect → Bool
 prints_too_much had done turns e = nat_lt 1048576 (done + turns * prints had e)
 

@@ -123,7 +123,7 @@ is_split_of group.World comm = false
 is_split_of (group.Of named) comm = false
 is_split_of (group.Split split rule) comm = split == comm
 
--- the rule by which a statement splits a communicator, if it does
+-- the rule that a statement gives a communicator, and no rule where it does not split it
 abbrev pub split_rule : Group → ℕ → CommRule
 split_rule group.World comm = rule.Absent
 split_rule (group.Of named) comm = rule.Absent

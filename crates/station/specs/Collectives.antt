@@ -14,7 +14,7 @@ use Rattle.station.specs.Stations.{HoldsNoRegister, StationAt}
 use Rattle.station.specs.declared.stops.CollStop.{CollStop}
 use Rattle.station.specs.declared.stops.CollStop.TheVariants.{Stalled, Mismatch}
 
--- in a collective call
+-- a rank in a collective call, by what its port and its station show, and its two buffers
 abbrev pub in_collective : Sight → StationAt → MoreAt → (src dst : List ℕ) → Participant
 in_collective s a op src dst = taking_part s a.core op a.slot src dst
 

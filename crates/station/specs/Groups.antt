@@ -60,7 +60,7 @@ pub record StepRank : Type 0 where
 abbrev pub in_step : Sight → StationAt → GroupPart → Held → StepRank
 in_step sight station part held = record { sight = sight; station = station; part = part; held = held }
 
--- from what a receive has not taken yet on, the buffer is as it was
+-- the buffer is as it was from byte `size` on, which a receive has not reached yet
 abbrev pub IsFilledFrom : (size : ℕ) → (old new : List ℕ) → Type 0
 IsFilledFrom size old new = (k : ℕ) → size ≤ k → slice_index new k ≡ slice_index old k
 

@@ -27,15 +27,15 @@ pub record WithinStalls {A : Type 0} (Stall : A → A → Type 0) (begun : A) (m
   pub few : times ≤ most
   pub after : AfterStalls Stall begun times Comes
 
--- a send or a post stalled: as many tries as it was allowed were vain at the end, at some spot
+-- a send or a post stalled: its last `polls` tries were vain, all at one spot
 abbrev pub SendStalls : ℕ → Sender → Sender → Type 0
 SendStalls polls old now = (spot : Spot) × SendStalled old polls now spot
 
--- a receive stalled
+-- a receive stalled: its last `polls` tries were vain, all at one spot
 abbrev pub RecvStalls : ℕ → Receiver → Receiver → Type 0
 RecvStalls polls old now = (spot : Spot) × RecvStalled old polls now spot
 
--- a barrier stalled
+-- a barrier stalled: its last `polls` looks were vain, all at one flag
 abbrev pub BarStalls : ℕ → Member → Member → Type 0
 BarStalls polls old now = (spot : Spot) × (count : ℕ) × Stalls old polls (with_parity now.sight now.core now.parity) (bar_stop.Stalled now.op spot count)
 
