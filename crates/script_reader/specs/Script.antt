@@ -1,5 +1,5 @@
--- A script that was read: its statements, the ranks that each is for, the other rank of a message, and the splits (this
--- project's profile).
+-- What a script is, which ranks a section is for, which rank a message is with, and the rules of the splits (this project's
+-- profile).
 use Rattle.std.specs.Prelude.{ℕ, ◌+◌, ◌-◌, ◌%◌, ◌==◌, Bool, true, ◌&&◌, nat_le, List, [], ◌∷◌, IfSome, map}
 use Rattle.std.specs.List.{range_with_len}
 use Rattle.scc_base.specs.declared.communicators.CommRule.{CommRule}
