@@ -5,7 +5,7 @@ use Rattle.line_cache.specs.declared.cache.Entry.{Entry}
 use Rattle.line_cache.specs.Lines.{IsPlaceOf}
 use Rattle.line_cache.specs.Eviction.{most_evictions, count_after}
 
--- the place that it names, and how many entries it has had dropped
+-- an evictor that names one place: which, and how many entries it has had dropped
 pub record Place : Type 0 where
   pub at : Option ℕ
   pub count : ℕ

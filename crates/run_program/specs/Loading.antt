@@ -42,7 +42,7 @@ LoadsBy (Ok plan) asks before after answer = LoadsPlan plan asks before after an
 LoadsBy (Err text) asks before after (Ok loaded) = ⊥
 LoadsBy (Err text) asks before after (Err why) = IsMeant (codes "rccerun") (Err text) before after (complaint_outcome (codes "rccerun") why)
 
--- what loading says to words: a run that they ask for, or why there is none
+-- what `load` ensures for the launcher's words: a run that they ask for, or why there is none
 abbrev pub LoadsWords : List (List ℕ) → Result Job WordFault → FilesView → FilesView → Result Loaded Complaint → Type 0
 LoadsWords words command before after answer = LoadsBy (words_plan words command) (WordsAskFor words command before.told) before after answer
 
@@ -59,7 +59,7 @@ pub record AsksListed (list file : List ℕ) (told : Option (List NamedFile)) (j
   pub listed : HostsIn list told job.nue hosts
   pub on : AsksOn file told job hosts asked
 
--- on the hosts that words ask for
+-- a run of the script in a file on the hosts that words ask for
 pub record AsksBehind (words : List (List ℕ)) (told : Option (List NamedFile)) (job : Job) (at : Option ℕ) (file : List ℕ) (asked : Asked) : Type 0 where
   pub hosts : List ℕ
   pub are_hosts : AreHosts words told job.nue at hosts

@@ -151,17 +151,17 @@ pub record IsOnTheWay (keys : ℕ → ℕ → ℕ) (old new : Configuration Loca
   pub same_end : run_on keys local_next (sum_by cost_of new.cells) new ≡ run_on keys local_next (sum_by cost_of old.cells) old
   pub less : sum_by cost_of new.cells < sum_by cost_of old.cells
 
--- something was done, or nothing
+-- steps were taken on the way to the same end, or nothing was done
 abbrev pub Moves : (ℕ → ℕ → ℕ) → Bool → Configuration Local → Configuration Local → Type 0
 Moves keys true old new = IsOnTheWay keys old new
 Moves keys false old new = new ≡ old
 
--- something was done, or nothing, since rank i owns no enabled step
+-- steps were taken on the way to the same end, or nothing was done, since rank i owns no enabled step
 abbrev pub GoesOn : (ℕ → ℕ → ℕ) → Bool → ℕ → Configuration Local → Configuration Local → Type 0
 GoesOn keys true i old new = IsOnTheWay keys old new
 GoesOn keys false i old new = (step_of keys local_next old i ≡ None) × (new ≡ old)
 
--- something was done, or nothing, since none of the first n ranks owns an enabled step
+-- steps were taken on the way to the same end, or nothing was done, since none of the first n ranks owns an enabled step
 abbrev pub Sweeps : (ℕ → ℕ → ℕ) → Bool → ℕ → Configuration Local → Configuration Local → Type 0
 Sweeps keys true n old new = IsOnTheWay keys old new
 Sweeps keys false n old new = ((k : ℕ) → k < n → step_of keys local_next old k ≡ None) × (new ≡ old)

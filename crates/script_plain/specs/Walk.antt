@@ -54,7 +54,7 @@ pub record WalkView : Type 0 where
   pub rank : ℕ
   pub left : List Prim
 
--- a course: the same, with the marks that are left
+-- a course: the script, the setup and the rank, and the marks that are left
 pub record CourseView : Type 0 where
   pub script : Script
   pub setup : SetupView
@@ -103,7 +103,7 @@ abbrev pub left_at : SetupView → ℕ → List Item → ℕ → List Open → L
 left_at s rank items place open_repeats =
     left_of (marked s rank (drop place items)) (map (again s rank items) open_repeats)
 
--- behind the end of each open repeat stands what stands behind the end that comes next
+-- each open repeat is the one whose end comes next: what stands behind its end is what stands behind that one
 abbrev pub AreOpen : SetupView → ℕ → List Item → List (List (Option Prim)) → List Open → Type 0
 AreOpen s rank items [] open_repeats = Unit {0}
 AreOpen s rank items (next ∷ behind) [] = Unit {0}

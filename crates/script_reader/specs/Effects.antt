@@ -86,13 +86,13 @@ effect_of (stmt.Allreduce comm op ty dst src) = record plain_effect {
 effect_of (stmt.Repeat times end) = record plain_effect { cost = cost.Free; nesting = nesting.Opens times }
 effect_of (stmt.End start) = record plain_effect { nesting = nesting.Closes start }
 
--- some register that a statement reads passes
+-- whether some register that a statement reads passes a test
 abbrev pub some_use : (Use → Bool) → Uses → Bool
 some_use test uses.Nothing = false
 some_use test (uses.One first) = test first
 some_use test (uses.Two first second) = test first || test second
 
--- a fact of each register that a statement reads
+-- a fact holds of each register that a statement reads
 abbrev pub EachUse : (Use → Type 0) → Uses → Type 0
 EachUse P uses.Nothing = Unit {0}
 EachUse P (uses.One first) = P first

@@ -14,7 +14,7 @@ use Rattle.script_reader.specs.Said.{said_of}
 use Rattle.script_reader.specs.Script.{Script}
 use Rattle.script_reader.specs.Words.{is_text, line_count, lines_of, number_of, words_of}
 
--- the words `rcce 2`
+-- a word is a number, and this one
 abbrev pub is_number : Option ℕ → ℕ → Bool
 is_number None wanted = false
 is_number (Some number) wanted = number == wanted
@@ -32,7 +32,7 @@ version_of (line ∷ lines) =
     else if says_two (words_of line) then version.Two
     else version.One
 
--- a line with words has come
+-- what was read, where a line with words has come
 abbrev pub begun : Progress → Progress
 begun p = record p { opening = false }
 

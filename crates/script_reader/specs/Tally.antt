@@ -26,7 +26,7 @@ use Rattle.script_reader.specs.Progress.{Progress, named, register_of}
 use Rattle.script_reader.specs.Script.{IsSized, first_split, has_rank, rules_of}
 use Rattle.script_reader.specs.Settled.{AreInLine, ArePassed, HaveRules, IsNamed, IsSettled}
 
--- the length that a tally has for a register, and whether it has a split of a communicator
+-- the length that a tally has for a register, if it has one
 abbrev pub length_in : Tally → ℕ → Option ℕ
 length_in tally reg = slice_index_or tally.lengths reg None
 

@@ -21,7 +21,7 @@ pub record AfterStalls {A : Type 0} (Stall : A → A → Type 0) (begun : A) (ti
   pub stalled : HasStalled Stall begun times last
   pub comes : Comes last
 
--- after at most this many stalls
+-- after at most `most` stalls, a call came to this
 pub record WithinStalls {A : Type 0} (Stall : A → A → Type 0) (begun : A) (most : ℕ) (Comes : A → Type 0) : Type 0 where
   pub times : ℕ
   pub few : times ≤ most
@@ -39,8 +39,8 @@ RecvStalls polls old now = (spot : Spot) × RecvStalled old polls now spot
 abbrev pub BarStalls : ℕ → Member → Member → Type 0
 BarStalls polls old now = (spot : Spot) × (count : ℕ) × Stalls old polls (with_parity now.sight now.core now.parity) (bar_stop.Stalled now.op spot count)
 
--- why a receive stopped that goes on this many times: it has stalled as often, and then once more; or before that, or then, it met
--- another head
+-- why a receive stopped that goes on after `times` stalls: it stalled once more than that, or it met another head, after at
+-- most `times` stalls
 abbrev pub SaysWhyAfter : Receiver → (times polls : ℕ) → BufferHolder → RecvStop → Type 0
 SaysWhyAfter begun times polls now (Stalled stall) = AfterStalls (RecvStalls polls) begun times (λ last. SaysWhy last polls now (Stalled stall))
 SaysWhyAfter begun times polls now (Mismatch sent asked) = WithinStalls (RecvStalls polls) begun times (λ last. SaysWhy last polls now (Mismatch sent asked))

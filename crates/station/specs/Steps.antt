@@ -27,7 +27,7 @@ pub record Held : Type 0 where
   pub output : List ℕ
   pub work : List ℕ
 
--- one of two lists of bytes
+-- the first of two lists of bytes where the test is true, and else the second
 abbrev pub one_of : Bool → (one other : List ℕ) → List ℕ
 one_of true one other = one
 one_of false one other = other

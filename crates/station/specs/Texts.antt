@@ -63,7 +63,7 @@ bar_stall_text stall = stall_text (codes "a barrier") stall.spot stall.polls
 abbrev pub coll_stall_text : CollStall → List ℕ
 coll_stall_text stall = stall_text (codes "a collective call") stall.spot stall.polls
 
--- one of these that stopped
+-- a gather, a scatter, an allgather or an alltoall that stopped
 abbrev pub coll_stop_text : CollStop → List ℕ
 coll_stop_text (coll_stop.Stalled stall) = coll_stall_text stall
 coll_stop_text (coll_stop.Mismatch op sent) = met_text (codes "a collective call") sent
