@@ -23,10 +23,11 @@ abbrev pub for_each : (ℕ → List PieceCall) → (from count : ℕ) → List P
 for_each calls from zero = []
 for_each calls from (suc count) = calls from ++ for_each calls (from + 1) count
 
--- piece p goes to or comes from rank p
+-- piece p of src goes to rank p
 abbrev pub gives_piece : (len p : ℕ) → List PieceCall
 gives_piece len p = gives p (p * len) len ∷ []
 
+-- piece p of dst comes from rank p
 abbrev pub takes_piece : (len p : ℕ) → List PieceCall
 takes_piece len p = takes p (p * len) len ∷ []
 
@@ -47,10 +48,11 @@ scatter_calls rank nue len = rooted rank (for_each (gives_piece len) 1 (nue - 1)
 abbrev pub spread_calls : (rank nue len : ℕ) → List PieceCall
 spread_calls rank nue len = rooted rank (for_each (λ p. shares p 0 (nue * len) ∷ []) 1 (nue - 1)) (takes 0 0 (nue * len))
 
--- a pair of messages with one rank, each of which goes first
+-- the two messages with rank p, of which the one from p comes first
 abbrev pub takes_then_gives : (len p : ℕ) → List PieceCall
 takes_then_gives len p = takes p (p * len) len ∷ gives p (p * len) len ∷ []
 
+-- the two messages with rank p, of which the one to p comes first
 abbrev pub gives_then_takes : (len p : ℕ) → List PieceCall
 gives_then_takes len p = gives p (p * len) len ∷ takes p (p * len) len ∷ []
 

@@ -54,5 +54,6 @@ seeded_next e held =
 abbrev pub always_answer : ℕ → ℕ → Option ℕ
 always_answer count held = if may_evict held count then Some 0 else None
 
+-- the count of that evictor after its answer
 abbrev pub always_next : ℕ → ℕ → ℕ
 always_next count held = count_after (always_answer count held) count

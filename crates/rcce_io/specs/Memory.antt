@@ -55,6 +55,7 @@ files_seen state = record { told = Some state.files; rest = state.rest; is_open 
 abbrev pub with_file : List ℕ → List ℕ → FilesState → FilesState
 with_file name contents state = record state { files = state.files ++ record { name = name; contents = contents } ∷ [] }
 
+-- what an open of this name answers
 abbrev pub open_answer : FilesState → List ℕ → Opened
 open_answer state name =
     if fails_next state.calls then opened.Failed else
@@ -78,6 +79,7 @@ read_answer state len =
     if fails_next state.calls then got.Failed else
     if left == 0 then got.End else got.Bytes (min (read_room state len) left)
 
+-- the files after a read into a buffer of this length
 abbrev pub after_read : FilesState → ℕ → FilesState
 after_read state len = record state {
   rest = if fails_next state.calls then state.rest else option_map (drop (read_room state len)) state.rest;
@@ -107,9 +109,11 @@ write_fails state = fails_next state.calls || state.room == 0
 abbrev pub write_count : SinkState → ℕ → ℕ
 write_count state len = min (min len state.most) state.room
 
+-- what a write of `len` bytes answers
 abbrev pub write_answer : SinkState → ℕ → Put
 write_answer state len = if write_fails state then put.Failed else put.Took (write_count state len)
 
+-- the sink after a write of these bytes
 abbrev pub after_write : SinkState → List ℕ → SinkState
 after_write state bytes =
     let count = if write_fails state then 0 else write_count state (length bytes) in

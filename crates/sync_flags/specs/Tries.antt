@@ -23,6 +23,7 @@ spot_of (AtFlag place bit want) = flag_spot place bit
 spot_of (AtWord place value) = Flag place 0
 spot_of (AtRegister core) = Register core
 
+-- whether an access is a take
 abbrev pub is_take : Access → Bool
 is_take Take = true
 is_take access = false
@@ -33,6 +34,7 @@ is_write Store = true
 is_write Free = true
 is_write access = false
 
+-- whether two places are one word
 abbrev pub is_at : WordAt → WordAt → Bool
 is_at place other = (other.core == place.core) && ((other.line == place.line) && (other.word == place.word))
 
