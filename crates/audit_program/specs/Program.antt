@@ -29,6 +29,7 @@ verdict_ran verdict.Yes = record { finished = true; out = codes "legal\n"; err =
 verdict_ran (verdict.No rank call) =
     record { finished = false; out = joined (codes "not legal: ue " ∷ decimal rank ∷ codes " call " ∷ decimal call ∷ codes "\n" ∷ []); err = [] }
 
+-- what a judged log comes to: the line of its verdict
 abbrev pub judged_ran : Judged → Ran
 judged_ran judged = verdict_ran judged.verdict
 

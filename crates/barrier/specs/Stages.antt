@@ -111,8 +111,10 @@ bar_call op = if is_finished op.stage then [] else Bar op.comm ∷ []
 abbrev pub after_flip : (size place : ℕ) → BarStage
 after_flip size place = if size == 1 then Finished else (if place == 0 then Gather 0 else Await)
 
+-- what comes after the root has seen one more member: it looks at the next one, and releases them once it has seen all
 abbrev pub after_seen : (size seen : ℕ) → BarStage
 after_seen size seen = if seen + 2 == size then Release 0 else Gather (seen + 1)
 
+-- what comes after the root has released one more member: it releases the next one, and is done after the last
 abbrev pub after_release : (size released : ℕ) → BarStage
 after_release size released = if released + 2 == size then Finished else Release (released + 1)

@@ -71,7 +71,7 @@ stepped next (suc n) rank = option_and_then (stepped next n) (next rank)
 abbrev pub Reaches : (ℕ → Option ℕ) → ℕ → ℕ → Type 0
 Reaches next rank other = (n : ℕ) × (stepped next n rank ≡ Some other)
 
--- at most so many steps lead from a rank to another
+-- a rank leads to another in n steps, where n is at most `most`
 abbrev pub ReachesIn : (ℕ → Option ℕ) → ℕ → ℕ → ℕ → Type 0
 ReachesIn next most rank other = (n : ℕ) × (n ≤ most) × (stepped next n rank ≡ Some other)
 

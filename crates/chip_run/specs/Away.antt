@@ -19,7 +19,7 @@ TookTurns c stepped [] old s new t = (new ≡ old) × (t ≡ s)
 TookTurns {A} c stepped (answer ∷ before) old s new t =
     (mid : A) × (m : Sight) × TookTurns c stepped before old s mid m × Turned c stepped mid m new t answer
 
--- in how many turns in a row a rank has waited, by their answers; the latest stands first
+-- how many of a rank's latest turns waited, one after the other, by their answers; the latest answer stands first
 abbrev pub waited_in : List Turn → ℕ
 waited_in [] = 0
 waited_in (turn.Moved ∷ before) = 0

@@ -75,7 +75,7 @@ pub record SweepStands {A : Type 0} (c : Conduct A) (came : Rest) (n : ℕ) (chi
   pub stands : CrewStands c chip crew now later
   pub swept : SweptTo c came n chip crew now later
 
--- a sweep in which no worker moved ends a run: where all have finished, and where one has not
+-- how a sweep ends a run: not where a worker moved, and else as finished, or as stuck where one has not finished
 abbrev pub end_by : Rest → Option RunEnd
 end_by rest.Moved = None
 end_by rest.Finished = Some run_end.Finished

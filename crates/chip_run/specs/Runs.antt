@@ -18,7 +18,7 @@ abbrev pub rounds_of : Mode → Rounds
 rounds_of mode.Threads = rounds.InThreads
 rounds_of (mode.Serial seed) = rounds.Picked (pcg32_of_seed (pcg32_seed 16 seed))
 
--- in a round in threads each worker took a row of turns
+-- a round in threads: each worker took a row of turns, and the crew is tied to the chip again
 pub record TookRows {A : Type 0} (c : Conduct A)
     (chip : ChipView) (crew : List A) (now : ChipView) (later : List A) : Type 0 where
   pub stands : CrewStands c chip crew now later

@@ -29,9 +29,9 @@ HoldsNone s rank events = (core : ℕ) → (record_of s rank events).held core �
 abbrev pub NoneElseHolds : SetupView → (ℕ → Record) → ℕ → Type 0
 NoneElseHolds s records me = (k core : ℕ) → k < s.nue → k ≢ me → (records k).held core ≡ None
 
--- among the events of a turn, made after the own events before it, is one look by which the rank waits: wherever it is a
--- step of words that agree with records, the rank's own being that before the look and no other rank holding a register,
--- it shows that the rank waits for what it wants
+-- one event of a turn is the look that makes the rank wait. On all words that agree with the records of the ranks, the look,
+-- where it is a step of them, shows that the rank waits for what it wants. (The rank's record is the one before the look, and
+-- no other rank holds a register.)
 pub record LookedAt (stepped : List Event → Event → Type 0) (s : SetupView) (rank : ℕ) (own events : List Event) (want : Want) : Type 0 where
   pub before : List Event
   pub look : Event
@@ -95,7 +95,7 @@ rest_by turn.Moved stopped = rest.Moved
 rest_by (turn.Waiting spot) stopped = rest.Unfinished
 rest_by turn.Done stopped = if stopped then rest.Unfinished else rest.Finished
 
--- two ranks rest where both do, and have finished where both have
+-- what two ranks come to together: both rest where each does, and have finished where each has
 abbrev pub both_rest : Rest → Rest → Rest
 both_rest rest.Moved other = rest.Moved
 both_rest rest.Finished other = other

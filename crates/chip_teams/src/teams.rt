@@ -11,7 +11,7 @@ use std::alloc::Global;
 use std::marker::Model;
 use std::test::Fail;
 
-/// A chip of so many ranks that was just opened, from the highest core down. `split` is the rule of communicator 8.
+/// A chip of `nue` ranks that was just opened, from the highest core down. `split` is the rule of communicator 8.
 pub fn opened(alloc: Global, nue: u8, layout: Layout, split: CommRule) -> Result<Chip, Fail>
     ensures new { IfOk result (λ chip. IsNew (about_in chip) chip) }
     ensures ranks { IfOk result (λ chip. (about_in chip).nue ≡ nue) }
@@ -129,7 +129,7 @@ impl<M: Player + Drop> Team<M> {
         done
     }
 
-    /// Rounds until all are done, at most so many. How many it took, and 0 where they were not enough.
+    /// Rounds until all are done, at most `most` of them. How many it took, and 0 where they were not enough.
     pub fn rounds(&mut self, order: &[usize], most: u32) -> u32
         ensures same { self.new ≡ self.old }
         ensures within { result ≤ most }

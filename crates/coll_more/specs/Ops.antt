@@ -39,7 +39,7 @@ taking_part sight core op slot src dst = record { sight = sight; core = core; op
 abbrev pub new_more : More → ℕ → MoreAt
 new_more more len = record { more = more; len = len; ended = 0; stage = Own }
 
--- so many bytes from one on
+-- the `len` bytes from byte `first` on
 abbrev pub window : (first len : ℕ) → List ℕ → List ℕ
 window first len bytes = take len (drop first bytes)
 
@@ -53,12 +53,13 @@ bytes_by Takes src dst = dst
 abbrev pub bytes_of : PieceCall → (src dst : List ℕ) → List ℕ
 bytes_of call src dst = window call.first call.len (bytes_by call.way src dst)
 
--- a message of the table as a call with its bytes
+-- a message of the table as a call, by which way it goes, the other rank, its length and its bytes
 abbrev pub data_by : Way → (peer len : ℕ) → List ℕ → DataCall
 data_by Gives peer len bytes = Send peer (plain_head len) bytes
 data_by Shares peer len bytes = Send peer (plain_head len) bytes
 data_by Takes peer len bytes = Recv peer (plain_head len) bytes
 
+-- a message of the table as a call with its bytes, which are a part of src or of dst
 abbrev pub data_of : (src dst : List ℕ) → PieceCall → DataCall
 data_of src dst call = data_by call.way call.peer call.len (bytes_of call src dst)
 
@@ -88,10 +89,11 @@ abbrev pub is_taking : Way → Bool
 is_taking Takes = true
 is_taking way = false
 
--- the op of a message of which nothing is done yet
+-- the stage at which a message of the table begins, by which way it goes
 abbrev pub begun_by : Way → PieceCall → Stage
 begun_by Takes call = Receiving call (new_receive call.peer (plain_head call.len))
 begun_by way call = Sending call (new_send call.peer (plain_head call.len) false)
 
+-- the stage at which a message of the table begins: its send or its receive, of which nothing is done yet
 abbrev pub begun_at : PieceCall → Stage
 begun_at call = begun_by call.way call

@@ -18,15 +18,16 @@ shares to first len = record { peer = to; way = Shares; first = first; len = len
 abbrev pub takes : (from first len : ℕ) → PieceCall
 takes from first len = record { peer = from; way = Takes; first = first; len = len }
 
--- these messages for each of so many ranks from one on, in order
+-- the messages with each of `count` ranks, from rank `from` on, in order
 abbrev pub for_each : (ℕ → List PieceCall) → (from count : ℕ) → List PieceCall
 for_each calls from zero = []
 for_each calls from (suc count) = calls from ++ for_each calls (from + 1) count
 
--- piece p goes to or comes from rank p
+-- piece p of src goes to rank p
 abbrev pub gives_piece : (len p : ℕ) → List PieceCall
 gives_piece len p = gives p (p * len) len ∷ []
 
+-- piece p of dst comes from rank p
 abbrev pub takes_piece : (len p : ℕ) → List PieceCall
 takes_piece len p = takes p (p * len) len ∷ []
 
@@ -47,10 +48,11 @@ scatter_calls rank nue len = rooted rank (for_each (gives_piece len) 1 (nue - 1)
 abbrev pub spread_calls : (rank nue len : ℕ) → List PieceCall
 spread_calls rank nue len = rooted rank (for_each (λ p. shares p 0 (nue * len) ∷ []) 1 (nue - 1)) (takes 0 0 (nue * len))
 
--- a pair of messages with one rank, each of which goes first
+-- the two messages with rank p, of which the one from p comes first
 abbrev pub takes_then_gives : (len p : ℕ) → List PieceCall
 takes_then_gives len p = takes p (p * len) len ∷ gives p (p * len) len ∷ []
 
+-- the two messages with rank p, of which the one to p comes first
 abbrev pub gives_then_takes : (len p : ℕ) → List PieceCall
 gives_then_takes len p = gives p (p * len) len ∷ takes p (p * len) len ∷ []
 
@@ -65,7 +67,7 @@ calls_of Scatter rank nue len = scatter_calls rank nue len
 calls_of Allgather rank nue len = gather_calls rank nue len ++ spread_calls rank nue len
 calls_of Alltoall rank nue len = alltoall_calls rank nue len
 
--- so many bytes at the root alone
+-- `len` bytes at the root, which is rank 0, and none at the others
 abbrev pub at_root : (rank len : ℕ) → ℕ
 at_root zero len = len
 at_root (suc r) len = 0

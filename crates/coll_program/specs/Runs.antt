@@ -13,7 +13,7 @@ use Rattle.coll_program.specs.Reports.{report_ran}
 use Rattle.coll_program.specs.declared.command.Job.{Job}
 use Rattle.coll_program.specs.declared.report.Report.{Report}
 
--- the first so many ranks of a job before their first turns, with what they hand in
+-- the first `count` ranks of a job before their first turns, with what they hand in
 pub record AreRanksOf (job : Job) (count : ℕ) (team : List MemberView) : Type 0 where
   pub each : length team ≡ count
   pub fresh : AreFresh job.more job.len job.nue team

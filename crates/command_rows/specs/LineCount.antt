@@ -13,6 +13,7 @@ lines_in bytes = length (filter (λ b. b == 10) bytes)
 abbrev pub count_ran : ℕ → Ran
 count_ran lines = record { finished = true; out = decimal lines ++ (codes "\n" ++ []); err = [] }
 
+-- the plan for a file's bytes: their lines are counted
 abbrev pub bytes_plan : List ℕ → Plan
 bytes_plan bytes = Runs (count_ran (lines_in bytes))
 
@@ -25,5 +26,6 @@ abbrev pub words_plan : List (List ℕ) → Result Plan (List ℕ)
 words_plan (file ∷ []) = if is_option file then Err (codes "words refused") else Ok (file_plan file)
 words_plan _ = Err (codes "words refused")
 
+-- the program `lines`, which counts the lines of a file
 abbrev pub lines : Program
 lines = record { name = codes "lines"; plan = words_plan }

@@ -13,7 +13,7 @@ fn is_judged(alloc: Global, bytes: &[u8], wanted: &Option<ReadFault>) -> bool {
     }
 }
 
-/// A script that names so many registers, and has these statements behind them.
+/// A script that names `count` registers, and has these statements behind them.
 fn naming(alloc: Global, count: u8, more: &[u8]) -> Result<Vec<u8>, AllocError> {
     let mut bytes = Vec::from_slice(alloc, b"all\n")?;
     for i in 0..count {
@@ -77,7 +77,7 @@ const SIZES: &[(usize, Option<ReadFault>)] = &[
     ),
 ];
 
-/// Whether a file of so many empty lines is judged so.
+/// Whether a file of `count` empty lines is judged so.
 fn lines_are_judged(alloc: Global, count: usize, wanted: &Option<ReadFault>) -> bool {
     match vec![in alloc; b'\n'; count] {
         Ok(bytes) => is_judged(alloc, bytes.as_slice(), wanted),
@@ -96,7 +96,7 @@ fn a_file_has_4194304_bytes(rt: HostRuntime) {
 const BUSY: &[u8] =
     b"even\nbytes x 00\nrepeat 99\nrepeat 99\nsend +1 x\nend\nend\nodd\nrepeat 99\nrepeat 99\nrecv -1 y 1\nend\nend\n";
 
-/// Whether this script for 48 ranks has so many messages.
+/// Whether this script for 48 ranks has `count` messages.
 fn has_messages(alloc: Global, text: &[u8], count: usize) -> bool {
     let Ok(scripts) = read_script(alloc, text, 48) else {
         return false;

@@ -65,10 +65,11 @@ pub record IsChip (s : SetupView) (r : ℕ) (words : List ℕ) (all : List RankE
   pub agree : Agrees s (memory_from zeros all) (records_of s all)
   pub ends : all ≡ before_of all own ++ of_rank_all r own
 
--- how the events before a turn are coded as a number
+-- how an event of a rank is coded as a number
 abbrev pub event_coded : Coded RankEvent
 event_coded = code_by (ℕ × Event) (coded× coded_ℕ the_row.coded) (λ (e : RankEvent). (e.rank, e.event)) (λ p. of_rank p.0 p.1) (λ _. refl)
 
+-- how the events before a turn are coded as a number
 abbrev pub run_coded : Coded (List RankEvent)
 run_coded = coded_list event_coded
 

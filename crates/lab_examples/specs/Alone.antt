@@ -32,7 +32,7 @@ call_answer me (WordRead p evict) s = answer p s ∷ []
 call_answer me (LineGet line) s = line_in (after_flushing me s).memory line
 call_answer me Invalidation s = []
 
--- the same over shared words alone, with no cache and no buffer
+-- the shared words after a call, where there is no cache and no buffer
 abbrev pub words_after_call : LoneCall → Memory → Memory
 words_after_call (FlushedWrite p v) memory = memory_after memory (store_of p v)
 words_after_call (LinePut line words) memory = after_all memory (stores_of_line (whole_line line words))
@@ -40,6 +40,7 @@ words_after_call (WordRead p evict) memory = memory
 words_after_call (LineGet line) memory = memory
 words_after_call Invalidation memory = memory
 
+-- what a call answers, where there is no cache and no buffer
 abbrev pub words_answer : LoneCall → Memory → List ℕ
 words_answer (FlushedWrite p v) memory = []
 words_answer (LinePut line words) memory = []
@@ -47,24 +48,27 @@ words_answer (WordRead p evict) memory = word_at memory p ∷ []
 words_answer (LineGet line) memory = line_in memory line
 words_answer Invalidation memory = []
 
--- calls, one after the other
+-- the scene after calls of a core, one after the other
 abbrev pub scene_after_calls : ℕ → List LoneCall → CoreScene → CoreScene
 scene_after_calls me [] s = s
 scene_after_calls me (call ∷ calls) s = scene_after_calls me calls (scene_after_call me call s)
 
+-- what calls of a core answer, one after the other
 abbrev pub call_answers : ℕ → List LoneCall → CoreScene → List ℕ
 call_answers me [] s = []
 call_answers me (call ∷ calls) s = call_answer me call s ++ call_answers me calls (scene_after_call me call s)
 
+-- the shared words after calls, where there is no cache and no buffer
 abbrev pub words_after_calls : List LoneCall → Memory → Memory
 words_after_calls [] memory = memory
 words_after_calls (call ∷ calls) memory = words_after_calls calls (words_after_call call memory)
 
+-- what calls answer, where there is no cache and no buffer
 abbrev pub words_answers : List LoneCall → Memory → List ℕ
 words_answers [] memory = []
 words_answers (call ∷ calls) memory = words_answer call memory ++ words_answers calls (words_after_call call memory)
 
--- a line has four words
+-- a call for a word asks for one of the four words of a line
 abbrev pub IsCallOfWord : LoneCall → Type 0
 IsCallOfWord (FlushedWrite p v) = p.word < 4
 IsCallOfWord (LinePut line words) = Unit {0}
@@ -72,6 +76,7 @@ IsCallOfWord (WordRead p evict) = p.word < 4
 IsCallOfWord (LineGet line) = Unit {0}
 IsCallOfWord Invalidation = Unit {0}
 
+-- each call for a word asks for one of the four words of a line
 abbrev pub AreCallsOfWords : List LoneCall → Type 0
 AreCallsOfWords [] = Unit {0}
 AreCallsOfWords (call ∷ calls) = IsCallOfWord call × AreCallsOfWords calls

@@ -39,10 +39,11 @@ holds_nothing = record { lines = []; out = None }
 abbrev pub core_at : List Holds → ℕ → Holds
 core_at cores me = slice_index_or cores me holds_nothing
 
--- a core at work, and the stand that it leaves
+-- a core at work, as a stand has it
 abbrev pub scene_at : ℕ → Stand → CoreScene
 scene_at me t = record { memory = t.memory; lines = (core_at t.cores me).lines; out = (core_at t.cores me).out; said = t.said }
 
+-- the stand that a core at work leaves
 abbrev pub with_scene : ℕ → Stand → CoreScene → Stand
 with_scene me t s = record { memory = s.memory; cores = slice_set t.cores me (record { lines = s.lines; out = s.out }); holders = t.holders; said = s.said }
 
@@ -142,10 +143,11 @@ free_made line me register t holder =
     if is_holder me holder then (record { stand = register_freed me register t; stop = None })
     else (record { stand = t; stop = Some (stopped.HoldsNot line me register) })
 
--- a core's action, by what it is
+-- what an action of a core's own comes to: the stand that it leaves, and whether the lab stops there
 abbrev pub core_done : ℕ → ℕ → Action → Stand → Done
 core_done line me act t = record { stand = with_scene me t (after_action me act (scene_at me t)); stop = act_stop line me act (scene_at me t) }
 
+-- what any action comes to: a take or a free by who holds the register, and any other by its core
 abbrev pub action_done : ℕ → ℕ → Action → Stand → Done
 action_done line me (action.Take register expect) t = take_made line me register expect t (holder_of t.holders register)
 action_done line me (action.Free register) t = free_made line me register t (holder_of t.holders register)

@@ -101,11 +101,12 @@ abbrev pub is_evicted : Option LineAt → List Entry → Bool
 is_evicted None es = false
 is_evicted (Some line) es = is_some (held es line)
 
--- what is printed of it, if it left
+-- what is printed of the line that was to leave, if it left
 abbrev pub say_left : Option LineAt → Bool → List Said
 say_left None left = []
 say_left (Some line) left = if left then said.Evicted line ∷ [] else []
 
+-- what is printed of the line that an evictor names: that it left, if it was cached
 abbrev pub say_evicted : Option LineAt → List Entry → List Said
 say_evicted evict es = say_left evict (is_evicted evict es)
 
@@ -140,14 +141,16 @@ word_read me p evict s = word_read_by me p evict s (waiting_word s.out p)
 abbrev pub answer : WordAt → CoreScene → ℕ
 answer p s = unwrap_or (waiting_word s.out p) (slice_index (unwrap_or (held s.lines (line_of_word p)) (line_in s.memory (line_of_word p))) p.word)
 
--- a read of a line: of its words, one after the other. The scene before the read of a word, and what they answer
+-- a read of a line is one of its words, one after the other: the scene before the read of word n
 abbrev pub before_word : ℕ → LineAt → Option LineAt → CoreScene → ℕ → CoreScene
 before_word me line evict s zero = s
 before_word me line evict s (suc n) = word_read me (word_of_line line n) evict (before_word me line evict s n)
 
+-- the scene after a read of a line
 abbrev pub line_read : ℕ → LineAt → Option LineAt → CoreScene → CoreScene
 line_read me line evict s = before_word me line evict s 4
 
+-- the four words that a read of a line answers
 abbrev pub line_answer : ℕ → LineAt → Option LineAt → CoreScene → List ℕ
 line_answer me line evict s =
     answer (word_of_line line 0) (before_word me line evict s 0) ∷ answer (word_of_line line 1) (before_word me line evict s 1)
@@ -176,11 +179,12 @@ line_got me line s = line_loaded me line (after_flushing me s)
 abbrev pub after_invalidate : CoreScene → CoreScene
 after_invalidate s = record s { lines = [] }
 
--- what is printed of the cached lines, and of the buffer
+-- what is printed of a core's cached lines
 abbrev pub say_lines : ℕ → List Entry → List Said
 say_lines me [] = said.CachesNothing me ∷ []
 say_lines me (e ∷ es) = map (λ (x : Entry). said.Caches me x.line x.words) (e ∷ es)
 
+-- what is printed of a core's write-combining buffer
 abbrev pub say_buffer : ℕ → Option Out → List Said
 say_buffer me None = said.BuffersNothing me ∷ []
 say_buffer me (Some o) = said.Buffers me o.line o.words o.mask ∷ []

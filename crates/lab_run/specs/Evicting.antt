@@ -5,12 +5,12 @@ use Rattle.line_cache.specs.declared.cache.Entry.{Entry}
 use Rattle.line_cache.specs.Lines.{IsPlaceOf}
 use Rattle.line_cache.specs.Eviction.{most_evictions, count_after}
 
--- the place that it names, and how many entries it has had dropped
+-- an evictor that names one place: which, and how many entries it has had dropped
 pub record Place : Type 0 where
   pub at : Option ℕ
   pub count : ℕ
 
--- it names its place where so many entries are held
+-- its answer while `held` entries are held: its place, if an entry stands there and it has not had the most dropped
 abbrev pub named_answer : Place → ℕ → Option ℕ
 named_answer e held = option_and_then (λ at. if nat_lt at held && not (e.count == most_evictions) then Some at else None) e.at
 

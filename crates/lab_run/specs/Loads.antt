@@ -9,8 +9,8 @@ use Rattle.lab_plain.specs.Scenes.{is_evicted, left_by, line_in}
 use Rattle.lab_run.specs.declared.reads.Loaded.{Loaded}
 use Rattle.lab_run.specs.Turns.{IsKept, IsReady, memory_in}
 
--- The words are the shared ones, by four loads; the line came in, and the one that is named left, if it was cached then; the shared
--- words stayed.
+-- A line was loaded: its words are the shared ones, by four loads; it came in, and the named line left, if it was cached then;
+-- the shared words stayed.
 pub record LoadsLine (evict : Option LineAt) (c : Private) (s : LabChipView) (line : LineAt) (loaded : Loaded) (d : Private) (t : LabChipView) : Type 0 where
   pub words : loaded.words ≡ line_in (memory_in s) line
   pub left : loaded.left ≡ is_evicted evict (filled c.lines line (line_in (memory_in s) line))

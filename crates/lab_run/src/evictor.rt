@@ -7,7 +7,7 @@ ghost use Rattle.lab_run.specs.Evicting.{named_answer, named_next};
 use line_cache::Evict;
 use std::marker::Model;
 
-/// The evictor that names one place, wherever so many entries are held.
+/// The evictor that names one place, wherever an entry is held there.
 #[derive(Drop)]
 pub struct Named {
     at: Option<usize>,

@@ -18,8 +18,8 @@ count_after answer count = if is_some answer then count + 1 else count
 abbrev pub asked_after : Option ℕ → Option ℕ
 asked_after asked = option_map (λ (n : ℕ). suc n) asked
 
--- an evictor with this table of answers may give this one with so many entries held: what stands there in the
--- table is its only answer, and beyond the table it may give any
+-- an evictor with this table of answers may give this one while `held` entries are held: what the table has for
+-- `held` is its only answer, and beyond the table it may give any
 abbrev pub MayAnswer : List (Option ℕ) → ℕ → Option ℕ → Type 0
 MayAnswer answers held answer = IfSome (slice_get answers held) (λ only. answer ≡ only)
 
@@ -41,7 +41,7 @@ abbrev pub picked : ℕ → ℕ → ℕ → Option ℕ
 picked word held count =
     if word % 4 == 0 && may_evict held count then Some (word / 4 % held) else None
 
--- what a seeded evictor answers with so many entries held
+-- what a seeded evictor answers while `held` entries are held
 abbrev pub seeded_answer : Seeds → ℕ → Option ℕ
 seeded_answer e held = picked (pcg32 e.generator).0 held e.count
 
@@ -54,5 +54,6 @@ seeded_next e held =
 abbrev pub always_answer : ℕ → ℕ → Option ℕ
 always_answer count held = if may_evict held count then Some 0 else None
 
+-- the count of that evictor after its answer
 abbrev pub always_next : ℕ → ℕ → ℕ
 always_next count held = count_after (always_answer count held) count

@@ -11,17 +11,17 @@ use Rattle.script_plain.specs.Lengths.{Lengths}
 abbrev pub has_room_for_all : Script → Bool
 has_room_for_all script = list_all (λ rank. has_room_for (calls_of script rank)) (range_with_len 0 script.nue)
 
--- how many calls a primitive makes that makes none, or one that moves so many bytes, and how many bytes these move
+-- a primitive's calls: 0, or 1 that moves `bytes` bytes
 abbrev pub calls_by : Option ℕ → ℕ
 calls_by None = 0
 calls_by (Some bytes) = 1
 
--- how many bytes move: none, or so many
+-- the bytes that a primitive's calls move: 0, or the `bytes` bytes of its one call
 abbrev pub bytes_by : Option ℕ → ℕ
 bytes_by None = 0
 bytes_by (Some bytes) = bytes
 
--- these calls are none, or one that moves so many bytes
+-- the calls are none where `moved` is None, and else one that moves the bytes it tells
 pub record Asks (calls : List Call) (moved : Option ℕ) : Type 0 where
   pub count : length calls ≡ calls_by moved
   pub bytes : bytes_planned calls ≡ bytes_by moved

@@ -29,7 +29,7 @@ impl Tally {
     ghost use Rattle.std.specs.Prelude.{◌≡◌, ◌+◌, ◌≤◌, nat_le, ◌&&◌};
     ghost use Rattle.log_run.specs.Sizes.{bytes_by, calls_by};
 
-    /// One call more that moves so many bytes, or none: whether there is still room.
+    /// Counts the next primitive's call, which moves `moved` bytes, or none where it makes no call. Tells whether there is still room.
     fn add(&mut self, moved: Option<u32>) -> bool
         requires few { self.old.calls ≤ 10000 }
         requires small { self.old.bytes ≤ 262144 }

@@ -59,7 +59,7 @@ same_link a b = (a.tile.x == b.tile.x) && (a.tile.y == b.tile.y) && same_dir a.d
 abbrev pub holds : Link → List Link → Bool
 holds link links = list_any (same_link link) links
 
--- the lines that a message of so many bytes moves: its header, and the lines of its bytes. (Flags are not counted.)
+-- the lines that a message of n bytes moves: its header, and the lines of its bytes. (Flags are not counted.)
 abbrev pub lines_of : ℕ → ℕ
 lines_of bytes = 1 + (bytes + 31) / 32
 

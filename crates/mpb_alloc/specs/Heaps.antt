@@ -24,7 +24,7 @@ pub record LineHeap : Type 0 where
 abbrev pub all_free : LineHeap
 all_free = record { free = (record { first = 225; lines = 31 }) ∷ []; out = [] }
 
--- the lines that a buffer of so many bytes takes
+-- the lines that a buffer of n bytes takes
 abbrev pub lines_for : ℕ → ℕ
 lines_for bytes = (bytes + 31) / 32
 
@@ -63,7 +63,7 @@ pub record IsHeap (h : LineHeap) : Type 0 where
   pub all_lines : line_count h.free + line_count h.out ≡ 31
   pub each_once : (line : ℕ) → 225 ≤ line → line < 256 → times_at line h.free + times_at line h.out ≡ 1
 
--- the lowest run that has so many lines
+-- the lowest run of at least `lines` lines
 abbrev pub lowest_fit : ℕ → List Run → Option Run
 lowest_fit lines free = find (λ r. nat_le lines r.lines) free
 
@@ -116,14 +116,14 @@ abbrev pub answer_by : ℕ → ℕ → Option Run → Result LineRun MallocFault
 answer_by lines longest None = Err (Full lines longest)
 answer_by lines longest (Some r) = Ok (front_of lines r)
 
--- what is answered to the question for so many lines
+-- the answer to a call for `lines` lines: the front of the lowest run that has them, or that the heap is full
 abbrev pub answer_for : ℕ → List Run → Result LineRun MallocFault
 answer_for lines free = answer_by lines (longest_of free) (lowest_fit lines free)
 
--- what is answered to the question for so many bytes
+-- the answer to a call for n bytes: none is refused, and else they are given in whole lines
 abbrev pub malloc_answer : LineHeap → ℕ → Result LineRun MallocFault
 malloc_answer h bytes = if bytes == 0 then Err Empty else answer_for (lines_for bytes) h.free
 
--- whether a buffer of so many bytes can be had
+-- whether a buffer of n bytes can be had
 abbrev pub fits_in : LineHeap → ℕ → Bool
 fits_in h bytes = not (bytes == 0) && is_some (lowest_fit (lines_for bytes) h.free)

@@ -73,7 +73,7 @@ impl Heap {
         }
     }
 
-    /// Takes the front of the lowest free run that holds so many bytes, in whole lines.
+    /// Takes the front of the lowest free run that holds `bytes` bytes, in whole lines.
     pub fn malloc(&mut self, bytes: usize) -> Result<Buf, MallocFault>
         ensures answer { result ≡ malloc_answer self.old bytes }
         ensures free { OnOk result (self.new.free ≡ taken_from (lines_for bytes) self.old.free) }
@@ -116,7 +116,7 @@ impl Heap {
         self.out.as_slice().contains(&Run::of(buffer))
     }
 
-    /// Whether a buffer of so many bytes can be had.
+    /// Whether a buffer of `bytes` bytes can be had.
     pub fn fits(&self, bytes: usize) -> bool
         ensures { result ≡ fits_in self.now bytes }
     {
@@ -178,7 +178,7 @@ fn join(left: Run, right: Run) -> Run
     }
 }
 
-/// Takes the front of the lowest run that has so many lines.
+/// Takes the front of the lowest run of at least `lines` lines.
 fn take_lowest(free: &mut Runs, lines: usize) -> Option<Buf>
     requires some { 0 < lines }
     requires within { StandWithin free.old.items }

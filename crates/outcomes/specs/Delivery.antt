@@ -34,7 +34,7 @@ Sent o before after (Err _) = StopsShort o before after
 abbrev pub Delivers : Outcome → Sinks → Sinks → Status → Type 0
 Delivers o before after s = ((s ≡ o.status) × (after ≡ with_outcome o before)) ⊎ ((s ≡ status.Write) × StopsShort o before after)
 
--- no write failed
+-- no write failed: both sinks have as many faults as before
 pub record AreSteady (before after : Sinks) : Type 0 where
   pub out : IsSteady before.out.faults after.out.faults
   pub err : IsSteady before.err.faults after.err.faults

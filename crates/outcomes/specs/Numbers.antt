@@ -12,7 +12,7 @@ digits_value most front (b ∷ rest) =
 abbrev pub number_to : ℕ → List ℕ → Option ℕ
 number_to most word = if nat_le 1 (length word) && nat_le (length word) 10 then digits_value most 0 word else None
 
--- the number, if it is at least so much
+-- the number n, if it is at least `least`
 abbrev pub not_below : ℕ → ℕ → Option ℕ
 not_below least n = if nat_le least n then Some n else None
 

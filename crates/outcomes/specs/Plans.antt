@@ -10,7 +10,7 @@ pub data Plan : Type 0 where
   Runs : Ran → Plan
   -- it refuses a file, for a line and a kind of fault
   Refuses : List ℕ → ℕ → List ℕ → Plan
-  -- it reads a file of at most so many bytes, and goes on with them
+  -- it reads a file of at most n bytes, and goes on with them
   Reads : List ℕ → ℕ → (List ℕ → Plan) → Plan
 
 -- a name, and for each list of words a plan, or the text that refuses them

@@ -6,7 +6,7 @@ use crate::Complaint;
 use rcce_io::{Bytes, Files, ReadEnd, read_all};
 use std::alloc::Global;
 
-/// Reads a file of at most so many bytes. A longer one is refused.
+/// Reads a file of at most `limit` bytes. A longer one is refused.
 pub fn read_file<'a, F: Files>(
     alloc: Global,
     files: &mut F,

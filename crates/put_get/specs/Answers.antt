@@ -53,9 +53,9 @@ writes_from core line (words ∷ rest) = writes_of (line_at core line) words ++ 
 abbrev pub IsLineTold : List Event → LineAt → List ℕ → Type 0
 IsLineTold known line words = (k : ℕ) → k < 4 → IsKnown known (word_of_line line k) (slice_index words k)
 
--- the calls of whole lines keep `Since`, each field one call: what a core did goes on with the loads of a line that it
--- reads, the words of a line or a put that it writes, and a word that it stores at once, and begins anew with the loads
--- of a get; each word that a read or a get answers is known by then
+-- the calls for whole lines keep `Since`: each field is one call. Behind line_read, line_write, word_through and put what a
+-- core knows goes on with what the call loaded or wrote; behind a get it begins anew with the get's loads. Each word that a
+-- read or a get answers is known by then.
 pub record LinesLaw : Type 0 where
   pub line_read : (known es : List Event) (c d : Private) (s t : Sight) (line : LineAt) (words : List ℕ) → Since known c
       → ReadsLine s c line words t d → Did s es t → Since (known ++ es) d × IsLineTold (known ++ es) line words

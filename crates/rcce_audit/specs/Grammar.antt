@@ -33,6 +33,7 @@ pub record RankedCall : Type 0 where
 abbrev pub rank_said : ℕ → List ℕ → Option ℕ
 rank_said nue word = range_said 0 (nue - 1) word
 
+-- the two ranks of a message, which are not the same
 abbrev pub end_ranks : ℕ → ℕ → Option EndRanks
 end_ranks rank peer = only_if (not (rank == peer)) (record { rank = rank; peer = peer })
 
@@ -44,6 +45,7 @@ ends_said nue rank peer = rank_said nue rank >>= λ r. rank_said nue peer >>= en
 abbrev pub head_of : Kind → ℕ → ℕ → Option MessageHead
 head_of kind comm len = only_if (not (kind_number kind == 0 && not (comm == 0))) (record { kind = kind_number kind; comm = comm; len = len })
 
+-- the head that three words say: a kind, a communicator from 0 to 15 and a length up to 65,536
 abbrev pub head_said : List ℕ → List ℕ → List ℕ → Option MessageHead
 head_said kind comm len = kind_said kind >>= λ k. range_said 0 15 comm >>= λ c. range_said 0 65536 len >>= head_of k c
 
@@ -63,6 +65,7 @@ call_named verb peer head bytes =
     else if bytes_eq verb (codes "post") then only_if (is_post head) (Post peer head bytes)
     else None
 
+-- the call of a message that a verb and its bytes in hex say
 abbrev pub message_said : EndRanks → MessageHead → (verb hex : List ℕ) → Option RankedCall
 message_said ends head verb hex =
     bytes_said head.len hex >>= λ bytes. call_named verb ends.peer head bytes >>= λ call. Some (record { rank = ends.rank; call = call })
@@ -74,20 +77,23 @@ is_present World = true
 is_present (Mod parent k) = true
 is_present (Div parent k) = true
 
+-- the barrier that three words say: a rank, `bar` and a communicator that has a rule
 abbrev pub barrier_said : ℕ → List CommRule → (rank verb comm : List ℕ) → Option RankedCall
 barrier_said nue comms rank verb comm =
     rank_said nue rank >>= λ r. range_said 0 15 comm >>= λ c.
     only_if (bytes_eq verb (codes "bar") && is_present (rule_of comms c)) (record { rank = r; call = Bar c })
 
--- the call of a line of seven words, of a line of three words, and of a line
+-- the call of a line of seven words: a message
 abbrev pub long_said : ℕ → List (List ℕ) → Option RankedCall
 long_said nue (rank ∷ verb ∷ peer ∷ kind ∷ comm ∷ len ∷ hex ∷ []) = ends_said nue rank peer >>= λ ends. head_said kind comm len >>= λ head. message_said ends head verb hex
 long_said nue words = None
 
+-- the call of a line of three words: a barrier
 abbrev pub short_said : ℕ → List CommRule → List (List ℕ) → Option RankedCall
 short_said nue comms (rank ∷ verb ∷ comm ∷ []) = barrier_said nue comms rank verb comm
 short_said nue comms words = None
 
+-- the call of a line
 abbrev pub call_said : ℕ → List CommRule → List (List ℕ) → Option RankedCall
 call_said nue comms words = if length words == 7 then long_said nue words else short_said nue comms words
 
@@ -98,6 +104,7 @@ rule_named how parent k =
     else if bytes_eq how (codes "div") then Some (Div parent k)
     else None
 
+-- the split that a line's words say, of a communicator past `last` and a parent that has a rule
 abbrev pub split_said : ℕ → List CommRule → (word comm parent how k : List ℕ) → Option CommSplit
 split_said last comms word comm parent how k =
     range_said (last + 1) 15 comm >>= λ c. range_said 0 15 parent >>= λ p. range_said 1 48 k >>= λ parts.
@@ -122,6 +129,7 @@ abbrev pub is_in_order : Option ℕ → ℕ → Bool
 is_in_order None rank = true
 is_in_order (Some last) rank = nat_le last rank
 
+-- the reading with one call more, if it stands in rank order
 abbrev pub add_call : Reading → RankedCall → Option Reading
 add_call reading ranked =
     only_if (is_in_order reading.rank ranked.rank)
@@ -131,10 +139,11 @@ add_call reading ranked =
 abbrev pub begins_comm : List ℕ → Bool
 begins_comm line = bytes_eq (take 4 line) (codes "comm")
 
--- the reading after a line of a communicator, and after one of a call, by its words
+-- the reading after a line of a communicator, by its words
 abbrev pub take_comm : Reading → List (List ℕ) → Option Reading
 take_comm reading words = comm_said reading.comm reading.log.comms words >>= with_comm reading reading.rank
 
+-- the reading after a line of a call, by its words
 abbrev pub take_call : Reading → List (List ℕ) → Option Reading
 take_call reading words = call_said reading.log.nue reading.log.comms words >>= add_call reading
 
@@ -182,10 +191,11 @@ world_alone = World ∷ Absent ∷ Absent ∷ Absent ∷ Absent ∷ Absent ∷ A
 unfoldable pub no_calls : List (List DataCall)
 no_calls = replicate 48 []
 
--- the first line is read
+-- the reading behind the first line, which says the number of ranks
 abbrev pub start_of : ℕ → Reading
 start_of nue = record { log = record { nue = nue; comms = world_alone; lists = no_calls }; comm = 0; rank = None }
 
+-- what the first line says, or BadHead
 abbrev pub first_said : List ℕ → Result Reading LogFault
 first_said line = ok_or (option_map start_of (nue_of (words_of line))) (record { line = 1; kind = kind.BadHead })
 

@@ -21,6 +21,7 @@ abbrev pub with_bytes : List Call → List ℕ → List DataCall
 with_bytes [] bytes = []
 with_bytes (call ∷ calls) bytes = data_by call (take (bytes_in call) bytes) ∷ with_bytes calls (drop (bytes_in call) bytes)
 
+-- the calls of a rank that are held, each with its bytes
 abbrev pub held_calls : CallList → List DataCall
 held_calls list = with_bytes list.calls.now list.bytes.now
 
@@ -28,5 +29,6 @@ held_calls list = with_bytes list.calls.now list.bytes.now
 abbrev pub held_view : HeldLog → LogView
 held_view log = record { nue = log.nue; comms = log.comms; lists = map held_calls log.lists }
 
+-- the text of the log that is held
 abbrev pub held_text : HeldLog → List ℕ
 held_text log = log_text (held_view log)

@@ -8,6 +8,7 @@ use Rattle.rcce_io.specs.Digits.{hex_text}
 use Rattle.rcce_audit.specs.Texts.{call_words, line_of}
 use Rattle.rcce_audit.specs.Views.{data_of}
 
+-- a piece as text: its own text, a number in decimal, or bytes in hex
 abbrev pub piece_text : Piece → List ℕ
 piece_text (Text text) = text.now
 piece_text (Number n) = decimal n
@@ -21,5 +22,6 @@ ended words = line_of words ++ 10 ∷ []
 abbrev pub line_by : ℕ → DataCall → List ℕ
 line_by rank call = ended (call_words rank call)
 
+-- the line of a rank's call, as the call is held
 abbrev pub call_text : ℕ → LogCall → List ℕ
 call_text rank call = line_by rank (data_of call)

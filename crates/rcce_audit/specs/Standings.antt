@@ -31,13 +31,15 @@ outgoing_of (Bar comm) = None
 abbrev pub outgoing_at : List DataCall → ℕ → Option Outgoing
 outgoing_at calls i = option_and_then outgoing_of (slice_get calls i)
 
--- the calls that are left, and the posted messages in the slots
+-- the calls of rank k that are left
 abbrev pub left_of : List (List DataCall) → List ℕ → ℕ → List DataCall
 left_of lists next k = drop (slice_index next k) (list_at lists k)
 
+-- the posted message in the slot of rank k, if there is one
 abbrev pub slot_of : List (List DataCall) → List (Option ℕ) → ℕ → Option Outgoing
 slot_of lists posted k = option_and_then (outgoing_at (list_at lists k)) (slice_index_or posted k None)
 
+-- the calls that are left, and the posted messages in the slots
 abbrev pub standing_of : List (List DataCall) → Progress → Standing
 standing_of lists p = record { calls = left_of lists p.next; slots = slot_of lists p.posted }
 

@@ -9,16 +9,19 @@ use Rattle.scc_base.specs.Heads.{MessageHead, kind_at, kind_text}
 use Rattle.scc_base.specs.Calls.{DataCall, Send, Recv, Post, Bar}
 use Rattle.rcce_audit.specs.Logs.{LogView, IsLog, most_log_bytes}
 
--- the words of the first line, of the line of a communicator and of the line of a call
+-- the words of the first line
 abbrev pub head_words : ℕ → List (List ℕ)
 head_words nue = codes "rcce" ∷ codes "log" ∷ decimal nue ∷ []
 
+-- the words of the line of a communicator
 abbrev pub split_words : ℕ → ℕ → List ℕ → ℕ → List (List ℕ)
 split_words comm parent how k = codes "comm" ∷ decimal comm ∷ decimal parent ∷ how ∷ decimal k ∷ []
 
+-- the words of the line of a message
 abbrev pub message_words : ℕ → List ℕ → ℕ → MessageHead → List ℕ → List (List ℕ)
 message_words r verb peer head bytes = decimal r ∷ verb ∷ decimal peer ∷ kind_text (kind_at head.kind) ∷ decimal head.comm ∷ decimal head.len ∷ hex_text bytes ∷ []
 
+-- the words of the line of a call
 abbrev pub call_words : ℕ → DataCall → List (List ℕ)
 call_words r (Send to head bytes) = message_words r (codes "send") to head bytes
 call_words r (Recv from head bytes) = message_words r (codes "recv") from head bytes

@@ -14,6 +14,7 @@ data_of (call.Recv from head bytes) = Recv from head bytes
 data_of (call.Post to head bytes) = Post to head bytes
 data_of (call.Bar comm) = Bar comm
 
+-- the calls of a list, each with its bytes
 abbrev pub data_list : List LogCall → List DataCall
 data_list calls = map data_of calls
 

@@ -29,6 +29,7 @@ words_of line = slice_split (λ b. b == 32) line
 abbrev pub spelled : List ℕ → ℕ → Option ℕ
 spelled word n = only_if (bytes_eq (decimal n) word) n
 
+-- a word as a number, in decimal without leading zeros
 abbrev pub number_said : List ℕ → Option ℕ
 number_said word = number_of word >>= spelled word
 

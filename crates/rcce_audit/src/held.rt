@@ -49,7 +49,7 @@ fn write_held<S: Sink>(sink: &mut S, rank: u8, call: &Call, bytes: &[u8]) -> Res
     }
 }
 
-/// So many bytes from a place on, as far as they are there.
+/// The `count` bytes from byte `at` on, as far as they are there.
 fn piece(bytes: &[u8], at: usize, count: usize) -> &[u8]
     requires within { at ≤ length bytes.now }
     ensures gives { result.now ≡ take count (drop at bytes.now) }

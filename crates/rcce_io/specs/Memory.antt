@@ -55,6 +55,7 @@ files_seen state = record { told = Some state.files; rest = state.rest; is_open 
 abbrev pub with_file : List ℕ → List ℕ → FilesState → FilesState
 with_file name contents state = record state { files = state.files ++ record { name = name; contents = contents } ∷ [] }
 
+-- what an open of this name answers
 abbrev pub open_answer : FilesState → List ℕ → Opened
 open_answer state name =
     if fails_next state.calls then opened.Failed else
@@ -78,6 +79,7 @@ read_answer state len =
     if fails_next state.calls then got.Failed else
     if left == 0 then got.End else got.Bytes (min (read_room state len) left)
 
+-- the files after a read into a buffer of this length
 abbrev pub after_read : FilesState → ℕ → FilesState
 after_read state len = record state {
   rest = if fails_next state.calls then state.rest else option_map (drop (read_room state len)) state.rest;
@@ -95,7 +97,7 @@ pub record SinkState : Type 0 where
 abbrev pub sink_seen : SinkState → SinkView
 sink_seen state = record { taken = Some state.taken; faults = state.calls.faults }
 
--- a sink with room for so many bytes, and so many at one write, that has taken none
+-- a sink that has taken nothing, with room for `room` bytes in all and `most` at one write
 abbrev pub new_sink : ℕ → ℕ → SinkState
 new_sink room most = record { taken = []; room = room; most = most; calls = no_calls }
 
@@ -103,13 +105,15 @@ new_sink room most = record { taken = []; room = room; most = most; calls = no_c
 abbrev pub write_fails : SinkState → Bool
 write_fails state = fails_next state.calls || state.room == 0
 
--- how many of so many bytes a write takes that does not fail
+-- how many of `len` bytes a write takes that does not fail
 abbrev pub write_count : SinkState → ℕ → ℕ
 write_count state len = min (min len state.most) state.room
 
+-- what a write of `len` bytes answers
 abbrev pub write_answer : SinkState → ℕ → Put
 write_answer state len = if write_fails state then put.Failed else put.Took (write_count state len)
 
+-- the sink after a write of these bytes
 abbrev pub after_write : SinkState → List ℕ → SinkState
 after_write state bytes =
     let count = if write_fails state then 0 else write_count state (length bytes) in

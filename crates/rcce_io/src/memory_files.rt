@@ -7,7 +7,7 @@ use crate::{Files, Got, Opened};
 use std::alloc::{AllocError, Global};
 use std::marker::Model;
 
-/// Files in memory, that give at most so many bytes at one read. One call of `open` or `read` can be made to fail.
+/// Files in memory. A read gives at most `most` bytes. One call of `open` or `read` can be made to fail.
 #[derive(Drop)]
 pub struct MemFiles {
     alloc: Global,

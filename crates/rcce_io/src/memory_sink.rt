@@ -7,8 +7,7 @@ use crate::{Put, Sink};
 use std::alloc::{AllocError, Global};
 use std::marker::Model;
 
-/// A sink in memory, with room for so many bytes in all and so many at one write. One write can be made
-/// to fail.
+/// A sink in memory, with room for `room` bytes in all and for `most` at one write. One write can be made to fail.
 #[derive(Drop)]
 pub struct MemSink {
     bytes: Vec<u8>,

@@ -32,11 +32,13 @@ abbrev pub visits_repeated : ℕ → ℕ → ℕ → List ℕ → Visits
 visits_repeated own times body [] = record { here = own + body; behind = [] }
 visits_repeated own times body (next ∷ behind) = record { here = own + (body + ((times - 1) * body + next)); behind = behind }
 
+-- the visits of one item more, in front of those of the items behind it
 abbrev pub visits_in_front : Nesting → ℕ → Visits → Visits
 visits_in_front (nesting.Opens times) own v = visits_repeated own times v.here v.behind
 visits_in_front (nesting.Closes start) own v = record { here = own; behind = v.here ∷ v.behind }
 visits_in_front nesting.Stays own v = record { here = own + v.here; behind = v.behind }
 
+-- the visits of items for a rank
 unfoldable pub visits_of : SetupView → ℕ → List Item → Visits
 visits_of s rank [] = record { here = 0; behind = [] }
 visits_of s rank (item ∷ items) = visits_in_front (nesting_at rank item) (item_visits s rank item) (visits_of s rank items)

@@ -84,7 +84,7 @@ host_at nue cores rank = if nat_lt rank nue then slice_index cores rank else sli
 abbrev pub host_list : ℕ → List ℕ → List ℕ
 host_list nue cores = map (host_at nue cores) (range_with_len 0 48)
 
--- the cores of a file of so many lines, if they are enough
+-- the cores of a file of `lines` lines, if there is one for each of the `nue` ranks
 abbrev pub enough : ℕ → ℕ → List ℕ → Result (List ℕ) HostFault
 enough nue lines cores = if nat_lt (length cores) nue then Err (record { line = lines + 1; kind = kind.TooFew }) else Ok (host_list nue cores)
 

@@ -5,6 +5,6 @@ use Rattle.scc_base.specs.declared.communicators.CommRule.{CommRule}
 use Rattle.scc_base.specs.declared.layouts.Layout.TheVariants.{LineFlags}
 use Rattle.rcce_words.specs.HostFile.{default_hosts}
 
--- the setup of so many ranks with these communicators: rank r on core r, with line flags
+-- the setup of `nue` ranks with these communicators: rank r on core r, with line flags
 abbrev pub default_setup : ℕ → List CommRule → SetupView
 default_setup nue comms = record { nue = nue; layout = LineFlags; hosts = default_hosts; comms = comms }

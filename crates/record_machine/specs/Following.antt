@@ -41,7 +41,7 @@ pub record MovedOn (size : ℕ) (w : Work) (rec : Record) (move : Move) (call : 
   pub stands : StandsFor w (after size move rec)
   pub adds : Adds call w.bytes.items rec.calls (calls_after size move rec)
 
--- from each record that permits the move
+-- a machine's work has followed the move, from each record that it stands for and that permits the move
 abbrev pub MovesOn : Work → Work → Move → Option Call → Type 0
 MovesOn old new move call = (rec : Record) → StandsFor old rec → permits old.size move rec ≡ true → MovedOn old.size new rec move call
 

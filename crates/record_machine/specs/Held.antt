@@ -7,6 +7,6 @@ use Rattle.record_machine.specs.declared.held.NotedFlags.{NotedFlags}
 abbrev pub flag_words : NotedFlags → FlagWords
 flag_words flags = record { sent = flags.sent; ready = flags.ready }
 
--- by core, what is noted under the own hold of its register
+-- for each core the machine keeps what the record has: whether the rank holds its register, and what it noted under it
 abbrev pub KeepsHeld : List (Option NotedFlags) → (ℕ → Option FlagWords) → Type 0
 KeepsHeld held records = (core : ℕ) → core < 48 → option_map flag_words (slice_index_or held core None) ≡ records core

@@ -10,11 +10,11 @@ use Rattle.record_machine.specs.declared.lines.NotedLine.{NotedLine}
 abbrev pub AreSlotsOf : ℕ → List (Option ℕ) → Notes → Type 0
 AreSlotsOf n slots notes = (k : ℕ) → k < n → slice_index_or slots k None ≡ noted notes k
 
--- these words of a header line are noted
+-- a machine's header line has exactly the words that are noted
 abbrev pub IsLineOf : NotedLine → Notes → Type 0
 IsLineOf line notes = AreSlotsOf 4 line.words notes
 
--- these words of a chunk buffer are noted
+-- a machine's chunk has exactly the words that are noted, and tells whether there are any
 pub record IsChunkOf (chunk : NotedChunk) (notes : Notes) : Type 0 where
   pub words : AreSlotsOf 828 chunk.words notes
   pub some : chunk.some ≡ not (is_empty notes)

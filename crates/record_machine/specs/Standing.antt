@@ -11,7 +11,7 @@ use Rattle.record_machine.specs.declared.works.Standing.{Standing}
 use Rattle.record_machine.specs.declared.works.Standing.TheVariants as standing
 use Rattle.record_machine.specs.declared.works.Work.{Work}
 
--- nothing is open
+-- the rank is in the midst of no call
 abbrev pub is_at_rest : Standing → Bool
 is_at_rest standing.Idle = true
 is_at_rest mid = false

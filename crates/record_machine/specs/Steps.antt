@@ -10,7 +10,7 @@ use Rattle.record_machine.specs.declared.looks.Look.TheVariants as look
 use Rattle.record_machine.specs.declared.steps.Step.{Step}
 use Rattle.record_machine.specs.declared.steps.Step.TheVariants as step
 
--- of which ranks a look saw the flag set
+-- whether a look saw the flag of a rank set
 abbrev pub look_of : Look → ℕ → Bool
 look_of (look.Line from value) = look_at from value
 look_of (look.Bits me nue value) = λ j. (nat_lt me nue && (nat_lt j nue && not (me == j))) && (bit_at value j == 1)

@@ -68,7 +68,7 @@ impl NotedChunk {
         byte_of(self.words[at / 8].unwrap_or(0), at % 8)
     }
 
-    /// Whether so many bytes from this one on are zero.
+    /// Whether the `count` bytes from byte `start` on are zero.
     pub(crate) fn is_zero_from(&self, start: usize, count: usize) -> bool
         requires within { start + count ≤ 6624 }
         ensures tells { (notes : Notes) → IsChunkOf self.now notes → result ≡ is_zero_from notes start count }

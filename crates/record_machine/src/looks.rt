@@ -11,7 +11,7 @@ use scc_base::Rank;
 pub enum Look {
     /// The flag of this rank fills the word.
     Line { of: Rank, value: u64 },
-    /// The word has a bit for each other of so many ranks.
+    /// The word has a bit for each of the `nue` ranks but `me`.
     Bits { me: Rank, nue: u8, value: u64 },
 }
 

@@ -25,7 +25,7 @@ pub enum Standing {
     Between { from: Rank, head: Head },
     /// A chunk is being taken.
     Taking { from: Rank, head: Head },
-    /// A barrier was entered; its root has seen and released so many members.
+    /// A barrier was entered. At its root: how many members it has seen, and how many it has released.
     Meeting { comm: u8, seen: u8, released: u8 },
 }
 
@@ -142,7 +142,7 @@ impl Work {
     ghost use Rattle.record_machine.specs.Standing.{IsInHand, StandsFor};
     ghost use Rattle.record_machine.specs.Steps.{IsStepWithin, move_of};
 
-    /// Of a rank that has done nothing, where a whole chunk has so many bytes.
+    /// Of a rank that has done nothing, where a whole chunk has `size` bytes.
     pub fn new(alloc: Global, size: u32) -> Result<Work, AllocError>
         requires within { size ≤ 6624 }
         ensures size { IfOk result (λ w. w.size ≡ size) }
@@ -171,7 +171,7 @@ impl Work {
         left.min(self.size as usize)
     }
 
-    /// Whether the chunk in hand of so many bytes has all its words noted.
+    /// Whether the chunk in hand, of `count` bytes, has all its words noted.
     pub(crate) fn is_whole(&self, count: usize) -> bool
         requires within { count ≤ 6624 }
         ensures tells { (message : Progress) (notes : Notes) → IsChunkOf self.now.chunk notes → count ≡ chunk_bytes self.now.size message
@@ -180,7 +180,7 @@ impl Work {
         self.chunk.has_all(4 * ((count + 31) / 32))
     }
 
-    /// Whether the chunk in hand of so many bytes has all its words noted, with zeros past its end.
+    /// Whether the chunk in hand, of `count` bytes, has all its words noted, with zeros past its end.
     pub(crate) fn is_drafted(&self, count: usize) -> bool
         requires within { count ≤ 6624 }
         ensures tells { (message : Progress) (notes : Notes) → IsChunkOf self.now.chunk notes → count ≡ chunk_bytes self.now.size message

@@ -28,7 +28,7 @@ layout_by bits = if bits then BitFlags else LineFlags
 abbrev pub setup_by : Job → List ℕ → Script → SetupView
 setup_by job hosts script = record { nue = job.nue; layout = layout_by job.bits; hosts = hosts; comms = rules_of script.items }
 
--- these hosts stand in the file, where files are told
+-- a host file of at most 65,536 bytes has these hosts, where files are told
 abbrev pub HostsIn : List ℕ → Option (List NamedFile) → ℕ → List ℕ → Type 0
 HostsIn file told nue hosts = (bytes : List ℕ) × (length bytes ≤ 65536) × Holds told file bytes × (parse_hosts bytes nue ≡ Ok hosts)
 
@@ -65,7 +65,7 @@ pub record AsksFor (words : List (List ℕ)) (told : Option (List NamedFile)) (j
   pub setup : asked.setup ≡ setup_by job hosts asked.script
   pub seed : asked.seed ≡ seed_of job.work
 
--- and words ask for what their job asks for
+-- words ask for this run: those that say a job ask for what the job asks for, and refused ones for none
 abbrev pub WordsAskFor : List (List ℕ) → Result Job WordFault → Option (List NamedFile) → Asked → Type 0
 WordsAskFor words (Err fault) told asked = ⊥
 WordsAskFor words (Ok job) told asked = AsksFor words told job asked

@@ -23,7 +23,7 @@ pub record Asked : Type 0 where
   pub script : Script
   pub seed : Option ℕ
 
--- in threads, or on one thread in the order that a seed names
+-- how a run is made: in threads, or with a seed on one thread in the order that the seed names
 abbrev pub mode_by : Option ℕ → Mode
 mode_by None = mode.Threads
 mode_by (Some seed) = mode.Serial seed

@@ -36,13 +36,13 @@ abbrev pub LoadsPlan : Plan → (Asked → Type 0) → FilesView → FilesView �
 LoadsPlan plan asks before after (Ok loaded) = Leads plan asks before after loaded
 LoadsPlan plan asks before after (Err why) = Comes (codes "rccerun") plan before after (complaint_outcome (codes "rccerun") why)
 
--- and to words, which have a plan or not
+-- what `load` ensures for words: with a plan what the plan ensures, and without one only the text that refuses them
 abbrev pub LoadsBy : Result Plan (List ℕ) → (Asked → Type 0) → FilesView → FilesView → Result Loaded Complaint → Type 0
 LoadsBy (Ok plan) asks before after answer = LoadsPlan plan asks before after answer
 LoadsBy (Err text) asks before after (Ok loaded) = ⊥
 LoadsBy (Err text) asks before after (Err why) = IsMeant (codes "rccerun") (Err text) before after (complaint_outcome (codes "rccerun") why)
 
--- what loading says to words: a run that they ask for, or why there is none
+-- what `load` ensures for the launcher's words: a run that they ask for, or why there is none
 abbrev pub LoadsWords : List (List ℕ) → Result Job WordFault → FilesView → FilesView → Result Loaded Complaint → Type 0
 LoadsWords words command before after answer = LoadsBy (words_plan words command) (WordsAskFor words command before.told) before after answer
 
@@ -53,13 +53,13 @@ pub record AsksOn (file : List ℕ) (told : Option (List NamedFile)) (job : Job)
   pub setup : asked.setup ≡ setup_by job hosts asked.script
   pub seed : asked.seed ≡ None
 
--- on the hosts in a file
+-- a run of the script in a file on the hosts in another file
 pub record AsksListed (list file : List ℕ) (told : Option (List NamedFile)) (job : Job) (asked : Asked) : Type 0 where
   pub hosts : List ℕ
   pub listed : HostsIn list told job.nue hosts
   pub on : AsksOn file told job hosts asked
 
--- on the hosts that words ask for
+-- a run of the script in a file on the hosts that words ask for
 pub record AsksBehind (words : List (List ℕ)) (told : Option (List NamedFile)) (job : Job) (at : Option ℕ) (file : List ℕ) (asked : Asked) : Type 0 where
   pub hosts : List ℕ
   pub are_hosts : AreHosts words told job.nue at hosts

@@ -5,6 +5,7 @@ use Rattle.run_program.specs.declared.pieces.Piece.TheVariants.{Text, Number, Co
 use Rattle.rcce_io.specs.Digits.{hex_text}
 use Rattle.run_program.specs.Texts.{values_text}
 
+-- a piece as text: its own text, a number in decimal, bytes in hex, or the values that bytes are of a type
 abbrev pub piece_text : Piece → List ℕ
 piece_text (Text text) = text.now
 piece_text (Number n) = decimal n

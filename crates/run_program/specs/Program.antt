@@ -19,7 +19,7 @@ use Rattle.run_program.specs.Reports.{made_ran, run_ran}
 abbrev pub run_plan : Script → Plan
 run_plan script = Runs (run_ran script)
 
--- a script's file
+-- the plan for a script's file: it is read, and its script runs to its plain end
 abbrev pub file_plan : List ℕ → ℕ → Plan
 file_plan file nue = script_plan run_plan file nue
 
@@ -28,7 +28,7 @@ abbrev pub listed_plan : List ℕ → Plan → Result (List ℕ) HostFault → P
 listed_plan file next (Err fault) = Refuses file fault.line (host_kind_name fault.kind)
 listed_plan file next (Ok cores) = next
 
--- the bytes of a host file
+-- the plan for the bytes of a host file
 abbrev pub hosts_plan : List ℕ → ℕ → Plan → List ℕ → Plan
 hosts_plan file nue next bytes = listed_plan file next (parse_hosts bytes nue)
 

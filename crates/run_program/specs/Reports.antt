@@ -60,10 +60,11 @@ pub record Shown : Type 0 where
   pub script : Script
   pub seed : Option ℕ
 
--- what its run comes to
+-- what the run of a script comes to, by the number that it was made of, if it was
 abbrev pub ran_by : Script → Option ℕ → Ran
 ran_by script None = run_ran script
 ran_by script (Some seed) = made_ran seed script
 
+-- what the run that is shown comes to
 abbrev pub shown_ran : Shown → Ran
 shown_ran shown = ran_by shown.script shown.seed

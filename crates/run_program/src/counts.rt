@@ -77,7 +77,7 @@ pub fn printed_in<T: Endings>(scripts: &Scripts, run: &T) -> u32
     total
 }
 
-/// Writes the line of so many ranks with a script that was made of this number.
+/// Writes the line that counts what a run of `nue` ranks did with the script of the number `seed`.
 pub fn write_counts<S: Sink>(
     sink: &mut S,
     nue: u8,

@@ -26,10 +26,11 @@ begun true gets head from to = Sending (new_send to head false)
 begun false true head from to = Receiving (new_receive from head)
 begun false false head from to = Over
 
--- what a rank begins behind its send, and behind its receive: the first one gets the number last, any other one sends it last
+-- what a rank begins behind its send: the first one gets the number last
 abbrev pub after_sending : Passer → Message
 after_sending p = begun false p.is_first p.head p.from p.to
 
+-- what a rank begins behind its receive: any rank but the first sends the number last
 abbrev pub after_receiving : Passer → Message
 after_receiving p = begun (not p.is_first) false p.head p.from p.to
 

@@ -8,7 +8,7 @@ use scc_base::{Layout, Turn};
 use std::alloc::Global;
 use std::test::Fail;
 
-// What rank 0 answers behind so many turns of its own that move, and None where one of them does not.
+// What rank 0 answers behind `moves` turns of its own that move, and None where one of them does not.
 fn answer_after<M: Player + Drop>(team: &mut Team<M>, moves: u32) -> Option<Turn> {
     for _ in 0..moves {
         if !matches!(team.turn(0), Some(Turn::Moved)) {

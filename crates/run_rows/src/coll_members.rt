@@ -33,7 +33,7 @@ pub(crate) struct Member<V: Evict + Drop> {
     pub right: u32,
 }
 
-/// A rank that is to make a call so many times.
+/// A rank that is to make a call `times` times.
 pub(crate) fn member_of<V: Fresh>(
     alloc: Global,
     more: More,

@@ -12,7 +12,7 @@ use scc_base::{CommRule, Layout, Rank};
 use std::alloc::Global;
 use std::test::Fail;
 
-// Gives the next rank of a team a call to make so many times.
+// Gives the next rank of a team a call to make `times` times.
 fn join_next<V: Fresh>(
     alloc: Global,
     team: &mut Team<Member<V>>,
@@ -28,7 +28,7 @@ fn join_next<V: Fresh>(
     team.join(member_of(alloc, more, len, rank, nue, times)?)
 }
 
-/// Some ranks of a chip, which are to make a call so many times each.
+/// The `nue` ranks of a chip, each of which is to make a call `times` times.
 pub(crate) fn met<V: Fresh>(
     alloc: Global,
     layout: Layout,

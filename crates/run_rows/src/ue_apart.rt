@@ -30,7 +30,7 @@ struct Apart<M: Player + Drop> {
     player: M,
 }
 
-// So many turns of a rank, by its port.
+// `count` turns of a rank, by its port.
 fn turns<M: Player, P: Port>(player: &mut M, port: &mut P, count: u32)
     requires stands { M.stands player.old (P.sight port.old).seat.setup (P.sight port.old).seat.rank (P.sight port.old).events }
     ensures stands { M.stands player.new (P.sight port.new).seat.setup (P.sight port.new).seat.rank (P.sight port.new).events }
@@ -64,7 +64,7 @@ fn turns_held<M: Player + Drop>(words: Words<'_>, rank: &mut Apart<M>, count: u3
     rank.token = Some(turns_away(words, token, &mut rank.player, count));
 }
 
-// So many turns of each rank, at the same time where threads can be had: the words and a rank go into each thread.
+// `count` turns of each rank, at the same time where threads can be had: the words and a rank go into each thread.
 fn all_turn<M: Player + Drop + Send, R: Threads + Sync>(
     rt: &R,
     words: Words<'_>,
@@ -90,7 +90,7 @@ fn all_turn<M: Player + Drop + Send, R: Threads + Sync>(
     );
 }
 
-// As many turns of each as so many rounds have.
+// `count` rounds, each of ten turns of each rank.
 fn rounds<M: Player + Drop + Send, R: Threads + Sync>(
     rt: &R,
     words: Words<'_>,
@@ -139,7 +139,7 @@ impl<'s, V: Evict + Drop> Finishes for Runner<'s, V> {
     }
 }
 
-// The two ranks of a new chip after so many rounds.
+// The two ranks of a new chip after `count` rounds.
 fn both_after<M: Player + Drop + Send, R: Threads + Sync>(
     rt: &R,
     alloc: Global,

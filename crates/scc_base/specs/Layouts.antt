@@ -36,11 +36,11 @@ abbrev pub first_release : Layout → ℕ
 first_release LineFlags = 105
 first_release BitFlags = 10
 
--- the flag by which a member has entered a barrier of a communicator, at the member's core
+-- the gather flag of a communicator, at a member's core: it tells that the member has entered a barrier
 abbrev pub gather_at : Layout → ℕ → FlagPlace
 gather_at layout comm = barrier_flag (first_gather layout) comm
 
--- the flag by which a member is let go on from a barrier of a communicator, at the member's core
+-- the release flag of a communicator, at a member's core: it tells that the member may leave the barrier
 abbrev pub release_at : Layout → ℕ → FlagPlace
 release_at layout comm = barrier_flag (first_release layout) comm
 

@@ -19,6 +19,6 @@ RunsLowest {S} Step IsEnd (suc n) s = (owner : ℕ) × (t : S) × NoneBelow Step
 abbrev pub IsStill : {S : Type 0} → (ℕ → S → S → Type 0) → S → Type 0
 IsStill {S} Step s = (a : ℕ) (t : S) → Step a s t → ⊥
 
--- this state, where nobody has a step
+-- a run ends at this state: it is `e`, and nobody has a step there
 abbrev pub EndsAt : {S : Type 0} → (ℕ → S → S → Type 0) → S → S → Type 0
 EndsAt Step e s = (s ≡ e) × IsStill Step s

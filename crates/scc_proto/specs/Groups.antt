@@ -9,17 +9,17 @@ abbrev pub is_open : ℕ → Stage → Bool
 is_open comm (Barrier c seen released) = c == comm
 is_open comm stage = false
 
--- in the open barrier the root has seen the member at a place
+-- the root is in a barrier of this communicator, and has seen that the member at this place entered it
 abbrev pub has_seen : ℕ → ℕ → Stage → Bool
 has_seen comm place (Barrier c seen released) = (c == comm) && nat_le place seen
 has_seen comm place stage = false
 
--- in the open barrier the root has not yet released the member at a place
+-- the root is in a barrier of this communicator, and has not yet released the member at this place
 abbrev pub holds_back : ℕ → ℕ → Stage → Bool
 holds_back comm place (Barrier c seen released) = (c == comm) && nat_lt released place
 holds_back comm place stage = false
 
--- from how many barriers of the communicator a root has released the member at a place
+-- how many barriers of the communicator there are from which the root has released the member at this place
 abbrev pub releases : ℕ → ℕ → Record → ℕ
 releases comm place root = if holds_back comm place root.stage then root.flips comm - 1 else root.flips comm
 

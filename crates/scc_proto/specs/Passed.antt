@@ -55,7 +55,7 @@ passed_open s me stage records = []
 abbrev pub passed_calls : SetupView → (ℕ → Record) → ℕ → List DataCall
 passed_calls s records me = (records me).calls ++ passed_open s me (records me).stage records
 
--- these calls are the finished ones, or these and the open one
+-- the calls that have come to pass are the finished ones, or the finished ones and the open one
 abbrev pub IsPassed : List DataCall → Option DataCall → List DataCall → Type 0
 IsPassed finished current passed = (passed ≡ finished) ⊎ ((call : DataCall) × (current ≡ Some call) × (passed ≡ finished ++ call ∷ []))
 

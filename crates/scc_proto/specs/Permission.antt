@@ -63,7 +63,7 @@ may_go_on by (Sending to Answered message chunk) post = to == by
 may_go_on by (Sending to part message chunk) post = false
 may_go_on by stage post = is_answered_by by post
 
--- nothing is open
+-- the rank is in the midst of no call
 abbrev pub is_idle : Stage → Bool
 is_idle Idle = true
 is_idle stage = false
@@ -74,7 +74,7 @@ abbrev pub may_release : ℕ → ℕ → ℕ → ℕ → ℕ → Stage → Bool
 may_release comm place value last v (Barrier c seen released) = (c == comm) && ((seen == last) && ((place == suc released) && (value == v)))
 may_release comm place value last v stage = false
 
--- nothing is noted
+-- no word is noted
 abbrev pub is_empty : Notes → Bool
 is_empty [] = true
 is_empty (note ∷ notes) = false

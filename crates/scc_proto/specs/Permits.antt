@@ -10,7 +10,7 @@ abbrev pub are_permitted : ℕ → Record → List Move → Bool
 are_permitted size rec [] = true
 are_permitted size rec (move ∷ moves) = permits size move rec && are_permitted size (after size move rec) moves
 
--- from the start these moves are permitted in turn, where a whole chunk has 32 bytes
+-- a rank at its start may make these moves, one after the other, where a whole chunk has 32 bytes
 abbrev pub Permits : List Move → Type 0
 Permits moves = are_permitted 32 blank moves ≡ true
 

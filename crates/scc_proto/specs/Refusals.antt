@@ -16,7 +16,7 @@ abbrev pub stops_before : ℕ → Move → Record → List Move → Bool
 stops_before size next rec [] = not (permits size next rec)
 stops_before size next rec (move ∷ moves) = permits size move rec && stops_before size next (after size move rec) moves
 
--- from the start these moves are permitted in turn, and then the next one is not, where a whole chunk has
+-- a rank at its start may make these moves, one after the other, and then not the next one, where a whole chunk has
 -- 32 bytes
 abbrev pub Refuses : List Move → Move → Type 0
 Refuses moves next = stops_before 32 next blank moves ≡ true
@@ -26,7 +26,7 @@ abbrev pub stops_before_event : SetupView → ℕ → RankEvent → Record → L
 stops_before_event s me next rec [] = (next.rank == me) && not (is_permitted s me rec next.event)
 stops_before_event s me next rec (e ∷ es) = (e.rank == me) && (is_permitted s me rec e.event && stops_before_event s me next (record_after s me rec e.event) es)
 
--- from the start these events of a rank are permitted in turn, and then its next one is not
+-- a rank at its start may make these events, one after the other, and then not the next one
 abbrev pub RefusesEvent : SetupView → ℕ → List RankEvent → RankEvent → Type 0
 RefusesEvent s me events next = stops_before_event s me next blank events ≡ true
 

@@ -18,7 +18,8 @@ abbrev pub IsNotedWord : Option ℕ → ℕ → Type 0
 IsNotedWord None word = Unit {0}
 IsNotedWord (Some noted) word = word ≡ noted
 
--- with line flags no flag word is noted under a register
+-- the flag words that a holder of a register has noted and not stored since have the values noted. With line flags none is
+-- noted.
 abbrev pub NotedFlags : Layout → Option FlagWords → (ℕ → ℕ) → Type 0
 NotedFlags layout None words = Unit {0}
 NotedFlags LineFlags (Some flags) words = (flags.sent ≡ None) × (flags.ready ≡ None)

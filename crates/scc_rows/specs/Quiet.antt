@@ -8,12 +8,14 @@ use Rattle.scc_base.specs.declared.events.Event.{Event}
 use Rattle.scc_proto.specs.Stages.{Idle, Record}
 use Rattle.scc_proto.specs.Records.{sent_noted, ready_noted}
 
+-- an access is of a register, or of a word of the heap's lines
 abbrev pub is_quiet : Access → WordAt → Bool
 is_quiet Load place = nat_le first_heap place.line
 is_quiet Store place = nat_le first_heap place.line
 is_quiet Take place = true
 is_quiet Free place = true
 
+-- each event is an access to a register, or to a word of the heap's lines
 abbrev pub are_quiet : List Event → Bool
 are_quiet [] = true
 are_quiet (e ∷ es) = is_quiet e.access e.place && are_quiet es

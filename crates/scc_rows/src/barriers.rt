@@ -73,7 +73,7 @@ impl Player for Entrant {
     }
 }
 
-// All ranks of a chip, which enter barriers of this communicator, each of them so many after the first.
+// All ranks of a chip, which enter barriers of this communicator: each the first one and `more` behind it.
 fn entrants(alloc: Global, chip: Chip, comm: u8, more: u8) -> Result<Team<Entrant>, Fail>
     requires new { IsNew (about_in chip) chip }
     requires below { comm < 16 }
@@ -145,8 +145,8 @@ fn nobody_passes_before_all_have_entered(rt: HostRuntime) -> Result<(), Fail> {
     as_named(pass_after_third(&mut team))
 }
 
-// Shows that so many ranks, of which those of even number are one group and the others another, take these steps in a
-// barrier of it, in both layouts.
+// Shows that `nue` ranks take these steps in a barrier, in both layouts. The ranks of even number are one group, and the
+// others another.
 fn shows_groups(alloc: Global, nue: u8, steps: &[Step]) -> Result<(), Fail> {
     for layout in LAYOUTS {
         let chip = opened(alloc, nue, *layout, CommRule::Mod { parent: 0, k: 2 })?;

@@ -16,7 +16,7 @@ fn five_ranks() -> Option<Setup> {
     Setup::new(5, Layout::lines(), cores_in_order(), comms)
 }
 
-// Whether a rank's call has so many steps.
+// Whether a rank's call has `count` steps.
 fn has_count(setup: &Setup, rank: u8, coll: Coll, count: u32) -> bool {
     match Rank::new(rank) {
         Some(me) if coll.is_callable(setup, me) => steps(setup, me, coll) == count,

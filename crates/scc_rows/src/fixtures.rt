@@ -29,7 +29,7 @@ pub(crate) fn cores_in_order() -> [CoreId; 48] {
     cores
 }
 
-/// A setup of so many ranks, each on the core of its number, with the world alone.
+/// A setup of `nue` ranks, each on the core of its number, with the world alone.
 pub(crate) fn world_of(nue: u8, layout: Layout) -> Option<Setup>
     ensures ranks { IfSome result (λ s. s.nue ≡ nue) }
 {

@@ -44,7 +44,7 @@ fn read<P: Port, V: Evict>(core: &mut Core<V>, port: &mut P, at: Rank, flag: Fla
     flag_read(core, port, at, flag)
 }
 
-/// Whether a call stalled there after so many polls.
+/// Whether a call stalled there after `polls` tries.
 pub(crate) fn stalls(answer: Result<(), Stalled>, spot: Spot, polls: u32) -> bool {
     answer == Err(Stalled { spot, polls })
 }

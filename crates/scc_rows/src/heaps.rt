@@ -5,7 +5,7 @@ use mpb_alloc::{Heap, MallocFault};
 use scc_base::Buf;
 use std::test::Fail;
 
-// Whether so many bytes are given as these lines.
+// Whether `bytes` bytes are given as these lines.
 fn gives(heap: &mut Heap, bytes: usize, first: u8, lines: u8) -> bool {
     match heap.malloc(bytes) {
         Ok(buffer) => buffer.first() == first && buffer.lines() == lines,

@@ -221,7 +221,7 @@ impl<V: Evict + Drop> Player for Talker<V> {
     }
 }
 
-/// So many bytes, the first of them this one.
+/// `len` bytes that count up from `first`, and from it again after 251 of them.
 pub(crate) fn bytes_from(alloc: Global, first: u8, len: usize) -> Result<Vec<u8>, Fail> {
     let mut bytes = Vec::new(alloc);
     for k in 0..len {
@@ -230,12 +230,12 @@ pub(crate) fn bytes_from(alloc: Global, first: u8, len: usize) -> Result<Vec<u8>
     Ok(bytes)
 }
 
-/// So many bytes that are 0.
+/// `len` bytes that are 0.
 pub(crate) fn zeros(alloc: Global, len: usize) -> Result<Vec<u8>, Fail> {
     Ok(vec![in alloc; 0; len]?)
 }
 
-// A deed with a message of so many bytes, the first of them this one.
+// A deed with a message of `len` bytes, of which `first` is the first.
 fn task_of(alloc: Global, first: u8, deed: Deed, len: usize) -> Result<Task, Fail> {
     let wanted = bytes_from(alloc, first, len)?;
     let bytes = match deed {
@@ -310,7 +310,7 @@ pub(crate) fn arrived_in<V: Evict + Drop>(team: &Team<Talker<V>>) -> u32 {
     team.player(1).map_or(0, |talker| talker.arrived)
 }
 
-// Shows that rank 0 does the first deeds and rank 1 the others by these steps, and that so many messages arrive.
+// Shows that rank 0 does the first deeds and rank 1 the others by these steps, and that `arrived` messages arrive.
 pub(crate) fn shows_exchange<V: Evict + Drop>(
     alloc: Global,
     layout: Layout,

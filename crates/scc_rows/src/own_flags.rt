@@ -22,7 +22,7 @@ fn write<R: Abort>(core: &mut Core<Never>, port: &mut ListedPort<'_, R>, f: Flag
     flag_write(core, port, Rank::of(0), f, set, 1).expect(rt, "a word is always written");
 }
 
-// Whether a flag that was written is seen, with so many events when it was written, and when it was seen.
+// Whether a flag that was written is seen, where the port has made `written` events by the write, and `seen` by the look.
 fn is_seen<R: Abort>(
     core: &mut Core<Never>,
     port: &mut ListedPort<'_, R>,

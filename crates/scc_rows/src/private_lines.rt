@@ -37,7 +37,7 @@ fn is_refused(answer: Result<(), RangeFault>) -> bool {
     answer == Err(RangeFault { asked: 3, len: 2 })
 }
 
-// Whether a word is read with this value, and the port has made so many loads then.
+// Whether a word is read with this value, and the port has made `loads` loads then.
 fn reads<P: Port, V: Evict>(
     core: &mut Core<V>,
     port: &mut CountingPort<P>,
@@ -67,7 +67,7 @@ fn gets_zeros<P: Port, V: Evict + Drop>(port: &mut P, evict: V) -> bool
     got && are(&lines, ZEROS)
 }
 
-// Whether it does so with so many loads, and so many questions of the evictor and lines that it had dropped.
+// Whether it does so with `loads` loads, after which the evictor was asked `questions` times and had `drops` lines dropped.
 fn gets_counted<P: Port, V: Evict + Drop>(
     port: &mut CountingPort<P>,
     inner: V,

@@ -124,7 +124,7 @@ const POSTED: &[(Deed, usize)] = &[
 
 const POST_ARRIVES: &[(usize, Want)] = &[(0, Want::Done), (1, Want::Arrives)];
 
-// Shows that a message of so many bytes that was posted arrives by this call.
+// Shows that a message of `len` bytes that was posted arrives by this call.
 fn shows_post(alloc: Global, deed: Deed, len: usize) -> Result<(), Fail> {
     shows_calls_in_both(alloc, &[(Deed::Post, len)], &[(deed, len)], POST_ARRIVES)
 }
@@ -204,7 +204,7 @@ const TWICE_STALLED_SEND: &[(usize, Want)] = &[
     (0, Want::Arrives),
 ];
 
-// Shows that a send of so many bytes, which are two chunks, stalls at each.
+// Shows that a send of `len` bytes, which are two chunks, stalls at each.
 fn shows_two_chunks(alloc: Global, layout: Layout, len: usize) -> Result<(), Fail> {
     let (send, receive) = (&[(Deed::Send, len)], &[(Deed::Receive, len)]);
     shows_calls(alloc, layout, send, receive, TWICE_STALLED_SEND)

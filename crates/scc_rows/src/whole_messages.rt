@@ -86,7 +86,7 @@ fn is_kept(bytes: &[u8]) -> bool {
     bytes == SEVENS
 }
 
-// Whether a receive stalled here, after so many tries.
+// Whether a receive stalled here, after `tries` tries.
 fn is_stalled(answer: Result<(), RecvStop>, at: Spot, tries: u32) -> bool {
     match answer {
         Err(RecvStop::Stalled { op: _, spot, polls }) => spot == at && polls == tries,
@@ -119,7 +119,7 @@ pub(crate) fn answer_spot(layout: Layout) -> Spot {
     }
 }
 
-// Whether a post stalled at that flag, after so many tries.
+// Whether a post stalled at that flag, after `tries` tries.
 fn is_unanswered(answer: Result<(), SendStop>, layout: Layout, tries: u32) -> bool {
     match answer {
         Err(SendStop::Stalled { op: _, spot, polls }) => {

@@ -5,6 +5,7 @@ use Rattle.script_gen.specs.declared.pieces.Piece.{Piece}
 use Rattle.script_gen.specs.declared.pieces.Piece.TheVariants.{Text, Number}
 use Rattle.script_gen.specs.Texts.{turns_of}
 
+-- a piece as text: its own text, or a number in decimal
 abbrev pub piece_text : Piece → List ℕ
 piece_text (Text text) = text.now
 piece_text (Number n) = decimal n

@@ -10,13 +10,15 @@ with_others nue lines = if nue == 1 then [] else lines
 abbrev pub turns_of : ℕ → ℕ
 turns_of s = 1 + s % 10
 
--- a line with a length, and the two lines of the ring
+-- the line that fills a register with `s` bytes
 abbrev pub fill_line : ℕ → List ℕ
 fill_line s = codes "fill h " ++ (decimal s ++ (codes " " ++ decimal s))
 
+-- the line that sends that register to the next rank of the ring
 abbrev pub send_line : List ℕ
 send_line = codes "send +1 h"
 
+-- the line that receives `s` bytes from the rank before
 abbrev pub recv_line : ℕ → List ℕ
 recv_line s = codes "recv -1 g " ++ decimal s
 

@@ -17,7 +17,7 @@ is_barrier comm _ = false
 abbrev pub finished_barriers : ℕ → State → ℕ
 finished_barriers comm u = count_by (is_barrier comm) u.matched
 
--- how many it has entered: these, and one more where it stands at one
+-- how many barriers of a communicator a rank has entered: those that it has finished, and one more where it stands at one
 abbrev pub entered_barriers : ℕ → State → ℕ
 entered_barriers comm u = finished_barriers comm u + (if is_at_barrier comm (next_of u) then 1 else 0)
 

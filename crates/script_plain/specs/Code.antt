@@ -81,6 +81,7 @@ is_own_act (Accept reg) = true
 is_own_act (Finish reg) = true
 is_own_act _ = false
 
+-- whether an action is the rank's own: it needs no other rank
 abbrev pub is_own : Action → Bool
 is_own action = is_own_act (act_meant action)
 
@@ -88,31 +89,38 @@ is_own action = is_own_act (act_meant action)
 abbrev pub call_at : List Local → ℕ → Option Call
 call_at ues rank = call_of (option_map_or local_next (slice_get ues rank) Ends)
 
+-- a post waits while the slot has an earlier message
 abbrev pub post_decision : Option Posted → Step
 post_decision None = step.Posts
 post_decision (Some earlier) = step.Stays
 
+-- a send of rank i matches where its slot is empty and the other rank stands at a receive from i with the same head
 abbrev pub match_decision : ℕ → ℕ → MessageHead → Option Posted → Option Call → Step
 match_decision i to head None (Some (call.Recv from asked)) =
     if (from == i) && same_head head asked then step.Matches to else step.Stays
 match_decision i to head _ _ = step.Stays
 
+-- a receive of rank i takes the message in the sender's slot if it is for i, and refuses it if it has another head
 abbrev pub fetch_decision : ℕ → ℕ → MessageHead → ℕ → MessageHead → Step
 fetch_decision i from asked to sent =
     if to == i then (if same_head sent asked then step.Takes from else step.Mismatches sent) else step.Stays
 
+-- a receive of rank i, by the sender's slot, and by the sender's own call where the slot is empty: that send takes the step
+-- where the heads are the same, and is refused where they are not
 abbrev pub receive_decision : ℕ → ℕ → MessageHead → Option Posted → Option Call → Step
 receive_decision i from asked (Some message) _ = fetch_decision i from asked message.to message.head
 receive_decision i from asked None (Some (call.Send to head)) =
     if (to == i) && not (same_head head asked) then step.Mismatches head else step.Stays
 receive_decision i from asked None _ = step.Stays
 
+-- a barrier of rank i is passed where i is the first of its group and all of the group stand at it
 abbrev pub barrier_decision : (ℕ → ℕ → ℕ) → List Local → ℕ → ℕ → Step
 barrier_decision keys ues i comm =
     if (root_in (keys comm) i == i) && all_at_barrier local_next comm (is_with (keys comm) i) ues
     then step.Passes comm
     else step.Stays
 
+-- the step that rank i owns, by the call at which it stands
 abbrev pub call_decision : (ℕ → ℕ → ℕ) → List Local → List (Option Posted) → ℕ → Option Call → Step
 call_decision keys ues slots i None = step.Stays
 call_decision keys ues slots i (Some (call.Post to head)) = post_decision (slice_index_or slots i None)
@@ -122,7 +130,7 @@ call_decision keys ues slots i (Some (call.Recv from head)) =
     receive_decision i from head (slice_index_or slots from None) (call_at ues from)
 call_decision keys ues slots i (Some (call.Bar comm)) = barrier_decision keys ues i comm
 
--- the step that a rank owns
+-- the step that rank i owns: its own statement, or what its call decides
 abbrev pub decision : (ℕ → ℕ → ℕ) → List Local → List (Option Posted) → ℕ → Step
 decision keys ues slots i =
     if is_going (option_map_or local_next (slice_get ues i) Ends)
@@ -138,22 +146,22 @@ StepsAt keys false i old new = (step_of keys local_next old i ≡ None) × (new 
 abbrev pub IsNoneGoing : List Local → Type 0
 IsNoneGoing ues = (i : ℕ) (u : Local) → slice_get ues i ≡ Some u → is_going (local_next u) ≡ false
 
--- from the one configuration and from the other a run comes to one end, and less is left of the other
+-- a run goes on from `old` to `new`: it comes to the same end from both, and fewer steps are left behind `new`
 pub record IsOnTheWay (keys : ℕ → ℕ → ℕ) (old new : Configuration Local) : Type 0 where
   pub same_end : run_on keys local_next (sum_by cost_of new.cells) new ≡ run_on keys local_next (sum_by cost_of old.cells) old
   pub less : sum_by cost_of new.cells < sum_by cost_of old.cells
 
--- something was done, or nothing
+-- steps were taken on the way to the same end, or nothing was done
 abbrev pub Moves : (ℕ → ℕ → ℕ) → Bool → Configuration Local → Configuration Local → Type 0
 Moves keys true old new = IsOnTheWay keys old new
 Moves keys false old new = new ≡ old
 
--- something was done, or nothing, since rank i owns no enabled step
+-- steps were taken on the way to the same end, or nothing was done, since rank i owns no enabled step
 abbrev pub GoesOn : (ℕ → ℕ → ℕ) → Bool → ℕ → Configuration Local → Configuration Local → Type 0
 GoesOn keys true i old new = IsOnTheWay keys old new
 GoesOn keys false i old new = (step_of keys local_next old i ≡ None) × (new ≡ old)
 
--- something was done, or nothing, since none of the first n ranks owns an enabled step
+-- steps were taken on the way to the same end, or nothing was done, since none of the first n ranks owns an enabled step
 abbrev pub Sweeps : (ℕ → ℕ → ℕ) → Bool → ℕ → Configuration Local → Configuration Local → Type 0
 Sweeps keys true n old new = IsOnTheWay keys old new
 Sweeps keys false n old new = ((k : ℕ) → k < n → step_of keys local_next old k ≡ None) × (new ≡ old)
@@ -164,7 +172,7 @@ BringsAt keys true i old new before after =
     (step_of keys local_next old i ≡ Some new) × (after ≡ before ++ brought local_next line_of old i)
 BringsAt keys false i old new before after = (step_of keys local_next old i ≡ None) × (new ≡ old) × (after ≡ before)
 
--- the same of the enabled step with the lowest owner; or none is enabled
+-- the enabled step with the lowest owner was taken, and what it brings stands behind what came before; or none is enabled
 abbrev pub BringsLowest : (ℕ → ℕ → ℕ) → Bool → Configuration Local → Configuration Local → List Match → List Match → Type 0
 BringsLowest keys true old new before after =
     (lowest_step keys local_next old ≡ Some new) × (after ≡ before ++ step_brought keys local_next line_of old)

@@ -171,7 +171,7 @@ pub record Gives (script : Script) (c : Configuration State) (call : Op → Ty �
   pub same : sends_of kind comm root before ≡ receipts_of kind comm rank begun
   pub given : register_at before.local src ≡ bytes
 
--- each of the others did, with these bytes by rank
+-- each of the others came to its part in the root's fold, with these bytes by rank
 abbrev pub AllGive : Script → Configuration State → (Op → Ty → ℕ → ℕ → Stmt) → Kind → ℕ → ℕ → ℕ → State → (ℕ → List ℕ) → Type 0
 AllGive script c call kind comm place root begun bytes =
     (rank : ℕ) → IsOther (setup_of script) comm place root rank → Gives script c call kind comm root begun rank (bytes rank)
@@ -258,8 +258,8 @@ AllCame script c =
     → HasDone script rank (stmt.Allreduce comm op ty to from) v before after
     → (told : List ℕ) × Tells script c comm root rank before (register_at before.local from) told × (after.local.registers ≡ slice_set before.local.registers to told)
 
--- Wherever a rank stands at a statement, its calls of a kind are as many by whichever messages they are counted: a root's by
--- those to or from one of the others or another, and each of the others' by what it sent or received.
+-- How many calls of a kind a rank has made is told by any of their messages, wherever it stands at a statement: a root has as
+-- many with one of the others as with another, and each of the others has sent as many as it has received.
 pub record AreCountedAlike (script : Script) : Type 0 where
   pub broadcasts : (comm place root one two : ℕ) (statement : Stmt) (u : State)
       → IsOther (setup_of script) comm place root one → IsOther (setup_of script) comm place root two
@@ -282,7 +282,7 @@ AreUntouched script =
     → (HasDone script root (stmt.Bcast comm place reg len) now before after → after.local.registers ≡ before.local.registers)
     × (HasDone script rank (stmt.Reduce comm place op ty dst src) now before after → after.local.registers ≡ before.local.registers)
 
--- what collective calls give, whatever they are
+-- what the collective calls of a script give in a configuration, each fact a field
 pub record CollectivesHold (script : Script) (c : Configuration State) : Type 0 where
   pub messages : AreReceivedAsSent c
   pub broadcasts : AreBroadcast script c

@@ -22,7 +22,7 @@ ended slot u = record { end = end_of slot u; printed = u.printed; on_its_way = o
 abbrev pub nothing_ended : Ended
 nothing_ended = ended None nobody
 
--- what the ranks leave behind that hold this, with these messages in their slots
+-- what ranks in these states leave behind, with these messages in their slots
 abbrev pub ends_of : List Local → List (Option Posted) → List Ended
 ends_of cells slots = map (λ rank. ended (slice_index_or slots rank None) (local_at cells rank)) (range_with_len 0 (length cells))
 

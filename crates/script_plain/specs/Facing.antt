@@ -22,7 +22,7 @@ facing_of (Bars comm after) = facing.Group
 abbrev pub facing_at : List Local → ℕ → Facing
 facing_at ues i = facing_of (option_map_or local_next (slice_get ues i) Ends)
 
--- whether one that faces these may come to own a step as rank i comes to face those: i is the one it faces, or both are at a barrier
+-- whether a rank may get a step because rank i goes on, by whom the two face then: it faces i, or both are at a barrier
 abbrev pub heeds : Facing → ℕ → Facing → Bool
 heeds facing.Nobody i there = false
 heeds (facing.One rank) i there = rank == i

@@ -21,7 +21,7 @@ rooms_with h = rooms_by h.registers h.folded h.taken h.spare h.prints
 abbrev pub held_at : Held → ℕ → List ℕ
 held_at h reg = slice_index_or h.registers.registers reg []
 
--- nothing in these rooms
+-- what is held at the start: nothing, in these rooms
 abbrev pub empty : Rooms → Held
 empty room =
     record {
@@ -43,7 +43,7 @@ HasRoomFor (action.Accept reg) h = reg < length h.registers.rooms → length h.t
 HasRoomFor (action.Finish reg) h = reg < length h.registers.rooms → length h.folded.bytes ≤ slice_index_or h.registers.rooms reg 0
 HasRoomFor _ h = Unit {0}
 
--- a register is these bytes
+-- what is held after a register was set to these bytes
 abbrev pub held_with : Held → ℕ → List ℕ → Held
 held_with h reg bytes = record h { registers = record { registers = slice_set h.registers.registers reg bytes; rooms = h.registers.rooms } }
 

@@ -22,6 +22,7 @@ abbrev pub folding : (ℕ → Option ℕ) → Option ℕ → Act → Option ℕ
 folding had acc (Act.Begin reg) = had reg
 folding had acc _ = acc
 
+-- how many bytes a message has: as its head says, or as many as the named register has
 abbrev pub sized_by : (ℕ → Option ℕ) → MessageHead → Option ℕ → Option ℕ
 sized_by had head None = Some head.len
 sized_by had head (Some reg) = had reg

@@ -48,28 +48,28 @@ local_start script rank =
 abbrev pub register_at : Local → ℕ → List ℕ
 register_at u reg = slice_index_or u.registers reg []
 
--- past the next primitive
+-- a rank past its next primitive
 abbrev pub gone_on : Local → Local
 gone_on u = record u { left = drop 1 u.left }
 
--- past the next primitive, which set a register
+-- a rank past its next primitive, which set a register
 abbrev pub gone_on_with : Local → ℕ → List ℕ → Local
 gone_on_with u reg bytes = record u { left = drop 1 u.left; registers = slice_set u.registers reg bytes }
 
--- past the next primitive, which printed a register
+-- a rank past its next primitive, which printed a register
 abbrev pub gone_on_printing : Local → ℕ → Form → Local
 gone_on_printing u reg form =
     record u { left = drop 1 u.left; printed = u.printed ++ record { reg = reg; form = form; bytes = register_at u reg } ∷ [] }
 
--- past the next primitive, which set the accumulator
+-- a rank past its next primitive, which set the accumulator
 abbrev pub gone_on_folding : Local → List ℕ → Local
 gone_on_folding u bytes = record u { left = drop 1 u.left; accumulator = bytes }
 
--- past the next primitive, which received these bytes
+-- a rank past its next primitive, which received these bytes
 abbrev pub gone_on_gathering : Local → List ℕ → Local
 gone_on_gathering u bytes = record u { left = drop 1 u.left; received = bytes }
 
--- stopped by a message whose head is not the one asked for
+-- a rank that was stopped by a message with another head than it asked for
 abbrev pub stopped_at : Local → ℕ → ℕ → MessageHead → MessageHead → Local
 stopped_at u line from asked sent = record u { standing = standing.Mismatched line from sent asked }
 
@@ -131,12 +131,12 @@ next_by_prim u (Some prim) = next_by_act u prim.line prim.act
 unfoldable pub local_next : Local → Next Local
 local_next u = next_by_prim u (next_prim u)
 
--- at most how many steps are the rank's own or stop it
+-- 1 where the rank is running, for the step that may stop it, and 0 where it was stopped
 abbrev pub runs : Standing → ℕ
 runs standing.Running = 1
 runs (standing.Mismatched line from sent asked) = 0
 
--- at most how many steps a rank still takes, alone or as the receiver of a message
+-- the most steps that a rank still takes, alone or as the receiver of a message
 abbrev pub cost_of : Local → ℕ
 cost_of u = length u.left + runs u.standing
 

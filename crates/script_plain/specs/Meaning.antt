@@ -51,7 +51,7 @@ start_of script =
       slots = replicate script.nue None;
     }
 
--- at most how many steps are left: each step uses up a primitive or stops a rank
+-- the most steps that are left: each step uses up a primitive or stops a rank
 abbrev pub steps_left : Configuration State → ℕ
 steps_left c = sum_by (λ u. cost_of u.local) c.cells
 

@@ -23,8 +23,8 @@ pub data Did {U : Type 0} (next : U → Next U) (v : U) (end : Option Posted) : 
   Met : (u w : U) → (last : Option Posted) → (comm : ℕ) → (calls : List DataCall) → next u ≡ Bars comm w
       → Did next v end w last calls → Did next v end u last (Bar comm ∷ calls)
 
--- the same without the calls, growing at its end: from `start`, before which nothing was posted, a rank comes to a state
--- and the message that it posted last
+-- the way of a rank from `start`, where it has posted nothing, to a state and the message that it posted last. It grows at
+-- its end, and does not tell the calls
 pub data Came {U : Type 0} (next : U → Next U) (start : U) : U → Option Posted → Type 0 where
   Began : Came next start start None
   Went : (u v : U) → (last : Option Posted) → Came next start u last → next u ≡ Goes v → Came next start v last

@@ -154,8 +154,8 @@ prims_of s rank item = if has_rank item.who rank then map (λ act. record { line
 abbrev pub nesting_at : ℕ → Item → Nesting
 nesting_at rank item = if has_rank item.who rank then (effect_of item.stmt).nesting else nesting.Stays
 
--- what items make: up to the end of the repeat that stands open before them, and then, behind each end that closes a
--- repeat which stands open before them, up to the next such end
+-- what items make, in pieces: `here` is what comes before the end of the innermost repeat that is open before them, and
+-- `behind` has a piece for each such repeat, from its end to the end of the next one
 pub record Unrolled (A : Type 0) : Type 0 where
   pub here : List A
   pub behind : List (List A)
@@ -196,6 +196,7 @@ marks_by (nesting.Opens times) prims = map Some prims
 marks_by (nesting.Closes start) prims = None ∷ []
 marks_by nesting.Stays prims = map Some prims
 
+-- what an item is for a walk of this rank
 abbrev pub marks_of : SetupView → ℕ → Item → List (Option Prim)
 marks_of s rank item = marks_by (nesting_at rank item) (prims_of s rank item)
 

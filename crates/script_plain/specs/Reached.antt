@@ -5,6 +5,6 @@ use Rattle.script_reader.specs.Script.{Script}
 use Rattle.script_plain.specs.Meaning.{IsPlainStep, State, keys_of, start_of}
 use Rattle.script_plain.specs.Step.{Configuration}
 
--- so many steps lead from the start to this configuration
+-- some number n of steps leads from the start to this configuration
 abbrev pub IsReached : Script → Configuration State → Type 0
 IsReached script c = (n : ℕ) × Runs (IsPlainStep (keys_of script)) (λ e. e ≡ c) n (start_of script)

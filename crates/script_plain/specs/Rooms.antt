@@ -30,12 +30,12 @@ pub record PrintsView : Type 0 where
 abbrev pub cut : List ℕ → Entry → Printed
 cut bytes entry = record { reg = entry.reg; form = entry.form; bytes = take entry.len (drop entry.start bytes) }
 
--- entries that lie one behind the other in so many bytes
+-- each entry ends within the first `room` bytes
 abbrev pub AreCut : ℕ → List Entry → Type 0
 AreCut room [] = Unit {0}
 AreCut room (entry ∷ table) = (entry.start + entry.len ≤ room) × AreCut room table
 
--- one by one at most as long
+-- two lists of lengths: each length of the first is at most the one at its place in the second
 abbrev pub AreBelow : List ℕ → List ℕ → Type 0
 AreBelow [] [] = Unit {0}
 AreBelow [] (room ∷ rooms) = ⊥
@@ -84,10 +84,11 @@ pub record ReckoningView : Type 0 where
   pub lengths : Lengths
   pub most : Rooms
 
+-- the greater of two numbers
 abbrev pub greater : ℕ → ℕ → ℕ
 greater one other = if nat_lt one other then other else one
 
--- of a rank that holds nothing and has this many registers
+-- the lengths of a rank that holds nothing and has `count` registers
 abbrev pub nothing_held : ℕ → Lengths
 nothing_held count = record { registers = replicate count 0; accumulator = 0; received = 0; items = 0; printed = 0 }
 

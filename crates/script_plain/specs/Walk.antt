@@ -54,7 +54,7 @@ pub record WalkView : Type 0 where
   pub rank : ℕ
   pub left : List Prim
 
--- a course: the same, with the marks that are left
+-- a course: the script, the setup and the rank, and the marks that are left
 pub record CourseView : Type 0 where
   pub script : Script
   pub setup : SetupView
@@ -94,6 +94,7 @@ woven here [] more = here
 woven here (next ∷ behind) [] = here
 woven here (next ∷ behind) (passes ∷ more) = here ++ (passes ++ woven next behind more)
 
+-- what is left of what items make, where `more` has the further passes of each repeat that is open before them
 abbrev pub left_of : {A : Type 0} → Unrolled A → List (List A) → List A
 left_of u more = woven u.here u.behind more
 
@@ -102,7 +103,7 @@ abbrev pub left_at : SetupView → ℕ → List Item → ℕ → List Open → L
 left_at s rank items place open_repeats =
     left_of (marked s rank (drop place items)) (map (again s rank items) open_repeats)
 
--- behind the end of each open repeat stands what stands behind the end that comes next
+-- each open repeat is the one whose end comes next: what stands behind its end is what stands behind that one
 abbrev pub AreOpen : SetupView → ℕ → List Item → List (List (Option Prim)) → List Open → Type 0
 AreOpen s rank items [] open_repeats = Unit {0}
 AreOpen s rank items (next ∷ behind) [] = Unit {0}
@@ -118,7 +119,7 @@ abbrev pub HasMore : SetupView → ℕ → Option Item → ℕ → Type 0
 HasMore s rank None step = Unit {0}
 HasMore s rank (Some item) step = step < length (marks_of s rank item)
 
--- at a place stands an item with more than this many marks, or none
+-- the item at a place has more than `step` marks, if there is an item
 abbrev pub StandsAt : SetupView → ℕ → List Item → ℕ → ℕ → Type 0
 StandsAt s rank items place step = HasMore s rank (slice_get items place) step
 
@@ -134,29 +135,33 @@ opened (nesting.Opens times) at repeats = record { start = at + 1; left = times 
 opened (nesting.Closes start) at repeats = repeats
 opened nesting.Stays at repeats = repeats
 
--- behind the end of a pass: the place, and the repeats that are open there
+-- the place behind the end of a pass: the repeat's start where a pass is left, and else the next place
 abbrev pub next_pass : ℕ → ℕ → ℕ → ℕ
 next_pass at start zero = at + 1
 next_pass at start (suc left) = start
 
+-- the place behind the end of a pass of the innermost open repeat, and `end` where none is open
 abbrev pub closed_to : ℕ → ℕ → List Open → ℕ
 closed_to at end [] = end
 closed_to at end (o ∷ repeats) = next_pass at o.start o.left
 
+-- the open repeats behind the end of a pass, where `left` passes are left of the innermost one
 abbrev pub closed_by : ℕ → ℕ → List Open → List Open
 closed_by start zero repeats = repeats
 closed_by start (suc left) repeats = record { start = start; left = left } ∷ repeats
 
+-- the open repeats behind the end of a pass of the innermost one
 abbrev pub closed : List Open → List Open
 closed [] = []
 closed (o ∷ repeats) = closed_by o.start o.left repeats
 
--- behind an item that has marks: the place, and the repeats that are open there
+-- the place behind an item that has marks
 abbrev pub passed_to : Nesting → ℕ → ℕ → List Open → ℕ
 passed_to (nesting.Opens times) at end repeats = at + 1
 passed_to (nesting.Closes start) at end repeats = closed_to at end repeats
 passed_to nesting.Stays at end repeats = at + 1
 
+-- the open repeats behind an item that has marks
 abbrev pub passed : Nesting → List Open → List Open
 passed (nesting.Opens times) repeats = repeats
 passed (nesting.Closes start) repeats = closed repeats

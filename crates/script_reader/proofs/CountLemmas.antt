@@ -1,4 +1,4 @@
--- A statement of so many words: what it says where a line has that many behind its first one, and that no other number will do.
+-- A statement of n words: what it says where a line has n words behind its first one, and that no other number will do.
 use Rattle.std.proofs.Common.{◌≡◌, ℕ, List, [], ◌∷◌, arith, get_or, length, map, refl, Err, Result}
 use Rattle.script_reader.specs.declared.fault.FaultKind.{FaultKind}
 use Rattle.script_reader.specs.declared.fault.FaultKind.TheVariants as kind

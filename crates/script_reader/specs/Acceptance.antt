@@ -16,7 +16,7 @@ use Rattle.script_reader.specs.Effects.{EachUse, comm_needed, effect_of}
 use Rattle.script_reader.specs.Script.{Script, has_rank, rules_of}
 use Rattle.script_reader.specs.Settled.{run_with}
 
--- a fact for the place of each statement, its effect, and each rank that runs it
+-- a fact holds for each statement, by its place and its effect, and for each rank that runs it
 abbrev pub ForEachRun : Script → (ℕ → Effect → ℕ → Type 0) → Type 0
 ForEachRun script P = (place : ℕ) (item : Item) → slice_get script.items place ≡ Some item → (rank : ℕ) → rank < script.nue → has_rank item.who rank ≡ true → P place (effect_of item.stmt) rank
 
@@ -28,7 +28,7 @@ groups_of script = run_with script.nue (rules_of script.items)
 abbrev pub length_of : Script → ℕ → ℕ → Option ℕ
 length_of script rank = length_at script.nue (reverse script.items) rank
 
--- its length before the statement at a place, if the rank has set it in an earlier line
+-- the length of a register of a rank before the statement at a place, if the rank has set it in an earlier line
 abbrev pub length_before : Script → ℕ → ℕ → ℕ → Option ℕ
 length_before script place rank = length_at script.nue (reverse (take place script.items)) rank
 

@@ -133,11 +133,11 @@ abbrev pub has_split : List Item → ℕ → ℕ → Bool
 has_split [] rank comm = false
 has_split (item ∷ past) rank comm = has_split past rank comm || (has_rank item.who rank && is_split_of (effect_of item.stmt).group comm)
 
--- NotSplit: a statement that needs the groups of a communicator which the rank has not split. `split` says which the rank has
+-- NotSplit: the rank has not split the communicator whose groups the statement needs. `split` says which it has
 abbrev pub is_not_split : (ℕ → Bool) → Group → Bool
 is_not_split split group = not (comm_needed group == 0) && not (split (comm_needed group))
 
--- and a split of a parent that no earlier line splits
+-- NotSplit, of the section: a split of a parent that no earlier line splits
 abbrev pub has_no_parent : SetupView → Group → Bool
 has_no_parent run group.World = false
 has_no_parent run (group.Of comm) = false
@@ -171,12 +171,12 @@ length_at nue (item ∷ past) rank reg =
 abbrev pub is_unset : SetupView → (ℕ → Option ℕ) → Effect → ℕ → Bool
 is_unset run had e rank = some_use (λ used. counts_at run e rank used.at && is_none (had used.reg)) e.uses
 
--- another length than the one that is there
+-- whether there is a length, and it is another one
 abbrev pub differs : Option ℕ → ℕ → Bool
 differs None len = false
 differs (Some had) len = not (had == len)
 
--- a length that is there and is no multiple of the type's width
+-- whether there is a length, and it is no multiple of the type's width
 abbrev pub is_ragged : Ty → Option ℕ → Bool
 is_ragged ty None = false
 is_ragged ty (Some had) = not (had % bytes_in ty == 0)
@@ -186,14 +186,14 @@ abbrev pub resizes : (ℕ → Option ℕ) → Option Setting → Bool
 resizes had None = false
 resizes had (Some set) = differs (had set.reg) set.len
 
--- a register that has another length than it must have
+-- whether a register has a length, and it is not the one that it must have
 abbrev pub is_unfit : (ℕ → Option ℕ) → ℕ → Fit → Bool
 is_unfit had reg fit.Any = false
 is_unfit had reg (fit.Whole ty) = is_ragged ty (had reg)
 is_unfit had reg (fit.Long len) = differs (had reg) len
 is_unfit had reg (fit.Like other) = differs (had reg) (unwrap_or (had other) 0)
 
--- and one that needs another length than its registers have
+-- Shape: a statement that needs another length than its registers have
 abbrev pub misfits : SetupView → (ℕ → Option ℕ) → Effect → ℕ → Bool
 misfits run had e rank = some_use (λ used. counts_at run e rank used.at && is_unfit had used.reg used.fit) e.uses
 
@@ -201,7 +201,7 @@ misfits run had e rank = some_use (λ used. counts_at run e rank used.at && is_u
 abbrev pub is_misshapen : SetupView → (ℕ → Option ℕ) → Effect → ℕ → Bool
 is_misshapen run had e rank = resizes had (set_by run had e rank) || misfits run had e rank
 
--- the repeats that are open: each with its place among the statements, and with how often a statement in it runs
+-- how often a statement runs that stands in these open repeats
 abbrev pub turns_in : List Open → ℕ
 turns_in repeats = option_map_or (λ r. r.turns) (slice_get repeats (length repeats - 1)) 1
 
@@ -232,13 +232,13 @@ is_too_deep repeats (nesting.Opens times) = nat_lt 7 (length repeats)
 is_too_deep repeats (nesting.Closes start) = false
 is_too_deep repeats nesting.Stays = false
 
--- the steps of a collective call of a rank, as many as can be known. (Their number does not depend on the length.)
+-- whether the root that a collective call names is a place of the rank's group
 abbrev pub has_root : SetupView → ℕ → Coll → Bool
 has_root run rank (coll.Bcast comm root len) = has_place run comm rank root
 has_root run rank (coll.Reduce comm root len) = has_place run comm rank root
 has_root run rank (coll.Allreduce comm len) = true
 
--- how many steps a collective call has at a rank
+-- how many steps a collective call has at a rank, and 0 where its group or its root is not known
 abbrev pub steps_in : SetupView → ℕ → Coll → ℕ
 steps_in run rank call = if is_known run (comm_of call) && has_root run rank call then length (steps_of run rank call) else 0
 
@@ -265,7 +265,7 @@ turns_too_often turns (nesting.Opens times) = nat_lt 100000 (turns * times)
 turns_too_often turns (nesting.Closes start) = false
 turns_too_often turns nesting.Stays = false
 
--- and at another statement, a rank has more than 100,000 operations with it
+-- TooManyOps: at another statement, a rank has more than 100,000 operations with it
 abbrev pub is_overworked : SetupView → ℕ → ℕ → Cost → ℕ → Bool
 is_overworked run done turns cost rank = nat_lt 100000 (done + turns * cost_of run cost rank)
 
@@ -287,11 +287,11 @@ is_past_most (size.Same reg) = false
 abbrev pub is_too_long : Effect → Bool
 is_too_long e = option_map_or (λ target. is_past_most target.size) e.sets false
 
--- a post of more than one chunk
+-- TooLong: a post of more than one chunk
 abbrev pub posts_too_much : (ℕ → Option ℕ) → Effect → Bool
 posts_too_much had e = option_map_or (λ reg. nat_lt 3584 (unwrap_or (had reg) 0)) e.posts false
 
--- and more printed bytes than a rank may have
+-- TooLong: a print with which a rank prints more than 1,048,576 bytes
 abbrev pub prints_too_much : (ℕ → Option ℕ) → ℕ → ℕ → Effect → Bool
 prints_too_much had done turns e = nat_lt 1048576 (done + turns * prints had e)
 

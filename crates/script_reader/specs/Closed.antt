@@ -12,7 +12,7 @@ use Rattle.script_reader.specs.Checks.{innermost, open_of}
 use Rattle.script_reader.specs.Effects.{effect_of}
 use Rattle.script_reader.specs.Script.{Script}
 
--- where repeats are open, a statement that is an end names the innermost one; where none is, it is no end
+-- an end stands where a repeat is open, and names the innermost one
 abbrev pub Closes : List Open → Nesting → Type 0
 Closes repeats (nesting.Opens times) = Unit {0}
 Closes repeats (nesting.Closes start) = (1 ≤ length repeats) × (start ≡ innermost repeats)

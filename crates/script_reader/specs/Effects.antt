@@ -86,13 +86,13 @@ effect_of (stmt.Allreduce comm op ty dst src) = record plain_effect {
 effect_of (stmt.Repeat times end) = record plain_effect { cost = cost.Free; nesting = nesting.Opens times }
 effect_of (stmt.End start) = record plain_effect { nesting = nesting.Closes start }
 
--- some register that a statement reads passes
+-- whether some register that a statement reads passes a test
 abbrev pub some_use : (Use → Bool) → Uses → Bool
 some_use test uses.Nothing = false
 some_use test (uses.One first) = test first
 some_use test (uses.Two first second) = test first || test second
 
--- a fact of each register that a statement reads
+-- a fact holds of each register that a statement reads
 abbrev pub EachUse : (Use → Type 0) → Uses → Type 0
 EachUse P uses.Nothing = Unit {0}
 EachUse P (uses.One first) = P first
@@ -123,7 +123,7 @@ is_split_of group.World comm = false
 is_split_of (group.Of named) comm = false
 is_split_of (group.Split split rule) comm = split == comm
 
--- the rule by which a statement splits a communicator, if it does
+-- the rule that a statement gives a communicator, and no rule where it does not split it
 abbrev pub split_rule : Group → ℕ → CommRule
 split_rule group.World comm = rule.Absent
 split_rule (group.Of named) comm = rule.Absent

@@ -1,3 +1,5 @@
+-- The names of the faults of a script, and what a reading gives: a value, a fault with its line, or want of memory (this
+-- project's profile).
 use Rattle.std.specs.Prelude.{◌≡◌, ℕ, List, codes, Result, Ok, Err}
 use Rattle.script_reader.specs.declared.fault.FaultKind.{FaultKind}
 use Rattle.script_reader.specs.declared.fault.FaultKind.TheVariants as kind
@@ -41,7 +43,7 @@ Gives view (Ok x) meant = meant ≡ Ok (view x)
 Gives view (Err (stop.Fault fault)) meant = meant ≡ Err fault
 Gives view (Err stop.Memory) meant = Unit {0}
 
--- the same inside a line, whose number is added later
+-- a reading inside a line gives what the grammar says: its value or the kind of its fault. The line's number is added later
 abbrev pub LineGives : {A X : Type 0} → (X → A) → Result X LineStop → Result A FaultKind → Type 0
 LineGives view (Ok x) meant = meant ≡ Ok (view x)
 LineGives view (Err (line_stop.Kind kind)) meant = meant ≡ Err kind

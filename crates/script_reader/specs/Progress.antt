@@ -44,7 +44,7 @@ pub record Progress : Type 0 where
   pub names : List (List ℕ)
   pub section : Option Who
 
--- before the first line
+-- what was read before the first line: nothing
 abbrev pub start : Version → ℕ → Progress
 start version nue = record { version = version; nue = nue; opening = true; items = []; names = []; section = None }
 

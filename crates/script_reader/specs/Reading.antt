@@ -14,7 +14,7 @@ use Rattle.script_reader.specs.Said.{said_of}
 use Rattle.script_reader.specs.Script.{Script}
 use Rattle.script_reader.specs.Words.{is_text, line_count, lines_of, number_of, words_of}
 
--- the words `rcce 2`
+-- a word is a number, and this one
 abbrev pub is_number : Option ℕ → ℕ → Bool
 is_number None wanted = false
 is_number (Some number) wanted = number == wanted
@@ -32,7 +32,7 @@ version_of (line ∷ lines) =
     else if says_two (words_of line) then version.Two
     else version.One
 
--- a line with words has come
+-- what was read, where a line with words has come
 abbrev pub begun : Progress → Progress
 begun p = record p { opening = false }
 
@@ -59,7 +59,7 @@ read_lines before p (line ∷ lines) = at_line (before + 1) (read_line (before +
 abbrev pub script_of : Progress → Script
 script_of p = record { nue = p.nue; items = with_ends (length p.items) p.items; names = p.names }
 
--- what was read, at the end of a file of so many lines: no repeat may be open there
+-- what was read, at the end of a file of `lines` lines: no repeat may be open there
 abbrev pub at_end : ℕ → Progress → Result Script ReadFault
 at_end lines p = if length (open_of (past p)) == 0 then Ok (script_of p) else Err (record { line = lines + 1; kind = kind.UnclosedRepeat })
 

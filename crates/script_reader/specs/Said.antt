@@ -26,7 +26,7 @@ use Rattle.script_reader.specs.declared.version.Version.TheVariants as version
 use Rattle.script_reader.specs.Faults.{◌>>=◌}
 use Rattle.script_reader.specs.Words.{bytes_of, is_name, number_of, value_of_word}
 
--- a word as a number, as one from a range, as bytes, as a name; each with the kind of fault where it is none
+-- a word as a number, or the kind of its fault
 abbrev pub number_said : List ℕ → Result ℕ FaultKind
 number_said word = ok_or (number_of word) kind.BadNumber
 
@@ -38,15 +38,15 @@ from_range low high number = if nat_le low number && nat_le number high then Ok 
 abbrev pub range_said : ℕ → ℕ → List ℕ → Result ℕ FaultKind
 range_said low high word = number_said word >>= from_range low high
 
--- bytes in hex
+-- a word as bytes in hex, or the kind of its fault
 abbrev pub hex_said : List ℕ → Result (List ℕ) FaultKind
 hex_said word = ok_or (bytes_of word) kind.BadHex
 
--- the name of a register
+-- a word as the name of a register, or the kind of its fault
 abbrev pub name_said : List ℕ → Result (List ℕ) FaultKind
 name_said word = if is_name word then Ok word else Err kind.BadName
 
--- a word that must be one of these
+-- the name of a type of values: `int` or `long`
 abbrev pub type_said : List ℕ → Result Ty FaultKind
 type_said word =
     if bytes_eq word (codes "int") then Ok ty.Int

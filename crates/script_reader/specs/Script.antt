@@ -1,3 +1,5 @@
+-- What a script is, which ranks a section is for, which rank a message is with, and the rules of the splits (this project's
+-- profile).
 use Rattle.std.specs.Prelude.{ℕ, ◌+◌, ◌-◌, ◌%◌, ◌==◌, Bool, true, ◌&&◌, nat_le, List, [], ◌∷◌, IfSome, map}
 use Rattle.std.specs.List.{range_with_len}
 use Rattle.scc_base.specs.declared.communicators.CommRule.{CommRule}

@@ -47,8 +47,8 @@ ArePassed nue [] = Unit {0}
 ArePassed nue (item ∷ past) =
     ArePassed nue past × ((kind : FaultKind) (rank : ℕ) → rank < nue → has_rank item.who rank ≡ true → refuses kind nue past (effect_of item.stmt) rank ≡ false)
 
--- what the checks of its line leave of a statement behind others: those have rules that a setup may have, and among them that
--- of the communicator which the statement needs; a length that it sets fits; and it is no ninth open repeat
+-- a statement that the checks of its line let pass behind others: the splits so far are rules that a setup may have, the
+-- communicator that it needs has one, a length that it sets is one of a message, and it is no ninth open repeat
 pub record IsInLine (nue : ℕ) (past : List Item) (item : Item) : Type 0 where
   pub rules : AreRules (rules_of (reverse past))
   pub present : (rank : ℕ) → rank < nue → has_rank item.who rank ≡ true → rule_of (rules_of (reverse past)) (comm_needed (effect_of item.stmt).group) ≢ rule.Absent
@@ -60,7 +60,7 @@ abbrev pub AreInLine : ℕ → List Item → Type 0
 AreInLine nue [] = Unit {0}
 AreInLine nue (item ∷ past) = AreInLine nue past × IsInLine nue past item
 
--- the registers of a statement are among so many names
+-- the registers of a statement are among the first `count` names
 abbrev pub IsNamed : ℕ → Effect → Type 0
 IsNamed count e = EachUse (λ used. used.reg < count) e.uses × IfSome e.sets (λ set. set.reg < count)
 
@@ -74,7 +74,7 @@ pub record IsWhole (nue : ℕ) (items : List Item) : Type 0 where
   pub passed : ArePassed nue (reverse items)
   pub in_line : AreInLine nue (reverse items)
 
--- and with the names of its registers
+-- what is true of each script that was read, with the names of its registers
 pub record IsAccepted (nue : ℕ) (items : List Item) (names : List (List ℕ)) : Type 0 where
   pub whole : IsWhole nue items
   pub named : All (λ item. IsNamed (length names) (effect_of item.stmt)) items

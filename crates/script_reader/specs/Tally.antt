@@ -26,7 +26,7 @@ use Rattle.script_reader.specs.Progress.{Progress, named, register_of}
 use Rattle.script_reader.specs.Script.{IsSized, first_split, has_rank, rules_of}
 use Rattle.script_reader.specs.Settled.{AreInLine, ArePassed, HaveRules, IsNamed, IsSettled}
 
--- the length that a tally has for a register, and whether it has a split of a communicator
+-- the length that a tally has for a register, if it has one
 abbrev pub length_in : Tally → ℕ → Option ℕ
 length_in tally reg = slice_index_or tally.lengths reg None
 
@@ -81,7 +81,7 @@ with_split splits group.World = splits
 with_split splits (group.Of comm) = splits
 with_split splits (group.Split comm rule) = slice_set splits comm true
 
--- a tally after one more statement of its rank, which runs so many times
+-- a tally after one more statement of its rank, which runs `turns` times
 abbrev pub noted : SetupView → ℕ → Effect → ℕ → Tally → Tally
 noted run turns e rank tally = record {
   operations = min (tally.operations + turns * cost_of run e.cost rank) 100001;

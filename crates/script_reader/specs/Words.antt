@@ -49,7 +49,7 @@ digits_value limit front [] = Some front
 digits_value limit front (b ∷ rest) =
     if is_ascii_digit b && nat_le (front * 10 + (b - 48)) limit then digits_value limit (front * 10 + (b - 48)) rest else None
 
--- one to so many decimal digits with a value of at most `limit`, leading zeros accepted
+-- a number of 1 to `most` decimal digits with a value of at most `limit`, leading zeros accepted
 abbrev pub decimal_of : ℕ → ℕ → List ℕ → Option ℕ
 decimal_of most limit word = if nat_le 1 (length word) && nat_le (length word) most then digits_value limit 0 word else None
 
@@ -62,12 +62,12 @@ abbrev pub greatest : Ty → ℕ
 greatest ty.Int = 2147483647
 greatest ty.Long = 9223372036854775807
 
--- the bytes of a value that is so far above zero, or so far below it: little-endian two's complement
+-- the bytes of the value `size` of a type: little-endian two's complement
 abbrev pub bytes_above : Ty → ℕ → List ℕ
 bytes_above ty.Int size = to_le_bytes w32 size
 bytes_above ty.Long size = to_le_bytes w64 size
 
--- the bytes of a number of a type that lies so far below zero
+-- the bytes of the value `size` below zero of a type: little-endian two's complement
 abbrev pub bytes_below : Ty → ℕ → List ℕ
 bytes_below ty.Int size = to_le_bytes w32 ((2 ^ 32 - size) % 2 ^ 32)
 bytes_below ty.Long size = to_le_bytes w64 ((2 ^ 64 - size) % 2 ^ 64)

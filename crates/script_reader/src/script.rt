@@ -50,9 +50,9 @@ impl Who {
 #[derive(Clone, Copy)]
 pub enum Peer {
     Abs(Rank),
-    /// So many ranks above the caller, counted round the run.
+    /// The rank n above the caller, counted round the run.
     Plus(u32),
-    /// So many ranks below the caller, counted round the run.
+    /// The rank n below the caller, counted round the run.
     Minus(u32),
 }
 
@@ -166,7 +166,7 @@ pub enum Stmt {
         dst: u8,
         src: u8,
     },
-    /// The statements up to the item `end` run so many times.
+    /// The statements up to the item `end` run `times` times.
     Repeat {
         times: u32,
         end: u32,

@@ -74,7 +74,7 @@ impl Tally {
         }
     }
 
-    /// Counts one more statement of the rank, which runs so many times.
+    /// Counts one more statement of the rank, which runs `turns` times.
     fn note(&mut self, run: &Run, turns: u32, effect: &Effect, rank: u8)
         requires { rank < run.now.nue }
         ensures { self.new ≡ noted run.now turns effect.now rank self.old }

@@ -78,7 +78,7 @@ pub(crate) fn words(alloc: Global, line: &[u8]) -> Result<Vec<&[u8]>, AllocError
         .collect(alloc)
 }
 
-/// The value of one to so many decimal digits, at most a limit, leading zeros accepted.
+/// The value of 1 to `most` decimal digits, at most `limit`, leading zeros accepted.
 fn decimal(word: &[u8], most: usize, limit: u64) -> Option<u64>
     ensures gives { result ≡ decimal_of most limit word.now }
     ensures within { IfSome result (λ value. value ≤ limit) }

@@ -30,7 +30,7 @@ use Rattle.send_recv.specs.Sending.{SlotStands, SendStands, send_spot, send_call
 abbrev pub sent_aim : Seat → RecvAt → Aim
 sent_aim seat op = aim_of seat.setup.layout (flag_spot (own_core seat) (sent_flag seat op.from))
 
--- at none of a receive's spots were the last `polls` tries all vain
+-- a receive has not stalled: at each spot where it tries, fewer than its last `polls` tries were vain
 abbrev pub HasNotStalled : Seat → RecvAt → ℕ → List Event → Type 0
 HasNotStalled seat op polls events = (spot : Spot) → IsRecvSpot seat op spot → TriedInVain (aim_of seat.setup.layout spot) polls events → ⊥
 

@@ -52,11 +52,11 @@ words_of_line bytes s chunk line = words_at bytes (first_byte s chunk line)
 
 -- ---- the two flags of a message: the receiver's `sent`, and the sender's `ready`
 
--- a receiver looks at its own flag by which a sender tells of a chunk
+-- a receiver looks at its `sent` of a sender, which tells of a chunk
 abbrev pub LooksForSent : Sight → Private → (from : ℕ) → (found : Bool) → Sight → Private → Type 0
 LooksForSent s c from found t d = Looks s c (own_core s.seat) (sent_flag s.seat from) found t d
 
--- a sender looks at its own flag by which a receiver tells that a chunk was taken
+-- a sender looks at its `ready` of a receiver, which tells that a chunk was taken
 abbrev pub LooksForReady : Sight → Private → (to : ℕ) → (found : Bool) → Sight → Private → Type 0
 LooksForReady s c to found t d = Looks s c (own_core s.seat) (ready_flag s.seat to) found t d
 

@@ -20,7 +20,7 @@ use Rattle.put_get.specs.Cores.{Private}
 use Rattle.put_get.specs.Transfers.{load_count}
 use Rattle.sync_flags.specs.Tries.{Aim, AtFlag, AtWord, AtRegister}
 
--- with bit flags a rank that calls holds no register
+-- with bit flags no register is held; with line flags nothing is asked
 abbrev pub HoldsNoneBy : Layout → (ℕ → Option FlagWords) → Type 0
 HoldsNoneBy LineFlags hold = Unit {0}
 HoldsNoneBy BitFlags hold = (core : ℕ) → hold core ≡ None
@@ -79,7 +79,7 @@ pub data LastHeld (es : List Event) (before : ℕ) (d : Private) : Type 0 where
 abbrev pub is_no_draft : SetupView → Event → Bool
 is_no_draft s e = not (is_draft s e)
 
--- of the stores of what was held none was made, or all were
+-- the stores of the line that was held in the write-combining buffer: none of them was made, or all were
 abbrev pub IsNoneOrAll : List Event → List Event → Type 0
 IsNoneOrAll front held = (front ≡ []) ⊎ (front ≡ held)
 
@@ -96,11 +96,11 @@ abbrev pub waits_at : Turn → Option Spot
 waits_at (Waiting spot) = Some spot
 waits_at turn = None
 
--- how many lines a turn of a send or of a slot loads at most: one where it makes a try, and none where it makes none
+-- the lines that a turn of a send or of a slot loads at most: 1 for a try, 0 without one
 abbrev pub lines_for_try : Option Spot → ℕ
 lines_for_try None = 0
 lines_for_try (Some spot) = 1
 
--- at most n lines were loaded, and one more for each eviction
+-- the events load at most `lines` lines, and one more for each line that was evicted
 abbrev pub LoadsLines : List Event → Private → Private → ℕ → Type 0
 LoadsLines es c d lines = load_count es + 4 * c.evictions ≤ 4 * d.evictions + 4 * lines

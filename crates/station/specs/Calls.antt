@@ -9,47 +9,47 @@ use Rattle.send_recv.specs.Ranks.{BufferHolder, Receiver, Sender, SlotHolder, re
 use Rattle.barrier.specs.Stages.{BarAt, Member, ParityHolder, meeting, new_barrier, with_parity}
 use Rattle.station.specs.Stations.{StationAt}
 
--- in a send or a post of these bytes
+-- a rank in a send or a post of these bytes, by what its port and its station show
 abbrev pub in_send : Sight → StationAt → SendAt → List ℕ → Sender
 in_send s a op bytes = sending s a.core op a.slot bytes
 
--- at the start of a send
+-- a rank at the start of a send of these bytes
 abbrev pub at_send : Sight → StationAt → ℕ → List ℕ → Sender
 at_send s a to bytes = in_send s a (new_send to (plain_head (length bytes)) false) bytes
 
--- at the start of a post
+-- a rank at the start of a post of these bytes
 abbrev pub at_post : Sight → StationAt → ℕ → List ℕ → Sender
 at_post s a to bytes = in_send s a (new_send to (plain_head (length bytes)) true) bytes
 
--- behind a send, a post or a turn of the slot
+-- a rank behind a send, a post or a turn of the slot
 abbrev pub behind_send : Sight → StationAt → SlotHolder
 behind_send s a = with_slot s a.core a.slot
 
--- in a receive into these bytes
+-- a rank in a receive, with what its buffer holds
 abbrev pub in_receive : Sight → StationAt → RecvAt → List ℕ → Receiver
 in_receive s a op bytes = receiving s a.core op bytes
 
--- at the start of a receive
+-- a rank at the start of a receive into a buffer that holds these bytes
 abbrev pub at_receive : Sight → StationAt → ℕ → List ℕ → Receiver
 at_receive s a from bytes = in_receive s a (new_receive from (plain_head (length bytes))) bytes
 
--- behind a receive of these bytes
+-- a rank behind a receive of these bytes
 abbrev pub behind_receive : Sight → StationAt → List ℕ → BufferHolder
 behind_receive s a bytes = with_bytes s a.core bytes
 
--- in a barrier
+-- a rank in a barrier
 abbrev pub in_barrier : Sight → StationAt → BarAt → Member
 in_barrier s a op = meeting s a.core op a.parity
 
--- at the start of a barrier
+-- a rank at the start of a barrier
 abbrev pub at_barrier : Sight → StationAt → ℕ → Member
 at_barrier s a comm = in_barrier s a (new_barrier comm)
 
--- behind a barrier
+-- a rank behind a barrier
 abbrev pub behind_barrier : Sight → StationAt → ParityHolder
 behind_barrier s a = with_parity s a.core a.parity
 
--- from here to there a rank was in messages alone: of its record all else is as it was
+-- between two sights a rank sent and received messages and did nothing else: the rest of its record is as it was
 pub record OnlyMessages (s t : Sight) : Type 0 where
   pub events : List Event
   pub did : Did s events t

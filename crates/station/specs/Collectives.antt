@@ -14,7 +14,7 @@ use Rattle.station.specs.Stations.{HoldsNoRegister, StationAt}
 use Rattle.station.specs.declared.stops.CollStop.{CollStop}
 use Rattle.station.specs.declared.stops.CollStop.TheVariants.{Stalled, Mismatch}
 
--- in a collective call
+-- a rank in a collective call, by what its port and its station show, and its two buffers
 abbrev pub in_collective : Sight → StationAt → MoreAt → (src dst : List ℕ) → Participant
 in_collective s a op src dst = taking_part s a.core op a.slot src dst
 
@@ -24,7 +24,7 @@ pub record IsInCollective (base : List DataCall) (s : Sight) (a : StationAt) (op
   pub parity : IsParityOf (record_in s) a.parity
   pub registers : HoldsNoRegister (record_in s)
 
--- a collective call gave up: as many tries as it was allowed were vain at the end, where its message in hand looks
+-- a collective call gave up: its last `polls` tries were vain, all where its message in hand looks
 pub record MoreStalled (old : Participant) (polls : ℕ) (now : Participant) (spot : Spot) : Type 0 where
   pub events : List Event
   pub did : Did old.sight events now.sight

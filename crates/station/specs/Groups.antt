@@ -60,7 +60,7 @@ pub record StepRank : Type 0 where
 abbrev pub in_step : Sight → StationAt → GroupPart → Held → StepRank
 in_step sight station part held = record { sight = sight; station = station; part = part; held = held }
 
--- from what a receive has not taken yet on, the buffer is as it was
+-- the buffer is as it was from byte `size` on, which a receive has not reached yet
 abbrev pub IsFilledFrom : (size : ℕ) → (old new : List ℕ) → Type 0
 IsFilledFrom size old new = (k : ℕ) → size ≤ k → slice_index new k ≡ slice_index old k
 
@@ -93,7 +93,7 @@ StandsInStep before r next Between = IsAtStart before r
 StandsInStep before r next (Sending op) = IsInStepSend before r next op
 StandsInStep before r next (Receiving op) = IsInStepReceive before r next op
 
--- a step is done, which began with these buffers, here: it did what it does, and the record has gained its calls
+-- a step that began with these buffers is done: it did what it does, and the record has gained its calls
 pub record HasStepped (before : Held) (step : Step) (from : Sight) (now : StepRank) : Type 0 where
   pub calls : List DataCall
   pub does : StepDoes now.part step before now.held calls
@@ -106,7 +106,7 @@ hand_spot seat a Between = None
 hand_spot seat a (Sending op) = send_spot seat op a.slot
 hand_spot seat a (Receiving op) = recv_spot seat op
 
--- a message gave up: since it was taken up here, as many tries as it was allowed were vain at the end, where it looks
+-- the message in hand gave up: the last `polls` tries since `from` were vain, all where it looks
 pub record HandStalled (from : Sight) (polls : ℕ) (now : StepRank) (hand : Hand) (spot : Spot) : Type 0 where
   pub events : List Event
   pub did : Did from events now.sight
@@ -194,7 +194,7 @@ pub record GroupStart : Type 0 where
   pub calls : List DataCall
   pub held : Held
 
--- a call begins here
+-- where a call begins: the calls of the record so far, and what the buffers hold
 abbrev pub start_at : Sight → Held → GroupStart
 start_at s held = record { calls = (record_in s).calls; held = held }
 
@@ -204,8 +204,8 @@ pub record HaveRun (start : GroupStart) (steps : List Step) (r : GroupRank) (aft
   pub did : StepsDo (part_in r.sight.seat r.op r.input) steps start.held after calls
   pub made : (record_in r.sight).calls ≡ start.calls ++ calls
 
--- the rank stands in this call, which began there: so many of its steps are done, and it is in its next one as the message in
--- hand says
+-- a rank stands in this call, which began at `start`: its first `r.op.at` steps are done, and it is in the next one as
+-- the message in hand says
 pub record IsInGroup (start : GroupStart) (r : GroupRank) : Type 0 where
   pub callable : IsCallable r.sight.seat.setup r.sight.seat.rank r.op.coll
   pub fits : AreFit r.op.coll r.op.folding r.input r.held
@@ -214,7 +214,7 @@ pub record IsInGroup (start : GroupStart) (r : GroupRank) : Type 0 where
   pub stands : StandsInStep before (in_step r.sight r.station (part_in r.sight.seat r.op r.input) r.held)
       (slice_get (steps_at r.sight.seat r.op) r.op.at) r.op.hand
 
--- a call is at its end, which began there: all its steps are done, and the rank is between two calls
+-- a call that began at `start` is at its end: all its steps are done, and the rank is between two calls
 pub record HasRun (start : GroupStart) (r : GroupRank) : Type 0 where
   pub run : HaveRun start (steps_at r.sight.seat r.op) r r.held
   pub free : NoCallOpen r.sight r.station
@@ -224,7 +224,7 @@ abbrev pub op_in : GroupStop → GroupOp
 op_in (Stalled stall) = stall.op
 op_in (Mismatch op sent asked) = op
 
--- why a call stopped that stands there now: behind its earlier messages the one in hand gave up, or met another head
+-- why a call that stands at `now` stopped: its earlier messages are done, and the one in hand gave up or met another head
 abbrev pub SaysWhyGroup : (old : Sight) → (polls : ℕ) → GroupRank → GroupStop → Type 0
 SaysWhyGroup old polls now (Stalled stall) = (stall.polls ≡ polls) × (from : Sight) × OnlyMessages old from
     × HandStalled from polls (in_step now.sight now.station (part_in now.sight.seat now.op now.input) now.held) now.op.hand stall.spot

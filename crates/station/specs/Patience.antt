@@ -1,4 +1,4 @@
--- A call that goes on each time that it stalls, at most so many times (this project's profile: a call of RCCE waits without a bound).
+-- A call that goes on each time that it stalls, at most n times (this project's profile: a call of RCCE waits without a bound).
 use Rattle.std.specs.Prelude.{ℕ, ◌+◌, ◌≤◌}
 use Rattle.scc_base.specs.declared.events.Spot.{Spot}
 use Rattle.send_recv.specs.Calling.{RecvStalled, SendStalled}
@@ -21,26 +21,26 @@ pub record AfterStalls {A : Type 0} (Stall : A → A → Type 0) (begun : A) (ti
   pub stalled : HasStalled Stall begun times last
   pub comes : Comes last
 
--- after at most this many stalls
+-- after at most `most` stalls, a call came to this
 pub record WithinStalls {A : Type 0} (Stall : A → A → Type 0) (begun : A) (most : ℕ) (Comes : A → Type 0) : Type 0 where
   pub times : ℕ
   pub few : times ≤ most
   pub after : AfterStalls Stall begun times Comes
 
--- a send or a post stalled: as many tries as it was allowed were vain at the end, at some spot
+-- a send or a post stalled: its last `polls` tries were vain, all at one spot
 abbrev pub SendStalls : ℕ → Sender → Sender → Type 0
 SendStalls polls old now = (spot : Spot) × SendStalled old polls now spot
 
--- a receive stalled
+-- a receive stalled: its last `polls` tries were vain, all at one spot
 abbrev pub RecvStalls : ℕ → Receiver → Receiver → Type 0
 RecvStalls polls old now = (spot : Spot) × RecvStalled old polls now spot
 
--- a barrier stalled
+-- a barrier stalled: its last `polls` looks were vain, all at one flag
 abbrev pub BarStalls : ℕ → Member → Member → Type 0
 BarStalls polls old now = (spot : Spot) × (count : ℕ) × Stalls old polls (with_parity now.sight now.core now.parity) (bar_stop.Stalled now.op spot count)
 
--- why a receive stopped that goes on this many times: it has stalled as often, and then once more; or before that, or then, it met
--- another head
+-- why a receive stopped that goes on after `times` stalls: it stalled once more than that, or it met another head, after at
+-- most `times` stalls
 abbrev pub SaysWhyAfter : Receiver → (times polls : ℕ) → BufferHolder → RecvStop → Type 0
 SaysWhyAfter begun times polls now (Stalled stall) = AfterStalls (RecvStalls polls) begun times (λ last. SaysWhy last polls now (Stalled stall))
 SaysWhyAfter begun times polls now (Mismatch sent asked) = WithinStalls (RecvStalls polls) begun times (λ last. SaysWhy last polls now (Mismatch sent asked))

@@ -39,7 +39,7 @@ other_ranks c = others_of c.seat.setup (comm_of c.coll) c.seat.rank (root_place 
 abbrev pub sends_to : MessageHead → List ℕ → (to : List ℕ) → List DataCall
 sends_to head bytes to = map (λ r. CallSend r head bytes) to
 
--- from each of these ranks in order a message of its own bytes
+-- the receives of a message from each of these ranks, in order, with the bytes that it sent
 abbrev pub receives_from : MessageHead → (from : List ℕ) → (pieces : List (List ℕ)) → List DataCall
 receives_from head [] pieces = []
 receives_from head (r ∷ from) [] = []

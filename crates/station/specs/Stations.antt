@@ -55,7 +55,7 @@ pub record KeepsHeap (old new : StationAt) : Type 0 where
   pub heap : new.heap ≡ old.heap
   pub polls : new.polls ≡ old.polls
 
--- a call left the slot too (this project's profile)
+-- a call left the slot, the heap and the number of tries as they were (this project's profile)
 pub record KeepsSlot (old new : StationAt) : Type 0 where
   pub slot : new.slot ≡ old.slot
   pub heap : new.heap ≡ old.heap

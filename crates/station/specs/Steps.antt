@@ -22,12 +22,12 @@ pub record GroupPart : Type 0 where
 abbrev pub part_by : Bool → Option Folding → List ℕ → GroupPart
 part_by root folding input = record { is_root = root; folding = folding; input = input }
 
--- what its two buffers hold: that of the result, and that of what the root receives
+-- the bytes in a rank's two buffers: the one for the result, and the one into which the root receives
 pub record Held : Type 0 where
   pub output : List ℕ
   pub work : List ℕ
 
--- one of two lists of bytes
+-- the first of two lists of bytes where the test is true, and else the second
 abbrev pub one_of : Bool → (one other : List ℕ) → List ℕ
 one_of true one other = one
 one_of false one other = other
@@ -40,7 +40,7 @@ bytes_sent_by p h = one_of p.is_root h.output p.input
 abbrev pub bytes_into : Bool → Held → List ℕ
 bytes_into root h = one_of root h.work h.output
 
--- these bytes were received
+-- the buffers after these bytes were received: by the root into its work buffer, by another rank into its output
 abbrev pub with_received : Bool → List ℕ → Held → Held
 with_received true bytes h = record h { work = bytes }
 with_received false bytes h = record h { output = bytes }

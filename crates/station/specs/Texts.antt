@@ -30,7 +30,7 @@ spot_text (spot.Register core) = codes "register of core " ++ decimal core
 abbrev pub head_text : MessageHead → List ℕ
 head_text head = kind_text (kind_at head.kind) ++ codes " " ++ decimal head.comm ++ codes " " ++ decimal head.len
 
--- a call gave up, after so many tries, at this spot
+-- a call gave up after `polls` tries at this spot
 abbrev pub stall_text : List ℕ → Spot → ℕ → List ℕ
 stall_text call at polls = call ++ codes " stalled after " ++ decimal polls ++ codes " tries at the " ++ spot_text at
 
@@ -63,7 +63,7 @@ bar_stall_text stall = stall_text (codes "a barrier") stall.spot stall.polls
 abbrev pub coll_stall_text : CollStall → List ℕ
 coll_stall_text stall = stall_text (codes "a collective call") stall.spot stall.polls
 
--- one of these that stopped
+-- a gather, a scatter, an allgather or an alltoall that stopped
 abbrev pub coll_stop_text : CollStop → List ℕ
 coll_stop_text (coll_stop.Stalled stall) = coll_stall_text stall
 coll_stop_text (coll_stop.Mismatch op sent) = met_text (codes "a collective call") sent

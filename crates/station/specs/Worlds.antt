@@ -14,6 +14,6 @@ own_cores = range_with_len 0 48
 abbrev pub world_alone : List CommRule
 world_alone = World ∷ replicate 15 Absent
 
--- so many ranks, each on the core of its number, with line flags and the world alone (this project's profile)
+-- a setup of `nue` ranks, each on the core of its number, with line flags and the world alone (this project's profile)
 abbrev pub world_setup : ℕ → SetupView
 world_setup nue = record { nue = nue; layout = LineFlags; hosts = own_cores; comms = world_alone }

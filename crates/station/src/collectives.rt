@@ -15,7 +15,7 @@ use put_get::Core;
 use scc_proto::Port;
 use send_recv::{RecvTurn, Slot};
 
-// Goes on with a collective call by turns, until it is at its end, it meets another head, or so many tries in a row are vain.
+// Goes on with a collective call by turns, until it is at its end, it meets another head, or `polls` tries in a row are vain.
 fn take_turns<V: Evict, P: Port>(
     core: &mut Core<V>,
     port: &mut P,

@@ -37,7 +37,7 @@ impl<V: Evict> Station<V> {
     ghost use Rattle.station.specs.Stations.{IsInBarrier, IsInSend, KeepsHeap, KeepsSlot, NoCallOpen};
     ghost use Rattle.station.specs.Stops.{Owes, StopsReceive, bar_stop_of};
 
-    /// As `send`, and each time that it stalls it lets another thread run and goes on, at most so many times.
+    /// As `send`, and each time that it stalls it lets another thread run and goes on, at most `rounds` times.
     pub fn send_patiently<P: Port>(
         &mut self,
         port: &mut P,
@@ -77,7 +77,7 @@ impl<V: Evict> Station<V> {
         Err(stall)
     }
 
-    /// As `recv`, and each time that it stalls it lets another thread run and goes on, at most so many times.
+    /// As `recv`, and each time that it stalls it lets another thread run and goes on, at most `rounds` times.
     pub fn recv_patiently<P: Port>(
         &mut self,
         port: &mut P,
@@ -122,7 +122,7 @@ impl<V: Evict> Station<V> {
         Err(RecvStop::Stalled(stall))
     }
 
-    /// As `barrier`, and each time that it stalls it lets another thread run and goes on, at most so many times.
+    /// As `barrier`, and each time that it stalls it lets another thread run and goes on, at most `rounds` times.
     pub fn barrier_patiently<P: Port>(
         &mut self,
         port: &mut P,

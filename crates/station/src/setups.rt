@@ -25,8 +25,8 @@ fn world_alone() -> [CommRule; 16]
     rules
 }
 
-/// A setup of so many ranks, each on the core of its number, with line flags and the world alone. It is None exactly where there
-/// are not 1 to 48 ranks.
+/// A setup of `nue` ranks, each on the core of its number, with line flags and the world alone. It is None exactly where `nue`
+/// is not 1 to 48.
 pub fn world_of(nue: u8) -> Option<Setup>
     ensures gives { SomeIff result ((1 ≤ nue) × (nue ≤ 48)) (world_setup nue) }
 {

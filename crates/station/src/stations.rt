@@ -65,7 +65,7 @@ impl<V: Evict> Station<V> {
         self.polls = polls;
     }
 
-    /// Takes a buffer of so many bytes, in whole lines. Stations that make the same calls get the same buffers (RCCE_malloc).
+    /// Takes a buffer of `bytes` bytes, in whole lines. Stations that make the same calls get the same buffers (RCCE_malloc).
     pub fn malloc(&mut self, bytes: usize) -> Result<Buf, MallocFault>
         ensures answer { result ≡ malloc_answer self.old.heap bytes }
         ensures free { OnOk result (self.new.heap.free ≡ taken_from (lines_for bytes) self.old.heap.free) }

@@ -14,6 +14,7 @@ use Rattle.steps_program.specs.declared.accesses.Kind.{Kind}
 use Rattle.steps_program.specs.declared.accesses.Kind.TheVariants.{Loads, Stores}
 use Rattle.steps_program.specs.Steps.{HasMade, HasMadeAway}
 
+-- a case: where the accesses go, and which they are
 abbrev pub case : Way → Kind → Option Case
 case way kind = Some (record { way = way; kind = kind })
 
@@ -28,6 +29,7 @@ case_of word =
     else if bytes_eq word (codes "seat-store") then case Seat Stores
     else None
 
+-- whether a character is a decimal digit
 abbrev pub is_digit : ℕ → Bool
 is_digit c = nat_lt (digit_value c) 10
 
@@ -59,5 +61,6 @@ HasMadeAt Seat kind count (Away chip token) = HasMadeAway chip token kind count
 HasMadeAt Seat kind count OnTable = ⊥
 HasMadeAt Seat kind count (AtHome chip) = ⊥
 
+-- the accesses that a job asks for were made
 abbrev pub HasMadeBy : Job → Made → Type 0
 HasMadeBy job made = HasMadeAt job.case.way job.case.kind job.count made

@@ -42,16 +42,16 @@ in_turn kind core (suc n) = in_turn kind core n ++ step_at kind core n ∷ []
 abbrev pub home_core : Sight → ℕ
 home_core sight = host_of sight.seat.setup.hosts sight.seat.rank
 
--- a port of the same rank with so many accesses more
+-- a port of the same rank, which has made `count` accesses more
 pub record Stepped (old : Sight) (kind : Kind) (count : ℕ) (new : Sight) : Type 0 where
   pub seat : new.seat ≡ old.seat
   pub steps : steps_of new.events ≡ steps_of old.events ++ in_turn kind (home_core old) count
 
--- rank 0 has made so many accesses
+-- rank 0 has made `count` accesses
 pub record HasMade (chip : ChipView) (kind : Kind) (count : ℕ) : Type 0 where
   pub steps : steps_of (events_in chip 0) ≡ in_turn kind (host_of (about_in chip).hosts 0) count
 
--- rank 0 is away from the chip, and has made so many accesses
+-- rank 0 is away from the chip, and has made `count` accesses
 pub record HasMadeAway (chip : ChipView) (token : Ticket) (kind : Kind) (count : ℕ) : Type 0 where
   pub of_chip : token.table ≡ table_in chip
   pub rank : token.rank ≡ 0

@@ -45,7 +45,7 @@ abbrev pub AreVain : WordAt → Option ℕ → Bool → List (List ℕ) → Type
 AreVain place bit want [] = Unit {0}
 AreVain place bit want (words ∷ rest) = (is_unwanted want (is_set_in bit (slice_index words place.word)) ≡ true) × AreVain place bit want rest
 
--- so many looks in a row, all of them vain
+-- n looks in a row, all of them vain
 pub record LooksInVain (s : Sight) (c : Private) (place : WordAt) (bit : Option ℕ) (want : Bool) (n : ℕ) (t : Sight) (d : Private) : Type 0 where
   pub looks : List (List ℕ)
   pub count : length looks ≡ n

@@ -23,6 +23,7 @@ spot_of (AtFlag place bit want) = flag_spot place bit
 spot_of (AtWord place value) = Flag place 0
 spot_of (AtRegister core) = Register core
 
+-- whether an access is a take
 abbrev pub is_take : Access → Bool
 is_take Take = true
 is_take access = false
@@ -33,6 +34,7 @@ is_write Store = true
 is_write Free = true
 is_write access = false
 
+-- whether two places are one word
 abbrev pub is_at : WordAt → WordAt → Bool
 is_at place other = (other.core == place.core) && ((other.line == place.line) && (other.word == place.word))
 
@@ -61,7 +63,7 @@ is_vain (AtFlag place bit want) e = is_unwanted want (is_set_in bit e.value)
 is_vain (AtWord place value) e = not (e.value == value)
 is_vain (AtRegister core) e = e.value == 0
 
--- how many tries there were among more events, after so many
+-- how many tries there were, with those among more events behind the first n
 abbrev pub tries_from : Aim → Bool → ℕ → List Event → ℕ
 tries_from aim changing n [] = n
 tries_from aim changing n (e ∷ es) =
@@ -77,7 +79,7 @@ abbrev pub vain_after : Aim → Bool → ℕ → Event → ℕ
 vain_after aim changing n e =
     if is_try changing aim e then (if is_vain aim e then suc n else 0) else (if is_write e.access then 0 else n)
 
--- how many of the tries were vain in a row at the end of more events, after so many
+-- how many tries were vain in a row at the end of more events, where n were so before them
 abbrev pub vain_from : Aim → Bool → ℕ → List Event → ℕ
 vain_from aim changing n [] = n
 vain_from aim changing n (e ∷ es) = vain_from aim (is_changing changing e.access e.value) (vain_after aim changing n e) es

@@ -84,7 +84,7 @@ pub record WritesBit (s : Sight) (c : Private) (place : WordAt) (b : ℕ) (set :
   pub fills : Fills (record c { lines = [] }) (line_of_word place) words loaded
   pub is : d ≡ record loaded { lines = noted loaded.lines place (with_bit b set (slice_index words place.word)) }
 
--- nothing but so many vain takes
+-- nothing but `polls` vain takes of a register
 pub record GivesUp (s : Sight) (c : Private) (place : WordAt) (polls : ℕ) (t : Sight) (d : Private) : Type 0 where
   pub did : Did s (vain_takes place.core polls) t
   pub is : d ≡ c

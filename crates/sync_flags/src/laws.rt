@@ -12,8 +12,8 @@ ghost use Rattle.sync_flags.specs.Flags.{FlagView, flag_of};
 ghost use Rattle.sync_flags.specs.Writes.{MayWrite};
 ghost use Rattle.sync_flags.specs.Tries.{Aim, TriedInVain, EndsInVain};
 
-/// A call has tried in vain often enough exactly where its events end with a part in which there are so many
-/// tries, all of them vain, and no store and no free.
+/// A call has tried in vain often enough exactly where its events end with a part that has `polls` tries, all of them
+/// vain, and no store and no free.
 pub fn tries_law()
     ensures says { (aim : Aim) (polls : ℕ) (events : List Event) → TriedInVain aim polls events ↔ EndsInVain aim polls events }
 {}

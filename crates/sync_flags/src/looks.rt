@@ -38,7 +38,7 @@ pub fn flag_read<V: Evict, P: Port>(core: &mut Core<V>, port: &mut P, at: Rank, 
     f.is_set(look_word(core, port, place))
 }
 
-/// Looks at a flag of the own rank until it is as wanted, at most so many times.
+/// Looks at a flag of the own rank until it is as wanted, at most `polls` times.
 pub fn wait_until<V: Evict, P: Port>(
     core: &mut Core<V>,
     port: &mut P,

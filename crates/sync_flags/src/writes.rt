@@ -30,7 +30,7 @@ pub fn store_word<V: Evict, P: Port>(core: &mut Core<V>, port: &mut P, place: Pl
     core.word_write_through(port, place, value);
 }
 
-/// Tries to take a register, at most so many times.
+/// Tries to take a register, at most `polls` times.
 fn acquire_within<P: Port>(port: &mut P, c: CoreId, polls: u32) -> Option<Held>
     requires not_held { IsNotHolding (record_in (P.sight port.old)) c }
     ensures takes { TakesWithin (P.sight port.old) c polls (P.sight port.new) result }
@@ -134,7 +134,7 @@ fn write_bit<V: Evict, P: Port>(
 }
 
 /// Sets or clears a flag at a rank. A word is stored at once. A bit is changed under the register of the core
-/// that holds it, for which the call tries at most so many times; only there it can stall.
+/// that holds it, for which the call tries at most `polls` times; only there it can stall.
 pub fn flag_write<V: Evict, P: Port>(
     core: &mut Core<V>,
     port: &mut P,

@@ -32,7 +32,8 @@ stands_at memory e = stands_by e.access e.place memory
 abbrev pub register_changed : Memory → ℕ → ℕ → Memory
 register_changed memory core value = record memory { register = put memory.register core value }
 
--- an access is a step, where this value stands: a load tells it; a take has 1 where it found 0, and 0 where it found 1
+-- an access with `value` is a step where `found` stands: a load tells what it found, a take has 1 where it found 0, and 0
+-- where it found 1, and a store and a free always are
 abbrev pub is_step_by : Access → (value found : ℕ) → Bool
 is_step_by Load value found = found == value
 is_step_by Store value found = true

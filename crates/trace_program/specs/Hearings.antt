@@ -30,7 +30,7 @@ HoldsLists false None calls = Unit {0}
 HoldsLists true (Some lists) calls = data_lists lists.items ≡ calls
 HoldsLists asked lists calls = ⊥
 
--- these calls were finished by so many events
+-- the calls that the ranks have finished within `number` events: how many of each rank, and the calls where they are asked for
 pub record HoldsFinished (asked : Bool) (f : FinishedCalls) (number : ℕ) (calls : List (List DataCall)) : Type 0 where
   pub counts : f.counts ≡ map (λ (list : List DataCall). length list) calls
   pub few : (k : ℕ) → slice_index f.counts k ≤ number

@@ -8,12 +8,14 @@ use Rattle.rcce_io.specs.Digits.{hex_text}
 use Rattle.trace_program.specs.declared.report.Part.{Part}
 use Rattle.trace_program.specs.declared.report.Part.TheVariants as part
 
+-- a part of a line as text: its own text, a number in decimal, a word in hex, or what a record allows next
 abbrev pub trace_part_text : Part → List ℕ
 trace_part_text (part.Text text) = text.now
 trace_part_text (part.Count n) = decimal n
 trace_part_text (part.Value value) = hex_text (to_be_bytes w64 value)
 trace_part_text (part.Next next) = next_text next
 
+-- a piece as text: its own text, or a number in decimal
 abbrev pub piece_text : Piece → List ℕ
 piece_text (piece.Text text) = text.now
 piece_text (piece.Count n) = decimal n

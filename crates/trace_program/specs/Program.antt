@@ -45,10 +45,11 @@ said_plan command (Err fault) = Refuses command.file fault.line (trace_fault_nam
 abbrev pub trace_plan : TraceCommand → List ℕ → Plan
 trace_plan command bytes = said_plan command (trace_of bytes)
 
--- the words `TRACE` or `-calls TRACE`, and no others
+-- what a file's name asks for, with its calls or without; an option is no name
 abbrev pub command_at : Bool → List ℕ → Option TraceCommand
 command_at asked file = if is_option file then None else Some (record { asked = asked; file = file })
 
+-- the words `TRACE` or `-calls TRACE`, and no others
 abbrev pub trace_command : List (List ℕ) → Option TraceCommand
 trace_command (file ∷ []) = command_at false file
 trace_command (calls ∷ file ∷ []) = if bytes_eq calls (codes "-calls") then command_at true file else None

@@ -13,13 +13,15 @@ use Rattle.trace_judge.specs.declared.judge.Refusal.{Refusal}
 use Rattle.trace_judge.specs.declared.judge.Refusal.TheVariants.{OtherValue, NotPermitted}
 use Rattle.trace_program.specs.NextTexts.{next_text}
 
--- the line of a rank of the run: how many calls it has finished
+-- the line of a rank: how many calls it has finished
 abbrev pub count_line : (r count : ℕ) → List ℕ
 count_line r count = joined (codes "rank " ∷ decimal r ∷ codes " finished " ∷ decimal count ∷ codes " calls" ∷ [])
 
+-- the line of a rank of the run, and none of another
 abbrev pub count_lines : (nue r count : ℕ) → List (List ℕ)
 count_lines nue r count = if nat_lt r nue then count_line r count ∷ [] else []
 
+-- the line of a rank of the run, by its finished calls
 abbrev pub finished_lines : ℕ → ℕ → List DataCall → List (List ℕ)
 finished_lines nue r calls = count_lines nue r (length calls)
 
@@ -31,11 +33,12 @@ asked_text asked lists = if asked then text_of (table_lines call_lines 0 lists) 
 abbrev pub legal_text : ℕ → Bool → List (List DataCall) → List ℕ
 legal_text nue asked lists = codes "legal\n" ++ (text_of (table_lines (finished_lines nue) 0 lists) ++ asked_text asked lists)
 
--- the same of counts and lists as they are kept
+-- the lines of the finished calls, as they are kept, where they are asked for
 abbrev pub lists_text : Option (Vec (Vec LogCall Global) Global) → List ℕ
 lists_text None = []
 lists_text (Some lists) = text_of (table_lines call_lines 0 (data_lists lists.items))
 
+-- the text of a legal trace, by the counts and the calls as they are kept
 abbrev pub kept_text : ℕ → FinishedCalls → List ℕ
 kept_text nue f = codes "legal\n" ++ (text_of (table_lines (count_lines nue) 0 f.counts) ++ lists_text f.lists)
 

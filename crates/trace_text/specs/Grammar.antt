@@ -15,10 +15,11 @@ use Rattle.trace_text.specs.declared.faults.TraceFault.{TraceFault}
 use Rattle.trace_text.specs.Traces.{TraceView, most_trace_bytes, most_trace_lines, most_line_bytes}
 use Rattle.trace_text.specs.Words.{dot_parts, comma_parts, hex_word_said, place_said, register_place_said, is_comment, layout_said}
 
--- a load of a word, and a store
+-- a load of a word
 abbrev pub load_event_said : (place value : List ℕ) → Option Event
 load_event_said place value = place_said (dot_parts place) >>= λ p. hex_word_said value >>= λ v. Some (load_of p v)
 
+-- a store of a word
 abbrev pub store_event_said : (place value : List ℕ) → Option Event
 store_event_said place value = place_said (dot_parts place) >>= λ p. hex_word_said value >>= λ v. Some (store_of p v)
 
@@ -39,6 +40,7 @@ access_said access place value =
     else if bytes_eq access (codes "free") then free_event_said place value
     else None
 
+-- the event of a rank, by the words of its line
 abbrev pub event_by : ℕ → (rank access place value : List ℕ) → Option RankEvent
 event_by nue rank access place value = rank_said nue rank >>= λ r. access_said access place value >>= λ e. Some (record { rank = r; event = e })
 
@@ -62,6 +64,7 @@ host_said table word = range_said 0 47 word >>= λ c.
     only_if (nat_lt table.count 48 && is_none (rank_below table.count table.hosts c))
     (record { count = table.count + 1; hosts = slice_set table.hosts table.count c })
 
+-- more ranks, each on a core of its own
 abbrev pub hosts_said : HostTable → List (List ℕ) → Option HostTable
 hosts_said table [] = Some table
 hosts_said table (word ∷ words) = host_said table word >>= λ next. hosts_said next words
@@ -76,6 +79,7 @@ pub record TraceHead : Type 0 where
 abbrev pub all_hosts_said : ℕ → List ℕ → Option (List ℕ)
 all_hosts_said nue word = hosts_said (record { count = 0; hosts = no_hosts }) (comma_parts word) >>= λ table. only_if (table.count == nue) table.hosts
 
+-- the head that three words say: 1 to 48 ranks, a layout and a core for each rank
 abbrev pub head_values_said : (nue layout hosts : List ℕ) → Option TraceHead
 head_values_said nue layout hosts =
     range_said 1 48 nue >>= λ n. layout_said layout >>= λ l. all_hosts_said n hosts >>= λ h. Some (record { nue = n; layout = l; hosts = h })
@@ -101,19 +105,21 @@ pub record TraceReading : Type 0 where
 abbrev pub behind_head : TraceHead → TraceReading
 behind_head head = record { trace = record { setup = record { nue = head.nue; layout = head.layout; hosts = head.hosts; comms = world_alone }; events = [] }; comm = 0 }
 
--- a communicator stands before all events
+-- the reading with one communicator more, which stands before all events
 abbrev pub split_added : TraceReading → CommSplit → Option TraceReading
 split_added reading split =
     only_if (length reading.trace.events == 0)
     (record reading { trace = record reading.trace { setup = record reading.trace.setup { comms = slice_set reading.trace.setup.comms split.comm split.rule } }; comm = split.comm })
 
+-- the reading with one event more
 abbrev pub event_added : TraceReading → RankEvent → TraceReading
 event_added reading e = record reading { trace = record reading.trace { events = reading.trace.events ++ e ∷ [] } }
 
--- the reading after a line of a communicator, and after one of an event, by its words
+-- the reading after a line of a communicator, by its words
 abbrev pub split_taken : TraceReading → List (List ℕ) → Option TraceReading
 split_taken reading words = comm_said reading.comm reading.trace.setup.comms words >>= split_added reading
 
+-- the reading after a line of an event, by its words
 abbrev pub event_taken : TraceReading → List (List ℕ) → Option TraceReading
 event_taken reading words = event_said reading.trace.setup.nue words >>= λ e. Some (event_added reading e)
 
@@ -148,6 +154,7 @@ last_taken number (b ∷ line) reading = Err (record { line = number; kind = lin
 abbrev pub head_said : List ℕ → Option TraceHead
 head_said line = if nat_lt most_line_bytes (length line) then None else head_of_words (words_of line)
 
+-- the reading behind the first line, or BadHead
 abbrev pub first_taken : List ℕ → Result TraceReading TraceFault
 first_taken line = ok_or (option_map behind_head (head_said line)) (record { line = 1; kind = kind.BadHead })
 

@@ -31,7 +31,7 @@ abbrev pub said_with : Option TraceFault → TraceReading → Result TraceReadin
 said_with None reading = Ok reading
 said_with (Some fault) reading = Err fault
 
--- what so many lines have said
+-- what n lines have said: nothing where n is 0, and else a reading or the first fault
 abbrev pub said_by : ℕ → Option TraceFault → TraceReading → Option (Result TraceReading TraceFault)
 said_by zero fault reading = None
 said_by (suc n) fault reading = Some (said_with fault reading)

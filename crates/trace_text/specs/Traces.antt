@@ -3,13 +3,15 @@ use Rattle.std.specs.Prelude.{ℕ, List}
 use Rattle.scc_base.specs.Setups.{SetupView}
 use Rattle.scc_proto.specs.Words.{RankEvent}
 
--- the most bytes of a trace's text, 1 GiB; the most lines; and the most bytes of a line
+-- the most bytes of a trace's text: 1 GiB
 abbrev pub most_trace_bytes : ℕ
 most_trace_bytes = 1073741824
 
+-- the most lines of a trace
 abbrev pub most_trace_lines : ℕ
 most_trace_lines = 16777216
 
+-- the most bytes of a line
 abbrev pub most_line_bytes : ℕ
 most_line_bytes = 255
 

@@ -7,5 +7,6 @@ use Rattle.trace_text.specs.declared.traces.TraceEvent.{TraceEvent}
 abbrev pub rank_event : TraceEvent → RankEvent
 rank_event e = record { rank = e.rank; event = e.event }
 
+-- the events of a list, each with its rank
 abbrev pub rank_events : List TraceEvent → List RankEvent
 rank_events events = map rank_event events

@@ -27,7 +27,7 @@ text_reading text = trace_lines_said (whole_lines text)
 abbrev pub HasComeTo : List ℕ → TraceReading → Type 0
 HasComeTo text r = text_reading text ≡ Some (Ok r)
 
--- what lines say with one line more, which stands behind so many
+-- what lines say with one line more, which stands behind `before` lines
 abbrev pub next_said : Option (Result TraceReading TraceFault) → ℕ → List ℕ → Result TraceReading TraceFault
 next_said None before line = first_taken line
 next_said (Some said) before line = said >-> λ reading. ok_or (line_taken reading line) (record { line = before + 1; kind = line_fault line })

@@ -10,10 +10,11 @@ use Rattle.scc_base.specs.Places.{WordAt}
 use Rattle.scc_base.specs.declared.layouts.Layout.{Layout}
 use Rattle.scc_base.specs.declared.layouts.Layout.TheVariants.{LineFlags, BitFlags}
 
--- what stands between the dots of a word, and between its commas
+-- the parts of a word between its dots
 abbrev pub dot_parts : List ℕ → List (List ℕ)
 dot_parts word = slice_split (λ b. b == 46) word
 
+-- the parts of a word between its commas
 abbrev pub comma_parts : List ℕ → List (List ℕ)
 comma_parts word = slice_split (λ b. b == 44) word
 

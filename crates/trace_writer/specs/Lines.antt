@@ -16,11 +16,12 @@ use Rattle.scc_base.specs.declared.layouts.Layout.{Layout}
 use Rattle.scc_base.specs.declared.layouts.Layout.TheVariants.{LineFlags, BitFlags}
 use Rattle.scc_proto.specs.Words.{Role, HeaderWord, ChunkWord, SentFlag, ReadyFlag, SentFlags, ReadyFlags, GatherFlag, ReleaseFlag, HeapWord, IdleWord, RankEvent, role_of}
 
--- the name of a layout, and of an access
+-- the name of a layout
 abbrev pub layout_name : Layout → List ℕ
 layout_name LineFlags = codes "words"
 layout_name BitFlags = codes "bits"
 
+-- the name of an access
 abbrev pub access_name : Access → List ℕ
 access_name Load = codes "load"
 access_name Store = codes "store"
@@ -44,13 +45,14 @@ role_words (ReleaseFlag comm owner) = codes "release of " ∷ decimal owner ∷ 
 role_words HeapWord = codes "heap" ∷ []
 role_words IdleWord = codes "nobody's" ∷ []
 
--- where an access is, and what its place is for
+-- where an access is: the line and word behind its core, or the core's register
 abbrev pub place_words : Access → WordAt → List (List ℕ)
 place_words Load place = codes "." ∷ decimal place.line ∷ codes "." ∷ decimal place.word ∷ []
 place_words Store place = codes "." ∷ decimal place.line ∷ codes "." ∷ decimal place.word ∷ []
 place_words Take place = codes ".register" ∷ []
 place_words Free place = codes ".register" ∷ []
 
+-- what the place of an access is for
 abbrev pub comment_words : SetupView → Access → WordAt → List (List ℕ)
 comment_words s Load place = role_words (role_of s place)
 comment_words s Store place = role_words (role_of s place)
@@ -78,6 +80,7 @@ abbrev pub split_line : ℕ → ℕ → List ℕ → ℕ → List ℕ
 split_line comm parent how parts =
     joined (codes "comm " ∷ decimal comm ∷ codes " " ∷ decimal parent ∷ how ∷ decimal parts ∷ codes "\n" ∷ [])
 
+-- the line of a communicator, and no line where it is no split
 abbrev pub comm_line : ℕ → CommRule → List ℕ
 comm_line comm Absent = []
 comm_line comm World = []
