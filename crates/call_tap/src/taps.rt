@@ -1,4 +1,4 @@
-//! A tap.
+//! A tap: it stands before a port, reads each access, and keeps the rank's finished calls.
 
 use crate::kept::Kept;
 use record_machine::Machine;

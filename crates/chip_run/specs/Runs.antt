@@ -13,7 +13,7 @@ use Rattle.chip_run.specs.Crews.{CrewStands}
 use Rattle.chip_run.specs.Orders.{TurnsOf, drawn, drawn_in, named, ranks_by}
 use Rattle.chip_run.specs.Conducts.{Conduct}
 
--- before the first round: on one thread one generator, made of the seed, serves the whole run
+-- how the rounds of a run are made: in threads, or by one generator, made of the seed, that serves the whole run
 abbrev pub rounds_of : Mode → Rounds
 rounds_of mode.Threads = rounds.InThreads
 rounds_of (mode.Serial seed) = rounds.Picked (pcg32_of_seed (pcg32_seed 16 seed))

@@ -29,7 +29,7 @@ pub fn looks_stay_vain()
         → list_all is_resting before ≡ true → list_all is_resting rest ≡ true
         → Like rec (record_from s me rec (before ++ rest)) → Like rec (records me) → ((j : ℕ) → j ≢ me → Like (seen j) (records j))
         → Waits s (view_of s at) me (seen me) want → Waits s (view_of s now) me (records me) want }
-    // By the same words a rank whose record is alike waits for the same.
+    // A rank waits for the same by the same words where its record is alike.
     ensures same { (s : SetupView) (view : View) (me : ℕ) (rec now : Record) (want : Want)
         → Like rec now → Waits s view me rec want → Waits s view me now want }
     // A send whose chunk is up waits where its `ready` is not set: it cannot have seen it set.

@@ -5,10 +5,10 @@ ghost use Rattle.std.specs.Prelude.{◌<◌};
 use std::sync::atomic::{AtomicU64, Ordering};
 use std::thread;
 
-/// From how many vain turns in a row on other threads run behind each.
+/// From this many vain turns in a row on, another thread runs behind each.
 const PATIENCE: usize = 16;
 
-/// Behind how many vain turns in a row a rank is about to give up.
+/// After this many vain turns in a row, a rank is about to give up.
 const LAST: usize = 999;
 
 /// How many of the threads that a round asks for have begun. Where the system refuses one, its rows wait until those of another
@@ -31,7 +31,7 @@ impl Roll {
         }
     }
 
-    /// One of its threads begins.
+    /// Notes that one more thread of the round has begun.
     pub(crate) fn begin(&self) {
         self.begun.fetch_add(1, Ordering::SeqCst);
     }

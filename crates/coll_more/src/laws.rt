@@ -21,7 +21,7 @@ pub fn begins_law()
         → IsFit more s.seat.rank s.seat.setup.nue len src dst → MoreStands (record_in s).calls (taking_part s c (new_more more len) slot src dst) }
 {}
 
-/// At its start a collective call has at most the bounds of its messages left, and two for each of them, and two.
+/// The turns that a collective call has left at its start: at most those of its messages, two more for each of them, and two.
 pub fn turns_law()
     ensures bound { (seat : Seat) (more : More) (len : ℕ) (slot : SlotAt)
         → more_left seat (new_more more len) slot

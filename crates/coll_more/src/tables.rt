@@ -41,7 +41,7 @@ pub(crate) fn copies_own(more: More, rank: Rank) -> bool
     more == More::Alltoall || rank.number() == 0
 }
 
-// The message by which a piece of this number goes to the rank of this number, or comes from it.
+// The message of piece `number`, which goes to the rank of that number or comes from it.
 fn piece(way: Way, number: u8, len: u32) -> PieceCall
     requires below { number < 48 }
     requires short { len ≤ 1024 }
@@ -55,7 +55,7 @@ fn piece(way: Way, number: u8, len: u32) -> PieceCall
     }
 }
 
-// The message by which the first bytes go to a rank, or come from it.
+// The message of the first `len` bytes, which go to rank `number` or come from it.
 fn front(way: Way, number: u8, len: u32) -> PieceCall
     requires below { number < 48 }
     ensures gives { result ≡ record { peer = number; way = way; first = 0; len = len } }

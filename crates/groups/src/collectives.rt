@@ -54,7 +54,7 @@ impl Coll {
         }
     }
 
-    /// The communicator.
+    /// The communicator of the call.
     pub(crate) fn comm(self) -> u8
         ensures gives { result ≡ comm_of self }
     {

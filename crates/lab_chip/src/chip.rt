@@ -70,7 +70,7 @@ impl LabChip {
         })
     }
 
-    /// From now on it is the turn of this rank.
+    /// Makes it the turn of this rank, from now on.
     pub fn turn_to(&mut self, rank: Rank)
         requires below { rank < self.old.setup.nue }
         ensures turns { self.new ≡ with_turn self.old rank }

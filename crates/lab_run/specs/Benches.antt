@@ -16,12 +16,12 @@ pub record BenchStands (b : Bench) : Type 0 where
   pub bench : IsBench b.chip (map holds_of b.cores.items) b.holders
   pub told : all_events b.chip ≡ accesses_of b.said.items
 
--- nothing was done yet
+-- a bench at which nothing was done yet
 pub record IsNewBench (b : Bench) : Type 0 where
   pub stand : bench_stand b ≡ lab_start
   pub stands : BenchStands b
 
--- a step came to this
+-- what a step of a lab came to stands on the bench: what it left, and whether the lab stopped there
 pub record HasMade (done : Done) (stopped : Option Stopped) (b : Bench) : Type 0 where
   pub stand : bench_stand b ≡ done.stand
   pub stop : stopped ≡ done.stop

@@ -40,7 +40,7 @@ pub record IsCall (op : CoreScene → CoreScene) (me : ℕ) (memory : Memory) (o
   pub accesses : accesses_of said ≡ of_rank_all me events
   pub scene : op (scene_over memory old []) ≡ scene_over (after_all memory events) new said
 
--- A word was read: some line left the cache, or none, and where a lab names that line its core does and answers the same.
+-- A word was read. Some line left the cache, or none; where a lab names that line, its core does and answers the same.
 pub record IsWordRead (me : ℕ) (memory : Memory) (old new : CoreAt) (p : WordAt) (v : ℕ) : Type 0 where
   pub evict : Option LineAt
   pub call : IsCall (word_read me p evict) me memory old new

@@ -11,7 +11,7 @@ use Rattle.lab_plain.specs.Meaning.{Done, Stand, free_made, holder_of, is_holder
 use Rattle.lab_run.specs.Accesses.{accesses_told}
 use Rattle.lab_run.specs.Stands.{held_word}
 
--- What a port made meanwhile is the access that a lab prints, and its step comes to this.
+-- A call of a register: what its port made meanwhile is the access that a lab prints, and the lab's step comes to this.
 pub record IsRegisterCall (me : ℕ) (said : Said) (old new : Sight) (done comes : Done) : Type 0 where
   pub events : List Event
   pub did : Did old events new

@@ -29,12 +29,12 @@ pub record AreNew (cores : List Private) : Type 0 where
 abbrev pub record_at : LabChipView → ℕ → Record
 record_at chip r = records_of chip.setup (all_events chip) r
 
--- the word of a register that somebody has, or nobody
+-- the value of a register: 1 where some core has it, and else 0
 abbrev pub held_word : Option ℕ → ℕ
 held_word holder = if is_some holder then 1 else 0
 
--- Of a lab's chip: no call of any rank is open, in each write-combining buffer stands a heap line or none, a rank holds exactly the
--- registers that its core has, and a register is 1 exactly where some core has it.
+-- A lab's chip between two steps: no call of any rank is open, in each write-combining buffer stands a heap line or none, a rank
+-- holds exactly the registers that its core has, and a register is 1 exactly where some core has it.
 pub record IsBench (chip : LabChipView) (cores : List Holds) (holders : List (Option ℕ)) : Type 0 where
   pub setup : IsLabSetup chip.setup
   pub ranks : length cores ≡ 48

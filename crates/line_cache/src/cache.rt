@@ -31,7 +31,7 @@ pub struct Cache {
     // The lines stand first, and what stands behind them is of no account.
     entries: [Entry; 512],
     len: usize,
-    // By the number of a line. A line whose mark is of another pass is not held.
+    // The mark of each line, by its number. A line whose mark is of another pass is not held.
     marks: [Mark; 256],
     // How often all lines were dropped. It may wrap: a mark of the same pass is no more than where to look first.
     pass: u32,

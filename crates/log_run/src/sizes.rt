@@ -33,7 +33,7 @@ impl Sizes {
     ghost use Rattle.script_plain.specs.Walk.{IsShort, act_meant};
     ghost use Rattle.log_run.specs.Sizes.{Asks, HasSameSizes};
 
-    /// Of a rank that holds nothing and has this many registers.
+    /// The sizes of a rank that holds nothing and has `count` registers.
     pub fn none(alloc: Global, count: usize) -> Result<Sizes, AllocError>
         ensures { IfOk result (λ z. z ≡ nothing_held count) }
     {

@@ -88,7 +88,7 @@ impl<V: Evict> Core<V> {
         self.combiner.held()
     }
 
-    /// From now on this evictor is asked. The one before is handed back.
+    /// Asks this evictor from now on, and hands back the one before.
     pub fn evict_by(&mut self, evict: V) -> V
         ensures asks { self.new ≡ record self.old {
           evictions = V.count evict;

@@ -79,7 +79,7 @@ impl MemFiles {
         Ok(())
     }
 
-    /// From now on a read gives at most this many bytes. The last number set counts.
+    /// Sets how many bytes a read gives at most, from now on.
     pub fn piece(&mut self, most: usize)
         requires { 0 < most }
         ensures { self.new ≡ record self.old { most = most } }

@@ -30,7 +30,7 @@ pub record IsAtEnd (script : Script) (s : SetupView) (records : ℕ → Record) 
   pub ends : Holds script.nue (plain_end script) (λ k. state_of (locals k) (records k)) (slots_by s records lasts)
   pub opened : IsOpenCall s records (λ k. state_of (locals k) (records k))
 
--- all ranks have finished in the plain meaning, or one has not
+-- how a run ended is how the plain meaning ends: all ranks have finished in it, or one has not
 abbrev pub EndsAs : RunEnd → Script → Type 0
 EndsAs run_end.Finished script = (k : ℕ) → k < script.nue → (ended_at (plain_ends script) k).end ≡ ue_end.Finished
 EndsAs run_end.Stuck script = (k : ℕ) × (k < script.nue) × ((ended_at (plain_ends script) k).end ≢ ue_end.Finished)

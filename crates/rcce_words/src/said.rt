@@ -35,7 +35,7 @@ fn number_behind(at: usize, least: u32, most: u32, behind: Option<&str>) -> Resu
 }
 
 impl Said {
-    /// Nothing yet.
+    /// What was said before the first word: nothing.
     pub(crate) fn nothing() -> Said
         ensures same { result ≡ nothing }
         ensures within { IsWithin result }

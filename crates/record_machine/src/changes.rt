@@ -12,9 +12,9 @@ use scc_base::{Rank, Setup};
 /// What a store to a word of bit flags changes.
 #[derive(Clone, Copy)]
 pub(crate) enum Change {
-    /// At the own core the bit of this rank is cleared.
+    /// The bit of this rank is cleared, at the own core.
     Lowered { of: Rank },
-    /// At the core of this rank the own bit is set.
+    /// The own bit is set, at the core of this rank.
     Raised { at: Rank },
     /// What no rank may change.
     Misplaced,

@@ -35,7 +35,7 @@ impl NotedLine {
         NotedLine { words: [None; 4] }
     }
 
-    /// With one word more, which counts before what was noted of it.
+    /// The line with one word noted anew: the new value counts.
     pub(crate) fn with(self, word: u8, value: u64) -> NotedLine
         requires below { word < 4 }
         ensures notes { (notes : Notes) → IsLineOf self notes → IsLineOf result (note_word word value notes) }

@@ -33,7 +33,7 @@ impl Machine {
     ghost use Rattle.scc_proto.specs.Stages.{Record, blank};
     ghost use Rattle.record_machine.specs.Following.{FinishesCall, FollowsRecord, Takes, event_of};
 
-    /// Of a rank that has made no event.
+    /// The machine of a rank that has made no event.
     pub fn new(alloc: Global, setup: Setup, rank: Rank) -> Result<Machine, AllocError>
         requires below { rank < setup.nue }
         ensures setup { IfOk result (λ m. (m.setup ≡ setup) × (m.rank ≡ rank)) }

@@ -142,7 +142,7 @@ impl Work {
     ghost use Rattle.record_machine.specs.Standing.{IsInHand, StandsFor};
     ghost use Rattle.record_machine.specs.Steps.{IsStepWithin, move_of};
 
-    /// Of a rank that has done nothing, where a whole chunk has `size` bytes.
+    /// The work of a rank that has done nothing, where a whole chunk has `size` bytes.
     pub fn new(alloc: Global, size: u32) -> Result<Work, AllocError>
         requires within { size ≤ 6624 }
         ensures size { IfOk result (λ w. w.size ≡ size) }

@@ -9,7 +9,7 @@ use Rattle.line_cache.specs.declared.evict.Choice.TheVariants.{Never, Seeded}
 use Rattle.rcce_ue.specs.Ues.{UeView}
 use Rattle.chip_run.specs.declared.members.Member.{Member}
 
--- the evictor of a rank: with a seed one that the seed and the rank start, and without one one that never evicts
+-- the evictor of a rank: with a seed the one that the seed and the rank start, and else one that never evicts
 abbrev pub evictor_of : Option ℕ → ℕ → Choice
 evictor_of None rank = Never
 evictor_of (Some seed) rank = Seeded (record { generator = pcg32_of_seed (pcg32_seed 16 (seed + rank)); count = 0 })

@@ -28,9 +28,9 @@ abbrev pub mode_by : Option ℕ → Mode
 mode_by None = mode.Threads
 mode_by (Some seed) = mode.Serial seed
 
--- The turns of a run left this chip: it began on a chip just opened, with members before their first turn, whose cores answered
--- as the evictors of the job's seed do. From there led to this chip turns of the ranks that the job's seed for one thread names;
--- and where it has none, rounds in threads, in which each member took a row of turns in whatever order; and behind each round a
+-- The turns of a run left this chip. The run began on a chip just opened, with members before their first turn, whose cores
+-- answered as the evictors of the job's seed do. With a seed for one thread, the ranks that the seed names took turns; without
+-- one there were rounds in threads, in which each member took a row of turns, in whatever order. Behind each round there was a
 -- sweep of all ranks in their order.
 pub record WasRun (asked : Asked) (chip : ChipView) : Type 0 where
   pub first : ChipView

@@ -23,7 +23,7 @@ run_plan script = Runs (run_ran script)
 abbrev pub file_plan : List ℕ → ℕ → Plan
 file_plan file nue = script_plan run_plan file nue
 
--- cores that were read lead on, and the first fault of the host file refuses it
+-- the plan behind a host file: its cores lead on to the next plan, and its first fault refuses the file
 abbrev pub listed_plan : List ℕ → Plan → Result (List ℕ) HostFault → Plan
 listed_plan file next (Err fault) = Refuses file fault.line (host_kind_name fault.kind)
 listed_plan file next (Ok cores) = next

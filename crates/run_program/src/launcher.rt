@@ -122,7 +122,7 @@ fn run_crew<R: Threads + Sync, G: Gate + Sync>(
     run(rt, chip, crew, mode_of(loaded.job.serial), gate)
 }
 
-// In threads, or on one thread in the order that a seed names.
+// How a run is made: in threads, or on one thread in the order that a seed names.
 fn mode_of(serial: Option<u32>) -> Mode
     ensures gives { result ≡ mode_by serial }
 {

@@ -54,7 +54,7 @@ fn words_of<P: Port>(port: &mut P) -> [u64; 7]
     ]
 }
 
-/// These words behind a run of a script for two ranks.
+/// The values of these words of the chip after a run of a script for two ranks.
 fn words_after<R: Threads + Sync>(
     rt: &R,
     alloc: Global,

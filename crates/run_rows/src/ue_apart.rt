@@ -41,7 +41,7 @@ fn turns<M: Player, P: Port>(player: &mut M, port: &mut P, count: u32)
     }
 }
 
-// The same of a rank that is away, by a port that its token gives for them.
+// `count` turns of a rank that is away, by a port that its token gives for them.
 fn turns_away<M: Player>(words: Words<'_>, token: Token, player: &mut M, count: u32) -> Token
     requires of_chip { token.table ≡ words.space.now.table }
     requires stands { M.stands player.old words.space.now.about token.rank token.events }
@@ -53,7 +53,7 @@ fn turns_away<M: Player>(words: Words<'_>, token: Token, player: &mut M, count: 
     port.into_token()
 }
 
-// The same, with the token in its place before and after them.
+// `count` turns of a rank that is away, with the token in its place before and after them.
 fn turns_held<M: Player + Drop>(words: Words<'_>, rank: &mut Apart<M>, count: u32)
     requires away { IsAway (M.stands rank.old.player) words.space.now.about words.space.now.table rank.old.token }
     ensures away { IsAway (M.stands rank.new.player) words.entry.space.now.about words.entry.space.now.table rank.new.token }

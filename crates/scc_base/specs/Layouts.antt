@@ -26,7 +26,7 @@ abbrev pub ready_at : Layout → ℕ → FlagPlace
 ready_at LineFlags by = line_flag (49 + by)
 ready_at BitFlags by = bit_flag 1 by
 
--- the first line of the gather flags, and of the release flags
+-- the line of the gather flag of communicator 0
 abbrev pub first_gather : Layout → ℕ
 first_gather LineFlags = 97
 first_gather BitFlags = 2
@@ -53,7 +53,7 @@ first_chunk BitFlags = 18
 abbrev pub first_heap : ℕ
 first_heap = 225
 
--- the lines and the bytes of the chunk buffer
+-- how many lines the chunk buffer has
 abbrev pub chunk_lines : Layout → ℕ
 chunk_lines LineFlags = 112
 chunk_lines BitFlags = 207

@@ -2,13 +2,13 @@
 -- Specification: 48 cores, 256 lines of 32 bytes a core; the four words of a line are this project's profile).
 use Rattle.std.specs.Prelude.{Bool, ◌==◌, ◌&&◌, ℕ, ◌+◌, ◌<◌, ◌≤◌}
 
--- a word of the buffer
+-- a word of a message passing buffer: the core, the line and the word in it
 pub record WordAt : Type 0 where
   pub core : ℕ
   pub line : ℕ
   pub word : ℕ
 
--- a line of the buffer
+-- a line of a message passing buffer: the core and the line
 pub record LineAt : Type 0 where
   pub core : ℕ
   pub line : ℕ

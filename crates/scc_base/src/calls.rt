@@ -19,7 +19,7 @@ pub enum Call {
 impl Call {
     ghost use Rattle.std.specs.Prelude.{◌≡◌};
 
-    /// The same call once more.
+    /// A copy of the call.
     pub fn copy(&self) -> Call
         ensures gives { result ≡ self.now }
     {

@@ -85,7 +85,7 @@ pub enum Spot {
 impl Spot {
     ghost use Rattle.std.specs.Prelude.{◌≡◌};
 
-    /// The same spot once more.
+    /// A copy of the spot.
     pub fn copy(&self) -> Spot
         ensures gives { result ≡ self.now }
     {
@@ -113,7 +113,7 @@ pub enum Turn {
 impl Turn {
     ghost use Rattle.std.specs.Prelude.{◌≡◌};
 
-    /// The same answer once more.
+    /// A copy of the answer.
     pub fn copy(&self) -> Turn
         ensures gives { result ≡ self.now }
     {

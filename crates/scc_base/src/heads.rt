@@ -137,7 +137,7 @@ impl PostHead {
         }
     }
 
-    /// The same head, as one that any message may have.
+    /// The head, as one that any message may have.
     pub fn head(&self) -> Head
         ensures gives { result ≡ self.now }
         ensures valid { IsPostHead self.now }

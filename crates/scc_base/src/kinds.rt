@@ -6,13 +6,13 @@
 pub enum Kind {
     /// A message of send and receive.
     Plain,
-    /// From the root of a broadcast to a member.
+    /// A message from the root of a broadcast to a member.
     Bcast,
-    /// From a member to the root of a reduction.
+    /// A message from a member to the root of a reduction.
     Reduce,
-    /// From a member to member 0, in a reduction whose result all get.
+    /// A message from a member to member 0, in a reduction whose result all get.
     AllUp,
-    /// From member 0 to a member, with that result.
+    /// A message from member 0 to a member, with that result.
     AllDown,
 }
 

@@ -69,7 +69,7 @@ impl Layout {
         }
     }
 
-    /// The flag by which a sender tells that a chunk is there. It lies at the receiver's core.
+    /// The flag `sent` of a sender, at the receiver's core: it tells that a chunk is there.
     pub fn sent(self, from: Rank) -> FlagAt
         ensures gives { result ≡ sent_at self from }
     {
@@ -79,7 +79,7 @@ impl Layout {
         }
     }
 
-    /// The flag by which a receiver tells that it has a chunk. It lies at the sender's core.
+    /// The flag `ready` of a receiver, at the sender's core: it tells that the chunk was taken.
     pub fn ready(self, by: Rank) -> FlagAt
         ensures gives { result ≡ ready_at self by }
     {
@@ -89,7 +89,7 @@ impl Layout {
         }
     }
 
-    /// The flag by which a member tells that it has entered a barrier. It lies at the member's core.
+    /// The gather flag of a communicator, at a member's core: it tells that the member has entered a barrier.
     pub fn gather(self, comm: u8) -> FlagAt
         requires below { comm < 16 }
         ensures gives { result ≡ gather_at self comm }
@@ -100,7 +100,7 @@ impl Layout {
         }
     }
 
-    /// The flag by which a root lets a member go on from a barrier. It lies at the member's core.
+    /// The release flag of a communicator, at a member's core: it tells that the member may leave the barrier.
     pub fn release(self, comm: u8) -> FlagAt
         requires below { comm < 16 }
         ensures gives { result ≡ release_at self comm }

@@ -82,7 +82,7 @@ impl Setup {
         })
     }
 
-    /// The same setup once more.
+    /// A copy of the setup.
     pub fn copy(&self) -> Setup
         ensures gives { result ≡ self.now }
     {

@@ -105,5 +105,6 @@ event_found Free place value found = free_of place.core
 abbrev pub MayAccess : SetupView → ℕ → List Event → Access → WordAt → ℕ → Type 0
 MayAccess s r events access place value = IsPermitted s r (record_of s r events) (event_found access place value 1)
 
+-- an event for each number where none is meant: the free of register 0
 abbrev pub no_event : ℕ → Event
 no_event n = free_of 0

@@ -1,4 +1,4 @@
-//! The chip.
+//! The chip: its shared words, and the ports through which ranks reach them, at home or away.
 
 use crate::away::Words;
 use crate::board::Board;

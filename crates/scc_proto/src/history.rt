@@ -18,7 +18,7 @@ impl<E> Model for History<E> {
 }
 
 impl<E> History<E> {
-    /// Nothing yet.
+    /// A history of no events.
     pub fn new() -> History<E>
         ensures { result.items ≡ [] }
     {

@@ -60,15 +60,15 @@ pub fn verdict_law()
         → (IsLegal nue keys calls slots) ↔ (IsUsedUp slots e) }
 {}
 
-/// In legal lists a rank has received what another one has sent and posted to it, in that order, but for a message that
-/// stands in that one's slot.
+/// What a rank has received from another in legal lists is what the other has sent and posted to it, in that order, but for
+/// a message that stands in the other's slot.
 pub fn messages_law()
     ensures law { (nue : ℕ) (keys : ℕ → ℕ → ℕ) (calls : ℕ → List DataCall) (slots : ℕ → Option Outgoing)
         → IsLegal nue keys calls slots → (from to : ℕ)
         → sent_messages to (calls from) ≡ received_messages from (calls to) ++ slot_message to (slots from) }
 {}
 
-/// In legal lists the members of a group have as many barriers of its communicator.
+/// The members of a group have equally many barriers of its communicator in legal lists.
 pub fn barriers_law()
     ensures law { (nue : ℕ) (keys : ℕ → ℕ → ℕ) (calls : ℕ → List DataCall) (slots : ℕ → Option Outgoing)
         → IsLegal nue keys calls slots → (comm a b : ℕ) → a < nue → b < nue → keys comm a ≡ keys comm b

@@ -266,7 +266,7 @@ pub fn one_bit_changes()
     ensures ready_is_set { RefusesEvent two_ranks_bits 0 (takes_bit ++ takes 0 1 ∷ loads 0 1 1 1 1 ∷ []) (stores 0 1 1 1 2) }
 {}
 
-/// At the own core one bit is cleared, which is the other rank's whose flag was seen.
+/// One bit is cleared at the own core: that of the other rank, whose flag was seen.
 pub fn one_bit_is_cleared()
     ensures two { RefusesEvent two_ranks_bits 0 (sees_bit ++ takes 0 0 ∷ loads 0 0 1 0 6 ∷ []) (stores 0 0 1 0 0) }
     ensures more { RefusesEvent two_ranks_bits 0 (sees_bit ++ takes 0 0 ∷ loads 0 0 1 0 2 ∷ []) (stores 0 0 1 0 1) }
@@ -278,7 +278,7 @@ pub fn one_bit_is_cleared()
     ensures ready_is_clear { RefusesEvent two_ranks_bits 1 (sets_bit ++ loads 1 1 1 1 1 ∷ takes 1 1 ∷ loads 1 1 1 1 2 ∷ []) (stores 1 1 1 1 1) }
 {}
 
-/// With bit flags a look is a load at the own core while its register is not held.
+/// A look at bit flags is a load at the own core while its register is not held.
 pub fn bits_are_looked_at()
     ensures sent_held { RefusesEvent two_ranks_bits 0 (takes 0 0 ∷ loads 0 0 1 0 2 ∷ reads_empty 0 1) (stores 0 0 1 0 0) }
     ensures sent_elsewhere { RefusesEvent two_ranks_bits 0 (loads 0 1 1 0 2 ∷ reads_empty 0 1 ++ takes 0 0 ∷ loads 0 0 1 0 2 ∷ []) (stores 0 0 1 0 0) }
@@ -287,7 +287,7 @@ pub fn bits_are_looked_at()
     ensures ready_elsewhere { RefusesEvent two_ranks_bits 1 (sets_bit ++ frees 1 0 ∷ loads 1 0 1 1 1 ∷ takes 1 1 ∷ loads 1 1 1 1 1 ∷ []) (stores 1 1 1 1 0) }
 {}
 
-/// With line flags a look is a load of the own flag that answers 1.
+/// A look at a line flag is a load of the own flag that answers 1.
 pub fn lines_are_looked_at()
     ensures sent_two { RefusesEvent three_ranks 2 (loads 2 40 1 0 2 ∷ reads_empty 2 7) (stores 2 40 1 0 0) }
     ensures sent_elsewhere { RefusesEvent three_ranks 2 (loads 2 5 1 0 1 ∷ reads_empty 2 7) (stores 2 40 1 0 0) }

@@ -89,7 +89,7 @@ fn entrants(alloc: Global, chip: Chip, comm: u8, more: u8) -> Result<Team<Entran
     Ok(team)
 }
 
-// In how many rounds of this order all ranks pass a barrier and one more after it.
+// How many rounds of this order it takes until all ranks have passed a barrier and one more after it.
 fn rounds_of(alloc: Global, layout: Layout, nue: u8, order: &[usize]) -> Result<u32, Fail> {
     let chip = opened(alloc, nue, layout, CommRule::Absent)?;
     let mut team = entrants(alloc, chip, 0, 1)?;

@@ -126,12 +126,12 @@ pub(crate) fn shows<M: Meeting>(alloc: Global) -> Result<(), Fail> {
     shows_in::<M>(alloc, Layout::LineFlags)
 }
 
-/// The same with these flags.
+/// Shows what a meeting of this kind shows, in this layout of the flags.
 pub(crate) fn shows_in<M: Meeting>(alloc: Global, layout: Layout) -> Result<(), Fail> {
     as_named(holds_in::<M>(alloc, layout)?)
 }
 
-/// The same with each layout of the flags.
+/// Shows what a meeting of this kind shows, in both layouts of the flags.
 pub(crate) fn shows_in_both<M: Meeting>(alloc: Global) -> Result<(), Fail> {
     for layout in LAYOUTS {
         shows_in::<M>(alloc, *layout)?;

@@ -44,7 +44,7 @@ pub fn ranks_go_their_own_ways()
     ensures law { (script : Script) (c : Configuration State) → IsReached script c → AreOwnWays script c }
 {}
 
-/// Wherever a rank stands at a statement, its collective calls of a kind are as many by whichever messages they are counted.
+/// How many collective calls of a kind a rank has made is told by any of their messages, wherever it stands at a statement.
 pub fn calls_are_counted_alike()
     ensures law { (script : Script) → AreCountedAlike script }
 {}

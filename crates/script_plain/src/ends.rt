@@ -33,7 +33,7 @@ pub enum UeEnd {
 impl UeEnd {
     ghost use Rattle.std.specs.Prelude.{◌≡◌};
 
-    /// The same end once more.
+    /// A copy of the end.
     pub fn copy(&self) -> UeEnd
         ensures { result ≡ self.now }
     {

@@ -99,7 +99,7 @@ pub struct History {
     pub end: End,
 }
 
-/// The same matches and takes with the end of the plain meaning, by one run.
+/// The matches and takes of the plain meaning and its end, by one run.
 pub fn plain_history(alloc: Global, scripts: &Scripts) -> Result<History, AllocError>
     ensures matches { IfOk result (λ h. h.matches ≡ plain_matches scripts.now) }
     ensures end { IfOk result (λ h. h.end ≡ plain_ends scripts.now) }

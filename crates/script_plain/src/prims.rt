@@ -153,7 +153,7 @@ impl<'s> Action<'s> {
 impl<'s> Primitive<'s> {
     ghost use Rattle.std.specs.Prelude.{◌≡◌};
 
-    /// The same primitive once more.
+    /// A copy of the primitive.
     #[inline(always)]
     pub(crate) fn copy(&self) -> Primitive<'s>
         ensures { result ≡ self.now }

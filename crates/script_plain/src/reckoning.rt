@@ -67,7 +67,7 @@ impl Lengths {
     ghost use Rattle.script_plain.specs.Lengths.{length_at, with_register};
     ghost use Rattle.script_plain.specs.Rooms.{greater, nothing_held};
 
-    /// Of a rank that holds nothing and has this many registers.
+    /// The lengths of a rank that holds nothing and has `count` registers.
     fn none(alloc: Global, count: usize) -> Result<Lengths, AllocError>
         ensures { IfOk result (λ l. l ≡ nothing_held count) }
     {
@@ -159,7 +159,7 @@ impl Reckoning {
     ghost use Rattle.script_plain.specs.Rooms.{IsWider, IsWithin, nothing_held, rooms_of, spare_length};
     ghost use Rattle.script_plain.specs.Walk.{IsShort, act_meant};
 
-    /// Of a rank that holds nothing and has this many registers.
+    /// The reckoning of a rank that holds nothing and has `count` registers.
     fn new(alloc: Global, count: usize) -> Result<Reckoning, AllocError>
         ensures { IfOk result (λ r. r.lengths ≡ nothing_held count) }
     {

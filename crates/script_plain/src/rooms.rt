@@ -76,7 +76,7 @@ impl Room {
         Ok(Room { bytes, room })
     }
 
-    /// The bytes.
+    /// The bytes that it holds.
     pub fn bytes(&self) -> &[u8]
         ensures same { result.now ≡ self.now.bytes }
         ensures within { length self.now.bytes ≤ 65536 }

@@ -24,7 +24,7 @@ use std::alloc::{AllocError, Global};
 /// The step that a rank owns.
 #[derive(Drop)]
 pub enum Step {
-    /// None.
+    /// It owns no step.
     Stays,
     /// Its own statement.
     Goes,

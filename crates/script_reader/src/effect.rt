@@ -302,7 +302,7 @@ impl Group {
         }
     }
 
-    /// The rule by which a statement splits a communicator, if it does.
+    /// The rule that a statement gives communicator `comm`, and no rule where it does not split it.
     pub(crate) fn split_rule(self, comm: u8) -> CommRule
         ensures { result ≡ split_rule self comm }
     {

@@ -16,12 +16,12 @@ pub enum Who {
     All,
     Even,
     Odd,
-    /// From one rank to another, both included.
+    /// The ranks from the one to the other, both included.
     Span(Rank, Rank),
 }
 
 impl Who {
-    /// The same section once more.
+    /// A copy of the section.
     pub fn copy(&self) -> Who
         ensures { result ≡ self.now }
     {

@@ -29,9 +29,9 @@ pub(crate) struct Setting {
 pub(crate) struct Tally {
     pub(crate) operations: u64,
     pub(crate) printed: u64,
-    /// By the number of the register.
+    /// The length of each register, by its number, if it is known.
     pub(crate) lengths: [Option<u64>; 256],
-    /// By the number of the communicator.
+    /// Which communicators the rank has split, by their numbers.
     pub(crate) splits: [bool; 256],
 }
 

@@ -132,7 +132,7 @@ pub(crate) fn range_said(word: &[u8], low: u32, high: u32) -> Result<u32, FaultK
     }
 }
 
-/// By how much a split takes the places of its parent's groups apart: 1 to 48.
+/// The K of `mod K` or `div K`, by which a split takes the groups of its parent apart: 1 to 48.
 #[derive(Clone, Copy)]
 pub(crate) struct Parts {
     count: u8,

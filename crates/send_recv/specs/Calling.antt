@@ -26,7 +26,7 @@ use Rattle.send_recv.specs.Steps.{own_core, sent_flag, flag_spot}
 use Rattle.send_recv.specs.Receiving.{RecvStands, SaysHead, IsRecvSpot, recv_spot, recv_call, lines_left, filled_to}
 use Rattle.send_recv.specs.Sending.{SlotStands, SendStands, send_spot, send_call}
 
--- a look at the flag that tells of the sender's chunks
+-- what a receive's look at the sender's `sent` is for
 abbrev pub sent_aim : Seat → RecvAt → Aim
 sent_aim seat op = aim_of seat.setup.layout (flag_spot (own_core seat) (sent_flag seat op.from))
 

@@ -38,8 +38,8 @@ use Rattle.send_recv.specs.Turns.{HoldsNone, IsSamePost, KeepsAllButMessages, Is
 abbrev pub progress_at : ℕ → MessageHead → ℕ → List ℕ → Progress
 progress_at size head chunk bytes = record { head = head; chunks = chunk; bytes = take (chunk_start size chunk) bytes }
 
--- what the rank is in the midst of while no chunk is being taken: a message from whom a chunk was taken, or
--- nothing yet
+-- what the rank is in the midst of while no chunk is being taken: nothing before the first chunk, and then the message
+-- of which chunks were taken
 abbrev pub between : ℕ → RecvAt → List ℕ → Stage
 between size op bytes = if op.chunk == 0 then Idle else Between op.from (progress_at size op.head op.chunk bytes)
 
@@ -160,7 +160,7 @@ recv_spot seat op = spot_by seat.setup.layout (host_of seat.setup.hosts seat.ran
 abbrev pub IsRecvSpot : Seat → RecvAt → Spot → Type 0
 IsRecvSpot seat op spot = (stage : RecvStage) × (recv_spot seat (record op { stage = stage }) ≡ Some spot)
 
--- where a turn waits
+-- the spot at which a receive's turn waits, by its answer, if it waits
 abbrev pub recv_waits : RecvTurn → Option Spot
 recv_waits (turn.Waiting spot) = Some spot
 recv_waits answer = None

@@ -193,7 +193,7 @@ pub record IsSending (seat : Seat) (rec : Record) (c : Private) (op : SendAt) (s
 abbrev pub SendStands : Sight → Private → SendAt → SlotAt → List ℕ → Type 0
 SendStands s c op slot bytes = IsSending s.seat (record_in s) c op slot bytes
 
--- how many turns that do not wait are left from the raise of a chunk on, and of a whole chunk but its lines
+-- how many turns that do not wait are left from the raise of a chunk on: a post is done with the raise
 abbrev pub from_raise : Bool → ℕ
 from_raise posted = if posted then 1 else 3
 

@@ -58,12 +58,12 @@ abbrev pub OnlyTries : Option Aim → List Event → Type 0
 OnlyTries None events = Unit {0}
 OnlyTries (Some aim) events = IsOneTry aim events
 
--- the words of a line after these events stored into it
+-- the words of a line after an access: a store into the line sets one of them
 abbrev pub stored_by : Access → LineAt → WordAt → ℕ → List ℕ → List ℕ
 stored_by Store line place value words = if same_line line (line_of_word place) then slice_set words place.word value else words
 stored_by access line place value words = words
 
--- the words of a line after these events, of which the stores into it count
+-- the words of a line after these events: each store into the line sets one of them
 abbrev pub stored_since : LineAt → List ℕ → List Event → List ℕ
 stored_since line words [] = words
 stored_since line words (e ∷ es) = stored_since line (stored_by e.access line e.place e.value words) es
@@ -91,7 +91,7 @@ pub record StoresFromBuffer (s : SetupView) (c : Private) (es : List Event) : Ty
   pub none_or_all : IsNoneOrAll front (stores_of c.out)
   pub no_draft : list_all (is_no_draft s) rest ≡ true
 
--- where a turn waits
+-- the spot at which a turn waits, by its answer, if it waits
 abbrev pub waits_at : Turn → Option Spot
 waits_at (Waiting spot) = Some spot
 waits_at turn = None

@@ -1,4 +1,4 @@
-//! Header lines.
+//! Header lines: the head that their words say.
 
 ghost use Rattle.std.specs.Prelude.{◌≡◌, ◌<◌, slice_index};
 ghost use Rattle.scc_base.specs.Heads.{IsHead, kind_number};

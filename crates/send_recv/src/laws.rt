@@ -30,7 +30,7 @@ pub fn turns_law()
     ensures slot { (slot : SlotAt) → slot_left slot ≤ 2 }
 {}
 
-/// At a rank that is in no call any message to or from a peer can begin.
+/// Any message to or from a peer can begin at a rank that is in no call.
 pub fn begins_law()
     ensures receive { (s : Sight) (c : Private) (slot : SlotAt) (from : ℕ) (head : MessageHead) (bytes : List ℕ) → IsBetweenMessages s c slot
         → are_peers s.seat.setup s.seat.rank from ≡ true → IsHead head → length bytes ≡ head.len → RecvStands s c (new_receive from head) bytes }

@@ -24,7 +24,7 @@ pub enum SendStage {
     Header,
     /// It writes this line of the chunk.
     Lines(u8),
-    /// With bit flags: it stores what still waits in the write-combining buffer.
+    /// It stores what still waits in the write-combining buffer, with bit flags.
     Flush,
     /// It raises the `sent` flag.
     Raise,

@@ -44,7 +44,7 @@ impl<V: Evict> Station<V> {
         self.finish_send(port, SendOp::post(to, head), bytes)
     }
 
-    /// To whom the posted message is on its way, and None where there is none.
+    /// The rank to which the posted message is on its way, and None where there is none.
     pub fn posted(&self) -> Option<Rank>
         ensures gives { result ≡ self.now.slot.to }
     {

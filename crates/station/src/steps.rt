@@ -16,7 +16,7 @@ use scc_base::{Head, Rank, Spot};
 use scc_proto::Port;
 use send_recv::{RecvOp, SendOp};
 
-/// How values are folded: by which operation, and of which type.
+/// How values are folded: their type, and the operation.
 #[derive(Clone, Copy)]
 pub struct Folding {
     pub op: Op,
@@ -26,18 +26,18 @@ pub struct Folding {
 /// What a collective call over a communicator is in the midst of.
 #[derive(Drop)]
 pub enum Hand {
-    /// Of no message: its next step is yet to begin.
+    /// No message: the next step is yet to begin.
     Between,
-    /// Of this send.
+    /// This send is in hand.
     Sending(SendOp),
-    /// Of this receive.
+    /// This receive is in hand.
     Receiving(RecvOp),
 }
 
 /// A broadcast or a reduction of one rank, as far as it has come.
 #[derive(Drop)]
 pub struct GroupOp {
-    /// Which call.
+    /// Which call it is.
     pub coll: Coll,
     /// How its values are folded, where they are.
     pub folding: Option<Folding>,

@@ -47,7 +47,7 @@ impl Trial {
     ghost use Rattle.trace_text.specs.Grammar.{TraceReading, event_added};
     ghost use Rattle.trace_text.specs.Views.{rank_event};
 
-    /// Of a chip on which no event was made.
+    /// The trial of a chip on which no event was made.
     pub(crate) fn new(alloc: Global, setup: Setup) -> Result<Trial, AllocError>
         ensures tried { IfOk result (λ trial. (r : TraceReading) → setup ≡ r.trace.setup → r.trace.events ≡ [] → IsTried trial r) }
         ensures number { IfOk result (λ trial. trial.number ≡ 0) }

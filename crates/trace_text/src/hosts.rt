@@ -54,7 +54,7 @@ impl Hosts {
         true
     }
 
-    /// With one rank more, on a core of its own.
+    /// The table with one rank more, on a core of its own.
     pub(crate) fn and(self, word: &[u8]) -> Option<Hosts>
         ensures { option_map table_view result ≡ host_said (table_view self) word.now }
     {

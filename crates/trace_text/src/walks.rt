@@ -22,7 +22,7 @@ pub const MOST_TRACE_BYTES: usize = 1_073_741_824;
 /// The most lines of a trace.
 const MOST_TRACE_LINES: u32 = 16_777_216;
 
-/// So much of a line is kept: a longer one is too long.
+/// How many bytes of a line are kept: a longer one is too long.
 const KEPT_LINE_BYTES: usize = 256;
 
 /// What is wrong with a line that is not of its form or in its place.
