@@ -1,4 +1,3 @@
 -- The turns of a slot, which has a message that was posted.
 pub mod SlotApart
-pub mod SlotMoves
 pub mod SlotTurns

@@ -1,12 +1,15 @@
 //! Looks at flags and changes of them, in both layouts.
 
-ghost use Rattle.std.specs.Prelude.{◌≡◌, ◌<◌, true, false, if◌then◌else◌, None, IfSome};
+ghost use Rattle.std.specs.Prelude.{◌≡◌, ◌<◌, true, false, if◌then◌else◌, None, IfSome, is_none};
+ghost use Rattle.scc_base.specs.declared.events.Spot.TheVariants.{Register};
 ghost use Rattle.put_get.specs.Cores.{MadeSteps};
 ghost use Rattle.send_recv.specs.Flags.{bit_of, Looks, WritesFlag, TriesBit, Changes, MayWriteFlag, MayChangeBit, MayChange};
+ghost use Rattle.send_recv.specs.Steps.{own_core, flag_spot};
 
+use crate::places::own_core;
 use line_cache::Evict;
 use put_get::Core;
-use scc_base::{CoreId, FlagAt, Layout};
+use scc_base::{CoreId, FlagAt, Layout, Spot};
 use scc_proto::Port;
 use sync_flags::{is_set_in, look_word, try_change_bit};
 
@@ -22,14 +25,9 @@ fn bit_of(layout: Layout, flag: FlagAt) -> Option<u8>
     }
 }
 
-/// Looks at a flag at a core. The look is fresh: the cache is emptied before.
+// Looks at a flag at a core. The look is fresh: the cache is emptied before.
 #[inline(always)]
-pub(crate) fn look<V: Evict, P: Port>(
-    core: &mut Core<V>,
-    port: &mut P,
-    at: CoreId,
-    flag: FlagAt,
-) -> bool
+fn look<V: Evict, P: Port>(core: &mut Core<V>, port: &mut P, at: CoreId, flag: FlagAt) -> bool
     requires empty { core.old.out ≡ None }
     ensures looks { Looks (P.sight port.old) core.old at flag result (P.sight port.new) core.new }
     ensures steps { MadeSteps P.stepped (P.sight port.old) (P.sight port.new) }
@@ -80,9 +78,9 @@ fn change_bit<V: Evict, P: Port>(
     try_change_bit(core, port, place, bit, set)
 }
 
-/// Changes a flag at a core in one turn. False where its bit lies under a register that another rank has.
+// Changes a flag at a core in one turn. False where its bit lies under a register that another rank has.
 #[inline]
-pub(crate) fn change<V: Evict, P: Port>(
+fn change<V: Evict, P: Port>(
     core: &mut Core<V>,
     port: &mut P,
     at: CoreId,
@@ -99,5 +97,71 @@ pub(crate) fn change<V: Evict, P: Port>(
             true
         }
         Layout::BitFlags => change_bit(core, port, at, flag, set),
+    }
+}
+
+/// Looks at a flag of the own core, in one turn: None where it is set, and else the spot at which the turn waits.
+#[inline(always)]
+pub(crate) fn look_own<V: Evict, P: Port>(
+    core: &mut Core<V>,
+    port: &mut P,
+    flag: FlagAt,
+) -> Option<Spot>
+    requires empty { core.old.out ≡ None }
+    ensures looks { Looks (P.sight port.old) core.old (own_core (P.sight port.old).seat) flag (is_none result) (P.sight port.new) core.new }
+    ensures waits { IfSome result (λ spot. spot ≡ flag_spot (own_core (P.sight port.old).seat) flag) }
+    ensures steps { MadeSteps P.stepped (P.sight port.old) (P.sight port.new) }
+{
+    let own = own_core(port);
+    if look(core, port, own, flag) {
+        None
+    } else {
+        Some(Spot::Flag {
+            place: flag.place(own),
+            bit: flag.bit(),
+        })
+    }
+}
+
+/// Lowers a flag of the own core, in one turn: None where it did, and else the spot at which the turn waits, which is
+/// the register of the own core.
+#[inline(always)]
+pub(crate) fn lower_own<V: Evict, P: Port>(
+    core: &mut Core<V>,
+    port: &mut P,
+    flag: FlagAt,
+) -> Option<Spot>
+    requires may { MayChange (P.sight port.old) core.old (own_core (P.sight port.old).seat) flag false }
+    ensures changes { Changes (P.sight port.old) core.old (own_core (P.sight port.old).seat) flag false (is_none result)
+        (P.sight port.new) core.new }
+    ensures waits { IfSome result (λ spot. spot ≡ Register (own_core (P.sight port.old).seat)) }
+    ensures steps { is_none result ≡ false → MadeSteps P.stepped (P.sight port.old) (P.sight port.new) }
+{
+    let own = own_core(port);
+    if change(core, port, own, flag, false) {
+        None
+    } else {
+        Some(Spot::Register { core: own })
+    }
+}
+
+/// Raises a flag at a core, in one turn: None where it did, and else the spot at which the turn waits, which is the
+/// register of that core.
+#[inline(always)]
+pub(crate) fn raise_at<V: Evict, P: Port>(
+    core: &mut Core<V>,
+    port: &mut P,
+    at: CoreId,
+    flag: FlagAt,
+) -> Option<Spot>
+    requires may { MayChange (P.sight port.old) core.old at flag true }
+    ensures changes { Changes (P.sight port.old) core.old at flag true (is_none result) (P.sight port.new) core.new }
+    ensures waits { IfSome result (λ spot. spot ≡ Register at) }
+    ensures steps { is_none result ≡ false → MadeSteps P.stepped (P.sight port.old) (P.sight port.new) }
+{
+    if change(core, port, at, flag, true) {
+        None
+    } else {
+        Some(Spot::Register { core: at })
     }
 }

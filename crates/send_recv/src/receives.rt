@@ -2,14 +2,14 @@
 
 use crate::answers::RecvTurn;
 use crate::chunks::{is_last, lines_in, start_of};
-use crate::flags::{change, look};
+use crate::flags::{look_own, lower_own, raise_at};
 use crate::heads::{head_from, is_same};
-use crate::places::{core_of, known, layout_of, own_core};
+use crate::places::{core_of, known, layout_of};
 use crate::slices::put_line;
 use crate::stages::RecvStage;
 use line_cache::Evict;
 use put_get::Core;
-use scc_base::{Head, Line, Rank, Spot};
+use scc_base::{Head, Line, Rank};
 use scc_proto::Port;
 use std::marker::Model;
 
@@ -76,13 +76,9 @@ impl RecvOp {
         ensures answers { result ≡ recv_or_waits (goes_on result) (sent_spot (P.sight port.old) self.old.from) }
         ensures steps { MadeSteps P.stepped (P.sight port.old) (P.sight port.new) }
     {
-        let own = own_core(port);
         let flag = layout_of(port).sent(self.from);
-        if !look(core, port, own, flag) {
-            return RecvTurn::Waiting(Spot::Flag {
-                place: flag.place(own),
-                bit: flag.bit(),
-            });
+        if let Some(spot) = look_own(core, port, flag) {
+            return RecvTurn::Waiting(spot);
         }
         if self.chunk == 0 {
             self.stage = RecvStage::Header;
@@ -122,10 +118,9 @@ impl RecvOp {
         ensures answers { result ≡ recv_or_waits (goes_on result) (own_register (P.sight port.old)) }
         ensures steps { goes_on result ≡ false → MadeSteps P.stepped (P.sight port.old) (P.sight port.new) }
     {
-        let own = own_core(port);
         let layout = layout_of(port);
-        if !change(core, port, own, layout.sent(self.from), false) {
-            return RecvTurn::Waiting(Spot::Register { core: own });
+        if let Some(spot) = lower_own(core, port, layout.sent(self.from)) {
+            return RecvTurn::Waiting(spot);
         }
         if lines_in(layout, self.head.len(), self.chunk) == 0 {
             self.stage = RecvStage::Raise;
@@ -185,8 +180,8 @@ impl RecvOp {
         let other = core_of(port, self.from);
         let layout = layout_of(port);
         let flag = layout.ready(port.rank());
-        if !change(core, port, other, flag, true) {
-            return RecvTurn::Waiting(Spot::Register { core: other });
+        if let Some(spot) = raise_at(core, port, other, flag) {
+            return RecvTurn::Waiting(spot);
         }
         if is_last(layout, self.head.len(), self.chunk) {
             self.stage = RecvStage::Finished;

@@ -4,7 +4,7 @@ ghost use Rattle.std.specs.Prelude.{◌≡◌};
 ghost use Rattle.send_recv.specs.Steps.{before_raise};
 
 use crate::chunks::{is_last, lines_in, start_of};
-use crate::flags::{change, look};
+use crate::flags::{look_own, lower_own, raise_at};
 use crate::heads::header_line;
 use crate::places::{core_of, known, layout_of, own_core};
 use crate::slices::{known_bytes, line_from};
@@ -12,7 +12,7 @@ use crate::slots::Slot;
 use crate::stages::SendStage;
 use line_cache::Evict;
 use put_get::Core;
-use scc_base::{Head, Layout, Line, PostHead, Rank, Spot, Turn};
+use scc_base::{Head, Layout, Line, PostHead, Rank, Turn};
 use scc_proto::Port;
 use std::marker::Model;
 
@@ -166,8 +166,8 @@ impl SendOp {
     {
         let other = core_of(port, self.to);
         let flag = layout_of(port).sent(port.rank());
-        if !change(core, port, other, flag, true) {
-            return Turn::Waiting(Spot::Register { core: other });
+        if let Some(spot) = raise_at(core, port, other, flag) {
+            return Turn::Waiting(spot);
         }
         if self.posted {
             slot.fill(self.to);
@@ -187,13 +187,9 @@ impl SendOp {
         ensures answers { result ≡ moved_or_waits (moves_on result) (ready_spot (P.sight port.old) self.old.to) }
         ensures steps { MadeSteps P.stepped (P.sight port.old) (P.sight port.new) }
     {
-        let own = own_core(port);
         let flag = layout_of(port).ready(self.to);
-        if !look(core, port, own, flag) {
-            return Turn::Waiting(Spot::Flag {
-                place: flag.place(own),
-                bit: flag.bit(),
-            });
+        if let Some(spot) = look_own(core, port, flag) {
+            return Turn::Waiting(spot);
         }
         self.stage = SendStage::Lower;
         Turn::Moved
@@ -208,10 +204,9 @@ impl SendOp {
         ensures answers { result ≡ through_answer (chunk_at (P.sight port.old)) (moves_on result) (own_register (P.sight port.old)) self.old }
         ensures steps { moves_on result ≡ false → MadeSteps P.stepped (P.sight port.old) (P.sight port.new) }
     {
-        let own = own_core(port);
         let layout = layout_of(port);
-        if !change(core, port, own, layout.ready(self.to), false) {
-            return Turn::Waiting(Spot::Register { core: own });
+        if let Some(spot) = lower_own(core, port, layout.ready(self.to)) {
+            return Turn::Waiting(spot);
         }
         if is_last(layout, self.head.len(), self.chunk) {
             self.stage = SendStage::Finished;

@@ -1,10 +1,10 @@
 //! The slot of a posted message.
 
-use crate::flags::{change, look};
-use crate::places::{known, layout_of, own_core};
+use crate::flags::{look_own, lower_own};
+use crate::places::{known, layout_of};
 use line_cache::Evict;
 use put_get::Core;
-use scc_base::{Rank, Spot, Turn};
+use scc_base::{Rank, Turn};
 use scc_proto::Port;
 use std::marker::Model;
 
@@ -69,13 +69,9 @@ impl Slot {
         ensures answers { result ≡ moved_or_waits (moves_on result) (ready_spot (P.sight port.old) to) }
         ensures steps { MadeSteps P.stepped (P.sight port.old) (P.sight port.new) }
     {
-        let own = own_core(port);
         let flag = layout_of(port).ready(to);
-        if !look(core, port, own, flag) {
-            return Turn::Waiting(Spot::Flag {
-                place: flag.place(own),
-                bit: flag.bit(),
-            });
+        if let Some(spot) = look_own(core, port, flag) {
+            return Turn::Waiting(spot);
         }
         self.seen = true;
         Turn::Moved
@@ -89,10 +85,9 @@ impl Slot {
         ensures answers { result ≡ moved_or_waits (moves_on result) (own_register (P.sight port.old)) }
         ensures steps { moves_on result ≡ false → MadeSteps P.stepped (P.sight port.old) (P.sight port.new) }
     {
-        let own = own_core(port);
         let flag = layout_of(port).ready(to);
-        if !change(core, port, own, flag, false) {
-            return Turn::Waiting(Spot::Register { core: own });
+        if let Some(spot) = lower_own(core, port, flag) {
+            return Turn::Waiting(spot);
         }
         self.to = None;
         self.seen = false;

@@ -31,7 +31,7 @@ use Rattle.send_recv.specs.Turns.{KeepsAllButMessages}
 use Rattle.send_recv.specs.Ranks.{receiving}
 use Rattle.send_recv.proofs.Receiving.LookTurn.{recv_does, Turns, stands_after}
 use Rattle.send_recv.proofs.Receiving.HeadTurn.{post_kept}
-use Rattle.send_recv.proofs.Looks.FlagMoves.{may_lower, sent_is_lowered}
+use Rattle.send_recv.proofs.Looks.FlagMoves.{MovesFlag, may_change, flag_moved, sent_lowers}
 use Rattle.send_recv.proofs.Looks.ChangeFacts.{change_facts}
 use Rattle.send_recv.proofs.Lines.DraftNone.{sent_is_flag, change_drafts_none}
 
@@ -63,11 +63,16 @@ lower_permitted size rec op bytes l =
     eq_zero : (n : ℕ) → (n == 0) ≡ true → n ≡ 0
     eq_zero n t = eq_is n 0 t
 
+-- lowering the flag is this move
+lowers_sent : (s : Sight) (c : Private) (op : RecvAt) (bytes : List ℕ) → IsSetup s.seat.setup → RecvStands s c op bytes → op.stage ≡ Lower
+    → MovesFlag s.seat.setup.layout s.seat (record_in s) s.seat.rank (sent_flag s.seat op.from) false (LowerSent op.from)
+lowers_sent s c op bytes valid r lower =
+    let l = is_lowering s.seat (record_in s) c op bytes r lower in
+    sent_lowers s.seat.setup.layout s op.from l.header refl valid r.peers l.seen (lower_permitted (chunk_of s.seat.setup) (record_in s) op bytes l)
+
 -- the flag may be lowered
 pub may_lower_turn : (s : Sight) (c : Private) (op : RecvAt) (bytes : List ℕ) → IsSetup s.seat.setup → RecvStands s c op bytes → op.stage ≡ Lower → MayChange s c (own_core s.seat) (sent_flag s.seat op.from) false
-may_lower_turn s c op bytes valid r lower =
-    let l = is_lowering s.seat (record_in s) c op bytes r lower in
-    may_lower s c op.from l.header valid r.peers r.hands r.empty l.seen (lower_permitted (chunk_of s.seat.setup) (record_in s) op bytes l)
+may_lower_turn s c op bytes valid r lower = may_change s c s.seat.rank (sent_flag s.seat op.from) false (LowerSent op.from) valid r.hands r.empty (lowers_sent s c op bytes valid r lower)
 
 -- the stage after the lowering
 begins : (size : ℕ) (op : RecvAt) (bytes : List ℕ) (header : Notes) (b : Bool) → (op.chunk == 0) ≡ b → (op.chunk ≡ 0 → SaysHead header op.head)
@@ -180,7 +185,7 @@ lower_goes b s t c d op bytes lines valid r lower changes =
     let layout = s.seat.setup.layout in
     let now : RecvAt = record op { stage = taken_stage b } in
     let l = is_lowering s.seat (record_in s) c op bytes r lower in
-    let is = sent_is_lowered s t c d op.from valid r.peers r.hands r.empty (lower_permitted size (record_in s) op bytes l) changes in
+    let is = flag_moved s t c d s.seat.rank (sent_flag s.seat op.from) false (LowerSent op.from) valid r.hands r.empty (lowers_sent s c op bytes valid r lower) changes in
     let facts = change_facts layout s t c d (own_core s.seat) (sent_flag s.seat op.from) false true r.empty changes in
     let rest : KeepsAllButMessages (record_in s) (record_in t) = record {
       flips = ap (λ (x : Record). x.flips) is;

@@ -22,11 +22,11 @@ use Rattle.put_get.specs.Cores.{Private}
 use Rattle.send_recv.specs.declared.stages.RecvStage.{RecvStage}
 use Rattle.send_recv.specs.declared.stages.RecvStage.TheVariants.{Look, Raise}
 use Rattle.send_recv.specs.Chunks.{chunk_count, chunk_start, chunk_len, chunk_lines_of, lines_from, is_last_chunk}
-use Rattle.send_recv.specs.Flags.{MayChange}
+use Rattle.send_recv.specs.Flags.{Changes, MayChange}
 use Rattle.send_recv.specs.Ops.{RecvAt}
 use Rattle.send_recv.specs.Receiving.{IsAtStage, IsReceiving, RecvStands, IsRead, IsTakingLines, between, progress_at, lines_now, flag_lines}
 use Rattle.send_recv.specs.Steps.{core_of, ready_flag}
-use Rattle.send_recv.proofs.Looks.FlagMoves.{may_ready}
+use Rattle.send_recv.proofs.Looks.FlagMoves.{MovesFlag, may_change, flag_moved, ready_raises}
 
 -- what a receive that is to raise `ready` has of the record
 pub record IsRaising (size : ℕ) (rec : Record) (op : RecvAt) (bytes : List ℕ) : Type 0 where
@@ -44,12 +44,23 @@ raise_permitted size rec op bytes r = ap (λ (st : Stage). has_taken size op.fro
 pub raise_takes : (size : ℕ) (rec : Record) (op : RecvAt) (bytes : List ℕ) → IsRaising size rec op bytes → is_taking op.from rec.stage ≡ true
 raise_takes size rec op bytes r = ap (λ (st : Stage). is_taking op.from st) r.taking.stage ∙ eqb_same op.from
 
+-- raising the flag is this move
+raises_ready : (s : Sight) (c : Private) (op : RecvAt) (bytes : List ℕ) → IsSetup s.seat.setup → RecvStands s c op bytes → op.stage ≡ Raise
+    → MovesFlag s.seat.setup.layout s.seat (record_in s) op.from (ready_flag s.seat s.seat.rank) true (RaiseReady op.from)
+raises_ready s c op bytes valid r raise =
+    let l = is_raising s.seat (record_in s) c op bytes r raise in
+    ready_raises s.seat.setup.layout s op.from refl valid r.peers (raise_takes (chunk_of s.seat.setup) (record_in s) op bytes l) (raise_permitted (chunk_of s.seat.setup) (record_in s) op bytes l)
+
 -- the flag may be raised
 pub may_raise_turn : (s : Sight) (c : Private) (op : RecvAt) (bytes : List ℕ) → IsSetup s.seat.setup → RecvStands s c op bytes → op.stage ≡ Raise
     → MayChange s c (core_of s.seat op.from) (ready_flag s.seat s.seat.rank) true
-may_raise_turn s c op bytes valid r raise =
-    let l = is_raising s.seat (record_in s) c op bytes r raise in
-    may_ready s c op.from valid r.peers r.hands r.empty (raise_takes (chunk_of s.seat.setup) (record_in s) op bytes l) (raise_permitted (chunk_of s.seat.setup) (record_in s) op bytes l)
+may_raise_turn s c op bytes valid r raise = may_change s c op.from (ready_flag s.seat s.seat.rank) true (RaiseReady op.from) valid r.hands r.empty (raises_ready s c op bytes valid r raise)
+
+-- and then the record is
+pub ready_is_raised : (s t : Sight) (c d : Private) (op : RecvAt) (bytes : List ℕ) → IsSetup s.seat.setup → RecvStands s c op bytes → op.stage ≡ Raise
+    → Changes s c (core_of s.seat op.from) (ready_flag s.seat s.seat.rank) true true t d → record_in t ≡ after (chunk_of s.seat.setup) (RaiseReady op.from) (record_in s)
+ready_is_raised s t c d op bytes valid r raise changes =
+    flag_moved s t c d op.from (ready_flag s.seat s.seat.rank) true (RaiseReady op.from) valid r.hands r.empty (raises_ready s c op bytes valid r raise) changes
 
 -- ---- the bytes of the chunk
 

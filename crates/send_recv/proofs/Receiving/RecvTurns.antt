@@ -34,11 +34,10 @@ use Rattle.send_recv.specs.Ranks.{receiving}
 use Rattle.send_recv.proofs.Receiving.LookTurn.{recv_does, Turns, stands_after, holds_kept}
 use Rattle.send_recv.proofs.Receiving.HeadTurn.{post_kept}
 use Rattle.send_recv.proofs.Looks.TryLemmas.{le_self}
-use Rattle.send_recv.proofs.Looks.FlagMoves.{ready_is_raised}
 use Rattle.send_recv.proofs.Looks.ChangeFacts.{change_facts}
 use Rattle.send_recv.proofs.Lines.DraftNone.{IsFlagWord, sent_is_flag, ready_is_flag, change_drafts_none}
 use Rattle.send_recv.proofs.Receiving.FlagTurns.{went_on, gain_work, lower_goes, change_elsewhere, at_lower}
-use Rattle.send_recv.proofs.Receiving.RaiseTurn.{is_raising, raise_permitted, raised_calls, raised_stage, started, next_start, next_few, next_below, next_left, next_gain, last_gain}
+use Rattle.send_recv.proofs.Receiving.RaiseTurn.{is_raising, ready_is_raised, raised_calls, raised_stage, started, next_start, next_few, next_below, next_left, next_gain, last_gain}
 
 -- ---- the register was taken
 
@@ -170,7 +169,7 @@ raise_last s t c d op bytes last valid r raise changes =
     let layout = s.seat.setup.layout in
     let now : RecvAt = record op { stage = Finished } in
     let l = is_raising s.seat (record_in s) c op bytes r raise in
-    let is = ready_is_raised s t c d op.from valid r.peers r.hands r.empty (raise_permitted size (record_in s) op bytes l) changes in
+    let is = ready_is_raised s t c d op bytes valid r raise changes in
     let facts = change_facts layout s t c d (core_of s.seat op.from) (ready_flag s.seat s.seat.rank) true true r.empty changes in
     let ends = raised_calls layout (record_in s) (record_in t) op bytes l r.long r.in_hand last is in
     let below = r.in_hand in
@@ -217,7 +216,7 @@ raise_next s t c d op bytes more valid r raise changes =
     let layout = s.seat.setup.layout in
     let now : RecvAt = record op { chunk = op.chunk + 1; stage = Look } in
     let l = is_raising s.seat (record_in s) c op bytes r raise in
-    let is = ready_is_raised s t c d op.from valid r.peers r.hands r.empty (raise_permitted size (record_in s) op bytes l) changes in
+    let is = ready_is_raised s t c d op bytes valid r raise changes in
     let facts = change_facts layout s t c d (core_of s.seat op.from) (ready_flag s.seat s.seat.rank) true true r.empty changes in
     let goes = raised_stage layout (record_in s) (record_in t) op bytes l r.long r.in_hand more is in
     let low = le_not op.head.len (size * (op.chunk + 1)) more in

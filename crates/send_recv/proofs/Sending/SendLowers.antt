@@ -12,8 +12,9 @@ use Rattle.scc_base.specs.declared.layouts.Layout.TheVariants.{LineFlags, BitFla
 use Rattle.scc_proto.specs.Messages.{bytes_from, is_last, with_chunk}
 use Rattle.scc_proto.specs.Stages.{Filling, Answered, Stage, Idle, Sending, OnItsWay, Record}
 use Rattle.scc_proto.specs.Moves.{LowerReady, lower_ready, calls_sent, finished_if, after}
-use Rattle.scc_proto.specs.Permission.{permits, may_go_on}
+use Rattle.scc_proto.specs.Permission.{may_go_on}
 use Rattle.scc_proto.specs.Soundness.{is_answered}
+use Rattle.scc_proto.specs.Words.{are_peers}
 use Rattle.scc_proto.specs.Records.{chunk_of}
 use Rattle.scc_proto.specs.Ports.{Seat, Sight, record_in}
 use Rattle.scc_proto.proofs.Tests.{eqb_same, eqb_other}
@@ -37,7 +38,7 @@ use Rattle.send_recv.proofs.Receiving.LookTurn.{holds_kept}
 use Rattle.send_recv.proofs.Looks.ChangeFacts.{change_facts}
 use Rattle.send_recv.proofs.Receiving.FlagTurns.{went_on}
 use Rattle.send_recv.proofs.Receiving.RaiseTurn.{whole, longer, last_is, next_below}
-use Rattle.send_recv.proofs.Posts.SlotMoves.{may_lower_ready, ready_is_lowered}
+use Rattle.send_recv.proofs.Looks.FlagMoves.{MovesFlag, may_change, flag_moved, ready_lowers}
 use Rattle.send_recv.proofs.Lines.DraftNone.{ready_is_flag, change_drafts_none}
 use Rattle.send_recv.proofs.Lines.DraftNotes.{no_lines}
 use Rattle.send_recv.proofs.Lines.DraftWhole.{AreBytes, as_receive, drafted_read}
@@ -47,17 +48,17 @@ use Rattle.send_recv.proofs.Sending.SendWaits.{no_stores, register_waits}
 
 -- ---- the flag may be lowered
 
-may_lower : (seat : Seat) (rec : Record) (op : SendAt) (bytes : List ℕ) → IsUp (chunk_of seat.setup) rec.stage op bytes Answered → (permits (chunk_of seat.setup) (LowerReady op.to) rec ≡ true) × (is_answered op.to rec.stage rec.post ≡ true)
-may_lower seat rec op bytes up = (
-  ap (λ (st : Stage). may_go_on op.to st rec.post) up.stage_is ∙ eqb_same op.to,
-  ap (λ (st : Stage). is_answered op.to st rec.post) up.stage_is ∙ eqb_same op.to,
-)
+-- lowering the flag is this move
+lowers_ready : (s : Sight) (op : SendAt) (bytes : List ℕ) → IsSetup s.seat.setup → are_peers s.seat.setup s.seat.rank op.to ≡ true → IsUp (chunk_of s.seat.setup) (record_in s).stage op bytes Answered
+    → MovesFlag s.seat.setup.layout s.seat (record_in s) s.seat.rank (ready_flag s.seat op.to) false (LowerReady op.to)
+lowers_ready s op bytes valid peers up =
+    ready_lowers s.seat.setup.layout s op.to refl valid peers (ap (λ (st : Stage). is_answered op.to st (record_in s).post) up.stage_is ∙ eqb_same op.to)
+    (ap (λ (st : Stage). may_go_on op.to st (record_in s).post) up.stage_is ∙ eqb_same op.to)
 
 pub may_lower_turn : (s : Sight) (c : Private) (op : SendAt) (slot : SlotAt) (bytes : List ℕ) → IsSetup s.seat.setup → SendStands s c op slot bytes → op.stage ≡ Lower → MayChange s c (own_core s.seat) (ready_flag s.seat op.to) false
 may_lower_turn s c op slot bytes valid r lower =
     let at = at_stage s.seat (record_in s) c op slot bytes Lower r lower in
-    let may = may_lower s.seat (record_in s) op bytes at.3 in
-    may_lower_ready s c op.to valid r.peers r.hands at.2 may.1 may.0
+    may_change s c s.seat.rank (ready_flag s.seat op.to) false (LowerReady op.to) valid r.hands at.2 (lowers_ready s op bytes valid r.peers at.3)
 
 -- ---- the record after it
 
@@ -199,8 +200,7 @@ lower_goes b s t c d op slot bytes last valid small r lower changes =
     let layout = s.seat.setup.layout in
     let own = own_core s.seat in
     let at = at_stage s.seat (record_in s) c op slot bytes Lower r lower in
-    let may = may_lower s.seat (record_in s) op bytes at.3 in
-    let is = ready_is_lowered s t c d op.to valid r.peers r.hands at.2 may.0 changes in
+    let is = flag_moved s t c d s.seat.rank (ready_flag s.seat op.to) false (LowerReady op.to) valid r.hands at.2 (lowers_ready s op bytes valid r.peers at.3) changes in
     let facts = change_facts layout s t c d own (ready_flag s.seat op.to) false true at.2 changes in
     record {
       stands = subst (λ (x : Seat). IsSending x (record_in t) d (next_op b op) slot bytes) (sym (seat_kept s facts.events t facts.did))

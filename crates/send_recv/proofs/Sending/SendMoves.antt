@@ -1,11 +1,11 @@
 -- The raise of `sent` by the sender of a chunk: that the record permits it, behind the line that waits in the
 -- buffer with line flags, and the record after it.
-use Rattle.std.proofs.Common.{◌≡◌, ◌≢◌, ℕ, zero, suc, ◌+◌, ◌*◌, ◌<◌, Bool, true, false, ◌==◌, ◌&&◌, if◌then◌else◌, List, [], ◌∷◌, ◌++◌, Option, Some, None, is_none, refl, sym, ◌∙◌, ap, subst, arith, slice_index}
+use Rattle.std.proofs.Common.{◌≡◌, ◌≢◌, ℕ, zero, suc, ◌+◌, ◌*◌, ◌<◌, Bool, true, false, ◌==◌, ◌&&◌, if◌then◌else◌, List, [], ◌∷◌, ◌++◌, Option, Some, None, is_none, refl, sym, ◌∙◌, ap, subst, arith}
 use Rattle.scc_base.specs.Heads.{MessageHead}
 use Rattle.scc_base.specs.Places.{LineAt, flag_word, line_of_word, same_line}
 use Rattle.scc_base.specs.Layouts.{sent_at, first_chunk}
 use Rattle.scc_base.specs.Setups.{IsSetup}
-use Rattle.scc_base.specs.Events.{store_of, take_of, free_of}
+use Rattle.scc_base.specs.Events.{store_of}
 use Rattle.scc_base.specs.declared.layouts.Layout.{Layout}
 use Rattle.scc_base.specs.declared.layouts.Layout.TheVariants.{LineFlags, BitFlags}
 use Rattle.scc_proto.specs.Messages.{head_of, Progress, begun}
@@ -13,27 +13,25 @@ use Rattle.scc_proto.specs.Stages.{Stage, OnItsWay, Record}
 use Rattle.scc_proto.specs.Moves.{RaiseSent, after}
 use Rattle.scc_proto.specs.Permission.{permits, may_raise, is_drafted}
 use Rattle.scc_proto.specs.Soundness.{is_drafting}
-use Rattle.scc_proto.specs.Records.{chunk_of, forget_sent}
-use Rattle.scc_proto.specs.Ports.{Seat, Sight, Did, MayMake, MayMakeAll, record_in, record_next, record_on}
+use Rattle.scc_proto.specs.Records.{chunk_of}
+use Rattle.scc_proto.specs.Ports.{Seat, Sight, Did, MayMakeAll, record_in, record_next}
 use Rattle.scc_proto.proofs.Tests.{peers_are, eqb_same, eqb_other}
 use Rattle.scc_proto.proofs.PortLaws.{record_did, record_on-append, may-append}
-use Rattle.scc_proto.proofs.Layouts.PlaceMoves.{sent_raised, sent_bit_raised}
+use Rattle.scc_proto.proofs.Layouts.PlaceMoves.{sent_raised}
 use Rattle.scc_proto.proofs.Layouts.Roles.{if_no}
 use Rattle.write_combine.specs.declared.combiner.Out.{Out}
 use Rattle.write_combine.specs.Combining.{handed_out}
-use Rattle.put_get.specs.Accesses.{loads_of, stores_of, whole_line}
+use Rattle.put_get.specs.Accesses.{stores_of, whole_line}
 use Rattle.put_get.specs.Cores.{Private}
 use Rattle.send_recv.specs.declared.stages.SendStage.TheVariants.{Raise}
 use Rattle.send_recv.specs.Bytes.{words_at}
 use Rattle.send_recv.specs.Chunks.{chunk_start}
-use Rattle.sync_flags.specs.Flags.{with_bit}
-use Rattle.send_recv.specs.Flags.{Changes, ChangesBy, Missed, Changed, MayChange, MayChangeBy}
+use Rattle.send_recv.specs.Flags.{Changes, ChangesBy, MayChange, MayChangeBy}
 use Rattle.send_recv.specs.Ops.{SendAt, SlotAt}
 use Rattle.send_recv.specs.Sending.{HasDrafted, First, Later, IsBeforeRaise, IsSending, SendStands, lines_in_hand, own_line, header_words, waiting}
-use Rattle.send_recv.specs.Steps.{own_core, core_of, sent_flag, line_at}
+use Rattle.send_recv.specs.Steps.{own_core, core_of, sent_flag}
 use Rattle.send_recv.specs.Turns.{HoldsNoneBy}
-use Rattle.send_recv.proofs.Looks.ChangeLemmas.{with_hold, both_noted, line_noted, sent_is_noted, move_made, bit_given}
-use Rattle.send_recv.proofs.Looks.FlagMoves.{sound_at, may_at}
+use Rattle.send_recv.proofs.Looks.FlagMoves.{MovesFlag, may_change_by, flag_moved_by, sent_raises}
 use Rattle.send_recv.proofs.Lines.DraftWhole.{AreBytes, drafted_is, head_drafted, header_whole, begun_is}
 use Rattle.send_recv.proofs.Lines.WaitingOut.{waiting_out}
 use Rattle.send_recv.proofs.Sending.SendFacts.{at_stage}
@@ -85,6 +83,14 @@ flag_other seat op bytes core (suc i) lines below =
 
 -- ---- the flag may be raised
 
+-- with bit flags all lines are drafted before the raise, which is one move
+raises_bit : (s : Sight) (c : Private) (op : SendAt) (slot : SlotAt) (bytes : List ℕ) → s.seat.setup.layout ≡ BitFlags → IsSetup s.seat.setup → AreBytes bytes → SendStands s c op slot bytes → (record_in s).post ≡ None
+    → HasDrafted (chunk_of s.seat.setup) (record_in s).stage op bytes (lines_in_hand (chunk_of s.seat.setup) op) → MovesFlag BitFlags s.seat (record_in s) op.to (sent_at BitFlags s.seat.rank) true (RaiseSent op.to)
+raises_bit s c op slot bytes bits valid small r none drafted =
+    let drafting : is_drafting (record_in s).stage (record_in s).post ≡ true = ap (λ (o : Option OnItsWay). is_drafting (record_in s).stage o) none
+    ∙ drafting_by (chunk_of s.seat.setup) (record_in s).stage op bytes (lines_in_hand (chunk_of s.seat.setup) op) drafted in
+    sent_raises s op.to bits valid r.peers drafting (permitted_by s.seat (record_in s) c (record_in s).stage op slot bytes small r none drafted)
+
 may_by : (layout : Layout) (s : Sight) (c : Private) (op : SendAt) (slot : SlotAt) (bytes : List ℕ) → s.seat.setup.layout ≡ layout → IsSetup s.seat.setup → AreBytes bytes → SendStands s c op slot bytes
     → HoldsNoneBy layout (record_in s).held → (record_in s).post ≡ None → IsBeforeRaise layout s.seat (record_in s).stage c op bytes → MayChangeBy layout s c (core_of s.seat op.to) (sent_at layout s.seat.rank) true
 may_by LineFlags s c op slot bytes layout valid small r hands none before =
@@ -106,27 +112,8 @@ may_by LineFlags s c op slot bytes layout valid small r hands none before =
           (may-append s.seat (record_in s) (stores_of (waiting s.seat op bytes lines)) (store ∷ []) l.may
           (subst (λ (x : Record). MayMakeAll s.seat x (store ∷ [])) (sym l.becomes) (raised.may, tt)));
     }
-may_by BitFlags s c op slot bytes bits valid small r hands none before = record {
-  empty = before.0;
-  hands = hands (core_of s.seat op.to);
-  permitted = λ words t did sound.
-      let p = peers_are s.seat.setup s.seat.rank op.to r.peers in
-      let core = core_of s.seat op.to in
-      let me = s.seat.rank in
-      let rec : Record = with_hold (record_in s) core (both_noted (slice_index words 0) (slice_index words 1)) in
-      let is : record_in t ≡ rec = record_did s _ t did ∙ line_noted s.seat (record_in s) op.to words valid bits p.other (hands core) in
-      let noted = sent_is_noted (record_in s) core (slice_index words 0) (slice_index words 1) in
-      let drafting : is_drafting (record_in s).stage (record_in s).post ≡ true = ap (λ (o : Option OnItsWay). is_drafting (record_in s).stage o) none
-      ∙ drafting_by (chunk_of s.seat.setup) (record_in s).stage op bytes (lines_in_hand (chunk_of s.seat.setup) op) before.1 in
-      let clear = (sound_at s t _ rec did sound is).sent_clear op.to (slice_index words 0) r.peers noted drafting in
-      let value = bit_given (slice_index words 0) me clear in
-      let may = permitted_by s.seat (record_in s) c (record_in s).stage op slot bytes small r none before.1 in (
-        may_at s t _ rec (store_of (flag_word core (sent_at BitFlags me)) (with_bit me true (slice_index words 0))) did is
-            (subst (λ v. MayMake s.seat rec (store_of (flag_word core (sent_at BitFlags me)) v)) (sym value)
-            (sent_bit_raised s.seat rec valid bits op.to (slice_index words 0) r.peers noted clear may).may),
-        clear,
-      );
-}
+may_by BitFlags s c op slot bytes bits valid small r hands none before =
+    may_change_by BitFlags s c op.to (sent_at BitFlags s.seat.rank) true (RaiseSent op.to) bits valid hands before.0 (raises_bit s c op slot bytes bits valid small r none before.1)
 
 pub may_raise_sent : (s : Sight) (c : Private) (op : SendAt) (slot : SlotAt) (bytes : List ℕ) → IsSetup s.seat.setup → AreBytes bytes → SendStands s c op slot bytes → op.stage ≡ Raise
     → MayChange s c (core_of s.seat op.to) (sent_flag s.seat s.seat.rank) true
@@ -160,27 +147,11 @@ raised_by LineFlags s t c d op slot bytes layout valid small r hands none before
           ∙ ap (λ (x : Record). record_next s.seat x store) l.becomes
           ∙ (sent_raised s.seat (record (record_in s) { stage = l.new }) valid layout op.to r.peers may).becomes;
     }
-raised_by BitFlags s t c d op slot bytes bits valid small r hands none before (Missed missed did e) = absurd (cc)
-raised_by BitFlags s t c d op slot bytes bits valid small r hands none before (Changed made words clear did m fills e) =
-    let p = peers_are s.seat.setup s.seat.rank op.to r.peers in
-    let core = core_of s.seat op.to in
-    let me = s.seat.rank in
-    let flags = both_noted (slice_index words 0) (slice_index words 1) in
-    let noted = sent_is_noted (record_in s) core (slice_index words 0) (slice_index words 1) in
-    let new = with_bit me true (slice_index words 0) in
-    let place = flag_word core (sent_at BitFlags me) in
-    let value = bit_given (slice_index words 0) me clear in
-    let may = permitted_by s.seat (record_in s) c (record_in s).stage op slot bytes small r none before.1 in
-    record {
-      new = (record_in s).stage;
-      drafted = before.1;
-      is = record_did s _ t did
-          ∙ record_on-append s.seat (record_in s) (take_of core true ∷ loads_of (line_at s.seat op.to 1) words) (store_of place new ∷ free_of core ∷ [])
-          ∙ ap (λ (x : Record). record_on s.seat x (store_of place new ∷ free_of core ∷ [])) (line_noted s.seat (record_in s) op.to words valid bits p.other (hands core))
-          ∙ move_made s.seat (record_in s) core flags forget_sent (RaiseSent op.to) (store_of place new) valid (hands core) refl
-          (ap (λ v. record_next s.seat (with_hold (record_in s) core flags) (store_of place v)) value
-          ∙ (sent_bit_raised s.seat (with_hold (record_in s) core flags) valid bits op.to (slice_index words 0) r.peers noted clear may).becomes);
-    }
+raised_by BitFlags s t c d op slot bytes bits valid small r hands none before tries = record {
+  new = (record_in s).stage;
+  drafted = before.1;
+  is = flag_moved_by BitFlags s t c d op.to (sent_at BitFlags s.seat.rank) true (RaiseSent op.to) bits valid hands before.0 (raises_bit s c op slot bytes bits valid small r none before.1) tries;
+}
 
 pub sent_is_raised : (s t : Sight) (c d : Private) (op : SendAt) (slot : SlotAt) (bytes : List ℕ) → IsSetup s.seat.setup → AreBytes bytes → SendStands s c op slot bytes → op.stage ≡ Raise
     → Changes s c (core_of s.seat op.to) (sent_flag s.seat s.seat.rank) true true t d → SentRaised s t op bytes
