@@ -115,6 +115,12 @@ pub moved_is : (found : Bool) (spot : Spot) → moves_on (moved_or_waits found s
 moved_is true spot = refl
 moved_is false spot = refl
 
+-- a turn that waits does not go on
+pub waiting_stops : (r : Turn) (spot : Spot) → waits_at r ≡ Some spot → moves_on r ≡ false
+waiting_stops Moved spot e = absurd (cc)
+waiting_stops (Waiting at) spot e = refl
+waiting_stops Done spot e = absurd (cc)
+
 -- ---- no message on its way
 
 spot_none : (layout : Layout) (own : ℕ) (seen : Bool) → slot_spot_by layout own None seen ≡ None

@@ -4,7 +4,6 @@ use Rattle.scc_base.specs.Places.{flag_word, line_of_word}
 use Rattle.scc_base.specs.Layouts.{ready_at}
 use Rattle.scc_base.specs.Setups.{IsSetup}
 use Rattle.scc_base.specs.declared.events.Spot.{Spot}
-use Rattle.scc_base.specs.declared.events.Turn.TheVariants.{Done}
 use Rattle.scc_base.specs.declared.layouts.Layout.{Layout}
 use Rattle.scc_base.specs.declared.layouts.Layout.TheVariants.{LineFlags, BitFlags}
 use Rattle.scc_proto.specs.Messages.{Notes, noted, Progress}
@@ -34,7 +33,7 @@ use Rattle.send_recv.proofs.Receiving.LookTurn.{holds_kept, looked_post, looked_
 use Rattle.send_recv.proofs.Looks.TryLemmas.{look_tried, ready_spot, ready_word, look_held}
 use Rattle.put_get.proofs.FillLemmas.{fills_out, fills_evictions}
 use Rattle.send_recv.proofs.Lines.DraftNone.{look_drafts_none}
-use Rattle.send_recv.proofs.Posts.SlotTurns.{moved_is, tried_by, look_only}
+use Rattle.send_recv.proofs.Posts.SlotTurns.{moved_is, tried_by, never_done, look_only}
 use Rattle.send_recv.proofs.Sending.SendFacts.{SendTurns, send_does, slot_kept, stands_at, at_stage, left_at, spot_at}
 use Rattle.send_recv.proofs.Sending.SendWork.{look_work}
 use Rattle.send_recv.proofs.Sending.SendWaits.{no_stores}
@@ -100,10 +99,6 @@ look_means false s t c d op slot bytes spot look calls rest = (refl, refl, rest 
 same_op : (found : Bool) (op : SendAt) → ((after_seen found op).to ≡ op.to) × ((after_seen found op).head ≡ op.head) × ((after_seen found op).posted ≡ op.posted)
 same_op true op = (refl, refl, refl)
 same_op false op = (refl, refl, refl)
-
-never_done : {P : Type 0} (found : Bool) (spot : Spot) → moved_or_waits found spot ≡ Done → P
-never_done true spot e = absurd (cc)
-never_done false spot e = absurd (cc)
 
 pub look_turn : (found : Bool) (s t : Sight) (c d : Private) (op : SendAt) (slot : SlotAt) (bytes : List ℕ) → IsSetup s.seat.setup → SendStands s c op slot bytes → op.stage ≡ Look
     → Looks s c (own_core s.seat) (ready_flag s.seat op.to) found t d

@@ -7,7 +7,7 @@ use Rattle.scc_proto.proofs.PortLaws.{did_nothing}
 use Rattle.put_get.specs.Cores.{Private}
 use Rattle.send_recv.specs.Ops.{RecvAt, is_received}
 use Rattle.send_recv.specs.Receiving.{RecvTurned, spot_by, recv_waits, extra_line}
-use Rattle.send_recv.specs.Steps.{own_core, core_of, goes_on}
+use Rattle.send_recv.specs.Steps.{own_core, core_of, goes_on, HeadRead, Same, Differs}
 use Rattle.sync_flags.specs.Tries.{Aim, NoTry, tries_at}
 use Rattle.send_recv.specs.Tries.{aim_of, aim_at}
 use Rattle.send_recv.proofs.Looks.TryLemmas.{le_self}
@@ -38,6 +38,11 @@ waiting_stops Moved spot e = absurd (cc)
 waiting_stops (Waiting at) spot e = refl
 waiting_stops Done spot e = absurd (cc)
 waiting_stops (Mismatch sent) spot e = absurd (cc)
+
+-- a turn that reads the header line never waits
+head_moves : {P : Type 0} {words : List ℕ} {op now : RecvAt} {answer : RecvTurn} → HeadRead words op now answer → goes_on answer ≡ false → P
+head_moves (Same says next is) e = absurd (cc (sym (ap goes_on is) ∙ e))
+head_moves (Differs says next is) e = absurd (cc (sym (ap goes_on is) ∙ e))
 
 spot_finished : (layout : Layout) (own other from : ℕ) → spot_by layout own other from Finished ≡ None
 spot_finished LineFlags own other from = refl
@@ -83,71 +88,45 @@ pub raise_ready-requires-clause-may : goal.raise_ready-requires-clause-may
 raise_ready-requires-clause-may g c =
     may_raise_turn (g.P.Port.sight c.args.port.now) c.args.core.now c.args.self.now c.args.bytes.now c.known.ensures.valid c.requires.stands (ap (λ (x : RecvAt). x.stage) (sym c.self.view_is) ∙ c.in-Raise.is)
 
-pub returns-in-Look-clause-stands : goal.returns-in-Look-clause-stands
-returns-in-Look-clause-stands g c =
-    (at_answer (g.P.Port.sight c.args.port.now) (g.P.Port.sight c.look_sent.new.port) c.args.core.now c.look_sent.new.core c.args.self.now _ _ c.args.bytes.now c.args.bytes.now _ _ c.look_sent.ensures.next c.look_sent.ensures.answers
+pub returns-in-Look : goal.returns-in-Look
+returns-in-Look g c =
+    let turns =
+    at_answer (g.P.Port.sight c.args.port.now) (g.P.Port.sight c.look_sent.new.port) c.args.core.now c.look_sent.new.core c.args.self.now _ _ c.args.bytes.now c.args.bytes.now _ _ c.look_sent.ensures.next c.look_sent.ensures.answers
     (look_turn (goes_on c.look_sent.result) (g.P.Port.sight c.args.port.now) (g.P.Port.sight c.look_sent.new.port) c.args.core.now c.look_sent.new.core c.args.self.now c.args.bytes.now c.known.ensures.valid c.requires.stands
-    (ap (λ (x : RecvAt). x.stage) (sym c.self.view_is) ∙ c.in-Look.is) c.look_sent.ensures.looks)).stands
+    (ap (λ (x : RecvAt). x.stage) (sym c.self.view_is) ∙ c.in-Look.is) c.look_sent.ensures.looks) in
+    record { stands = turns.stands; turned = turns.turned; steps = λ spot e. c.look_sent.ensures.steps }
 
-pub returns-in-Look-clause-turned : goal.returns-in-Look-clause-turned
-returns-in-Look-clause-turned g c =
-    (at_answer (g.P.Port.sight c.args.port.now) (g.P.Port.sight c.look_sent.new.port) c.args.core.now c.look_sent.new.core c.args.self.now _ _ c.args.bytes.now c.args.bytes.now _ _ c.look_sent.ensures.next c.look_sent.ensures.answers
-    (look_turn (goes_on c.look_sent.result) (g.P.Port.sight c.args.port.now) (g.P.Port.sight c.look_sent.new.port) c.args.core.now c.look_sent.new.core c.args.self.now c.args.bytes.now c.known.ensures.valid c.requires.stands
-    (ap (λ (x : RecvAt). x.stage) (sym c.self.view_is) ∙ c.in-Look.is) c.look_sent.ensures.looks)).turned
+pub returns-in-Header : goal.returns-in-Header
+returns-in-Header g c =
+    let turns =
+    head_turn (g.P.Port.sight c.args.port.now) (g.P.Port.sight c.read_head.new.port) c.args.core.now c.read_head.new.core c.args.self.now c.read_head.new.self c.args.bytes.now c.read_head.ensures.reads.0 c.read_head.result
+    c.known.ensures.valid c.requires.stands (ap (λ (x : RecvAt). x.stage) (sym c.self.view_is) ∙ c.in-Header.is) c.read_head.ensures.sound c.read_head.ensures.reads.1 c.read_head.ensures.reads.2 in
+    record { stands = turns.stands; turned = turns.turned; steps = λ spot e. head_moves c.read_head.ensures.reads.2 (waiting_stops c.read_head.result spot e) }
 
-pub returns-in-Header-clause-stands : goal.returns-in-Header-clause-stands
-returns-in-Header-clause-stands g c =
-    (head_turn (g.P.Port.sight c.args.port.now) (g.P.Port.sight c.read_head.new.port) c.args.core.now c.read_head.new.core c.args.self.now c.read_head.new.self c.args.bytes.now c.read_head.ensures.reads.0 c.read_head.result
-    c.known.ensures.valid c.requires.stands (ap (λ (x : RecvAt). x.stage) (sym c.self.view_is) ∙ c.in-Header.is) c.read_head.ensures.sound c.read_head.ensures.reads.1 c.read_head.ensures.reads.2).stands
-
-pub returns-in-Header-clause-turned : goal.returns-in-Header-clause-turned
-returns-in-Header-clause-turned g c =
-    (head_turn (g.P.Port.sight c.args.port.now) (g.P.Port.sight c.read_head.new.port) c.args.core.now c.read_head.new.core c.args.self.now c.read_head.new.self c.args.bytes.now c.read_head.ensures.reads.0 c.read_head.result
-    c.known.ensures.valid c.requires.stands (ap (λ (x : RecvAt). x.stage) (sym c.self.view_is) ∙ c.in-Header.is) c.read_head.ensures.sound c.read_head.ensures.reads.1 c.read_head.ensures.reads.2).turned
-
-pub returns-in-Lower-clause-stands : goal.returns-in-Lower-clause-stands
-returns-in-Lower-clause-stands g c =
-    (at_answer (g.P.Port.sight c.args.port.now) (g.P.Port.sight c.lower_sent.new.port) c.args.core.now c.lower_sent.new.core c.args.self.now _ _ c.args.bytes.now c.args.bytes.now _ _ c.lower_sent.ensures.next c.lower_sent.ensures.answers
+pub returns-in-Lower : goal.returns-in-Lower
+returns-in-Lower g c =
+    let turns =
+    at_answer (g.P.Port.sight c.args.port.now) (g.P.Port.sight c.lower_sent.new.port) c.args.core.now c.lower_sent.new.core c.args.self.now _ _ c.args.bytes.now c.args.bytes.now _ _ c.lower_sent.ensures.next c.lower_sent.ensures.answers
     (lower_turn (goes_on c.lower_sent.result) (g.P.Port.sight c.args.port.now) (g.P.Port.sight c.lower_sent.new.port) c.args.core.now c.lower_sent.new.core c.args.self.now c.args.bytes.now c.known.ensures.valid c.requires.stands
-    (ap (λ (x : RecvAt). x.stage) (sym c.self.view_is) ∙ c.in-Lower.is) c.lower_sent.ensures.changes)).stands
+    (ap (λ (x : RecvAt). x.stage) (sym c.self.view_is) ∙ c.in-Lower.is) c.lower_sent.ensures.changes) in
+    record { stands = turns.stands; turned = turns.turned; steps = λ spot e. c.lower_sent.ensures.steps (waiting_stops c.lower_sent.result spot e) }
 
-pub returns-in-Lower-clause-turned : goal.returns-in-Lower-clause-turned
-returns-in-Lower-clause-turned g c =
-    (at_answer (g.P.Port.sight c.args.port.now) (g.P.Port.sight c.lower_sent.new.port) c.args.core.now c.lower_sent.new.core c.args.self.now _ _ c.args.bytes.now c.args.bytes.now _ _ c.lower_sent.ensures.next c.lower_sent.ensures.answers
-    (lower_turn (goes_on c.lower_sent.result) (g.P.Port.sight c.args.port.now) (g.P.Port.sight c.lower_sent.new.port) c.args.core.now c.lower_sent.new.core c.args.self.now c.args.bytes.now c.known.ensures.valid c.requires.stands
-    (ap (λ (x : RecvAt). x.stage) (sym c.self.view_is) ∙ c.in-Lower.is) c.lower_sent.ensures.changes)).turned
-
-pub returns-in-Lower-clause-steps : goal.returns-in-Lower-clause-steps
-returns-in-Lower-clause-steps g c = λ spot e. c.lower_sent.ensures.steps (waiting_stops c.lower_sent.result spot e)
-
-pub returns-in-Lines-clause-stands : goal.returns-in-Lines-clause-stands
-returns-in-Lines-clause-stands g c =
-    (at_answer (g.P.Port.sight c.args.port.now) (g.P.Port.sight c.read_line.new.port) c.args.core.now c.read_line.new.core c.args.self.now _ _ c.args.bytes.now c.read_line.new.bytes _ _ c.read_line.ensures.next c.read_line.ensures.answers
+pub returns-in-Lines : goal.returns-in-Lines
+returns-in-Lines g c =
+    let turns =
+    at_answer (g.P.Port.sight c.args.port.now) (g.P.Port.sight c.read_line.new.port) c.args.core.now c.read_line.new.core c.args.self.now _ _ c.args.bytes.now c.read_line.new.bytes _ _ c.read_line.ensures.next c.read_line.ensures.answers
     (lines_turn (g.P.Port.sight c.args.port.now) (g.P.Port.sight c.read_line.new.port) c.args.core.now c.read_line.new.core c.args.self.now c.in-Lines.line c.args.bytes.now c.read_line.new.bytes c.read_line.ensures.reads.0
     c.known.ensures.valid c.requires.stands (ap (λ (x : RecvAt). x.stage) (sym c.self.view_is) ∙ c.in-Lines.is) c.read_line.ensures.reads.1 c.read_line.auto.bytes c.read_line.ensures.reads.2
-    c.read_line.ensures.before c.read_line.ensures.behind)).stands
+    c.read_line.ensures.before c.read_line.ensures.behind) in
+    record { stands = turns.stands; turned = turns.turned; steps = λ spot e. absurd (cc (sym (ap goes_on c.read_line.ensures.answers) ∙ waiting_stops c.read_line.result spot e)) }
 
-pub returns-in-Lines-clause-turned : goal.returns-in-Lines-clause-turned
-returns-in-Lines-clause-turned g c =
-    (at_answer (g.P.Port.sight c.args.port.now) (g.P.Port.sight c.read_line.new.port) c.args.core.now c.read_line.new.core c.args.self.now _ _ c.args.bytes.now c.read_line.new.bytes _ _ c.read_line.ensures.next c.read_line.ensures.answers
-    (lines_turn (g.P.Port.sight c.args.port.now) (g.P.Port.sight c.read_line.new.port) c.args.core.now c.read_line.new.core c.args.self.now c.in-Lines.line c.args.bytes.now c.read_line.new.bytes c.read_line.ensures.reads.0
-    c.known.ensures.valid c.requires.stands (ap (λ (x : RecvAt). x.stage) (sym c.self.view_is) ∙ c.in-Lines.is) c.read_line.ensures.reads.1 c.read_line.auto.bytes c.read_line.ensures.reads.2
-    c.read_line.ensures.before c.read_line.ensures.behind)).turned
-
-pub returns-in-Raise-clause-stands : goal.returns-in-Raise-clause-stands
-returns-in-Raise-clause-stands g c =
-    (at_answer (g.P.Port.sight c.args.port.now) (g.P.Port.sight c.raise_ready.new.port) c.args.core.now c.raise_ready.new.core c.args.self.now _ _ c.args.bytes.now c.args.bytes.now _ _ c.raise_ready.ensures.next c.raise_ready.ensures.answers
+pub returns-in-Raise : goal.returns-in-Raise
+returns-in-Raise g c =
+    let turns =
+    at_answer (g.P.Port.sight c.args.port.now) (g.P.Port.sight c.raise_ready.new.port) c.args.core.now c.raise_ready.new.core c.args.self.now _ _ c.args.bytes.now c.args.bytes.now _ _ c.raise_ready.ensures.next c.raise_ready.ensures.answers
     (raise_turn (goes_on c.raise_ready.result) (g.P.Port.sight c.args.port.now) (g.P.Port.sight c.raise_ready.new.port) c.args.core.now c.raise_ready.new.core c.args.self.now c.args.bytes.now c.known.ensures.valid c.requires.stands
-    (ap (λ (x : RecvAt). x.stage) (sym c.self.view_is) ∙ c.in-Raise.is) c.raise_ready.ensures.changes)).stands
-
-pub returns-in-Raise-clause-turned : goal.returns-in-Raise-clause-turned
-returns-in-Raise-clause-turned g c =
-    (at_answer (g.P.Port.sight c.args.port.now) (g.P.Port.sight c.raise_ready.new.port) c.args.core.now c.raise_ready.new.core c.args.self.now _ _ c.args.bytes.now c.args.bytes.now _ _ c.raise_ready.ensures.next c.raise_ready.ensures.answers
-    (raise_turn (goes_on c.raise_ready.result) (g.P.Port.sight c.args.port.now) (g.P.Port.sight c.raise_ready.new.port) c.args.core.now c.raise_ready.new.core c.args.self.now c.args.bytes.now c.known.ensures.valid c.requires.stands
-    (ap (λ (x : RecvAt). x.stage) (sym c.self.view_is) ∙ c.in-Raise.is) c.raise_ready.ensures.changes)).turned
-
-pub returns-in-Raise-clause-steps : goal.returns-in-Raise-clause-steps
-returns-in-Raise-clause-steps g c = λ spot e. c.raise_ready.ensures.steps (waiting_stops c.raise_ready.result spot e)
+    (ap (λ (x : RecvAt). x.stage) (sym c.self.view_is) ∙ c.in-Raise.is) c.raise_ready.ensures.changes) in
+    record { stands = turns.stands; turned = turns.turned; steps = λ spot e. c.raise_ready.ensures.steps (waiting_stops c.raise_ready.result spot e) }
 
 pub returns-in-Finished-clause-turned : goal.returns-in-Finished-clause-turned
 returns-in-Finished-clause-turned g c =

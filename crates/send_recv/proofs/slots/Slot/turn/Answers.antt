@@ -4,7 +4,7 @@ use Rattle.scc_proto.specs.Ports.{Sight}
 use Rattle.put_get.specs.Cores.{Private}
 use Rattle.send_recv.specs.Ops.{SlotAt}
 use Rattle.send_recv.specs.Steps.{moves_on}
-use Rattle.send_recv.proofs.Posts.SlotTurns.{SlotTurns, nothing_turn, may_lower_slot, slot_look_turn, slot_lower_turn}
+use Rattle.send_recv.proofs.Posts.SlotTurns.{SlotTurns, waiting_stops, nothing_turn, may_lower_slot, slot_look_turn, slot_lower_turn}
 use Rattle.send_recv.proofs.slots.Slot.turn.Goals as goal
 
 -- a turn, where the slot after it and the answer are known by equations
@@ -18,29 +18,21 @@ lower_ready-requires g c = record {
       (ap (λ (x : SlotAt). x.to) (sym c.self.view_is) ∙ c.in-Some.is) (ap (λ (x : SlotAt). x.seen) (sym c.self.view_is) ∙ c.if-self.true);
 }
 
-pub returns-then-self-clause-stands : goal.returns-then-self-clause-stands
-returns-then-self-clause-stands g c =
-    (at_answer (g.P.Port.sight c.args.port.now) (g.P.Port.sight c.lower_ready.new.port) c.args.core.now c.lower_ready.new.core c.args.self.now _ _ _ _ c.lower_ready.ensures.next c.lower_ready.ensures.answers
+pub returns-then-self : goal.returns-then-self
+returns-then-self g c =
+    let turns =
+    at_answer (g.P.Port.sight c.args.port.now) (g.P.Port.sight c.lower_ready.new.port) c.args.core.now c.lower_ready.new.core c.args.self.now _ _ _ _ c.lower_ready.ensures.next c.lower_ready.ensures.answers
     (slot_lower_turn (moves_on c.lower_ready.result) (g.P.Port.sight c.args.port.now) (g.P.Port.sight c.lower_ready.new.port) c.args.core.now c.lower_ready.new.core c.args.self.now c.in-Some.to c.known.ensures.valid c.requires.stands c.requires.empty c.requires.hands
-    (ap (λ (x : SlotAt). x.to) (sym c.self.view_is) ∙ c.in-Some.is) (ap (λ (x : SlotAt). x.seen) (sym c.self.view_is) ∙ c.if-self.true) c.lower_ready.ensures.changes)).stands
+    (ap (λ (x : SlotAt). x.to) (sym c.self.view_is) ∙ c.in-Some.is) (ap (λ (x : SlotAt). x.seen) (sym c.self.view_is) ∙ c.if-self.true) c.lower_ready.ensures.changes) in
+    record { stands = turns.stands; turned = turns.turned; steps = λ spot e. c.lower_ready.ensures.steps (waiting_stops c.lower_ready.result spot e) }
 
-pub returns-then-self-clause-turned : goal.returns-then-self-clause-turned
-returns-then-self-clause-turned g c =
-    (at_answer (g.P.Port.sight c.args.port.now) (g.P.Port.sight c.lower_ready.new.port) c.args.core.now c.lower_ready.new.core c.args.self.now _ _ _ _ c.lower_ready.ensures.next c.lower_ready.ensures.answers
-    (slot_lower_turn (moves_on c.lower_ready.result) (g.P.Port.sight c.args.port.now) (g.P.Port.sight c.lower_ready.new.port) c.args.core.now c.lower_ready.new.core c.args.self.now c.in-Some.to c.known.ensures.valid c.requires.stands c.requires.empty c.requires.hands
-    (ap (λ (x : SlotAt). x.to) (sym c.self.view_is) ∙ c.in-Some.is) (ap (λ (x : SlotAt). x.seen) (sym c.self.view_is) ∙ c.if-self.true) c.lower_ready.ensures.changes)).turned
-
-pub returns-else-self-clause-stands : goal.returns-else-self-clause-stands
-returns-else-self-clause-stands g c =
-    (at_answer (g.P.Port.sight c.args.port.now) (g.P.Port.sight c.look_ready.new.port) c.args.core.now c.look_ready.new.core c.args.self.now _ _ _ _ c.look_ready.ensures.next c.look_ready.ensures.answers
+pub returns-else-self : goal.returns-else-self
+returns-else-self g c =
+    let turns =
+    at_answer (g.P.Port.sight c.args.port.now) (g.P.Port.sight c.look_ready.new.port) c.args.core.now c.look_ready.new.core c.args.self.now _ _ _ _ c.look_ready.ensures.next c.look_ready.ensures.answers
     (slot_look_turn (moves_on c.look_ready.result) (g.P.Port.sight c.args.port.now) (g.P.Port.sight c.look_ready.new.port) c.args.core.now c.look_ready.new.core c.args.self.now c.in-Some.to c.known.ensures.valid c.requires.stands c.requires.empty c.requires.hands
-    (ap (λ (x : SlotAt). x.to) (sym c.self.view_is) ∙ c.in-Some.is) (ap (λ (x : SlotAt). x.seen) (sym c.self.view_is) ∙ c.if-self.false) c.look_ready.ensures.looks)).stands
-
-pub returns-else-self-clause-turned : goal.returns-else-self-clause-turned
-returns-else-self-clause-turned g c =
-    (at_answer (g.P.Port.sight c.args.port.now) (g.P.Port.sight c.look_ready.new.port) c.args.core.now c.look_ready.new.core c.args.self.now _ _ _ _ c.look_ready.ensures.next c.look_ready.ensures.answers
-    (slot_look_turn (moves_on c.look_ready.result) (g.P.Port.sight c.args.port.now) (g.P.Port.sight c.look_ready.new.port) c.args.core.now c.look_ready.new.core c.args.self.now c.in-Some.to c.known.ensures.valid c.requires.stands c.requires.empty c.requires.hands
-    (ap (λ (x : SlotAt). x.to) (sym c.self.view_is) ∙ c.in-Some.is) (ap (λ (x : SlotAt). x.seen) (sym c.self.view_is) ∙ c.if-self.false) c.look_ready.ensures.looks)).turned
+    (ap (λ (x : SlotAt). x.to) (sym c.self.view_is) ∙ c.in-Some.is) (ap (λ (x : SlotAt). x.seen) (sym c.self.view_is) ∙ c.if-self.false) c.look_ready.ensures.looks) in
+    record { stands = turns.stands; turned = turns.turned; steps = λ spot e. c.look_ready.ensures.steps }
 
 pub returns-in-None-clause-turned : goal.returns-in-None-clause-turned
 returns-in-None-clause-turned g c =
