@@ -21,7 +21,7 @@ use Rattle.script_plain.specs.Local.{with_length}
 use Rattle.script_plain.specs.Program.{Act, Prim, program_of}
 use Rattle.script_plain.specs.Rooms.{nothing_held}
 use Rattle.script_plain.proofs.RoomLaws.{start_held}
-use Rattle.script_plain.specs.Program.Act.{Set, Apply, Print, Send, Post, Recv, Gather, Bar, Begin, Fold, Accept, Finish}
+use Rattle.script_plain.specs.Program.Act.{Set, Print, Send, Post, Recv, Gather, Begin, Accept, Finish}
 use Rattle.log_run.specs.Sizes.{Asks, HasSameSizes, bytes_by, calls_by, has_room_for_all}
 
 -- ---- what was printed does not matter
@@ -30,38 +30,26 @@ register_same : (l m : Lengths) → HasSameSizes l m → (reg : ℕ) → length_
 register_same l m same reg = ap (λ (r : List ℕ). slice_index_or r reg 0) (sym same.registers)
 
 called_same : (l m : Lengths) → HasSameSizes l m → (act : Act) → called l act ≡ called m act
-called_same l m same (Set reg content) = refl
-called_same l m same (Apply op ty dst src) = refl
-called_same l m same (Print reg form) = refl
 called_same l m same (Send to head (source.Own reg)) = ap (λ (n : ℕ). call.Send to (with_length head n) ∷ []) (register_same l m same reg)
 called_same l m same (Send to head source.Accumulator) = ap (λ (n : ℕ). call.Send to (with_length head n) ∷ []) (sym same.accumulator)
 called_same l m same (Post to reg) = ap (λ (n : ℕ). call.Post to (plain_head (min n 3584)) ∷ []) (register_same l m same reg)
-called_same l m same (Recv from reg head) = refl
 called_same l m same (Gather from head None) = refl
 called_same l m same (Gather from head (Some reg)) = ap (λ (n : ℕ). call.Recv from (with_length head n) ∷ []) (register_same l m same reg)
-called_same l m same (Bar comm) = refl
-called_same l m same (Begin reg) = refl
-called_same l m same (Fold op ty) = refl
-called_same l m same (Accept reg) = refl
-called_same l m same (Finish reg) = refl
+called_same l m same _ = refl
 
 set_same : (l m : Lengths) → HasSameSizes l m → (reg n k : ℕ) → k ≡ n → slice_set m.registers reg k ≡ slice_set l.registers reg n
 set_same l m same reg n k is = λ i. slice_set (same.registers i) reg (is i)
 
 after_same : (l m : Lengths) → HasSameSizes l m → (act : Act) → HasSameSizes (lengths_after l act) (lengths_after m act)
 after_same l m same (Set reg content) = record { registers = set_same l m same reg (length content) (length content) refl; accumulator = same.accumulator; received = same.received }
-after_same l m same (Apply op ty dst src) = same
 after_same l m same (Print reg form) = record { registers = same.registers; accumulator = same.accumulator; received = same.received }
-after_same l m same (Send to head source) = same
-after_same l m same (Post to reg) = same
 after_same l m same (Recv from reg head) = record { registers = set_same l m same reg head.len head.len refl; accumulator = same.accumulator; received = same.received }
 after_same l m same (Gather from head None) = record { registers = same.registers; accumulator = same.accumulator; received = refl }
 after_same l m same (Gather from head (Some reg)) = record { registers = same.registers; accumulator = same.accumulator; received = sym (register_same l m same reg) }
-after_same l m same (Bar comm) = same
 after_same l m same (Begin reg) = record { registers = same.registers; accumulator = sym (register_same l m same reg); received = same.received }
-after_same l m same (Fold op ty) = same
 after_same l m same (Accept reg) = record { registers = set_same l m same reg l.received m.received same.received; accumulator = same.accumulator; received = same.received }
 after_same l m same (Finish reg) = record { registers = set_same l m same reg l.accumulator m.accumulator same.accumulator; accumulator = same.accumulator; received = same.received }
+after_same l m same _ = same
 
 calls_same : (l m : Lengths) → HasSameSizes l m → (prims : List Prim) → calls_from l prims ≡ calls_from m prims
 calls_same l m same [] = refl
