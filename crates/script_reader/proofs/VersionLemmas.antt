@@ -37,7 +37,7 @@ use Rattle.script_reader.specs.declared.version.Version.TheVariants as version
 use Rattle.script_reader.specs.Checks.{innermost, open_of}
 use Rattle.script_reader.specs.Effects.{effect_of, parent_of, split_rule}
 use Rattle.script_reader.specs.Faults.{◌>>=◌, Gives}
-use Rattle.script_reader.specs.Progress.{Progress, after, after_group, after_local, after_message, after_section, checked, named, open_section, past, peer_in, place, rank_said, register_of, rule_said, small, start}
+use Rattle.script_reader.specs.Progress.{Progress, after, after_group, after_local, after_message, after_section, checked, local_numbered, named, open_section, past, peer_in, place, rank_said, register_of, rule_said, small, start}
 use Rattle.script_reader.specs.Reading.{at_end, at_line, begun, most_script_bytes, read_all_lines, read_as, read_line, read_lines, read_words, script_of}
 use Rattle.script_reader.specs.Said.{of_said, version_number, allreduce_said, alone, apply_said, barrier_said, bcast_said, bytes_said, colour_said, dash_of, fill_said, hex_said, name_said, number_said, operation_said, peer_said, range_said, type_said, values_said, group_said, numbers_said, post_said, print_said, ranks_said, rank_of_said, rcce_said, recv_said, reduce_said, register_said, repeat_said, said_of, section_said, send_said, span_said, split_said, ue_said, values_named}
 use Rattle.script_reader.specs.Script.{Script, first_split, rules_of}
@@ -255,12 +255,13 @@ section-flat p section.Even flat = open-flat p who.Even flat
 section-flat p section.Odd flat = open-flat p who.Odd flat
 section-flat p (section.Span first last) flat = then IsFlat (rank_said p.nue first) _ (λ a. then IsFlat (rank_said p.nue last) _ (λ b. either IsFlat (nat_lt b a) (Err kind.RankRange) (open_section p (who.Span a b)) tt (open-flat p (who.Span a b) flat)))
 
-local-flat : (line : ℕ) (p : Progress) (s : Local) → IsFlat p → IfOk (after_local line p s) IsFlat
-local-flat line p (local.Bytes name bytes) flat = place-flat line (named p name) (stmt.Bytes (register_of p.names name) bytes) flat (λ comm. refl)
-local-flat line p (local.Fill name len start) flat = place-flat line (named p name) (stmt.Fill (register_of p.names name) len start) flat (λ comm. refl)
-local-flat line p (local.RankOf name ty) flat = place-flat line (named p name) (stmt.RankOf (register_of p.names name) ty) flat (λ comm. refl)
-local-flat line p (local.Apply op ty dst src) flat = place-flat line (named (named p dst) src) (stmt.Apply op ty (register_of p.names dst) (register_of (named p dst).names src)) flat (λ comm. refl)
-local-flat line p (local.Print name form) flat = place-flat line (named p name) (stmt.Print (register_of p.names name) form) flat (λ comm. refl)
+-- a statement of the rank's own splits nothing
+local-world : (names : List (List ℕ)) (l : Local) (comm : ℕ) → parent_of (split_rule (effect_of (local_numbered names l).statement).group comm) ≡ 0
+local-world names (local.Bytes name bytes) comm = refl
+local-world names _ comm = refl
+
+local-flat : (line : ℕ) (p : Progress) (l : Local) → IsFlat p → IfOk (after_local line p l) IsFlat
+local-flat line p l flat = place-flat line (record p { names = (local_numbered p.names l).names }) (local_numbered p.names l).statement flat (local-world p.names l)
 
 message-flat : (line : ℕ) (p : Progress) (s : Message) → IsFlat p → IfOk (after_message line p s) IsFlat
 message-flat line p (message.Send peer name) flat = then IsFlat (peer_in p.nue peer) _ (λ other. place-flat line (named p name) (stmt.Send other (register_of p.names name)) flat (λ comm. refl))
