@@ -1,71 +1,24 @@
 -- How many calls a rank's program makes, and how many bytes they move, counted along it.
-use Rattle.std.proofs.Common.{◌≡◌, ◌⊎◌, inl, inr, ℕ, suc, ◌+◌, ◌<◌, ◌≤◌, Bool, true, false, ◌&&◌, List, [], ◌∷◌, ◌++◌, drop, length, length-append, min, slice_get, slice_index_or, slice_set, Option, Some, None, refl, sym, ap, ◌∙◌, arith}
+use Rattle.std.proofs.Common.{◌≡◌, ◌⊎◌, inl, inr, ℕ, suc, ◌+◌, ◌<◌, ◌≤◌, Bool, true, false, ◌&&◌, List, [], ◌∷◌, ◌++◌, drop, length, length-append, map, slice_get, slice_index_or, Option, Some, None, refl, sym, ap, ◌∙◌, arith}
 use Rattle.std.specs.Prelude.{nat_le}
-use Rattle.std.specs.Option.{option_map}
+use Rattle.std.specs.Option.{option_map, option_to_list}
 use Rattle.std.specs.List.{list_all, range_with_len}
 use Rattle.std.proofs.Math.Nat.{eq-or-lt_of_le}
 use Rattle.std.proofs.lemmas.Bool.{le-leb, leb-true}
 use Rattle.std.proofs.lemmas.List.Folds.{list_all_at}
 use Rattle.std.proofs.lemmas.List.FromFn.{get_or-range_with_len, length-range_with_len}
-use Rattle.scc_base.specs.Heads.{plain_head}
+use Rattle.scc_base.specs.Calls.{bytes_asked}
 use Rattle.scc_base.specs.declared.calls.Call.{Call}
-use Rattle.scc_base.specs.declared.calls.Call.TheVariants as call
 use Rattle.scc_proto.proofs.Tests.{both_first, both_second}
 use Rattle.call_tap.specs.Planned.{bytes_planned, has_room_for}
 use Rattle.call_tap.proofs.PlannedLaws.{planned_append}
-use Rattle.script_plain.specs.declared.prims.Source.TheVariants as source
 use Rattle.script_reader.specs.Script.{Script}
 use Rattle.script_plain.specs.CallLists.{called, calls_from, calls_of}
-use Rattle.script_plain.specs.Lengths.{Lengths, length_at, lengths_after}
-use Rattle.script_plain.specs.Local.{with_length}
-use Rattle.script_plain.specs.Program.{Act, Prim, program_of}
+use Rattle.script_plain.specs.Lengths.{Lengths, lengths_after}
+use Rattle.script_plain.specs.Program.{Prim, program_of}
 use Rattle.script_plain.specs.Rooms.{nothing_held}
 use Rattle.script_plain.proofs.RoomLaws.{start_held}
-use Rattle.script_plain.specs.Program.Act.{Set, Apply, Print, Send, Post, Recv, Gather, Bar, Begin, Fold, Accept, Finish}
-use Rattle.log_run.specs.Sizes.{Asks, HasSameSizes, bytes_by, calls_by, has_room_for_all}
-
--- ---- what was printed does not matter
-
-register_same : (l m : Lengths) → HasSameSizes l m → (reg : ℕ) → length_at l reg ≡ length_at m reg
-register_same l m same reg = ap (λ (r : List ℕ). slice_index_or r reg 0) (sym same.registers)
-
-called_same : (l m : Lengths) → HasSameSizes l m → (act : Act) → called l act ≡ called m act
-called_same l m same (Set reg content) = refl
-called_same l m same (Apply op ty dst src) = refl
-called_same l m same (Print reg form) = refl
-called_same l m same (Send to head (source.Own reg)) = ap (λ (n : ℕ). call.Send to (with_length head n) ∷ []) (register_same l m same reg)
-called_same l m same (Send to head source.Accumulator) = ap (λ (n : ℕ). call.Send to (with_length head n) ∷ []) (sym same.accumulator)
-called_same l m same (Post to reg) = ap (λ (n : ℕ). call.Post to (plain_head (min n 3584)) ∷ []) (register_same l m same reg)
-called_same l m same (Recv from reg head) = refl
-called_same l m same (Gather from head None) = refl
-called_same l m same (Gather from head (Some reg)) = ap (λ (n : ℕ). call.Recv from (with_length head n) ∷ []) (register_same l m same reg)
-called_same l m same (Bar comm) = refl
-called_same l m same (Begin reg) = refl
-called_same l m same (Fold op ty) = refl
-called_same l m same (Accept reg) = refl
-called_same l m same (Finish reg) = refl
-
-set_same : (l m : Lengths) → HasSameSizes l m → (reg n k : ℕ) → k ≡ n → slice_set m.registers reg k ≡ slice_set l.registers reg n
-set_same l m same reg n k is = λ i. slice_set (same.registers i) reg (is i)
-
-after_same : (l m : Lengths) → HasSameSizes l m → (act : Act) → HasSameSizes (lengths_after l act) (lengths_after m act)
-after_same l m same (Set reg content) = record { registers = set_same l m same reg (length content) (length content) refl; accumulator = same.accumulator; received = same.received }
-after_same l m same (Apply op ty dst src) = same
-after_same l m same (Print reg form) = record { registers = same.registers; accumulator = same.accumulator; received = same.received }
-after_same l m same (Send to head source) = same
-after_same l m same (Post to reg) = same
-after_same l m same (Recv from reg head) = record { registers = set_same l m same reg head.len head.len refl; accumulator = same.accumulator; received = same.received }
-after_same l m same (Gather from head None) = record { registers = same.registers; accumulator = same.accumulator; received = refl }
-after_same l m same (Gather from head (Some reg)) = record { registers = same.registers; accumulator = same.accumulator; received = sym (register_same l m same reg) }
-after_same l m same (Bar comm) = same
-after_same l m same (Begin reg) = record { registers = same.registers; accumulator = sym (register_same l m same reg); received = same.received }
-after_same l m same (Fold op ty) = same
-after_same l m same (Accept reg) = record { registers = set_same l m same reg l.received m.received same.received; accumulator = same.accumulator; received = same.received }
-after_same l m same (Finish reg) = record { registers = set_same l m same reg l.accumulator m.accumulator same.accumulator; accumulator = same.accumulator; received = same.received }
-
-calls_same : (l m : Lengths) → HasSameSizes l m → (prims : List Prim) → calls_from l prims ≡ calls_from m prims
-calls_same l m same [] = refl
-calls_same l m same (prim ∷ prims) = λ i. called_same l m same prim.act i ++ calls_same (lengths_after l prim.act) (lengths_after m prim.act) (after_same l m same prim.act) prims i
+use Rattle.log_run.specs.Sizes.{bytes_by, calls_by, has_room_for_all}
 
 -- ---- one primitive more
 
@@ -79,24 +32,32 @@ pub nothing_left : (l : Lengths) (prims : List Prim) → slice_get prims 0 ≡ N
 nothing_left l [] none = refl
 nothing_left l (x ∷ prims) none = absurd (cc (none))
 
+-- the calls of a primitive are none, or one that moves the bytes it tells
+asked_of : (calls : List Call) (moved : Option ℕ) → option_to_list moved ≡ map bytes_asked calls → (length calls ≡ calls_by moved) × (bytes_planned calls ≡ bytes_by moved)
+asked_of [] None is = (refl, refl)
+asked_of [] (Some n) is = absurd (cc (is))
+asked_of (call ∷ []) None is = absurd (cc (is))
+asked_of (call ∷ []) (Some n) is = let same : n ≡ bytes_asked call = cc (is) in (refl, omega (arith, same))
+asked_of (call ∷ more ∷ calls) None is = absurd (cc (is))
+asked_of (call ∷ more ∷ calls) (Some n) is = absurd (cc (is))
+
 -- calls and bytes counted so far, with those that are left, are those of the program
 pub record AreCounted (planned : List Call) (calls bytes : ℕ) (left : List Call) : Type 0 where
   pub count : length planned ≡ calls + length left
   pub sum : bytes_planned planned ≡ bytes + bytes_planned left
 
 pub counted_on : (planned : List Call) (calls bytes : ℕ) (l m : Lengths) (left : List Prim) (prim : Prim) (moved : Option ℕ) (more_calls more_bytes : ℕ) (rest : List Prim)
-    → AreCounted planned calls bytes (calls_from l left) → slice_get left 0 ≡ Some prim → Asks (called l prim.act) moved → HasSameSizes (lengths_after l prim.act) m
+    → AreCounted planned calls bytes (calls_from l left) → slice_get left 0 ≡ Some prim → option_to_list moved ≡ map bytes_asked (called l prim.act) → m ≡ lengths_after l prim.act
     → more_calls ≡ calls + calls_by moved → more_bytes ≡ bytes + bytes_by moved → rest ≡ drop 1 left → AreCounted planned more_calls more_bytes (calls_from m rest)
 counted_on planned calls bytes l m left prim moved more_calls more_bytes rest counted here asks same is_calls is_bytes behind =
     let parts : calls_from l left ≡ called l prim.act ++ calls_from m rest =
-    calls_front l left prim here ∙ ap (λ (c : List Call). called l prim.act ++ c) (calls_same (lengths_after l prim.act) m same (drop 1 left) ∙ ap (calls_from m) (sym behind)) in
+    calls_front l left prim here ∙ ap (λ (c : List Call). called l prim.act ++ c) (λ i. calls_from (sym same i) (sym behind i)) in
     let lengths = ap length parts ∙ length-append (called l prim.act) (calls_from m rest) in
     let sums = ap bytes_planned parts ∙ planned_append (called l prim.act) (calls_from m rest) in
     let c = counted.count in
     let s = counted.sum in
-    let one = asks.count in
-    let own = asks.bytes in
-    record { count = omega (arith, lengths, c, one, is_calls); sum = omega (arith, sums, s, own, is_bytes) }
+    let own = asked_of (called l prim.act) moved asks in
+    record { count = omega (arith, lengths, c, own.0, is_calls); sum = omega (arith, sums, s, own.1, is_bytes) }
 
 -- ---- whether there is room
 

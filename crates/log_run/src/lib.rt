@@ -5,7 +5,6 @@ mod crew;
 mod loggers;
 mod rooms;
 mod script_runs;
-mod sizes;
 mod ue_runs;
 
 pub use loggers::Logger;

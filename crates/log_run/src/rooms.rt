@@ -6,9 +6,8 @@ ghost use Rattle.script_plain.specs.CallLists.{calls_of};
 ghost use Rattle.script_reader.specs.Script.{rules_of};
 ghost use Rattle.log_run.specs.Sizes.{has_room_for_all};
 
-use crate::sizes::Sizes;
 use scc_base::{Rank, Setup};
-use script_plain::{Walk, setup_of};
+use script_plain::{Lengths, Walk, setup_of};
 use script_reader::Scripts;
 use std::alloc::{AllocError, Global};
 
@@ -58,14 +57,14 @@ fn rank_has_room(
     ensures { IfOk result (λ room. room ≡ has_room_for (calls_of scripts.now rank)) }
 {
     let mut walk = Walk::new(alloc, scripts, setup, rank)?;
-    let mut sizes = Sizes::none(alloc, scripts.registers())?;
+    let mut lengths = Lengths::none(alloc, scripts.registers())?;
     let mut tally = Tally { calls: 0, bytes: 0 };
     while let Some(prim) = walk.front() {
-        let moved = sizes.moved(&prim.action);
+        let moved = lengths.moved(&prim.action);
         if !tally.add(moved) {
             return Ok(false);
         }
-        sizes.go(&prim.action);
+        lengths.go(&prim.action)?;
         walk.advance();
     }
     Ok(true)

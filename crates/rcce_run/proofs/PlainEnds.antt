@@ -23,17 +23,7 @@ use Rattle.rcce_run.proofs.Holding.{at_below}
 -- no primitive ends a program
 act_goes : (u : Local) (line : ℕ) (a : Act) → next_by_act u line a ≡ Ends → ⊥
 act_goes u line (Act.Set reg content) is = cc (is)
-act_goes u line (Act.Apply op ty dst src) is = cc (is)
-act_goes u line (Act.Print reg form) is = cc (is)
-act_goes u line (Act.Send to head source) is = cc (is)
-act_goes u line (Act.Post to reg) is = cc (is)
-act_goes u line (Act.Recv from reg head) is = cc (is)
-act_goes u line (Act.Gather from head sized) is = cc (is)
-act_goes u line (Act.Bar comm) is = cc (is)
-act_goes u line (Act.Begin reg) is = cc (is)
-act_goes u line (Act.Fold op ty) is = cc (is)
-act_goes u line (Act.Accept reg) is = cc (is)
-act_goes u line (Act.Finish reg) is = cc (is)
+act_goes u line _ is = cc (is)
 
 prim_goes : (u : Local) (o : Option Prim) → next_by_prim u o ≡ Ends → o ≡ None
 prim_goes u None is = refl
@@ -65,18 +55,12 @@ stopped_end u slot stopped = by u.standing refl
 
 -- a call that stands next, or a statement of the rank's own
 at_call : (u : Local) (line : ℕ) (a : Act) → is_going (next_by_act u line a) ≡ false → waits_at line (call_of (next_by_act u line a)) ≢ ue_end.Finished
-at_call u line (Act.Set reg content) goes end = cc (goes)
-at_call u line (Act.Apply op ty dst src) goes end = cc (goes)
-at_call u line (Act.Print reg form) goes end = cc (goes)
 at_call u line (Act.Send to head source) goes end = cc (end)
 at_call u line (Act.Post to reg) goes end = cc (end)
 at_call u line (Act.Recv from reg head) goes end = cc (end)
 at_call u line (Act.Gather from head sized) goes end = cc (end)
 at_call u line (Act.Bar comm) goes end = cc (end)
-at_call u line (Act.Begin reg) goes end = cc (goes)
-at_call u line (Act.Fold op ty) goes end = cc (goes)
-at_call u line (Act.Accept reg) goes end = cc (goes)
-at_call u line (Act.Finish reg) goes end = cc (goes)
+at_call u line _ goes end = cc (goes)
 
 -- one that waits has not: at its next call, or with nothing left for its slot
 pub waiting_end : (u : Local) (slot : Option Posted) → is_going (local_next u) ≡ false → (local_next u ≡ Ends → (message : Posted) × (slot ≡ Some message)) → end_of slot u ≢ ue_end.Finished

@@ -1,11 +1,8 @@
 -- Each primitive that is done lowers what is left of a rank's program, and a call begins with no more turns than were
 -- reckoned for it.
-use Rattle.std.proofs.Common.{◌≡◌, ℕ, suc, ◌+◌, ◌-◌, ◌*◌, ◌<◌, ◌≤◌, ◌==◌, Bool, true, false, cond, min, List, [], ◌∷◌, ◌++◌, length, length-append, map, drop, set, Option, Some, None, refl, sym, ap, ◌∙◌, subst, arith, slice_get}
-use Rattle.std.proofs.lemmas.List.{map-set}
-use Rattle.std.proofs.lemmas.List.Sums.{sum_by-append}
+use Rattle.std.proofs.Common.{◌≡◌, ℕ, suc, ◌+◌, ◌-◌, ◌*◌, ◌<◌, ◌≤◌, ◌==◌, Bool, true, false, cond, min, List, [], ◌∷◌, length, drop, Option, Some, None, refl, sym, ap, ◌∙◌, subst, arith, slice_get}
 use Rattle.std.proofs.Math.ListN.{get_or-map}
 use Rattle.std.proofs.Math.Nat.{mul-le-mul_right}
-use Rattle.std.proofs.Math.Seq.{map-set_same}
 use Rattle.scc_base.specs.Heads.{MessageHead}
 use Rattle.scc_base.specs.Layouts.{chunk_size}
 use Rattle.scc_base.specs.Setups.{SetupView, place_of, setup_key, size_of}
@@ -18,17 +15,16 @@ use Rattle.send_recv.specs.Sending.{of_chunk}
 use Rattle.send_recv.proofs.Starts.{new_receive_left}
 use Rattle.barrier.specs.Stages.{left_by}
 use Rattle.barrier.specs.declared.stages.BarStage.TheVariants.{Flip}
-use Rattle.script_plain.specs.Printed.{Printed}
 use Rattle.script_plain.specs.declared.prims.Source.{Source}
 use Rattle.script_plain.specs.declared.prims.Source.TheVariants as source_of
 use Rattle.script_plain.specs.declared.prims.Standing.{Standing}
 use Rattle.script_plain.specs.declared.prims.Standing.TheVariants as standing
-use Rattle.script_plain.specs.Lengths.{Lengths, asked_length, length_at, lengths_after, lengths_of, printed_bytes, source_length, with_register}
+use Rattle.script_plain.specs.Lengths.{Lengths, asked_length, length_at, lengths_after, lengths_of, source_length, with_register}
 use Rattle.script_plain.specs.Local.{Local, asked_head, local_next, next_by_act, next_by_prim, prim_by_standing, register_at, source_bytes}
 use Rattle.script_plain.specs.Next.{Next}
 use Rattle.script_plain.specs.Next.Next.{Ends, Goes, Posts, Sends, Recvs, Bars}
 use Rattle.script_plain.specs.Program.{Act, Prim}
-use Rattle.script_plain.proofs.LengthPaths.{folded_length}
+use Rattle.script_plain.proofs.RoomLaws.{lengths_next}
 use Rattle.rcce_ue.specs.Left.{barrier_bound, bound_of, bounds_left, next_bound, open_left, rest_of}
 use Rattle.rcce_ue.specs.Ues.{opened}
 use Rattle.rcce_ue.specs.declared.calls.Open.TheVariants.{Sending}
@@ -36,20 +32,6 @@ use Rattle.rcce_ue.specs.declared.calls.Open.TheVariants.{Sending}
 -- the length of a register
 reg_length : (u : Local) (reg : ℕ) → length_at (lengths_of u) reg ≡ length (register_at u reg)
 reg_length u reg = get_or-map (length {A = ℕ}) u.registers reg []
-
--- the lengths after a register was written
-set_lengths : (u : Local) (reg len : ℕ) (bytes : List ℕ) → length bytes ≡ len → map (length {A = ℕ}) (set u.registers reg bytes) ≡ set (map (length {A = ℕ}) u.registers) reg len
-set_lengths u reg len bytes long = map-set (length {A = ℕ}) u.registers reg bytes ∙ ap (λ (n : ℕ). set (map (length {A = ℕ}) u.registers) reg n) long
-
-fold_lengths : (u : Local) (reg : ℕ) (bytes : List ℕ) → length bytes ≡ length (register_at u reg) → map (length {A = ℕ}) (set u.registers reg bytes) ≡ map (length {A = ℕ}) u.registers
-fold_lengths u reg bytes long = map-set_same (length {A = ℕ}) u.registers reg bytes [] long
-
--- one item more is printed
-print_items : (items : List Printed) (item : Printed) → length items + 1 ≡ length (items ++ item ∷ [])
-print_items items item = let both = length-append items (item ∷ []) in omega (arith, both)
-
-print_bytes : (items : List Printed) (item : Printed) (len : ℕ) → len ≡ length item.bytes → printed_bytes items + len ≡ printed_bytes (items ++ item ∷ [])
-print_bytes items item len long = let both = sum_by-append (λ (x : Printed). length x.bytes) items (item ∷ []) in omega (arith, both, long)
 
 module _ (s : SetupView) (rank : ℕ) where
   -- what stands next leaves less
@@ -70,15 +52,6 @@ module _ (s : SetupView) (rank : ℕ) where
 
   module _ (u : Local) (line : ℕ) (left : ℕ) where
     lowers_act : (a : Act) → left ≡ (1 + bound_of s rank (lengths_of u) a) + rest_by (lengths_after (lengths_of u) a) (drop 1 u.left) → Lowers left (next_by_act u line a)
-    lowers_act (Act.Set reg content) is =
-        lowered left 0 (with_register (lengths_of u) reg (length content)) _ (drop 1 u.left) is (λ i. record (lengths_of u) { registers = sym (set_lengths u reg (length content) content refl) i })
-    lowers_act (Act.Apply op ty dst src) is =
-        lowered left 0 (lengths_of u) _ (drop 1 u.left) is
-        (λ i. record (lengths_of u) { registers = sym (fold_lengths u dst _ (folded_length op ty (register_at u dst) (register_at u src))) i })
-    lowers_act (Act.Print reg form) is =
-        let item : Printed = record { reg = reg; form = form; bytes = register_at u reg } in
-        lowered left 0 (record (lengths_of u) { items = length u.printed + 1; printed = printed_bytes u.printed + length_at (lengths_of u) reg }) _ (drop 1 u.left) is
-        (λ i. record (lengths_of u) { items = print_items u.printed item i; printed = print_bytes u.printed item (length_at (lengths_of u) reg) (reg_length u reg) i })
     lowers_act (Act.Send to head source) is = is ∙ ap (λ (n : ℕ). (1 + message_bound s.layout n) + rest_by (lengths_of u) (drop 1 u.left)) (by source)
       where
         by : (source : Source) → source_length (lengths_of u) source ≡ length (source_bytes u source)
@@ -86,24 +59,17 @@ module _ (s : SetupView) (rank : ℕ) where
         by source_of.Accumulator = refl
     lowers_act (Act.Post to reg) is = is ∙ ap (λ (n : ℕ). (1 + message_bound s.layout (min n 3584)) + rest_by (lengths_of u) (drop 1 u.left)) (reg_length u reg)
     lowers_act (Act.Recv from reg head) is = λ bytes long.
-        lowered left (message_bound s.layout head.len) (with_register (lengths_of u) reg head.len) _ (drop 1 u.left) is (λ i. record (lengths_of u) { registers = sym (set_lengths u reg head.len bytes long) i })
+        lowered left (message_bound s.layout head.len) (with_register (lengths_of u) reg head.len) _ (drop 1 u.left) is (sym (lengths_next u line (Act.Recv from reg head) bytes long))
     lowers_act (Act.Gather from head sized) is = λ bytes long.
         lowered left (message_bound s.layout (asked_head u head sized).len) (record (lengths_of u) { received = asked_length (lengths_of u) head sized }) _ (drop 1 u.left)
         (is ∙ ap (λ (n : ℕ). (1 + message_bound s.layout n) + rest_by (record (lengths_of u) { received = asked_length (lengths_of u) head sized }) (drop 1 u.left)) (by sized))
-        (λ i. record (lengths_of u) { received = (by sized ∙ sym long) i })
+        (sym (lengths_next u line (Act.Gather from head sized) bytes long))
       where
         by : (sized : Option ℕ) → asked_length (lengths_of u) head sized ≡ (asked_head u head sized).len
         by None = refl
         by (Some reg) = reg_length u reg
     lowers_act (Act.Bar comm) is = is
-    lowers_act (Act.Begin reg) is =
-        lowered left 0 (record (lengths_of u) { accumulator = length_at (lengths_of u) reg }) _ (drop 1 u.left) is (λ i. record (lengths_of u) { accumulator = reg_length u reg i })
-    lowers_act (Act.Fold op ty) is =
-        lowered left 0 (lengths_of u) _ (drop 1 u.left) is (λ i. record (lengths_of u) { accumulator = sym (folded_length op ty u.accumulator u.received) i })
-    lowers_act (Act.Accept reg) is =
-        lowered left 0 (with_register (lengths_of u) reg (length u.received)) _ (drop 1 u.left) is (λ i. record (lengths_of u) { registers = sym (set_lengths u reg (length u.received) u.received refl) i })
-    lowers_act (Act.Finish reg) is =
-        lowered left 0 (with_register (lengths_of u) reg (length u.accumulator)) _ (drop 1 u.left) is (λ i. record (lengths_of u) { registers = sym (set_lengths u reg (length u.accumulator) u.accumulator refl) i })
+    lowers_act a is = lowered left 0 (lengths_after (lengths_of u) a) _ (drop 1 u.left) is (sym (lengths_next u line a [] refl))
 
   more_bound : (n bound rest : ℕ) → suc n + (bound + rest) ≡ (1 + bound) + (n + rest)
   more_bound n bound rest = omega arith

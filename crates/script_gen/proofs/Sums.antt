@@ -42,18 +42,10 @@ abbrev Nothing : ℕ → Posted → Type 0
 Nothing k message = ⊥
 
 quiet_act : (k : ℕ) (calls : List DataCall) (u : Local) (line : ℕ) (a : Act) → IsQuiet a → AreQuiet (drop 1 u.left) → AreQuiet u.left → KeepsNext (Quiet k) (Nothing k) (recorded calls (next_by_act u line a))
-quiet_act k calls u line (Act.Set reg content) quiet rest all = rest
-quiet_act k calls u line (Act.Apply op ty dst src) quiet rest all = rest
-quiet_act k calls u line (Act.Print reg form) quiet rest all = rest
-quiet_act k calls u line (Act.Send to head source) quiet rest all = rest
 quiet_act k calls u line (Act.Post to reg) quiet rest all = absurd quiet
 quiet_act k calls u line (Act.Recv from reg head) quiet rest all = (λ bytes. rest, λ sent. all)
 quiet_act k calls u line (Act.Gather from head sized) quiet rest all = (λ bytes. rest, λ sent. all)
-quiet_act k calls u line (Act.Bar comm) quiet rest all = rest
-quiet_act k calls u line (Act.Begin reg) quiet rest all = rest
-quiet_act k calls u line (Act.Fold op ty) quiet rest all = rest
-quiet_act k calls u line (Act.Accept reg) quiet rest all = rest
-quiet_act k calls u line (Act.Finish reg) quiet rest all = rest
+quiet_act k calls u line _ quiet rest all = rest
 
 quiet_left : (k : ℕ) (calls : List DataCall) (u : Local) (l : List Prim) → u.left ≡ l → AreQuiet l → KeepsNext (Quiet k) (Nothing k) (recorded calls (next_by_prim u (slice_get l 0)))
 quiet_left k calls u [] left quiet = tt
@@ -76,18 +68,8 @@ IsLong (Sends to head bytes after) = length bytes ≡ head.len
 IsLong _ = Unit {0}
 
 long_act : (calls : List DataCall) (u : Local) (line : ℕ) (a : Act) → IsLong (recorded calls (next_by_act u line a))
-long_act calls u line (Act.Set reg content) = tt
-long_act calls u line (Act.Apply op ty dst src) = tt
-long_act calls u line (Act.Print reg form) = tt
 long_act calls u line (Act.Send to head source) = refl
-long_act calls u line (Act.Post to reg) = tt
-long_act calls u line (Act.Recv from reg head) = tt
-long_act calls u line (Act.Gather from head sized) = tt
-long_act calls u line (Act.Bar comm) = tt
-long_act calls u line (Act.Begin reg) = tt
-long_act calls u line (Act.Fold op ty) = tt
-long_act calls u line (Act.Accept reg) = tt
-long_act calls u line (Act.Finish reg) = tt
+long_act calls u line _ = tt
 
 long_prim : (calls : List DataCall) (u : Local) (o : Option Prim) → IsLong (recorded calls (next_by_prim u o))
 long_prim calls u None = tt

@@ -114,23 +114,17 @@ quiet_parts o b [] = tt
 quiet_parts o b (st ∷ steps) = (quiet_part o b st, quiet_parts o b steps)
 
 quiet_acts : (s : SetupView) (rank : ℕ) (statement : Stmt) → IsUsual statement → QuietActs (acts_of s rank statement)
-quiet_acts s rank (stmt.Bytes reg bytes) usual = absurd usual
 quiet_acts s rank (stmt.Fill reg len start) usual = (tt, tt)
 quiet_acts s rank (stmt.RankOf reg ty) usual = (tt, tt)
-quiet_acts s rank (stmt.Apply op ty dst src) usual = absurd usual
 quiet_acts s rank (stmt.Send peer reg) usual = (tt, tt)
-quiet_acts s rank (stmt.Post peer reg) usual = absurd usual
 quiet_acts s rank (stmt.Recv peer reg len) usual = (tt, tt)
 quiet_acts s rank (stmt.Print reg form) usual = (tt, tt)
-quiet_acts s rank (stmt.Barrier comm) usual = absurd usual
-quiet_acts s rank (stmt.Split comm rule) usual = absurd usual
-quiet_acts s rank (stmt.Bcast comm root reg len) usual = absurd usual
-quiet_acts s rank (stmt.Reduce comm root op ty dst src) usual = absurd usual
 quiet_acts s rank (stmt.Allreduce comm op ty dst src) usual =
     let steps = call_steps s rank (coll.Allreduce comm 0) in
     quiet_parts (record { op = op; ty = ty; dst = dst; src = src; sized = Some src }) (begins steps) steps
 quiet_acts s rank (stmt.Repeat times end) usual = tt
 quiet_acts s rank (stmt.End start) usual = tt
+quiet_acts s rank _ usual = absurd usual
 
 -- acts of a statement's line
 abbrev lined : ℕ → List Act → List Prim
@@ -213,18 +207,11 @@ steps_short s rank comm few world =
     by false = omega arith
 
 acts_short : (s : SetupView) (rank : ℕ) (statement : Stmt) → s.nue ≤ 48 → IsUsual statement → length (acts_of s rank statement) ≤ 150
-acts_short s rank (stmt.Bytes reg bytes) few usual = absurd usual
 acts_short s rank (stmt.Fill reg len start) few usual = omega arith
 acts_short s rank (stmt.RankOf reg ty) few usual = omega arith
-acts_short s rank (stmt.Apply op ty dst src) few usual = absurd usual
 acts_short s rank (stmt.Send peer reg) few usual = omega arith
-acts_short s rank (stmt.Post peer reg) few usual = absurd usual
 acts_short s rank (stmt.Recv peer reg len) few usual = omega arith
 acts_short s rank (stmt.Print reg form) few usual = omega arith
-acts_short s rank (stmt.Barrier comm) few usual = absurd usual
-acts_short s rank (stmt.Split comm rule) few usual = absurd usual
-acts_short s rank (stmt.Bcast comm root reg len) few usual = absurd usual
-acts_short s rank (stmt.Reduce comm root op ty dst src) few usual = absurd usual
 acts_short s rank (stmt.Allreduce comm op ty dst src) few usual =
     let o : Operands = record { op = op; ty = ty; dst = dst; src = src; sized = Some src } in
     let steps = call_steps s rank (coll.Allreduce comm 0) in
@@ -233,32 +220,15 @@ acts_short s rank (stmt.Allreduce comm op ty dst src) few usual =
     omega (arith, same, short)
 acts_short s rank (stmt.Repeat times end) few usual = omega arith
 acts_short s rank (stmt.End start) few usual = omega arith
+acts_short s rank _ few usual = absurd usual
 
 -- an item in front of others
 item_short : (b : Bool) (statement : Stmt) (prims : List Prim) (u : Unrolled Prim) (n : ℕ) → IsUsual statement → length prims ≤ 150 → made u ≤ n → made (in_front (cond b (effect_of statement).nesting nesting.Stays) (cond b prims []) u) ≤ most_by statement n
-item_short b (stmt.Bytes reg bytes) prims u n usual short within = absurd usual
-item_short true (stmt.Fill reg len start) prims u n usual short within = let one = stays_short prims u short in omega (arith, one, within)
-item_short false (stmt.Fill reg len start) prims u n usual short within = omega (arith, within)
-item_short true (stmt.RankOf reg ty) prims u n usual short within = let one = stays_short prims u short in omega (arith, one, within)
-item_short false (stmt.RankOf reg ty) prims u n usual short within = omega (arith, within)
-item_short b (stmt.Apply op ty dst src) prims u n usual short within = absurd usual
-item_short true (stmt.Send peer reg) prims u n usual short within = let one = stays_short prims u short in omega (arith, one, within)
-item_short false (stmt.Send peer reg) prims u n usual short within = omega (arith, within)
-item_short b (stmt.Post peer reg) prims u n usual short within = absurd usual
-item_short true (stmt.Recv peer reg len) prims u n usual short within = let one = stays_short prims u short in omega (arith, one, within)
-item_short false (stmt.Recv peer reg len) prims u n usual short within = omega (arith, within)
-item_short true (stmt.Print reg form) prims u n usual short within = let one = stays_short prims u short in omega (arith, one, within)
-item_short false (stmt.Print reg form) prims u n usual short within = omega (arith, within)
-item_short b (stmt.Barrier comm) prims u n usual short within = absurd usual
-item_short b (stmt.Split comm rule) prims u n usual short within = absurd usual
-item_short b (stmt.Bcast comm root reg len) prims u n usual short within = absurd usual
-item_short b (stmt.Reduce comm root op ty dst src) prims u n usual short within = absurd usual
-item_short true (stmt.Allreduce comm op ty dst src) prims u n usual short within = let one = stays_short prims u short in omega (arith, one, within)
-item_short false (stmt.Allreduce comm op ty dst src) prims u n usual short within = omega (arith, within)
 item_short true (stmt.Repeat times end) prims u n usual short within = let one = repeated_short times u.here u.behind usual in omega (arith, one, within)
-item_short false (stmt.Repeat times end) prims u n usual short within = omega (arith, within)
 item_short true (stmt.End start) prims u n usual short within = let one = closes_short start prims u short in omega (arith, one, within)
-item_short false (stmt.End start) prims u n usual short within = omega (arith, within)
+item_short true _ prims u n usual short within = let one = stays_short prims u short in omega (arith, one, within)
+item_short false (stmt.Repeat times end) prims u n usual short within = omega (arith, within)
+item_short false _ prims u n usual short within = omega (arith, within)
 
 items_short : (s : SetupView) (rank : ℕ) (items : List Item) → s.nue ≤ 48 → AreUsual items → made (unrolled s rank items) ≤ most items
 unfolding unrolled

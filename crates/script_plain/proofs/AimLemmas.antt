@@ -152,11 +152,9 @@ module _ (script : Script) (rank : ℕ) where
   aimed_statement line (stmt.Fill reg len start) below other there short =
       let long = length-map-range_with_len (λ (i : ℕ). (start + i) % 251) 0 len in (omega (arith, long, short), tt)
   aimed_statement line (stmt.RankOf reg ty) below other there short = let long = bytes_length ty (pos rank) in (omega (arith, long, narrow ty), tt)
-  aimed_statement line (stmt.Apply op ty dst src) below other there short = (tt, tt)
   aimed_statement line (stmt.Send peer reg) below other there short = ((peer_by peer below other, plain_valid 0 (omega arith)), tt)
   aimed_statement line (stmt.Post peer reg) below other there short = (peer_by peer below other, tt)
   aimed_statement line (stmt.Recv peer reg len) below other there short = ((peer_by peer below other, plain_valid len short), tt)
-  aimed_statement line (stmt.Print reg form) below other there short = (tt, tt)
   aimed_statement line (stmt.Barrier comm) below other there short = ((present-low script.items comm there, there), tt)
   aimed_statement line (stmt.Split comm by) below other there short = ((present-low script.items _ there, there), tt)
   aimed_statement line (stmt.Bcast comm root reg len) below other there short =
@@ -167,6 +165,7 @@ module _ (script : Script) (rank : ℕ) where
       aimed_call line (record { op = op; ty = ty; dst = dst; src = src; sized = Some src }) (coll.Allreduce comm 0)
   aimed_statement line (stmt.Repeat times end) below other there short = tt
   aimed_statement line (stmt.End start) below other there short = tt
+  aimed_statement line _ below other there short = (tt, tt)
 
   aimed_prims : (item : Item) → (has_rank item.who rank ≡ true → AimedActs item.line (acts_of (setup_of script) rank item.stmt)) → AreAimed (prims_of (setup_of script) rank item)
   aimed_prims item is = by (has_rank item.who rank) refl

@@ -17,40 +17,22 @@ use Rattle.script_plain.specs.Next.Next.{Goes, Posts, Sends, Recvs, Bars}
 use Rattle.script_plain.specs.Paths.{Did}
 use Rattle.script_plain.specs.Paths.Did.{Here, Own, Left, Sent, Got, Met}
 use Rattle.script_plain.specs.Program.{Act, Prim}
-use Rattle.script_plain.specs.Program.Act.{Set, Apply, Print, Send, Post, Recv, Gather, Bar, Begin, Fold, Accept, Finish}
+use Rattle.script_plain.specs.Program.Act.{Set, Send, Post, Recv, Gather}
 use Rattle.script_plain.proofs.RoomLaws.{after, length_index, lengths_next, prim_left}
 
 -- the call of a primitive is the one that stands next there
 called_next : (u : Local) (line : ℕ) (act : Act) → called (lengths_of u) act ≡ option_to_list (call_of (next_by_act u line act))
-called_next u line (Set reg content) = refl
-called_next u line (Apply op ty dst src) = refl
-called_next u line (Print reg form) = refl
 called_next u line (Send to head (source.Own reg)) = ap (λ (n : ℕ). call.Send to (with_length head n) ∷ []) (sym (length_index u.registers reg))
 called_next u line (Send to head source.Accumulator) = refl
 called_next u line (Post to reg) = ap (λ (n : ℕ). call.Post to (plain_head (min n 3584)) ∷ []) (sym (length_index u.registers reg))
-called_next u line (Recv from reg head) = refl
 called_next u line (Gather from head None) = refl
 called_next u line (Gather from head (Some reg)) = ap (λ (n : ℕ). call.Recv from (with_length head n) ∷ []) (sym (length_index u.registers reg))
-called_next u line (Bar comm) = refl
-called_next u line (Begin reg) = refl
-called_next u line (Fold op ty) = refl
-called_next u line (Accept reg) = refl
-called_next u line (Finish reg) = refl
+called_next u line _ = refl
 
 -- behind it the primitives that come after are left
 left_next : (u : Local) (line : ℕ) (act : Act) (bytes : List ℕ) → (after (next_by_act u line act) bytes u).left ≡ drop 1 u.left
 left_next u line (Set reg content) bytes = refl
-left_next u line (Apply op ty dst src) bytes = refl
-left_next u line (Print reg form) bytes = refl
-left_next u line (Send to head source) bytes = refl
-left_next u line (Post to reg) bytes = refl
-left_next u line (Recv from reg head) bytes = refl
-left_next u line (Gather from head sized) bytes = refl
-left_next u line (Bar comm) bytes = refl
-left_next u line (Begin reg) bytes = refl
-left_next u line (Fold op ty) bytes = refl
-left_next u line (Accept reg) bytes = refl
-left_next u line (Finish reg) bytes = refl
+left_next u line _ bytes = refl
 
 calls_front : (l : Lengths) (prims : List Prim) (prim : Prim) → slice_get prims 0 ≡ Some prim → calls_from l prims ≡ called l prim.act ++ calls_from (lengths_after l prim.act) (drop 1 prims)
 calls_front l [] prim here = absurd (cc)

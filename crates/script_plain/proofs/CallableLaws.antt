@@ -62,18 +62,7 @@ module _ (script : Script) (rank : ℕ) (below : rank < script.nue) where
   callable_by (stmt.Allreduce comm op ty dst src) call is short there rooted =
       let c : Coll = coll.Allreduce comm 0 in
       subst (λ (x : Collective). can_call (setup_of script) rank x.coll ≡ true) (same_Some _ call is) (may_call c (present-low script.items comm there) there (omega arith) refl)
-  callable_by (stmt.Bytes reg bytes) call is short there rooted = absurd (cc)
-  callable_by (stmt.Fill reg len start) call is short there rooted = absurd (cc)
-  callable_by (stmt.RankOf reg ty) call is short there rooted = absurd (cc)
-  callable_by (stmt.Apply op ty dst src) call is short there rooted = absurd (cc)
-  callable_by (stmt.Send peer reg) call is short there rooted = absurd (cc)
-  callable_by (stmt.Post peer reg) call is short there rooted = absurd (cc)
-  callable_by (stmt.Recv peer reg len) call is short there rooted = absurd (cc)
-  callable_by (stmt.Print reg form) call is short there rooted = absurd (cc)
-  callable_by (stmt.Barrier comm) call is short there rooted = absurd (cc)
-  callable_by (stmt.Split comm by) call is short there rooted = absurd (cc)
-  callable_by (stmt.Repeat times end) call is short there rooted = absurd (cc)
-  callable_by (stmt.End start) call is short there rooted = absurd (cc)
+  callable_by _ call is short there rooted = absurd (cc)
 
 -- a collective call of an item may be made by the ranks of its section
 pub callable : (script : Script) → IsWhole script.nue script.items → (k : ℕ) (item : Item) (rank : ℕ) → slice_get script.items k ≡ Some item → rank < script.nue → has_rank item.who rank ≡ true

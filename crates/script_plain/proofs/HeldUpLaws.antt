@@ -54,20 +54,13 @@ module _ (script : Script) (rank : ℕ) where
   AimedNext (Bars comm after) = IsAimed after
 
   aimed_act : (u : Local) (line : ℕ) (a : Act) → IsAimedAct script rank a → AreAimed script rank (drop 1 u.left) → IsAimed u → AimedNext (next_by_act u line a)
-  aimed_act u line (Act.Set reg content) aim on is = record { left = on; peered = is.peered }
-  aimed_act u line (Act.Apply op ty dst src) aim on is = record { left = on; peered = is.peered }
-  aimed_act u line (Act.Print reg form) aim on is = record { left = on; peered = is.peered }
   aimed_act u line (Act.Send to head source) aim on is = (record { left = on; peered = is.peered }, aim.0)
   aimed_act u line (Act.Post to reg) aim on is = (record { left = on; peered = is.peered }, aim)
   aimed_act u line (Act.Recv from reg head) aim on is =
       (λ bytes. record { left = on; peered = is.peered }, λ sent. record { left = is.left; peered = aim.0 }, aim.0)
   aimed_act u line (Act.Gather from head sized) aim on is =
       (λ bytes. record { left = on; peered = is.peered }, λ sent. record { left = is.left; peered = aim.0 }, aim.0)
-  aimed_act u line (Act.Bar comm) aim on is = record { left = on; peered = is.peered }
-  aimed_act u line (Act.Begin reg) aim on is = record { left = on; peered = is.peered }
-  aimed_act u line (Act.Fold op ty) aim on is = record { left = on; peered = is.peered }
-  aimed_act u line (Act.Accept reg) aim on is = record { left = on; peered = is.peered }
-  aimed_act u line (Act.Finish reg) aim on is = record { left = on; peered = is.peered }
+  aimed_act u line _ aim on is = record { left = on; peered = is.peered }
 
   aimed_left : (u : Local) (l : List Prim) → u.left ≡ l → AreAimed script rank l → IsAimed u → AimedNext (next_by_prim u (slice_get l 0))
   aimed_left u [] at all is = tt
@@ -120,18 +113,8 @@ end_aimed script whole =
 
 -- a rank ended at a barrier exactly where one stands next
 barrier_act : (comm : ℕ) (u : Local) (line : ℕ) (a : Act) → ended_at_barrier comm (waits_at line (call_of (next_by_act u line a))) ≡ is_at_barrier comm (next_by_act u line a)
-barrier_act comm u line (Act.Set reg content) = refl
-barrier_act comm u line (Act.Apply op ty dst src) = refl
-barrier_act comm u line (Act.Print reg form) = refl
-barrier_act comm u line (Act.Send to head source) = refl
-barrier_act comm u line (Act.Post to reg) = refl
-barrier_act comm u line (Act.Recv from reg head) = refl
-barrier_act comm u line (Act.Gather from head sized) = refl
 barrier_act comm u line (Act.Bar asked) = refl
-barrier_act comm u line (Act.Begin reg) = refl
-barrier_act comm u line (Act.Fold op ty) = refl
-barrier_act comm u line (Act.Accept reg) = refl
-barrier_act comm u line (Act.Finish reg) = refl
+barrier_act comm u line _ = refl
 
 barrier_slot : (comm : ℕ) (slot : Option Posted) → ended_at_barrier comm (end_by_slot slot) ≡ false
 barrier_slot comm None = refl
@@ -248,18 +231,12 @@ module _ (script : Script) where
 
   cause_act : (rank line : ℕ) (u : Local) (a : Act) → IsAimedAct script rank a → ((comm : ℕ) → is_at_barrier comm (next_by_act u line a) ≡ true → (k : ℕ) × IsAwaited (keys_of script) (plain_ends script) comm rank k)
       → HasCause (keys_of script) (plain_ends script) rank (waits_at line (call_of (next_by_act u line a)))
-  cause_act rank line u (Act.Set reg content) aim absent = tt
-  cause_act rank line u (Act.Apply op ty dst src) aim absent = tt
-  cause_act rank line u (Act.Print reg form) aim absent = tt
   cause_act rank line u (Act.Send to head source) aim absent = subst (λ (n : ℕ). IsPeer n rank to) (sym (many_ends script)) aim.0
   cause_act rank line u (Act.Post to reg) aim absent = subst (λ (n : ℕ). IsPeer n rank to) (sym (many_ends script)) aim
   cause_act rank line u (Act.Recv from reg head) aim absent = subst (λ (n : ℕ). IsPeer n rank from) (sym (many_ends script)) aim.0
   cause_act rank line u (Act.Gather from head sized) aim absent = subst (λ (n : ℕ). IsPeer n rank from) (sym (many_ends script)) aim.0
   cause_act rank line u (Act.Bar comm) aim absent = absent comm (eq-eqb comm comm refl)
-  cause_act rank line u (Act.Begin reg) aim absent = tt
-  cause_act rank line u (Act.Fold op ty) aim absent = tt
-  cause_act rank line u (Act.Accept reg) aim absent = tt
-  cause_act rank line u (Act.Finish reg) aim absent = tt
+  cause_act rank line u _ aim absent = tt
 
   cause_left : (rank : ℕ) (slot : Option Posted) (u : Local) (l : List Prim) → u.left ≡ l → AreAimed script rank l → ((message : Posted) → slot ≡ Some message → IsPeer script.nue rank message.to)
       → ((comm : ℕ) → is_at_barrier comm (next_by_prim u (slice_get l 0)) ≡ true → (k : ℕ) × IsAwaited (keys_of script) (plain_ends script) comm rank k)

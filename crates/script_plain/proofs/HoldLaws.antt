@@ -26,49 +26,28 @@ module _ (h : Held) (walk : WalkView) (state : Standing) (line : ℕ) where
   room_for (action.Print reg form) here within =
       let fits = (fits_next (rooms_with h) (local_with h walk state) (record { line = line; act = Print reg form }) here within).1 in
       (omega (arith, fits.items), omega (arith, fits.printed, length_index h.registers.registers reg))
-  room_for (action.Send to head source) here within = tt
-  room_for (action.Post to reg) here within = tt
-  room_for (action.Recv from reg head) here within = tt
-  room_for (action.Gather from head sized) here within = tt
-  room_for (action.Bar comm) here within = tt
   room_for (action.Begin reg) here within =
       omega (arith, (fits_next (rooms_with h) (local_with h walk state) (record { line = line; act = Begin reg }) here within).1.accumulator, length_index h.registers.registers reg)
-  room_for (action.Fold op ty) here within = tt
   room_for (action.Accept reg) here within = λ there.
       put_fits (rooms_with h) (local_with h walk state) (record { line = line; act = Accept reg }) reg (length h.taken.bytes) here refl within there
   room_for (action.Finish reg) here within = λ there.
       put_fits (rooms_with h) (local_with h walk state) (record { line = line; act = Finish reg }) reg (length h.folded.bytes) here refl within there
+  room_for _ here within = tt
 
   -- and it does what the step of the rank says
   pub worked_local : (a : Action) (on : WalkView) → is_going (next_by_act (local_with h walk state) line (act_meant a)) ≡ true → on.left ≡ drop 1 walk.left
       → local_with (worked a h) on state ≡ after (next_by_act (local_with h walk state) line (act_meant a)) [] (local_with h walk state)
-  worked_local (action.Set reg content) on going left = ap (λ (l : List Prim). record (local_with (worked (action.Set reg content) h) walk state) { left = l }) left
-  worked_local (action.Apply op ty dst src) on going left = ap (λ (l : List Prim). record (local_with (worked (action.Apply op ty dst src) h) walk state) { left = l }) left
-  worked_local (action.Print reg form) on going left = ap (λ (l : List Prim). record (local_with (worked (action.Print reg form) h) walk state) { left = l }) left
   worked_local (action.Send to head source) on going left = absurd (cc)
   worked_local (action.Post to reg) on going left = absurd (cc)
   worked_local (action.Recv from reg head) on going left = absurd (cc)
   worked_local (action.Gather from head sized) on going left = absurd (cc)
   worked_local (action.Bar comm) on going left = absurd (cc)
-  worked_local (action.Begin reg) on going left = ap (λ (l : List Prim). record (local_with (worked (action.Begin reg) h) walk state) { left = l }) left
-  worked_local (action.Fold op ty) on going left = ap (λ (l : List Prim). record (local_with (worked (action.Fold op ty) h) walk state) { left = l }) left
-  worked_local (action.Accept reg) on going left = ap (λ (l : List Prim). record (local_with (worked (action.Accept reg) h) walk state) { left = l }) left
-  worked_local (action.Finish reg) on going left = ap (λ (l : List Prim). record (local_with (worked (action.Finish reg) h) walk state) { left = l }) left
+  worked_local a on going left = ap (λ (l : List Prim). record (local_with (worked a h) walk state) { left = l }) left
 
 -- no room is another one
 pub worked_rooms : (a : Action) (h : Held) → rooms_with (worked a h) ≡ rooms_with h
 worked_rooms (action.Set reg content) h = refl
-worked_rooms (action.Apply op ty dst src) h = refl
-worked_rooms (action.Print reg form) h = refl
-worked_rooms (action.Send to head source) h = refl
-worked_rooms (action.Post to reg) h = refl
-worked_rooms (action.Recv from reg head) h = refl
-worked_rooms (action.Gather from head sized) h = refl
-worked_rooms (action.Bar comm) h = refl
-worked_rooms (action.Begin reg) h = refl
-worked_rooms (action.Fold op ty) h = refl
-worked_rooms (action.Accept reg) h = refl
-worked_rooms (action.Finish reg) h = refl
+worked_rooms _ h = refl
 
 -- a statement of the rank alone asks for no bytes
 pub none_asked : (n : Next Local) → is_going n ≡ true → 0 ≡ length_in n

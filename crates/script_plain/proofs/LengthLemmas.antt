@@ -47,21 +47,15 @@ module _ (nue : ℕ) (comms : List CommRule) (before had : ℕ → Option ℕ) (
   reckons (stmt.Bytes reg bytes) reads fits posts = fits.given
   reckons (stmt.Fill reg len start) reads fits posts = fits.given
   reckons (stmt.RankOf reg ty) reads fits posts = fits.given
-  reckons (stmt.Apply op ty dst src) reads fits posts = tt
-  reckons (stmt.Send peer reg) reads fits posts = tt
   reckons (stmt.Post peer reg) reads fits posts =
       let here = there_by (before reg) reads in
       let is = stays reg here.0 here.1 in
       (here.0, is, subst (λ (o : Option ℕ). IfSome o (λ size. size ≤ 3584)) is posts)
   reckons (stmt.Recv peer reg len) reads fits posts = fits.given
-  reckons (stmt.Print reg form) reads fits posts = tt
-  reckons (stmt.Barrier comm) reads fits posts = tt
-  reckons (stmt.Split comm by) reads fits posts = tt
   reckons (stmt.Bcast comm root reg len) reads fits posts = fits.given
   reckons (stmt.Reduce comm root op ty dst src) reads fits posts = (even ty src reads fits.needed, fits.given)
   reckons (stmt.Allreduce comm op ty dst src) reads fits posts = (even ty src reads fits.needed, fits.given)
-  reckons (stmt.Repeat times end) reads fits posts = tt
-  reckons (stmt.End start) reads fits posts = tt
+  reckons _ reads fits posts = tt
 
 -- what is true of each item is true of the one at a place
 pub at-found : (P : Item → Type 0) (items : List Item) (k : ℕ) (item : Item) → All P items → slice_get items k ≡ Some item → P item

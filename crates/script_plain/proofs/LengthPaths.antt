@@ -1,37 +1,24 @@
 -- Each register of a rank has no bytes, or as many as the statements say, whatever the rank does next.
-use Rattle.std.proofs.Common.{◌≡◌, ◌≢◌, ℕ, ◌<◌, ◌≤◌, ◌%◌, ◌==◌, ◌&&◌, Bool, true, false, cond, min, List, [], ◌∷◌, ◌++◌, length, drop, get_or, set, Option, Some, None, refl, sym, ap, ◌∙◌, subst, arith, slice_get, inl, inr, ⊎_elim}
-use Rattle.std.proofs.lemmas.Bool.{cases_eq, cases_lt, eqb-true}
+use Rattle.std.proofs.Common.{◌≡◌, ◌≢◌, ℕ, ◌<◌, ◌≤◌, min, List, [], ◌∷◌, ◌++◌, length, drop, get_or, set, Option, Some, None, refl, sym, ap, ◌∙◌, subst, arith, slice_get, inl, inr, ⊎_elim}
+use Rattle.std.proofs.lemmas.Bool.{cases_eq, cases_lt}
 use Rattle.std.proofs.lemmas.List.{get_or-set_same, get_or-set_other, get_or_past, length-set}
 use Rattle.std.proofs.lemmas.Option.{same_Some}
 use Rattle.scc_base.specs.Calls.{DataCall}
 use Rattle.scc_base.specs.Calls.DataCall.{Send, Recv, Post, Bar}
 use Rattle.scc_base.specs.Heads.{MessageHead}
-use Rattle.groups.specs.Folds.{bytes_in, fold_values}
-use Rattle.groups.specs.declared.operations.Op.{Op}
-use Rattle.groups.specs.declared.operations.Ty.{Ty}
-use Rattle.groups.proofs.FoldLemmas.{fold_length}
 use Rattle.script_plain.specs.declared.prims.Standing.{Standing}
 use Rattle.script_plain.specs.declared.prims.Standing.TheVariants as standing
 use Rattle.script_plain.specs.Collectives.{gone_by, gone_through}
 use Rattle.script_plain.specs.Kept.{Fits, FitsNext, Holds, Keeps, Sets, folding, gathering, sized_by}
-use Rattle.script_plain.specs.Local.{Local, asked_head, folded, local_next, next_by_act, next_by_prim, prim_by_standing, register_at}
+use Rattle.script_plain.specs.Lengths.{Lengths}
+use Rattle.script_plain.specs.Local.{Local, asked_head, local_next, next_by_act, next_by_prim, prim_by_standing, register_at}
 use Rattle.script_plain.specs.Meaning.{State, next_of, recorded}
 use Rattle.script_plain.specs.Next.{Next}
 use Rattle.script_plain.specs.Next.Next.{Ends, Goes, Posts, Sends, Recvs, Bars}
 use Rattle.script_plain.specs.Program.{Act, Prim}
 use Rattle.script_plain.proofs.CollectivePaths.{grows}
 use Rattle.script_plain.proofs.MessageLaws.{Logs, logs}
-use Rattle.script_plain.proofs.StepLaws as steps
-
--- a fold is as long as what it is folded into
-pub folded_length : (op : Op) (ty : Ty) (acc more : List ℕ) → length (folded op ty acc more) ≡ length acc
-folded_length op ty acc more = by ((length acc == length more) && (length acc % bytes_in ty == 0)) refl
-  where
-    by : (b : Bool) → ((length acc == length more) && (length acc % bytes_in ty == 0)) ≡ b → length (cond b (fold_values op ty acc more) acc) ≡ length acc
-    by true is =
-        let parts = steps.both_true (length acc == length more) (length acc % bytes_in ty == 0) is in
-        fold_length op ty acc more (record { same = eqb-true (length acc) (length more) parts.0; whole = eqb-true (length acc % bytes_in ty) 0 parts.1 })
-    by false is = refl
+use Rattle.script_plain.proofs.RoomLaws.{after, length_same, lengths_next}
 
 -- a register is written
 holds_set : (had : ℕ → Option ℕ) (registers : List (List ℕ)) (reg : ℕ) (bytes : List ℕ) → Holds (had reg) (length bytes) → ((r : ℕ) → Holds (had r) (length (get_or registers r []))) → (r : ℕ) → Holds (had r) (length (get_or (set registers reg bytes) r []))
@@ -58,16 +45,6 @@ module _ (had : ℕ → Option ℕ) (u : Local) (line : ℕ) (acc got : Option �
     (all : Keeps had acc got u.left) where
   fits_act : (a : Act) → Sets had acc got a → Keeps had (folding had acc a) (gathering had got a) (drop 1 u.left) → FitsNext had (next_by_act u line a)
   fits_act (Act.Set reg content) sets on = record { acc = acc; got = got; registers = holds_set had u.registers reg content (inr sets) registers; accumulator = accumulator; received = received; keeps = on }
-  fits_act (Act.Apply op ty dst src) sets on = record {
-    acc = acc;
-    got = got;
-    registers = holds_set had u.registers dst (folded op ty (register_at u dst) (register_at u src))
-        (subst (λ (n : ℕ). Holds (had dst) n) (sym (folded_length op ty (register_at u dst) (register_at u src))) (registers dst)) registers;
-    accumulator = accumulator;
-    received = received;
-    keeps = on;
-  }
-  fits_act (Act.Print reg form) sets on = record { acc = acc; got = got; registers = registers; accumulator = accumulator; received = received; keeps = on }
   fits_act (Act.Send to head source) sets on = (record { acc = acc; got = got; registers = registers; accumulator = accumulator; received = received; keeps = on }, refl)
   fits_act (Act.Post to reg) sets on = (
     record { acc = acc; got = got; registers = registers; accumulator = accumulator; received = received; keeps = on },
@@ -85,16 +62,7 @@ module _ (had : ℕ → Option ℕ) (u : Local) (line : ℕ) (acc got : Option �
       gathered : (bytes : List ℕ) (o : Option ℕ) → length bytes ≡ (asked_head u head o).len → Holds (sized_by had head o) (length bytes)
       gathered bytes None even = inr (ap Some (sym even))
       gathered bytes (Some reg) even = subst (λ (n : ℕ). Holds (had reg) n) (sym even) (registers reg)
-  fits_act (Act.Bar comm) sets on = record { acc = acc; got = got; registers = registers; accumulator = accumulator; received = received; keeps = on }
   fits_act (Act.Begin reg) sets on = record { acc = had reg; got = got; registers = registers; accumulator = registers reg; received = received; keeps = on }
-  fits_act (Act.Fold op ty) sets on = record {
-    acc = acc;
-    got = got;
-    registers = registers;
-    accumulator = subst (λ (n : ℕ). Holds acc n) (sym (folded_length op ty u.accumulator u.received)) accumulator;
-    received = received;
-    keeps = on;
-  }
   fits_act (Act.Accept reg) sets on = record {
     acc = acc;
     got = got;
@@ -111,6 +79,16 @@ module _ (had : ℕ → Option ℕ) (u : Local) (line : ℕ) (acc got : Option �
     received = received;
     keeps = on;
   }
+  fits_act a sets on =
+      let same = lengths_next u line a [] refl in
+      record {
+        acc = acc;
+        got = got;
+        registers = λ reg. subst (λ (n : ℕ). Holds (had reg) n) (sym (length_same u (after (next_by_act u line a) [] u) (ap (λ (l : Lengths). l.registers) same) reg)) (registers reg);
+        accumulator = subst (λ (n : ℕ). Holds acc n) (sym (ap (λ (l : Lengths). l.accumulator) same)) accumulator;
+        received = subst (λ (n : ℕ). Holds got n) (sym (ap (λ (l : Lengths). l.received) same)) received;
+        keeps = on;
+      }
 
 module _ (had : ℕ → Option ℕ) (u : Local) (fits : Fits had u) where
   fits_left : (l : List Prim) → u.left ≡ l → FitsNext had (next_by_prim u (slice_get l 0))

@@ -106,13 +106,8 @@ module _ (had : ℕ → Option ℕ) where
   keeps_statement s rank line (stmt.Bytes reg bytes) is acc got = (is, tt)
   keeps_statement s rank line (stmt.Fill reg len start) is acc got = (is ∙ ap Some (sym (length-map-range_with_len (λ (i : ℕ). (start + i) % 251) 0 len)), tt)
   keeps_statement s rank line (stmt.RankOf reg ty) is acc got = (is ∙ ap Some (sym (bytes_length ty (pos rank))), tt)
-  keeps_statement s rank line (stmt.Apply op ty dst src) is acc got = (tt, tt)
-  keeps_statement s rank line (stmt.Send peer reg) is acc got = (tt, tt)
   keeps_statement s rank line (stmt.Post peer reg) is acc got = (is, tt)
   keeps_statement s rank line (stmt.Recv peer reg len) is acc got = (is, tt)
-  keeps_statement s rank line (stmt.Print reg form) is acc got = (tt, tt)
-  keeps_statement s rank line (stmt.Barrier comm) is acc got = (tt, tt)
-  keeps_statement s rank line (stmt.Split comm by) is acc got = (tt, tt)
   keeps_statement s rank line (stmt.Bcast comm root reg len) is acc got =
       let o : Operands = record { op = op_of.Sum; ty = ty_of.Int; dst = reg; src = reg; sized = None } in
       keeps_call s rank line (coll.Bcast comm root len) o acc got
@@ -136,6 +131,7 @@ module _ (had : ℕ → Option ℕ) where
       (λ apart from. (tt, (tt, (is.1, tt))))
   keeps_statement s rank line (stmt.Repeat times end) is acc got = tt
   keeps_statement s rank line (stmt.End start) is acc got = tt
+  keeps_statement s rank line _ is acc got = (tt, tt)
 
   keeps_prims : (s : SetupView) (rank : ℕ) (item : Item) → (has_rank item.who rank ≡ true → Reckons s.comms had rank item.stmt) → KeepsAlways (prims_of s rank item)
   keeps_prims s rank item is acc got = by (has_rank item.who rank) refl

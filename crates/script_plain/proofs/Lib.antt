@@ -24,8 +24,8 @@ pub mod StoppedLaws
 pub mod OwnWayLaws
 pub mod LengthLemmas
 pub mod CallableLaws
-pub mod LengthPaths
 pub mod RoomLaws
+pub mod LengthPaths
 pub mod HoldLaws
 pub mod CallListLaws
 pub mod UeLaws

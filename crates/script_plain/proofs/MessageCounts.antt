@@ -110,13 +110,7 @@ module _ (kind comm to : ℕ) (apart : (0 == kind) ≡ false) where
       by bytes u line (Act.Recv peer reg head) = one_more (is_of kind comm) (sent_by to) u.matched (Recv peer head bytes) 0 refl
       by bytes u line (Act.Gather peer head sized) = one_more (is_of kind comm) (sent_by to) u.matched (Recv peer (asked_head u.local head sized) bytes) 0 refl
       by bytes u line (Act.Bar other) = one_more (is_of kind comm) (sent_by to) u.matched (Bar other) 0 refl
-      by bytes u line (Act.Set reg content) = omega arith
-      by bytes u line (Act.Apply op ty dst src) = omega arith
-      by bytes u line (Act.Print reg form) = omega arith
-      by bytes u line (Act.Begin reg) = omega arith
-      by bytes u line (Act.Fold op ty) = omega arith
-      by bytes u line (Act.Accept reg) = omega arith
-      by bytes u line (Act.Finish reg) = omega arith
+      by bytes u line _ = omega arith
 
 module _ (kind comm from : ℕ) where
   pub receipts_counted : Counts (got_so_far kind comm from) (got_in kind comm from)
@@ -136,13 +130,7 @@ module _ (kind comm from : ℕ) where
           one_more (is_of kind comm) (received_by from) u.matched (Recv peer head bytes) _ (one_chosen (is_of kind comm) (record { head = head; bytes = bytes }) (has_kind kind comm head) (peer == from) refl)
       by bytes u line (Act.Gather peer head sized) = gathered bytes u peer head sized
       by bytes u line (Act.Bar other) = one_more (is_of kind comm) (received_by from) u.matched (Bar other) 0 refl
-      by bytes u line (Act.Set reg content) = omega arith
-      by bytes u line (Act.Apply op ty dst src) = omega arith
-      by bytes u line (Act.Print reg form) = omega arith
-      by bytes u line (Act.Begin reg) = omega arith
-      by bytes u line (Act.Fold op ty) = omega arith
-      by bytes u line (Act.Accept reg) = omega arith
-      by bytes u line (Act.Finish reg) = omega arith
+      by bytes u line _ = omega arith
 
 pub none_if : (passes here : Bool) → here ≡ false → one_if (passes && here) ≡ 0
 none_if true here is = ap one_if is

@@ -74,18 +74,7 @@ module _ (script : Script) (whole : IsWhole script.nue script.items) (rank : ℕ
         let c : Coll = coll.Allreduce comm 0 in
         let may = callable script whole k item rank found below has (record { coll = c; operands = o }) (ap collective_of is) in
         lined_up item.line (acts_of (setup_of script) rank (stmt.Allreduce comm op ty dst src)) ∙ made o c may ∙ asked c there refl
-    cost k item found has (stmt.Bytes reg bytes) is there = refl
-    cost k item found has (stmt.Fill reg len start) is there = refl
-    cost k item found has (stmt.RankOf reg ty) is there = refl
-    cost k item found has (stmt.Apply op ty dst src) is there = refl
-    cost k item found has (stmt.Send peer reg) is there = refl
-    cost k item found has (stmt.Post peer reg) is there = refl
-    cost k item found has (stmt.Recv peer reg len) is there = refl
-    cost k item found has (stmt.Print reg form) is there = refl
-    cost k item found has (stmt.Barrier comm) is there = refl
-    cost k item found has (stmt.Split comm by) is there = refl
-    cost k item found has (stmt.Repeat times end) is there = refl
-    cost k item found has (stmt.End start) is there = refl
+    cost k item found has _ is there = refl
 
   -- what the statements behind others cost a rank
   abbrev cost_at : List Item → Item → ℕ

@@ -56,18 +56,9 @@ Stays left (Recvs from head take refuse) = (sent : MessageHead) → (refuse sent
 Stays left _ = Unit {0}
 
 stays_act : (u : State) (line : ℕ) (a : Act) → Stays u.local.left (recorded u.matched (next_by_act u.local line a))
-stays_act u line (Act.Set reg content) = tt
-stays_act u line (Act.Apply op ty dst src) = tt
-stays_act u line (Act.Print reg form) = tt
-stays_act u line (Act.Send to head source) = tt
-stays_act u line (Act.Post to reg) = tt
 stays_act u line (Act.Recv from reg head) = λ sent. refl
 stays_act u line (Act.Gather from head sized) = λ sent. refl
-stays_act u line (Act.Bar comm) = tt
-stays_act u line (Act.Begin reg) = tt
-stays_act u line (Act.Fold op ty) = tt
-stays_act u line (Act.Accept reg) = tt
-stays_act u line (Act.Finish reg) = tt
+stays_act u line _ = tt
 
 stays_prim : (u : State) (o : Option Prim) → Stays u.local.left (recorded u.matched (next_by_prim u.local o))
 stays_prim u None = tt

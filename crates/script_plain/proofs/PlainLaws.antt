@@ -7,7 +7,7 @@ use Rattle.scc_base.specs.Heads.{MessageHead}
 use Rattle.scc_base.specs.Calls.{DataCall}
 use Rattle.script_reader.specs.Script.{Script}
 use Rattle.script_plain.specs.Program.{Act, Prim}
-use Rattle.script_plain.specs.Program.Act.{Set, Apply, Print, Send, Post, Recv, Gather, Bar, Begin, Fold, Accept, Finish}
+use Rattle.script_plain.specs.Program.Act.{Recv, Gather}
 use Rattle.script_plain.specs.declared.prims.Standing.{Standing}
 use Rattle.script_plain.specs.declared.prims.Standing.TheVariants as standing
 use Rattle.script_plain.specs.Local.{Local, local_start, local_next, next_by_act, next_by_prim, prim_by_standing, cost_of, runs}
@@ -20,20 +20,11 @@ use Rattle.script_plain.proofs.RunLaws
 use Rattle.script_plain.proofs.ViewLaws
 
 lowers_act : (u : Local) (line : ℕ) (a : Act) → length (drop 1 u.left) < length u.left → u.standing ≡ standing.Running → Lowers cost_of (cost_of u) (next_by_act u line a)
-lowers_act u line (Set reg content) less running = omega (arith, less)
-lowers_act u line (Apply op ty dst src) less running = omega (arith, less)
-lowers_act u line (Print reg form) less running = omega (arith, less)
-lowers_act u line (Send to head source) less running = omega (arith, less)
-lowers_act u line (Post to reg) less running = omega (arith, less)
 lowers_act u line (Recv from reg head) less running =
     (λ (bytes : List ℕ). omega (arith, less), λ (sent : MessageHead). omega (arith, ap runs running))
 lowers_act u line (Gather from head sized) less running =
     (λ (bytes : List ℕ). omega (arith, less), λ (sent : MessageHead). omega (arith, ap runs running))
-lowers_act u line (Bar comm) less running = omega (arith, less)
-lowers_act u line (Begin reg) less running = omega (arith, less)
-lowers_act u line (Fold op ty) less running = omega (arith, less)
-lowers_act u line (Accept reg) less running = omega (arith, less)
-lowers_act u line (Finish reg) less running = omega (arith, less)
+lowers_act u line _ less running = omega (arith, less)
 
 lowers_left : (u : Local) (l : List Prim) → u.left ≡ l → u.standing ≡ standing.Running → Lowers cost_of (cost_of u) (next_by_prim u (slice_get l 0))
 lowers_left u [] left running = tt

@@ -74,17 +74,7 @@ act_leaves : (bytes : List ℕ) (u : State) (line : ℕ) (a : Act)
     → ((gone_by bytes u (recorded u.matched (next_by_act u.local line a))).local.standing ≡ u.local.standing)
     × ((gone_by bytes u (recorded u.matched (next_by_act u.local line a))).local.left ≡ drop 1 u.local.left)
 act_leaves bytes u line (Act.Set reg content) = (refl, refl)
-act_leaves bytes u line (Act.Apply op ty dst src) = (refl, refl)
-act_leaves bytes u line (Act.Print reg form) = (refl, refl)
-act_leaves bytes u line (Act.Send to head source) = (refl, refl)
-act_leaves bytes u line (Act.Post to reg) = (refl, refl)
-act_leaves bytes u line (Act.Recv from reg head) = (refl, refl)
-act_leaves bytes u line (Act.Gather from head sized) = (refl, refl)
-act_leaves bytes u line (Act.Bar comm) = (refl, refl)
-act_leaves bytes u line (Act.Begin reg) = (refl, refl)
-act_leaves bytes u line (Act.Fold op ty) = (refl, refl)
-act_leaves bytes u line (Act.Accept reg) = (refl, refl)
-act_leaves bytes u line (Act.Finish reg) = (refl, refl)
+act_leaves bytes u line _ = (refl, refl)
 
 module _ (line : ℕ) (rest : List Prim) where
   -- a rank that faces acts comes past the first of them

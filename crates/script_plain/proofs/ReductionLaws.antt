@@ -54,15 +54,7 @@ quiet_path test i line tail rest (Gather from head sized ∷ acts) u (bytes ∷ 
     ap (λ (v : State). chosen test (sent_by i) (gone_through path v).matched) moved
     ∙ quiet_path test i line tail rest acts _ path quiet.1 (omega (arith, low)) (past line rest (acts ++ tail) u (Gather from head sized) facing (record { local = gone_on_gathering u.local bytes; matched = u.matched ++ Recv from (asked_head u.local head sized) bytes ∷ [] }) refl refl)
     ∙ chosen_none test (sent_by i) u.matched (Recv from (asked_head u.local head sized) bytes) refl
-quiet_path test i line tail rest (Act.Set reg content ∷ acts) u (bytes ∷ path) quiet low facing = absurd quiet.0
-quiet_path test i line tail rest (Act.Apply op ty dst src ∷ acts) u (bytes ∷ path) quiet low facing = absurd quiet.0
-quiet_path test i line tail rest (Act.Print reg form ∷ acts) u (bytes ∷ path) quiet low facing = absurd quiet.0
-quiet_path test i line tail rest (Send to head source ∷ acts) u (bytes ∷ path) quiet low facing = absurd quiet.0
-quiet_path test i line tail rest (Act.Post to reg ∷ acts) u (bytes ∷ path) quiet low facing = absurd quiet.0
-quiet_path test i line tail rest (Act.Recv from reg head ∷ acts) u (bytes ∷ path) quiet low facing = absurd quiet.0
-quiet_path test i line tail rest (Act.Bar comm ∷ acts) u (bytes ∷ path) quiet low facing = absurd quiet.0
-quiet_path test i line tail rest (Accept reg ∷ acts) u (bytes ∷ path) quiet low facing = absurd quiet.0
-quiet_path test i line tail rest (Finish reg ∷ acts) u (bytes ∷ path) quiet low facing = absurd quiet.0
+quiet_path test i line tail rest (_ ∷ acts) u (bytes ∷ path) quiet low facing = absurd quiet.0
 
 -- past the beginning and all the folds
 module _ (kind comm line dst src : ℕ) (op : Op) (ty : Ty) (head : MessageHead) (tail : List Act) (rest : List Prim) (X : ℕ → List ℕ) (final begun : State) (list : List ℕ)

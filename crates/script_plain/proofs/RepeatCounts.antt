@@ -88,19 +88,7 @@ pub record IsOther (s : Stmt) : Type 0 where
 pub sorted : (P : Stmt → Type 0) → ((times end : ℕ) → P (stmt.Repeat times end)) → ((start : ℕ) → P (stmt.End start)) → ((s : Stmt) → IsOther s → P s) → (s : Stmt) → P s
 sorted P repeats ends others (stmt.Repeat times end) = repeats times end
 sorted P repeats ends others (stmt.End start) = ends start
-sorted P repeats ends others (stmt.Bytes reg bytes) = others (stmt.Bytes reg bytes) (record { opens = λ place past. refl; stays = refl })
-sorted P repeats ends others (stmt.Fill reg len start) = others (stmt.Fill reg len start) (record { opens = λ place past. refl; stays = refl })
-sorted P repeats ends others (stmt.RankOf reg ty) = others (stmt.RankOf reg ty) (record { opens = λ place past. refl; stays = refl })
-sorted P repeats ends others (stmt.Apply op ty dst src) = others (stmt.Apply op ty dst src) (record { opens = λ place past. refl; stays = refl })
-sorted P repeats ends others (stmt.Send peer reg) = others (stmt.Send peer reg) (record { opens = λ place past. refl; stays = refl })
-sorted P repeats ends others (stmt.Post peer reg) = others (stmt.Post peer reg) (record { opens = λ place past. refl; stays = refl })
-sorted P repeats ends others (stmt.Recv peer reg len) = others (stmt.Recv peer reg len) (record { opens = λ place past. refl; stays = refl })
-sorted P repeats ends others (stmt.Print reg form) = others (stmt.Print reg form) (record { opens = λ place past. refl; stays = refl })
-sorted P repeats ends others (stmt.Barrier comm) = others (stmt.Barrier comm) (record { opens = λ place past. refl; stays = refl })
-sorted P repeats ends others (stmt.Split comm by) = others (stmt.Split comm by) (record { opens = λ place past. refl; stays = refl })
-sorted P repeats ends others (stmt.Bcast comm root reg len) = others (stmt.Bcast comm root reg len) (record { opens = λ place past. refl; stays = refl })
-sorted P repeats ends others (stmt.Reduce comm root op ty dst src) = others (stmt.Reduce comm root op ty dst src) (record { opens = λ place past. refl; stays = refl })
-sorted P repeats ends others (stmt.Allreduce comm op ty dst src) = others (stmt.Allreduce comm op ty dst src) (record { opens = λ place past. refl; stays = refl })
+sorted P repeats ends others s = others s (record { opens = λ place past. refl; stays = refl })
 
 -- what stands behind the open repeats, each as often as it runs
 abbrev pub weigh : List ℕ → List (List (Option Prim)) → ℕ

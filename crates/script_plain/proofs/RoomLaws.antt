@@ -1,7 +1,7 @@
 -- Laws of rooms: what a program brings fits, primitive by primitive, where the dry walk over the lengths said so.
-use Rattle.std.proofs.Common.{◌≡◌, ℕ, zero, suc, ◌+◌, ◌-◌, ◌<◌, ◌≤◌, Bool, true, false, cond, nat_lt, List, [], ◌∷◌, ◌++◌, Bor, map, length, drop, take, get_or, set, replicate, slice_get, slice_index_or, slice_set, Option, Some, None, refl, sym, ap, subst, ◌∙◌, arith}
+use Rattle.std.proofs.Common.{◌≡◌, ℕ, zero, suc, ◌+◌, ◌-◌, ◌%◌, ◌<◌, ◌≤◌, ◌==◌, ◌&&◌, Bool, true, false, cond, nat_lt, List, [], ◌∷◌, ◌++◌, Bor, map, length, drop, take, get_or, set, replicate, slice_get, slice_index_or, slice_set, Option, Some, None, refl, sym, ap, subst, ◌∙◌, arith}
 use Rattle.std.proofs.Math.Seq.{drop-append_seam, map-set_same, take-length}
-use Rattle.std.proofs.lemmas.Bool.{ltb-false, ltb-true}
+use Rattle.std.proofs.lemmas.Bool.{eqb-true, ltb-false, ltb-true}
 use Rattle.std.proofs.lemmas.List.{drop-append-le, length-append, length-drop, length-map, length-replicate, length-take-le, map-append, map-set, take-append-le, take_all}
 use Rattle.std.proofs.lemmas.List.Sums.{sum_by-append}
 use Rattle.std.proofs.lemmas.Option.{slice_get-map, slice_get_read}
@@ -14,6 +14,10 @@ use Rattle.script_plain.specs.declared.prims.Standing.TheVariants as standing
 use Rattle.script_plain.specs.declared.prints.Entry.{Entry}
 use Rattle.script_reader.specs.Script.{Script}
 use Rattle.scc_base.specs.Heads.{MessageHead}
+use Rattle.groups.specs.Folds.{bytes_in, fold_values}
+use Rattle.groups.specs.declared.operations.Op.{Op}
+use Rattle.groups.specs.declared.operations.Ty.{Ty}
+use Rattle.groups.proofs.FoldLemmas.{fold_length}
 use Rattle.script_plain.specs.Lengths.{Lengths, length_at, lengths_after, lengths_of, printed_bytes, with_register}
 use Rattle.script_plain.specs.Local.{Local, folded, local_next, local_start, next_by_act, next_by_prim, next_prim, prim_by_standing, register_at}
 use Rattle.script_plain.specs.Moves.{length_in}
@@ -23,7 +27,7 @@ use Rattle.script_plain.specs.Program.{Act, Prim}
 use Rattle.script_plain.specs.Program.Act.{Set, Apply, Print, Send, Post, Recv, Gather, Bar, Begin, Fold, Accept, Finish}
 use Rattle.script_plain.specs.Rooms.{AreBelow, AreCut, AreWithin, IsWider, IsWithin, RoomView, Rooms, cut, greater, nothing_held, spare_length}
 use Rattle.script_plain.specs.Walk.{act_meant, prim_meant}
-use Rattle.script_plain.proofs.LengthPaths.{folded_length}
+use Rattle.script_plain.proofs.StepLaws as steps
 
 -- the greater one of two numbers
 greater_by : (one other : ℕ) (b : Bool) → nat_lt one other ≡ b → (one ≤ cond b other one) × (other ≤ cond b other one)
@@ -211,6 +215,16 @@ room_fold change [] reg old read = refl
 room_fold change (r ∷ rooms) zero old read = ap (λ (x : RoomView). change x.bytes ∷ map (λ (r : RoomView). r.bytes) rooms) read
 room_fold change (r ∷ rooms) (suc reg) old read = ap (λ (l : List (List ℕ)). r.bytes ∷ l) (room_fold change rooms reg old read)
 
+-- a fold is as long as what it is folded into
+pub folded_length : (op : Op) (ty : Ty) (acc more : List ℕ) → length (folded op ty acc more) ≡ length acc
+folded_length op ty acc more = by ((length acc == length more) && (length acc % bytes_in ty == 0)) refl
+  where
+    by : (b : Bool) → ((length acc == length more) && (length acc % bytes_in ty == 0)) ≡ b → length (cond b (fold_values op ty acc more) acc) ≡ length acc
+    by true is =
+        let parts = steps.both_true (length acc == length more) (length acc % bytes_in ty == 0) is in
+        fold_length op ty acc more (record { same = eqb-true (length acc) (length more) parts.0; whole = eqb-true (length acc % bytes_in ty) 0 parts.1 })
+    by false is = refl
+
 -- the lengths of registers
 pub length_index : (registers : List (List ℕ)) (reg : ℕ) → length (slice_index_or registers reg []) ≡ slice_index_or (map length registers) reg 0
 length_index [] reg = refl
@@ -224,6 +238,10 @@ length_kept (x ∷ registers) (suc reg) bytes same = ap (λ (l : List ℕ). leng
 
 pub length_put : (registers : List (List ℕ)) (reg n : ℕ) (bytes : List ℕ) → length bytes ≡ n → map length (slice_set registers reg bytes) ≡ slice_set (map length registers) reg n
 length_put registers reg n bytes same = map-set length registers reg bytes ∙ ap (slice_set (map length registers) reg) same
+
+-- registers of the same lengths
+pub length_same : (u v : Local) → (lengths_of v).registers ≡ (lengths_of u).registers → (reg : ℕ) → length (register_at v reg) ≡ length (register_at u reg)
+length_same u v same reg = length_index v.registers reg ∙ ap (λ (l : List ℕ). slice_index_or l reg 0) same ∙ sym (length_index u.registers reg)
 
 pub lengths_unset : (count : ℕ) (empty : List ℕ) → length empty ≡ 0 → map length (replicate count empty) ≡ replicate count 0
 lengths_unset zero empty none = refl

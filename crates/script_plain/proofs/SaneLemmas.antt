@@ -12,12 +12,13 @@ use Rattle.script_plain.specs.declared.prims.Source.{Source}
 use Rattle.script_plain.specs.declared.prims.Source.TheVariants as source_of
 use Rattle.script_plain.specs.declared.prims.Standing.{Standing}
 use Rattle.script_plain.specs.declared.prims.Standing.TheVariants as standing
+use Rattle.script_plain.specs.Lengths.{Lengths}
 use Rattle.script_plain.specs.Local.{Local, asked_head, local_next, next_by_act, next_by_prim, prim_by_standing, register_at, source_bytes, with_length}
 use Rattle.script_plain.specs.Next.{Next}
 use Rattle.script_plain.specs.Next.Next.{Ends, Goes, Posts, Sends, Recvs, Bars}
 use Rattle.script_plain.specs.Program.{Act, Prim}
 use Rattle.script_plain.proofs.AimLemmas.{AreAimed, IsAimedAct}
-use Rattle.script_plain.proofs.LengthPaths.{folded_length}
+use Rattle.script_plain.proofs.RoomLaws.{after, length_same, lengths_next}
 
 -- a register is written
 short_set : (registers : List (List ℕ)) (reg : ℕ) (bytes : List ℕ) → length bytes ≤ 65536 → ((r : ℕ) → length (get_or registers r []) ≤ 65536) → (r : ℕ) → length (get_or (set registers reg bytes) r []) ≤ 65536
@@ -67,11 +68,6 @@ module _ (script : Script) (rank : ℕ) where
 
     sane_act : (a : Act) → IsAimedAct script rank a → AreAimed script rank (drop 1 u.left) → SaneNext (λ (v : Local). v) (next_by_act u line a)
     sane_act (Act.Set reg content) aim on = record { registers = short_set u.registers reg content aim sane.registers; accumulator = sane.accumulator; received = sane.received; left = on }
-    sane_act (Act.Apply op ty dst src) aim on =
-        let long = folded_length op ty (register_at u dst) (register_at u src) in
-        let had = sane.registers dst in
-        record { registers = short_set u.registers dst _ (omega (arith, long, had)) sane.registers; accumulator = sane.accumulator; received = sane.received; left = on }
-    sane_act (Act.Print reg form) aim on = record { registers = sane.registers; accumulator = sane.accumulator; received = sane.received; left = on }
     sane_act (Act.Send to head source) aim on = (
       record { registers = sane.registers; accumulator = sane.accumulator; received = sane.received; left = on },
       aim.0,
@@ -98,12 +94,16 @@ module _ (script : Script) (rank : ℕ) where
         )
     sane_act (Act.Bar comm) aim on = (record { registers = sane.registers; accumulator = sane.accumulator; received = sane.received; left = on }, aim.0, aim.1)
     sane_act (Act.Begin reg) aim on = record { registers = sane.registers; accumulator = sane.registers reg; received = sane.received; left = on }
-    sane_act (Act.Fold op ty) aim on =
-        let long = folded_length op ty u.accumulator u.received in
-        let had = sane.accumulator in
-        record { registers = sane.registers; accumulator = omega (arith, long, had); received = sane.received; left = on }
     sane_act (Act.Accept reg) aim on = record { registers = short_set u.registers reg u.received sane.received sane.registers; accumulator = sane.accumulator; received = sane.received; left = on }
     sane_act (Act.Finish reg) aim on = record { registers = short_set u.registers reg u.accumulator sane.accumulator sane.registers; accumulator = sane.accumulator; received = sane.received; left = on }
+    sane_act a aim on =
+        let same = lengths_next u line a [] refl in
+        record {
+          registers = λ reg. subst (λ (n : ℕ). n ≤ 65536) (sym (length_same u (after (next_by_act u line a) [] u) (ap (λ (l : Lengths). l.registers) same) reg)) (sane.registers reg);
+          accumulator = subst (λ (n : ℕ). n ≤ 65536) (sym (ap (λ (l : Lengths). l.accumulator) same)) sane.accumulator;
+          received = subst (λ (n : ℕ). n ≤ 65536) (sym (ap (λ (l : Lengths). l.received) same)) sane.received;
+          left = on;
+        }
 
   module _ (u : Local) (sane : IsSane u) where
     sane_left : (l : List Prim) → u.left ≡ l → SaneNext (λ (v : Local). v) (next_by_prim u (slice_get l 0))

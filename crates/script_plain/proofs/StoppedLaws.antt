@@ -24,18 +24,9 @@ StopsAt (Recvs from head take refuse) = (sent : MessageHead) → is_stopped (ref
 StopsAt _ = Unit {0}
 
 stops_act : (u : Local) (line : ℕ) (a : Act) → StopsAt (next_by_act u line a)
-stops_act u line (Act.Set reg content) = tt
-stops_act u line (Act.Apply op ty dst src) = tt
-stops_act u line (Act.Print reg form) = tt
-stops_act u line (Act.Send to head source) = tt
-stops_act u line (Act.Post to reg) = tt
 stops_act u line (Act.Recv from reg head) = λ sent. refl
 stops_act u line (Act.Gather from head sized) = λ sent. refl
-stops_act u line (Act.Bar comm) = tt
-stops_act u line (Act.Begin reg) = tt
-stops_act u line (Act.Fold op ty) = tt
-stops_act u line (Act.Accept reg) = tt
-stops_act u line (Act.Finish reg) = tt
+stops_act u line _ = tt
 
 stops_prim : (u : Local) (o : Option Prim) → StopsAt (next_by_prim u o)
 stops_prim u None = tt

@@ -8,7 +8,9 @@ use crate::facing::Facing;
 use crate::machines::{Machine, with_length};
 use crate::posts::OnItsWay;
 use crate::prims::{Action, Primitive, Source};
-use scc_base::Call;
+use crate::reckoning::Lengths;
+use crate::rooms::Length;
+use scc_base::{Call, Head, PostHead};
 
 impl<'s> Machine<'s> {
     ghost use Rattle.std.specs.Prelude.{◌≡◌, ◌≤◌, length};
@@ -168,6 +170,55 @@ impl<'s> Machine<'s> {
             Action::Recv { head, .. } => head.len() as usize,
             Action::Gather { head, sized, .. } => self.asked_head(*head, *sized).len() as usize,
             _ => 0,
+        }
+    }
+}
+
+impl Lengths {
+    ghost use Rattle.std.specs.Option.{option_to_list};
+    ghost use Rattle.std.specs.Prelude.{◌≡◌, map};
+    ghost use Rattle.scc_base.specs.Calls.{bytes_asked};
+    ghost use Rattle.script_plain.specs.CallLists.{called};
+    ghost use Rattle.script_plain.specs.Lengths.{asked_length, source_length};
+    ghost use Rattle.script_plain.specs.Walk.{act_meant};
+
+    /// How many bytes a send takes.
+    fn sent(&self, source: &Source) -> Length
+        ensures { result ≡ source_length self.now source.now }
+    {
+        match source {
+            Source::Own { reg } => self.len(*reg),
+            Source::Accumulator => self.accumulator(),
+        }
+    }
+
+    /// How many bytes a receive of a collective call asks for.
+    pub(crate) fn asked(&self, head: Head, sized: Option<u8>) -> Length
+        ensures { result ≡ asked_length self.now head sized }
+    {
+        match sized {
+            Some(reg) => self.len(reg),
+            None => Length::of(head.len()),
+        }
+    }
+
+    /// How many bytes the call of a primitive moves, if it makes a call.
+    pub fn moved(&self, action: &Action) -> Option<u32>
+        ensures { option_to_list result ≡ map bytes_asked (called self.now (act_meant action.now)) }
+    {
+        match action {
+            Action::Send { source, .. } => Some(self.sent(source).get()),
+            Action::Post { reg, .. } => Some(self.len(*reg).get().min(PostHead::MOST)),
+            Action::Recv { head, .. } => Some(head.len()),
+            Action::Gather { head, sized, .. } => Some(self.asked(*head, *sized).get()),
+            Action::Bar { .. } => Some(0),
+            Action::Set { .. }
+            | Action::Apply { .. }
+            | Action::Print { .. }
+            | Action::Begin { .. }
+            | Action::Fold { .. }
+            | Action::Accept { .. }
+            | Action::Finish { .. } => None,
         }
     }
 }

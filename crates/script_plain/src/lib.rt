@@ -43,6 +43,7 @@ pub use matches::{History, Match, Matches, plain_history, plain_matches};
 pub use posts::{Left, OnItsWay, Posted};
 pub use prims::{Action, Content, Primitive, Source, Standing};
 pub use prints::PrintedItem;
+pub use reckoning::Lengths;
 pub use registers::Register;
 pub use steps::plain_run;
 pub use walk::Walk;

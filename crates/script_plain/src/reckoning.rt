@@ -10,13 +10,12 @@ use crate::prims::{Action, Content};
 use crate::rooms::Length;
 use crate::walk::Walk;
 use groups::Ty;
-use scc_base::Head;
 use std::alloc::{AllocError, Global};
 use std::marker::Model;
 
 /// How many bytes the registers and the work buffers of a rank have, and how much it has printed.
 #[derive(Drop)]
-struct Lengths {
+pub struct Lengths {
     registers: Vec<Length>,
     accumulator: Length,
     received: Length,
@@ -63,12 +62,13 @@ impl Model for Reckoning {
 }
 
 impl Lengths {
-    ghost use Rattle.std.specs.Prelude.{◌≡◌, IfOk};
-    ghost use Rattle.script_plain.specs.Lengths.{length_at, with_register};
+    ghost use Rattle.std.specs.Prelude.{◌≡◌, ◌+◌, IfOk, OnOk};
+    ghost use Rattle.script_plain.specs.Lengths.{length_at, lengths_after, with_register};
     ghost use Rattle.script_plain.specs.Rooms.{greater, nothing_held};
+    ghost use Rattle.script_plain.specs.Walk.{IsShort, act_meant};
 
     /// The lengths of a rank that holds nothing and has `count` registers.
-    fn none(alloc: Global, count: usize) -> Result<Lengths, AllocError>
+    pub fn none(alloc: Global, count: usize) -> Result<Lengths, AllocError>
         ensures { IfOk result (λ l. l ≡ nothing_held count) }
     {
         let mut registers = Vec::new(alloc);
@@ -84,7 +84,7 @@ impl Lengths {
         })
     }
 
-    fn len(&self, reg: u8) -> Length
+    pub(crate) fn len(&self, reg: u8) -> Length
         ensures { result ≡ length_at self.now reg }
     {
         match self.registers.get(reg as usize) {
@@ -109,7 +109,7 @@ impl Lengths {
         self.set(reg, more);
     }
 
-    fn accumulator(&self) -> Length
+    pub(crate) fn accumulator(&self) -> Length
         ensures { result ≡ self.now.accumulator }
     {
         self.accumulator
@@ -151,11 +151,56 @@ impl Lengths {
         self.items = items;
         self.printed = printed;
     }
+
+    /// A register is printed.
+    fn print_register(&mut self, reg: u8) -> Result<(), AllocError>
+        ensures { OnOk result (self.new ≡ record self.old { items = self.old.items + 1; printed = self.old.printed + length_at self.old reg }) }
+    {
+        let len = self.len(reg).get() as usize;
+        let items = self.items().checked_add(1).ok_or(AllocError)?;
+        let printed = self.printed().checked_add(len).ok_or(AllocError)?;
+        self.print(items, printed);
+        Ok(())
+    }
+
+    /// Applies a primitive to the lengths.
+    pub fn go(&mut self, action: &Action) -> Result<(), AllocError>
+        requires { IsShort action.now }
+        ensures { OnOk result (self.new ≡ lengths_after self.old (act_meant action.now)) }
+    {
+        match action {
+            Action::Set { reg, content } => self.set(*reg, content_len(content)),
+            Action::Print { reg, .. } => return self.print_register(*reg),
+            Action::Recv { reg, head, .. } => self.set(*reg, Length::of(head.len())),
+            Action::Gather { head, sized, .. } => {
+                let len = self.asked(*head, *sized);
+                self.gather(len);
+            }
+            Action::Begin { reg } => {
+                let len = self.len(*reg);
+                self.begin(len);
+            }
+            Action::Accept { reg } => {
+                let len = self.received();
+                self.set(*reg, len);
+            }
+            Action::Finish { reg } => {
+                let len = self.accumulator();
+                self.set(*reg, len);
+            }
+            Action::Apply { .. }
+            | Action::Send { .. }
+            | Action::Post { .. }
+            | Action::Bar { .. }
+            | Action::Fold { .. } => {}
+        }
+        Ok(())
+    }
 }
 
 impl Reckoning {
     ghost use Rattle.std.specs.Prelude.{◌≡◌, ◌≤◌, ◌+◌, IfOk, OnOk};
-    ghost use Rattle.script_plain.specs.Lengths.{asked_length, length_at, lengths_after, with_register};
+    ghost use Rattle.script_plain.specs.Lengths.{length_at, lengths_after, with_register};
     ghost use Rattle.script_plain.specs.Rooms.{IsWider, IsWithin, nothing_held, rooms_of, spare_length};
     ghost use Rattle.script_plain.specs.Walk.{IsShort, act_meant};
 
@@ -170,16 +215,6 @@ impl Reckoning {
             most,
             spare: Length::of(0),
         })
-    }
-
-    /// How many bytes a receive of a collective call asks for.
-    fn asked(&self, head: Head, sized: Option<u8>) -> Length
-        ensures { result ≡ asked_length self.now.lengths head sized }
-    {
-        match sized {
-            Some(reg) => self.here.len(reg),
-            None => Length::of(head.len()),
-        }
     }
 
     /// A register becomes this long.
@@ -278,7 +313,7 @@ impl Reckoning {
             Action::Print { reg, .. } => return self.print(*reg),
             Action::Recv { reg, head, .. } => self.set(*reg, Length::of(head.len())),
             Action::Gather { head, sized, .. } => {
-                let len = self.asked(*head, *sized);
+                let len = self.here.asked(*head, *sized);
                 self.gather(len);
             }
             Action::Begin { reg } => {

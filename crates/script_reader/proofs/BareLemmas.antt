@@ -38,20 +38,7 @@ all_bared items = map bared items
 
 bare-same : {X : Type 0} (f : Stmt → X) → ((times end : ℕ) → f (stmt.Repeat times 0) ≡ f (stmt.Repeat times end)) → (s : Stmt) → f (bare s) ≡ f s
 bare-same f same (stmt.Repeat times end) = same times end
-bare-same f same (stmt.Bytes reg bytes) = refl
-bare-same f same (stmt.Fill reg len start) = refl
-bare-same f same (stmt.RankOf reg ty) = refl
-bare-same f same (stmt.Apply op ty dst src) = refl
-bare-same f same (stmt.Send peer reg) = refl
-bare-same f same (stmt.Post peer reg) = refl
-bare-same f same (stmt.Recv peer reg len) = refl
-bare-same f same (stmt.Print reg form) = refl
-bare-same f same (stmt.Barrier comm) = refl
-bare-same f same (stmt.Split comm by) = refl
-bare-same f same (stmt.Bcast comm root reg len) = refl
-bare-same f same (stmt.Reduce comm root op ty dst src) = refl
-bare-same f same (stmt.Allreduce comm op ty dst src) = refl
-bare-same f same (stmt.End start) = refl
+bare-same f same _ = refl
 
 -- no effect looks there
 pub effect-bare : (s : Stmt) → effect_of (bare s) ≡ effect_of s

@@ -44,19 +44,7 @@ other-of s stays same = record {
 sorted : (P : Stmt → Type 0) → ((times end : ℕ) → P (stmt.Repeat times end)) → ((start : ℕ) → P (stmt.End start)) → ((s : Stmt) → IsOther s → P s) → (s : Stmt) → P s
 sorted P repeats ends others (stmt.Repeat times end) = repeats times end
 sorted P repeats ends others (stmt.End start) = ends start
-sorted P repeats ends others (stmt.Bytes reg bytes) = others (stmt.Bytes reg bytes) (other-of (stmt.Bytes reg bytes) refl refl)
-sorted P repeats ends others (stmt.Fill reg len start) = others (stmt.Fill reg len start) (other-of (stmt.Fill reg len start) refl refl)
-sorted P repeats ends others (stmt.RankOf reg ty) = others (stmt.RankOf reg ty) (other-of (stmt.RankOf reg ty) refl refl)
-sorted P repeats ends others (stmt.Apply op ty dst src) = others (stmt.Apply op ty dst src) (other-of (stmt.Apply op ty dst src) refl refl)
-sorted P repeats ends others (stmt.Send peer reg) = others (stmt.Send peer reg) (other-of (stmt.Send peer reg) refl refl)
-sorted P repeats ends others (stmt.Post peer reg) = others (stmt.Post peer reg) (other-of (stmt.Post peer reg) refl refl)
-sorted P repeats ends others (stmt.Recv peer reg len) = others (stmt.Recv peer reg len) (other-of (stmt.Recv peer reg len) refl refl)
-sorted P repeats ends others (stmt.Print reg form) = others (stmt.Print reg form) (other-of (stmt.Print reg form) refl refl)
-sorted P repeats ends others (stmt.Barrier comm) = others (stmt.Barrier comm) (other-of (stmt.Barrier comm) refl refl)
-sorted P repeats ends others (stmt.Split comm by) = others (stmt.Split comm by) (other-of (stmt.Split comm by) refl refl)
-sorted P repeats ends others (stmt.Bcast comm root reg len) = others (stmt.Bcast comm root reg len) (other-of (stmt.Bcast comm root reg len) refl refl)
-sorted P repeats ends others (stmt.Reduce comm root op ty dst src) = others (stmt.Reduce comm root op ty dst src) (other-of (stmt.Reduce comm root op ty dst src) refl refl)
-sorted P repeats ends others (stmt.Allreduce comm op ty dst src) = others (stmt.Allreduce comm op ty dst src) (other-of (stmt.Allreduce comm op ty dst src) refl refl)
+sorted P repeats ends others s = others s (other-of s refl refl)
 
 -- the statement at a place that is set, and at another one
 set_here : (items : List Item) (place : ℕ) (item new : Item) → slice_get items place ≡ Some item → stmt_at (slice_set items place new) place ≡ Some new.stmt

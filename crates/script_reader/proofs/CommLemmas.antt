@@ -13,7 +13,6 @@ use Rattle.script_reader.specs.declared.fault.FaultKind.TheVariants as kind
 use Rattle.script_reader.specs.declared.said.Collective.{Collective}
 use Rattle.script_reader.specs.declared.said.Collective.TheVariants as group
 use Rattle.script_reader.specs.declared.said.Local.{Local}
-use Rattle.script_reader.specs.declared.said.Local.TheVariants as local
 use Rattle.script_reader.specs.declared.said.Message.{Message}
 use Rattle.script_reader.specs.declared.said.Message.TheVariants as message
 use Rattle.script_reader.specs.declared.said.Said.{Said}
@@ -29,7 +28,7 @@ use Rattle.script_reader.specs.declared.version.Version.{Version}
 use Rattle.script_reader.specs.Checks.{innermost, is_badly_split, is_unknown, last_comm, open_of, run_of}
 use Rattle.script_reader.specs.Effects.{comm_named, effect_of}
 use Rattle.script_reader.specs.Faults.{◌>>=◌}
-use Rattle.script_reader.specs.Progress.{Progress, after, after_group, after_local, after_message, after_section, checked, first_fault, named, open_section, past, peer_in, place, rank_said, register_of, rule_said, small, start}
+use Rattle.script_reader.specs.Progress.{Progress, after, after_group, after_local, after_message, after_section, checked, first_fault, local_numbered, named, open_section, past, peer_in, place, rank_said, register_of, rule_said, small, start}
 use Rattle.script_reader.specs.Reading.{at_end, at_line, begun, most_script_bytes, read_all_lines, read_as, read_file, read_line, read_lines, read_words, script_of, version_of}
 use Rattle.script_reader.specs.Said.{said_of}
 use Rattle.script_reader.specs.Settled.{NamesCommsTo}
@@ -84,12 +83,8 @@ module _ (v : Version) where
   section-low p section.Odd low = open-low p who.Odd low
   section-low p (section.Span first last) low = then IsLow (rank_said p.nue first) _ (λ a. then IsLow (rank_said p.nue last) _ (λ b. either IsLow (nat_lt b a) (Err kind.RankRange) (open_section p (who.Span a b)) tt (open-low p (who.Span a b) low)))
 
-  local-low : (line : ℕ) (p : Progress) (s : Local) → IsLow p → IfOk (after_local line p s) IsLow
-  local-low line p (local.Bytes name bytes) low = place-low line (named p name) (stmt.Bytes (register_of p.names name) bytes) low
-  local-low line p (local.Fill name len start) low = place-low line (named p name) (stmt.Fill (register_of p.names name) len start) low
-  local-low line p (local.RankOf name ty) low = place-low line (named p name) (stmt.RankOf (register_of p.names name) ty) low
-  local-low line p (local.Apply op ty dst src) low = place-low line (named (named p dst) src) (stmt.Apply op ty (register_of p.names dst) (register_of (named p dst).names src)) low
-  local-low line p (local.Print name form) low = place-low line (named p name) (stmt.Print (register_of p.names name) form) low
+  local-low : (line : ℕ) (p : Progress) (l : Local) → IsLow p → IfOk (after_local line p l) IsLow
+  local-low line p l low = place-low line (record p { names = (local_numbered p.names l).names }) (local_numbered p.names l).statement low
 
   message-low : (line : ℕ) (p : Progress) (s : Message) → IsLow p → IfOk (after_message line p s) IsLow
   message-low line p (message.Send peer name) low = then IsLow (peer_in p.nue peer) _ (λ other. place-low line (named p name) (stmt.Send other (register_of p.names name)) low)

@@ -7,7 +7,6 @@ use Rattle.script_reader.specs.declared.fault.ReadFault.{ReadFault}
 use Rattle.script_reader.specs.declared.said.Collective.{Collective}
 use Rattle.script_reader.specs.declared.said.Collective.TheVariants as group
 use Rattle.script_reader.specs.declared.said.Local.{Local}
-use Rattle.script_reader.specs.declared.said.Local.TheVariants as local
 use Rattle.script_reader.specs.declared.said.Message.{Message}
 use Rattle.script_reader.specs.declared.said.Message.TheVariants as message
 use Rattle.script_reader.specs.declared.said.Said.{Said}
@@ -22,7 +21,7 @@ use Rattle.script_reader.specs.declared.version.Version.{Version}
 use Rattle.script_reader.specs.Checks.{innermost, open_of}
 use Rattle.script_reader.specs.Effects.{effect_of}
 use Rattle.script_reader.specs.Faults.{◌>>=◌}
-use Rattle.script_reader.specs.Progress.{Progress, after, after_group, after_local, after_message, after_section, checked, named, open_section, past, peer_in, place, rank_said, register_of, rule_said, small, start}
+use Rattle.script_reader.specs.Progress.{Progress, after, after_group, after_local, after_message, after_section, checked, local_numbered, named, open_section, past, peer_in, place, rank_said, register_of, rule_said, small, start}
 use Rattle.script_reader.specs.Reading.{at_end, at_line, begun, most_script_bytes, parse_script, read_all_lines, read_line, read_lines, read_words, script_of, version_of}
 use Rattle.script_reader.specs.Said.{said_of}
 use Rattle.script_reader.specs.Script.{Script}
@@ -62,12 +61,7 @@ section_keeps p (section.Span first last) =
     either p.nue (nat_lt other one) (Err kind.RankRange) (open_section p (ranks.Span one other)) tt (sectioned p (ranks.Span one other))))
 
 local_keeps : (line : ℕ) (p : Progress) (l : Local) → Keeps p.nue (after_local line p l)
-local_keeps line p (local.Bytes name bytes) = placed line (named p name) (stmt.Bytes (register_of p.names name) bytes)
-local_keeps line p (local.Fill name len start) = placed line (named p name) (stmt.Fill (register_of p.names name) len start)
-local_keeps line p (local.RankOf name ty) = placed line (named p name) (stmt.RankOf (register_of p.names name) ty)
-local_keeps line p (local.Apply op ty dst src) =
-    placed line (named (named p dst) src) (stmt.Apply op ty (register_of p.names dst) (register_of (named p dst).names src))
-local_keeps line p (local.Print name form) = placed line (named p name) (stmt.Print (register_of p.names name) form)
+local_keeps line p l = placed line (record p { names = (local_numbered p.names l).names }) (local_numbered p.names l).statement
 
 message_keeps : (line : ℕ) (p : Progress) (m : Message) → Keeps p.nue (after_message line p m)
 message_keeps line p (message.Send peer name) = bind p.nue (peer_in p.nue peer) _ (λ at. placed line (named p name) (stmt.Send at (register_of p.names name)))

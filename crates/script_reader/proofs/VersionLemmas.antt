@@ -37,9 +37,9 @@ use Rattle.script_reader.specs.declared.version.Version.TheVariants as version
 use Rattle.script_reader.specs.Checks.{innermost, open_of}
 use Rattle.script_reader.specs.Effects.{effect_of, parent_of, split_rule}
 use Rattle.script_reader.specs.Faults.{◌>>=◌, Gives}
-use Rattle.script_reader.specs.Progress.{Progress, after, after_group, after_local, after_message, after_section, checked, named, open_section, past, peer_in, place, rank_said, register_of, rule_said, small, start}
+use Rattle.script_reader.specs.Progress.{Progress, after, after_group, after_local, after_message, after_section, checked, local_numbered, named, open_section, past, peer_in, place, rank_said, register_of, rule_said, small, start}
 use Rattle.script_reader.specs.Reading.{at_end, at_line, begun, most_script_bytes, read_all_lines, read_as, read_line, read_lines, read_words, script_of}
-use Rattle.script_reader.specs.Said.{of_said, version_number, allreduce_said, alone, apply_said, barrier_said, bcast_said, bytes_said, colour_said, dash_of, fill_said, hex_said, name_said, number_said, operation_said, peer_said, range_said, type_said, values_said, group_said, numbers_said, post_said, print_said, ranks_said, rank_of_said, rcce_said, recv_said, reduce_said, register_said, repeat_said, said_of, section_said, send_said, span_said, split_said, ue_said, values_named}
+use Rattle.script_reader.specs.Said.{allreduce_said, allreduce_words, alone, apply_said, apply_words, barrier_said, bcast_said, bcast_words, bytes_said, colour_said, dash_of, fill_said, fill_words, group_said, hex_said, name_said, number_said, numbers_said, of_five_words, of_four_words, of_said, of_six_words, of_three_words, of_two_words, operation_said, peer_said, post_said, post_words, print_said, range_said, rank_of_said, ranks_said, rcce_said, recv_said, recv_words, reduce_said, reduce_words, register_said, repeat_said, said_of, section_said, send_said, send_words, span_said, split_said, type_said, ue_said, values_named, values_said, version_number}
 use Rattle.script_reader.specs.Script.{Script, first_split, rules_of}
 use Rattle.script_reader.specs.Settled.{SplitsWorldAlone}
 use Rattle.script_reader.specs.Words.{is_text, line_count, lines_of, words_of}
@@ -66,6 +66,26 @@ IsPlain v (said.Repeat times) = 1 ≤ times
 IsPlain v _ = Unit {0}
 
 module _ (v : Version) where
+  two-plain : (says : List ℕ → List ℕ → Result Said FaultKind) → ((a b : List ℕ) → IfOk (says a b) (IsPlain v)) → (words : List (List ℕ)) → IfOk (of_two_words says words) (IsPlain v)
+  two-plain says plain (a ∷ b ∷ []) = plain a b
+  two-plain says plain _ = tt
+
+  three-plain : (says : List ℕ → List ℕ → List ℕ → Result Said FaultKind) → ((a b c : List ℕ) → IfOk (says a b c) (IsPlain v)) → (words : List (List ℕ)) → IfOk (of_three_words says words) (IsPlain v)
+  three-plain says plain (a ∷ b ∷ c ∷ []) = plain a b c
+  three-plain says plain _ = tt
+
+  four-plain : (says : List ℕ → List ℕ → List ℕ → List ℕ → Result Said FaultKind) → ((a b c d : List ℕ) → IfOk (says a b c d) (IsPlain v)) → (words : List (List ℕ)) → IfOk (of_four_words says words) (IsPlain v)
+  four-plain says plain (a ∷ b ∷ c ∷ d ∷ []) = plain a b c d
+  four-plain says plain _ = tt
+
+  five-plain : (says : List ℕ → List ℕ → List ℕ → List ℕ → List ℕ → Result Said FaultKind) → ((a b c d e : List ℕ) → IfOk (says a b c d e) (IsPlain v)) → (words : List (List ℕ)) → IfOk (of_five_words says words) (IsPlain v)
+  five-plain says plain (a ∷ b ∷ c ∷ d ∷ e ∷ []) = plain a b c d e
+  five-plain says plain _ = tt
+
+  six-plain : (says : List ℕ → List ℕ → List ℕ → List ℕ → List ℕ → List ℕ → Result Said FaultKind) → ((a b c d e f : List ℕ) → IfOk (says a b c d e f) (IsPlain v)) → (words : List (List ℕ)) → IfOk (of_six_words says words) (IsPlain v)
+  six-plain says plain (a ∷ b ∷ c ∷ d ∷ e ∷ f ∷ []) = plain a b c d e f
+  six-plain says plain _ = tt
+
   alone-plain : (s : Said) → (IsPlain v) s → (words : List (List ℕ)) → IfOk (alone s words) (IsPlain v)
   alone-plain s is [] = is
   alone-plain s is (a ∷ rest) = tt
@@ -95,11 +115,7 @@ module _ (v : Version) where
   numbers-plain ty (name ∷ values) = either (IsPlain v) (length values == 0) _ _ tt (named-plain ty name values)
 
   fill-plain : (words : List (List ℕ)) → IfOk (fill_said words) (IsPlain v)
-  fill-plain [] = tt
-  fill-plain (a ∷ []) = tt
-  fill-plain (a ∷ b ∷ []) = tt
-  fill-plain (a ∷ b ∷ c ∷ []) = then (IsPlain v) (number_said b) _ (λ x1. then (IsPlain v) (range_said 0 65535 c) _ (λ x2. then (IsPlain v) (name_said a) _ (λ x3. tt)))
-  fill-plain (a ∷ b ∷ c ∷ d ∷ rest) = tt
+  fill-plain words = three-plain fill_words (λ a b c. then (IsPlain v) (number_said b) _ (λ x1. then (IsPlain v) (range_said 0 65535 c) _ (λ x2. then (IsPlain v) (name_said a) _ (λ x3. tt)))) words
 
   rank-plain : (words : List (List ℕ)) → IfOk (rank_of_said words) (IsPlain v)
   rank-plain [] = tt
@@ -108,12 +124,7 @@ module _ (v : Version) where
   rank-plain (a ∷ b ∷ c ∷ rest) = tt
 
   apply-plain : (words : List (List ℕ)) → IfOk (apply_said words) (IsPlain v)
-  apply-plain [] = tt
-  apply-plain (a ∷ []) = tt
-  apply-plain (a ∷ b ∷ []) = tt
-  apply-plain (a ∷ b ∷ c ∷ []) = tt
-  apply-plain (a ∷ b ∷ c ∷ d ∷ []) = then (IsPlain v) (operation_said a) _ (λ x1. then (IsPlain v) (type_said b) _ (λ x2. then (IsPlain v) (name_said c) _ (λ x3. then (IsPlain v) (name_said d) _ (λ x4. tt))))
-  apply-plain (a ∷ b ∷ c ∷ d ∷ e ∷ rest) = tt
+  apply-plain words = four-plain apply_words (λ a b c d. then (IsPlain v) (operation_said a) _ (λ x1. then (IsPlain v) (type_said b) _ (λ x2. then (IsPlain v) (name_said c) _ (λ x3. then (IsPlain v) (name_said d) _ (λ x4. tt))))) words
 
   print-plain : (words : List (List ℕ)) → IfOk (print_said words) (IsPlain v)
   print-plain [] = tt
@@ -122,23 +133,13 @@ module _ (v : Version) where
   print-plain (a ∷ b ∷ c ∷ rest) = tt
 
   send-plain : (words : List (List ℕ)) → IfOk (send_said words) (IsPlain v)
-  send-plain [] = tt
-  send-plain (a ∷ []) = tt
-  send-plain (a ∷ b ∷ []) = then (IsPlain v) (peer_said a) _ (λ x1. then (IsPlain v) (name_said b) _ (λ x2. tt))
-  send-plain (a ∷ b ∷ c ∷ rest) = tt
+  send-plain words = two-plain send_words (λ a b. then (IsPlain v) (peer_said a) _ (λ x1. then (IsPlain v) (name_said b) _ (λ x2. tt))) words
 
   post-plain : (words : List (List ℕ)) → IfOk (post_said words) (IsPlain v)
-  post-plain [] = tt
-  post-plain (a ∷ []) = tt
-  post-plain (a ∷ b ∷ []) = then (IsPlain v) (peer_said a) _ (λ x1. then (IsPlain v) (name_said b) _ (λ x2. tt))
-  post-plain (a ∷ b ∷ c ∷ rest) = tt
+  post-plain words = two-plain post_words (λ a b. then (IsPlain v) (peer_said a) _ (λ x1. then (IsPlain v) (name_said b) _ (λ x2. tt))) words
 
   recv-plain : (words : List (List ℕ)) → IfOk (recv_said words) (IsPlain v)
-  recv-plain [] = tt
-  recv-plain (a ∷ []) = tt
-  recv-plain (a ∷ b ∷ []) = tt
-  recv-plain (a ∷ b ∷ c ∷ []) = then (IsPlain v) (peer_said a) _ (λ x1. then (IsPlain v) (number_said c) _ (λ x2. then (IsPlain v) (name_said b) _ (λ x3. tt)))
-  recv-plain (a ∷ b ∷ c ∷ d ∷ rest) = tt
+  recv-plain words = three-plain recv_words (λ a b c. then (IsPlain v) (peer_said a) _ (λ x1. then (IsPlain v) (number_said c) _ (λ x2. then (IsPlain v) (name_said b) _ (λ x3. tt)))) words
 
   barrier-plain : (words : List (List ℕ)) → IfOk (barrier_said words) (IsPlain v)
   barrier-plain [] = tt
@@ -158,31 +159,13 @@ module _ (v : Version) where
   split-plain words = split-by v refl words
 
   bcast-plain : (words : List (List ℕ)) → IfOk (bcast_said words) (IsPlain v)
-  bcast-plain [] = tt
-  bcast-plain (a ∷ []) = tt
-  bcast-plain (a ∷ b ∷ []) = tt
-  bcast-plain (a ∷ b ∷ c ∷ []) = tt
-  bcast-plain (a ∷ b ∷ c ∷ d ∷ []) = then (IsPlain v) (number_said a) _ (λ x1. then (IsPlain v) (number_said b) _ (λ x2. then (IsPlain v) (number_said d) _ (λ x3. then (IsPlain v) (name_said c) _ (λ x4. tt))))
-  bcast-plain (a ∷ b ∷ c ∷ d ∷ e ∷ rest) = tt
+  bcast-plain words = four-plain bcast_words (λ a b c d. then (IsPlain v) (number_said a) _ (λ x1. then (IsPlain v) (number_said b) _ (λ x2. then (IsPlain v) (number_said d) _ (λ x3. then (IsPlain v) (name_said c) _ (λ x4. tt))))) words
 
   reduce-plain : (words : List (List ℕ)) → IfOk (reduce_said words) (IsPlain v)
-  reduce-plain [] = tt
-  reduce-plain (a ∷ []) = tt
-  reduce-plain (a ∷ b ∷ []) = tt
-  reduce-plain (a ∷ b ∷ c ∷ []) = tt
-  reduce-plain (a ∷ b ∷ c ∷ d ∷ []) = tt
-  reduce-plain (a ∷ b ∷ c ∷ d ∷ e ∷ []) = tt
-  reduce-plain (a ∷ b ∷ c ∷ d ∷ e ∷ f ∷ []) = then (IsPlain v) (operation_said c) _ (λ x1. then (IsPlain v) (type_said d) _ (λ x2. then (IsPlain v) (number_said a) _ (λ x3. then (IsPlain v) (number_said b) _ (λ x4. then (IsPlain v) (name_said e) _ (λ x5. then (IsPlain v) (name_said f) _ (λ x6. tt))))))
-  reduce-plain (a ∷ b ∷ c ∷ d ∷ e ∷ f ∷ g ∷ rest) = tt
+  reduce-plain words = six-plain reduce_words (λ a b c d e f. then (IsPlain v) (operation_said c) _ (λ x1. then (IsPlain v) (type_said d) _ (λ x2. then (IsPlain v) (number_said a) _ (λ x3. then (IsPlain v) (number_said b) _ (λ x4. then (IsPlain v) (name_said e) _ (λ x5. then (IsPlain v) (name_said f) _ (λ x6. tt))))))) words
 
   allreduce-plain : (words : List (List ℕ)) → IfOk (allreduce_said words) (IsPlain v)
-  allreduce-plain [] = tt
-  allreduce-plain (a ∷ []) = tt
-  allreduce-plain (a ∷ b ∷ []) = tt
-  allreduce-plain (a ∷ b ∷ c ∷ []) = tt
-  allreduce-plain (a ∷ b ∷ c ∷ d ∷ []) = tt
-  allreduce-plain (a ∷ b ∷ c ∷ d ∷ e ∷ []) = then (IsPlain v) (operation_said b) _ (λ x1. then (IsPlain v) (type_said c) _ (λ x2. then (IsPlain v) (number_said a) _ (λ x3. then (IsPlain v) (name_said d) _ (λ x4. then (IsPlain v) (name_said e) _ (λ x5. tt)))))
-  allreduce-plain (a ∷ b ∷ c ∷ d ∷ e ∷ f ∷ rest) = tt
+  allreduce-plain words = five-plain allreduce_words (λ a b c d e. then (IsPlain v) (operation_said b) _ (λ x1. then (IsPlain v) (type_said c) _ (λ x2. then (IsPlain v) (number_said a) _ (λ x3. then (IsPlain v) (name_said d) _ (λ x4. then (IsPlain v) (name_said e) _ (λ x5. tt)))))) words
 
   ranged : (low high number : ℕ) (b : Bool) → (nat_le low number && nat_le number high) ≡ b → IfOk (cond b (Ok number) (Err kind.BadNumber)) (λ n. low ≤ n)
   ranged low high number true is = leb-true low number (and_parts (nat_le low number) (nat_le number high) is).0
@@ -255,12 +238,13 @@ section-flat p section.Even flat = open-flat p who.Even flat
 section-flat p section.Odd flat = open-flat p who.Odd flat
 section-flat p (section.Span first last) flat = then IsFlat (rank_said p.nue first) _ (λ a. then IsFlat (rank_said p.nue last) _ (λ b. either IsFlat (nat_lt b a) (Err kind.RankRange) (open_section p (who.Span a b)) tt (open-flat p (who.Span a b) flat)))
 
-local-flat : (line : ℕ) (p : Progress) (s : Local) → IsFlat p → IfOk (after_local line p s) IsFlat
-local-flat line p (local.Bytes name bytes) flat = place-flat line (named p name) (stmt.Bytes (register_of p.names name) bytes) flat (λ comm. refl)
-local-flat line p (local.Fill name len start) flat = place-flat line (named p name) (stmt.Fill (register_of p.names name) len start) flat (λ comm. refl)
-local-flat line p (local.RankOf name ty) flat = place-flat line (named p name) (stmt.RankOf (register_of p.names name) ty) flat (λ comm. refl)
-local-flat line p (local.Apply op ty dst src) flat = place-flat line (named (named p dst) src) (stmt.Apply op ty (register_of p.names dst) (register_of (named p dst).names src)) flat (λ comm. refl)
-local-flat line p (local.Print name form) flat = place-flat line (named p name) (stmt.Print (register_of p.names name) form) flat (λ comm. refl)
+-- a statement of the rank's own splits nothing
+local-world : (names : List (List ℕ)) (l : Local) (comm : ℕ) → parent_of (split_rule (effect_of (local_numbered names l).statement).group comm) ≡ 0
+local-world names (local.Bytes name bytes) comm = refl
+local-world names _ comm = refl
+
+local-flat : (line : ℕ) (p : Progress) (l : Local) → IsFlat p → IfOk (after_local line p l) IsFlat
+local-flat line p l flat = place-flat line (record p { names = (local_numbered p.names l).names }) (local_numbered p.names l).statement flat (local-world p.names l)
 
 message-flat : (line : ℕ) (p : Progress) (s : Message) → IsFlat p → IfOk (after_message line p s) IsFlat
 message-flat line p (message.Send peer name) flat = then IsFlat (peer_in p.nue peer) _ (λ other. place-flat line (named p name) (stmt.Send other (register_of p.names name)) flat (λ comm. refl))

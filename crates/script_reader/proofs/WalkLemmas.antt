@@ -29,7 +29,7 @@ use Rattle.script_reader.specs.Checks.{innermost, is_stray, open_of}
 use Rattle.script_reader.specs.Closed.{AreMatched, AreWithin, Closes, HasPass, HavePasses, IsClosed, latest_section}
 use Rattle.script_reader.specs.Effects.{effect_of}
 use Rattle.script_reader.specs.Faults.{◌>>=◌}
-use Rattle.script_reader.specs.Progress.{Progress, after, after_group, after_local, after_message, after_section, checked, first_fault, named, open_section, past, peer_in, place, rank_said, register_of, rule_said, small, start}
+use Rattle.script_reader.specs.Progress.{Progress, after, after_group, after_local, after_message, after_section, checked, first_fault, local_numbered, named, open_section, past, peer_in, place, rank_said, register_of, rule_said, small, start}
 use Rattle.script_reader.specs.Reading.{at_end, at_line, begun, most_script_bytes, parse_script, read_all_lines, read_line, read_lines, read_words, script_of, version_of}
 use Rattle.script_reader.specs.Said.{said_of}
 use Rattle.script_reader.specs.Script.{Script}
@@ -138,13 +138,18 @@ section_keeps p (section.Span first last) formed =
     bind (rank_said p.nue last) _ (λ other.
     either (nat_lt other one) (Err kind.RankRange) (open_section p (ranks.Span one other)) tt (sectioned p (ranks.Span one other) formed)))
 
+-- a statement of the rank's own opens no repeat and closes none
+local_passes : (names : List (List ℕ)) (l : Local) → HasPass (effect_of (local_numbered names l).statement).nesting
+local_passes names (local.Bytes name bytes) = tt
+local_passes names _ = tt
+
+local_closes : (repeats : List Open) (names : List (List ℕ)) (l : Local) → Closes repeats (effect_of (local_numbered names l).statement).nesting
+local_closes repeats names (local.Bytes name bytes) = tt
+local_closes repeats names _ = tt
+
 local_keeps : (line : ℕ) (p : Progress) (l : Local) → IsLaid p → Keeps (after_local line p l)
-local_keeps line p (local.Bytes name bytes) laid = placed line p (named p name) (stmt.Bytes (register_of p.names name) bytes) refl refl laid tt (λ passed. tt)
-local_keeps line p (local.Fill name len start) laid = placed line p (named p name) (stmt.Fill (register_of p.names name) len start) refl refl laid tt (λ passed. tt)
-local_keeps line p (local.RankOf name ty) laid = placed line p (named p name) (stmt.RankOf (register_of p.names name) ty) refl refl laid tt (λ passed. tt)
-local_keeps line p (local.Apply op ty dst src) laid =
-    placed line p (named (named p dst) src) (stmt.Apply op ty (register_of p.names dst) (register_of (named p dst).names src)) refl refl laid tt (λ passed. tt)
-local_keeps line p (local.Print name form) laid = placed line p (named p name) (stmt.Print (register_of p.names name) form) refl refl laid tt (λ passed. tt)
+local_keeps line p l laid =
+    placed line p (record p { names = (local_numbered p.names l).names }) (local_numbered p.names l).statement refl refl laid (local_passes p.names l) (λ passed. local_closes (open_of (past p)) p.names l)
 
 message_keeps : (line : ℕ) (p : Progress) (m : Message) → IsLaid p → Keeps (after_message line p m)
 message_keeps line p (message.Send peer name) laid = bind (peer_in p.nue peer) _ (λ at. placed line p (named p name) (stmt.Send at (register_of p.names name)) refl refl laid tt (λ passed. tt))

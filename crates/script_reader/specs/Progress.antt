@@ -145,14 +145,35 @@ after_section p (section.Span first last) = do
   last ← rank_said p.nue last
   if nat_lt last first then Err kind.RankRange else open_section p (ranks.Span first last)
 
+-- a statement with its registers by number, and the names that are known behind it
+pub record NumberedStmt : Type 0 where
+  pub names : List (List ℕ)
+  pub statement : Stmt
+
+-- a statement that names one register
+abbrev pub naming_one : List (List ℕ) → List ℕ → (ℕ → Stmt) → NumberedStmt
+naming_one names name says = record { names = with_name names name; statement = says (register_of names name) }
+
+-- a statement that names two registers, in this order
+abbrev pub naming_two : List (List ℕ) → List ℕ → List ℕ → (ℕ → ℕ → Stmt) → NumberedStmt
+naming_two names first second says =
+    record {
+      names = with_name (with_name names first) second;
+      statement = says (register_of names first) (register_of (with_name names first) second);
+    }
+
+-- the statement of the rank's own that was said, behind these names
+abbrev pub local_numbered : List (List ℕ) → Local → NumberedStmt
+local_numbered names (local.Bytes name bytes) = naming_one names name (λ reg. stmt.Bytes reg bytes)
+local_numbered names (local.Fill name len start) = naming_one names name (λ reg. stmt.Fill reg len start)
+local_numbered names (local.RankOf name ty) = naming_one names name (λ reg. stmt.RankOf reg ty)
+local_numbered names (local.Apply op ty dst src) = naming_two names dst src (stmt.Apply op ty)
+local_numbered names (local.Print name form) = naming_one names name (λ reg. stmt.Print reg form)
+
 -- what is read after a statement of the rank's own: its item, or why it is refused
 abbrev pub after_local : ℕ → Progress → Local → Result Progress FaultKind
-after_local line p (local.Bytes name bytes) = place line (named p name) (stmt.Bytes (register_of p.names name) bytes)
-after_local line p (local.Fill name len start) = place line (named p name) (stmt.Fill (register_of p.names name) len start)
-after_local line p (local.RankOf name ty) = place line (named p name) (stmt.RankOf (register_of p.names name) ty)
-after_local line p (local.Apply op ty dst src) =
-    place line (named (named p dst) src) (stmt.Apply op ty (register_of p.names dst) (register_of (named p dst).names src))
-after_local line p (local.Print name form) = place line (named p name) (stmt.Print (register_of p.names name) form)
+after_local line p local =
+    place line (record p { names = (local_numbered p.names local).names }) (local_numbered p.names local).statement
 
 -- what is read after a statement of a message: its item, or why it is refused
 abbrev pub after_message : ℕ → Progress → Message → Result Progress FaultKind

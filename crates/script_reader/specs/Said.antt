@@ -89,6 +89,33 @@ abbrev pub values_said : Ty → List ℕ → List (List ℕ) → Result (List �
 values_said type front [] = Ok front
 values_said type front (word ∷ words) = value_behind type front word >>= λ bytes. values_said type bytes words
 
+-- a statement of two words behind its first one, by what they say
+abbrev pub of_two_words : (List ℕ → List ℕ → Result Said FaultKind) → List (List ℕ) → Result Said FaultKind
+of_two_words says (a ∷ b ∷ []) = says a b
+of_two_words says _ = Err kind.WrongCount
+
+-- a statement of three words behind its first one, by what they say
+abbrev pub of_three_words : (List ℕ → List ℕ → List ℕ → Result Said FaultKind) → List (List ℕ) → Result Said FaultKind
+of_three_words says (a ∷ b ∷ c ∷ []) = says a b c
+of_three_words says _ = Err kind.WrongCount
+
+-- a statement of four words behind its first one, by what they say
+abbrev pub of_four_words : (List ℕ → List ℕ → List ℕ → List ℕ → Result Said FaultKind) → List (List ℕ) → Result Said FaultKind
+of_four_words says (a ∷ b ∷ c ∷ d ∷ []) = says a b c d
+of_four_words says _ = Err kind.WrongCount
+
+-- a statement of five words behind its first one, by what they say
+abbrev pub of_five_words : (List ℕ → List ℕ → List ℕ → List ℕ → List ℕ → Result Said FaultKind)
+    → List (List ℕ) → Result Said FaultKind
+of_five_words says (a ∷ b ∷ c ∷ d ∷ e ∷ []) = says a b c d e
+of_five_words says _ = Err kind.WrongCount
+
+-- a statement of six words behind its first one, by what they say
+abbrev pub of_six_words : (List ℕ → List ℕ → List ℕ → List ℕ → List ℕ → List ℕ → Result Said FaultKind)
+    → List (List ℕ) → Result Said FaultKind
+of_six_words says (a ∷ b ∷ c ∷ d ∷ e ∷ f ∷ []) = says a b c d e f
+of_six_words says _ = Err kind.WrongCount
+
 -- a line of one word: `all`, `even`, `odd`, `end`
 abbrev pub alone : Said → List (List ℕ) → Result Said FaultKind
 alone said [] = Ok said
@@ -146,8 +173,7 @@ fill_words name len start = do
 
 -- the words behind `fill`
 abbrev pub fill_said : List (List ℕ) → Result Said FaultKind
-fill_said (name ∷ len ∷ start ∷ []) = fill_words name len start
-fill_said _ = Err kind.WrongCount
+fill_said words = of_three_words fill_words words
 
 -- `rank NAME TYPE`
 abbrev pub rank_of_said : List (List ℕ) → Result Said FaultKind
@@ -168,8 +194,7 @@ apply_words operation type dst src = do
 
 -- the words behind `apply`
 abbrev pub apply_said : List (List ℕ) → Result Said FaultKind
-apply_said (operation ∷ type ∷ dst ∷ src ∷ []) = apply_words operation type dst src
-apply_said _ = Err kind.WrongCount
+apply_said words = of_four_words apply_words words
 
 -- `print NAME` and `print TYPE NAME`
 abbrev pub hex_print_said : List ℕ → Result Said FaultKind
@@ -199,8 +224,7 @@ send_words peer name = do
 
 -- the words behind `send`
 abbrev pub send_said : List (List ℕ) → Result Said FaultKind
-send_said (peer ∷ name ∷ []) = send_words peer name
-send_said _ = Err kind.WrongCount
+send_said words = of_two_words send_words words
 
 -- `post PEER NAME`
 abbrev pub post_words : List ℕ → List ℕ → Result Said FaultKind
@@ -211,8 +235,7 @@ post_words peer name = do
 
 -- the words behind `post`
 abbrev pub post_said : List (List ℕ) → Result Said FaultKind
-post_said (peer ∷ name ∷ []) = post_words peer name
-post_said _ = Err kind.WrongCount
+post_said words = of_two_words post_words words
 
 -- `recv PEER NAME LEN`
 abbrev pub recv_words : List ℕ → List ℕ → List ℕ → Result Said FaultKind
@@ -224,8 +247,7 @@ recv_words peer name len = do
 
 -- the words behind `recv`
 abbrev pub recv_said : List (List ℕ) → Result Said FaultKind
-recv_said (peer ∷ name ∷ len ∷ []) = recv_words peer name len
-recv_said _ = Err kind.WrongCount
+recv_said words = of_three_words recv_words words
 
 -- `barrier` and `barrier COMM`
 abbrev pub barrier_said : List (List ℕ) → Result Said FaultKind
@@ -270,8 +292,7 @@ bcast_words comm root name len = do
 
 -- the words behind `bcast`
 abbrev pub bcast_said : List (List ℕ) → Result Said FaultKind
-bcast_said (comm ∷ root ∷ name ∷ len ∷ []) = bcast_words comm root name len
-bcast_said _ = Err kind.WrongCount
+bcast_said words = of_four_words bcast_words words
 
 -- `reduce COMM ROOT OP TYPE DST SRC`
 abbrev pub reduce_words : List ℕ → List ℕ → List ℕ → List ℕ → List ℕ → List ℕ → Result Said FaultKind
@@ -286,8 +307,7 @@ reduce_words comm root operation type dst src = do
 
 -- the words behind `reduce`
 abbrev pub reduce_said : List (List ℕ) → Result Said FaultKind
-reduce_said (comm ∷ root ∷ operation ∷ type ∷ dst ∷ src ∷ []) = reduce_words comm root operation type dst src
-reduce_said _ = Err kind.WrongCount
+reduce_said words = of_six_words reduce_words words
 
 -- `allreduce COMM OP TYPE DST SRC`
 abbrev pub allreduce_words : List ℕ → List ℕ → List ℕ → List ℕ → List ℕ → Result Said FaultKind
@@ -301,8 +321,7 @@ allreduce_words comm operation type dst src = do
 
 -- the words behind `allreduce`
 abbrev pub allreduce_said : List (List ℕ) → Result Said FaultKind
-allreduce_said (comm ∷ operation ∷ type ∷ dst ∷ src ∷ []) = allreduce_words comm operation type dst src
-allreduce_said _ = Err kind.WrongCount
+allreduce_said words = of_five_words allreduce_words words
 
 -- `repeat N`
 abbrev pub repeat_said : List (List ℕ) → Result Said FaultKind

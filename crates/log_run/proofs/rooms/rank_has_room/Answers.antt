@@ -15,18 +15,18 @@ pub loop-prim-init : goal.loop-prim-init
 loop-prim-init c = record {
   few = omega arith;
   small = omega arith;
-  counted = start_counted c.args.scripts.now c.args.rank _ _ (c.in_ok-sizes.ensures ∙ ap nothing_held c.registers.ensures) (ap (λ (w : WalkView). w.left) c.in_ok-walk.ensures);
+  counted = start_counted c.args.scripts.now c.args.rank _ _ (c.in_ok-lengths.ensures ∙ ap nothing_held c.registers.ensures) (ap (λ (w : WalkView). w.left) c.in_ok-walk.ensures);
 }
 
 pub returns-then-not-add : goal.returns-then-not-add
 returns-then-not-add c =
     let planned = calls_of c.args.scripts.now c.args.rank in
-    let l = c.loop-prim.sizes in
+    let l = c.loop-prim.lengths in
     let left = c.loop-prim.walk.left in
     let prim = prim_meant c.in-Some.prim in
     let here : slice_get left 0 ≡ Some prim = sym c.front.ensures.same ∙ ap (option_map prim_meant) c.in-Some.is in
     no_room planned _ _ _
-    (counted_on planned _ _ l (lengths_after l prim.act) left prim _ _ _ (drop 1 left) c.loop-prim.invariant.counted here c.moved-moved.ensures (record { registers = refl; accumulator = refl; received = refl })
+    (counted_on planned _ _ l (lengths_after l prim.act) left prim _ _ _ (drop 1 left) c.loop-prim.invariant.counted here c.moved-moved.ensures refl
     c.add.ensures.calls c.add.ensures.bytes refl)
     (sym c.add.ensures.within ∙ c.if-not-add.true)
 
@@ -42,7 +42,7 @@ loop-prim-preserved c =
     record {
       few = leb-true calls 10000 (both_first (nat_le calls 10000) (nat_le bytes 262144) within);
       small = leb-true bytes 262144 (both_second (nat_le calls 10000) (nat_le bytes 262144) within);
-      counted = counted_on planned _ _ c.loop-prim.sizes c.go.new.self left prim _ _ _ _ c.loop-prim.invariant.counted here c.moved-moved.ensures c.go.ensures
+      counted = counted_on planned _ _ c.loop-prim.lengths c.go.new.self left prim _ _ _ _ c.loop-prim.invariant.counted here c.moved-moved.ensures c.in_ok-go.ensures
           c.add.ensures.calls c.add.ensures.bytes (ap (λ (w : WalkView). w.left) c.advance.ensures);
     }
 
@@ -52,5 +52,5 @@ returns c =
     let left = c.loop-prim.walk.left in
     let none = nothing_found prim_meant c.front.result (slice_get left 0) c.front.ensures.same c.in_default.not-Some in
     some_room planned c.loop-prim.tally.calls c.loop-prim.tally.bytes
-    (subst (λ (rest : List Call). AreCounted planned c.loop-prim.tally.calls c.loop-prim.tally.bytes rest) (nothing_left c.loop-prim.sizes left none) c.loop-prim.invariant.counted)
+    (subst (λ (rest : List Call). AreCounted planned c.loop-prim.tally.calls c.loop-prim.tally.bytes rest) (nothing_left c.loop-prim.lengths left none) c.loop-prim.invariant.counted)
     c.loop-prim.invariant.few c.loop-prim.invariant.small

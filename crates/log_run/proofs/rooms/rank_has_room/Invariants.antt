@@ -7,7 +7,7 @@ abbrev pub invariant-loop-prim : goal.invariant-loop-prim
 invariant-loop-prim l = record {
   few : l.tally.calls ≤ 10000;
   small : l.tally.bytes ≤ 262144;
-  counted : AreCounted (calls_of l.scripts l.fn.rank) l.tally.calls l.tally.bytes (calls_from l.sizes l.walk.left);
+  counted : AreCounted (calls_of l.scripts l.fn.rank) l.tally.calls l.tally.bytes (calls_from l.lengths l.walk.left);
 }
 
 abbrev pub decreases-loop-prim : goal.decreases-loop-prim

@@ -1,15 +1,16 @@
 use borrow.Author.Tests.{ltb-false, ltb-true}
 use Rattle.std.proofs.Common.{[], arith}
-use Rattle.script_reader.proofs.CountLemmas.{send-is, send-other}
+use Rattle.script_reader.specs.Said.{send_words}
+use Rattle.script_reader.proofs.CountLemmas.{two-is, two-other}
 use Rattle.script_reader.proofs.said_locals.send_said.Goals.{in_default-via-then-words-lt2, in_default-via-else-words-lt2+else-words-lt3}
 use Rattle.script_reader.proofs.said_locals.send_said.Goals as goal
 
 pub returns-in-len2 : goal.returns-in-len2
-returns-in-len2 c = send-is c.args.words.now (λ word. word.now) (record { ref_ptr = (0, 0); now = [] }) c.send_words.result c.send_words.ensures (omega (arith, c.in-len2.len_at_least, c.in-len2.len_below))
+returns-in-len2 c = two-is c.args.words.now (λ word. word.now) (record { ref_ptr = (0, 0); now = [] }) send_words c.send_words.result c.send_words.ensures (omega (arith, c.in-len2.len_at_least, c.in-len2.len_below))
 
 pub returns-in_default : goal.returns-in_default
 returns-in_default c =
     elim c.in_default.branch [
-      | in_default-via-then-words-lt2 w ↦ send-other c.args.words.now (λ word. word.now) (λ is. omega (arith, is, ltb-true))
-      | in_default-via-else-words-lt2+else-words-lt3 w ↦ send-other c.args.words.now (λ word. word.now) (λ is. omega (arith, is, ltb-false))
+      | in_default-via-then-words-lt2 w ↦ two-other c.args.words.now (λ word. word.now) send_words (λ is. omega (arith, is, ltb-true))
+      | in_default-via-else-words-lt2+else-words-lt3 w ↦ two-other c.args.words.now (λ word. word.now) send_words (λ is. omega (arith, is, ltb-false))
     ]
