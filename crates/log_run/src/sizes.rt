@@ -2,6 +2,7 @@
 
 ghost use Rattle.std.specs.Prelude.{◌≡◌, ◌≤◌, length};
 ghost use Rattle.script_plain.specs.Walk.{content_of};
+ghost use Rattle.scc_base.specs.Heads.{most_message};
 
 use groups::Ty;
 use scc_base::{Head, PostHead};
@@ -165,7 +166,7 @@ impl Sizes {
 
 /// How many bytes a register is set to.
 fn content_len(content: &Content) -> u32
-    requires { length (content_of content.now) ≤ 65536 }
+    requires { length (content_of content.now) ≤ most_message }
     ensures { result ≡ length (content_of content.now) }
 {
     match content {
