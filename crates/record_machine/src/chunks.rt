@@ -1,6 +1,7 @@
 //! The noted words of a chunk buffer.
 
 ghost use Rattle.std.specs.Prelude.{◌≡◌};
+
 use scc_base::{Head, byte_of};
 
 /// The longest message, in bytes.
