@@ -2,6 +2,7 @@
 
 ghost use Rattle.std.specs.Prelude.{◌≡◌, ◌+◌, ◌≤◌, length};
 ghost use Rattle.coll_more.specs.Ops.{begun_at, bytes_by, bytes_of};
+ghost use Rattle.scc_base.specs.Heads.{most_message};
 
 use crate::kinds::{More, PieceCall, Way};
 use crate::seats::known;
@@ -48,7 +49,7 @@ impl Model for MoreOp {
 
 // The op of a message of the table, of which nothing is done yet.
 fn begun(call: PieceCall) -> Stage
-    requires short { call.len ≤ 65536 }
+    requires short { call.len ≤ most_message }
     ensures gives { result ≡ begun_at call }
 {
     let Some(head) = Head::plain(call.len) else {

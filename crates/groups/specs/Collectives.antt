@@ -2,7 +2,7 @@
 -- give; that they go through the root, in rank order, is this project's profile).
 use Rattle.std.specs.Prelude.{◌≢◌, ℕ, ◌<◌, ◌≤◌, ◌==◌, if◌then◌else◌, List, [], ◌∷◌, ◌++◌, map, remove, slice_index}
 use Rattle.scc_base.specs.Communicators.{rule_of}
-use Rattle.scc_base.specs.Heads.{MessageHead, kind_number}
+use Rattle.scc_base.specs.Heads.{MessageHead, kind_number, most_message}
 use Rattle.scc_base.specs.Setups.{SetupView, members_of, place_of, size_of}
 use Rattle.scc_base.specs.declared.communicators.CommRule.TheVariants.{Absent}
 use Rattle.scc_base.specs.declared.kinds.Kind.{Kind}
@@ -41,7 +41,7 @@ HasRoot s r (Allreduce comm len) = Unit {0}
 pub record IsCallable (s : SetupView) (r : ℕ) (c : Coll) : Type 0 where
   pub comm_below : comm_of c < 16
   pub present : rule_of s.comms (comm_of c) ≢ Absent
-  pub len_within : len_of c ≤ 65536
+  pub len_within : len_of c ≤ most_message
   pub rank_below : r < s.nue
   pub root_below : HasRoot s r c
 

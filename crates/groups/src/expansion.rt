@@ -7,6 +7,7 @@ ghost use Rattle.scc_base.specs.declared.communicators.CommRule.TheVariants.{Abs
 ghost use Rattle.scc_base.specs.declared.kinds.Kind.TheVariants.{Plain};
 ghost use Rattle.groups.specs.declared.collectives.Coll.TheVariants.{Bcast, Reduce, Allreduce};
 ghost use Rattle.groups.specs.Collectives.{IsCallable, comm_of, fold_each, head_of, len_of, other_steps, others_of, root_place, root_steps, steps_of};
+ghost use Rattle.scc_base.specs.Heads.{most_message};
 
 use crate::collectives::{Coll, Step};
 use scc_base::{Head, Kind, Rank, Setup};
@@ -15,7 +16,7 @@ use scc_base::{Head, Kind, Rank, Setup};
 fn coll_head(kind: Kind, comm: u8, len: u32) -> Head
     requires collective { kind ≢ Plain }
     requires comm_below { comm < 16 }
-    requires len_within { len ≤ 65536 }
+    requires len_within { len ≤ most_message }
     ensures gives { result ≡ head_of kind comm len }
 {
     Head::new(kind, comm, len).unwrap()
@@ -68,7 +69,7 @@ fn bcast_step(setup: &Setup, r: Rank, comm: u8, root: u8, len: u32, k: u32) -> S
     requires comm_below { comm < 16 }
     requires rank_below { r < setup.now.nue }
     requires present { rule_of setup.now.comms comm ≢ Absent }
-    requires len_within { len ≤ 65536 }
+    requires len_within { len ≤ most_message }
     requires root_below { root < size_of setup.now comm r }
     requires step_below { k < length (root_steps (Bcast comm root len) (others_of setup.now comm r root)) }
     ensures gives { slice_get (root_steps (Bcast comm root len) (others_of setup.now comm r root)) k ≡ Some result }
@@ -87,7 +88,7 @@ fn reduce_step(setup: &Setup, r: Rank, comm: u8, root: u8, len: u32, k: u32) -> 
     requires comm_below { comm < 16 }
     requires rank_below { r < setup.now.nue }
     requires present { rule_of setup.now.comms comm ≢ Absent }
-    requires len_within { len ≤ 65536 }
+    requires len_within { len ≤ most_message }
     requires root_below { root < size_of setup.now comm r }
     requires step_below { k < length (root_steps (Reduce comm root len) (others_of setup.now comm r root)) }
     ensures gives { slice_get (root_steps (Reduce comm root len) (others_of setup.now comm r root)) k ≡ Some result }
@@ -114,7 +115,7 @@ fn allreduce_step(setup: &Setup, r: Rank, comm: u8, len: u32, k: u32) -> Step
     requires comm_below { comm < 16 }
     requires rank_below { r < setup.now.nue }
     requires present { rule_of setup.now.comms comm ≢ Absent }
-    requires len_within { len ≤ 65536 }
+    requires len_within { len ≤ most_message }
     requires root_below { 0 < size_of setup.now comm r }
     requires step_below { k < length (root_steps (Allreduce comm len) (others_of setup.now comm r 0)) }
     ensures gives { slice_get (root_steps (Allreduce comm len) (others_of setup.now comm r 0)) k ≡ Some result }
@@ -139,7 +140,7 @@ fn root_step(setup: &Setup, r: Rank, c: Coll, k: u32) -> Step
     requires comm_below { comm_of c < 16 }
     requires rank_below { r < setup.now.nue }
     requires present { rule_of setup.now.comms (comm_of c) ≢ Absent }
-    requires len_within { len_of c ≤ 65536 }
+    requires len_within { len_of c ≤ most_message }
     requires root_below { root_place c < size_of setup.now (comm_of c) r }
     requires step_below { k < length (root_steps c (others_of setup.now (comm_of c) r (root_place c))) }
     ensures gives { slice_get (root_steps c (others_of setup.now (comm_of c) r (root_place c))) k ≡ Some result }
@@ -154,7 +155,7 @@ fn root_step(setup: &Setup, r: Rank, c: Coll, k: u32) -> Step
 // The k-th step of a member that is not the root.
 fn other_step(root: Rank, c: Coll, k: u32) -> Step
     requires comm_below { comm_of c < 16 }
-    requires len_within { len_of c ≤ 65536 }
+    requires len_within { len_of c ≤ most_message }
     requires step_below { k < length (other_steps c root) }
     ensures gives { slice_get (other_steps c root) k ≡ Some result }
 {

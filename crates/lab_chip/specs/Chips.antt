@@ -9,7 +9,7 @@ use Rattle.scc_base.specs.declared.events.Event.{Event}
 use Rattle.scc_proto.specs.Words.{zeros, IsStep, IsRun, SameWords, RankEvent}
 use Rattle.scc_proto.specs.Stages.{blank}
 use Rattle.scc_proto.specs.Histories.{IsPermittedRun, events_of, memory_from, records_of}
-use Rattle.scc_proto.specs.Memories.{memory_of}
+use Rattle.scc_proto.specs.Memories.{memory_of, number_count}
 use Rattle.scc_proto.specs.Ports.{Seat, Sight}
 use Rattle.scc_proto.specs.Agreement.{Agrees}
 use Rattle.lab_chip.specs.declared.chip.Made.{Made}
@@ -58,7 +58,7 @@ chip_view s r all own = record { setup = s; rank = r; before = before_of all own
 pub record IsChip (s : SetupView) (r : ℕ) (words : List ℕ) (all : List RankEvent) (own : List Event) : Type 0 where
   pub valid : IsSetup s
   pub below : r < s.nue
-  pub count : length words ≡ 49200
+  pub count : length words ≡ number_count
   pub holds : SameWords (memory_from zeros all) (memory_of words)
   pub run : IsRun zeros all
   pub permitted : IsPermittedRun s (λ r. blank) all

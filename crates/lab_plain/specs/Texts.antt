@@ -3,7 +3,7 @@ use Rattle.std.specs.Prelude.{ℕ, ◌-◌, Bool, true, false, not, if◌then◌
 use Rattle.std.specs.Int.{w64, to_be_bytes}
 use Rattle.rcce_io.specs.Digits.{hex_text}
 use Rattle.rcce_io.specs.Sending.{joined}
-use Rattle.scc_base.specs.Places.{LineAt, WordAt, line_of_word, word_of_line}
+use Rattle.scc_base.specs.Places.{LineAt, WordAt, line_of_word, word_of_line, first_heap}
 use Rattle.lab_plain.specs.declared.parts.Part.{Part}
 use Rattle.lab_plain.specs.declared.parts.Part.TheVariants as part
 use Rattle.lab_plain.specs.declared.said.Said.{Said}
@@ -19,7 +19,7 @@ hex_value_text value = hex_text (to_be_bytes w64 value)
 
 -- a line as a lab names it: its core, and its number among the heap lines, of which line 225 is the first
 abbrev pub line_name : LineAt → List ℕ
-line_name line = joined (decimal line.core ∷ codes ":" ∷ decimal (line.line - 225) ∷ [])
+line_name line = joined (decimal line.core ∷ codes ":" ∷ decimal (line.line - first_heap) ∷ [])
 
 -- a word of a held line: its value, and `-` where it was not written
 abbrev pub held_word_text : ℕ → Bool → List ℕ

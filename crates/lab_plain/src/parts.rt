@@ -2,7 +2,7 @@
 
 use outcomes::Piece;
 use rcce_io::{Sink, TextSource, WriteFault, write_all, write_hex, write_texts};
-use scc_base::Line;
+use scc_base::{Buf, Line};
 
 /// A part of a line. No memory is taken for its text.
 #[derive(Clone, Copy)]
@@ -43,7 +43,7 @@ impl TextSource for Part<'_> {
                 &[
                     Piece::Number(line.core().number() as u32),
                     Piece::Text(":"),
-                    Piece::Number(line.line().saturating_sub(225) as u32),
+                    Piece::Number(line.line().saturating_sub(Buf::FIRST) as u32),
                 ],
             ),
         }

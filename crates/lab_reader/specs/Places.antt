@@ -1,7 +1,6 @@
 -- The lines of the heap, as a lab names them (this project's profile: lines 225 to 255 of a core's buffer have the numbers 0 to 30).
 use Rattle.std.specs.Prelude.{ℕ, ◌+◌, ◌-◌, ◌<◌, ◌≤◌}
-use Rattle.scc_base.specs.Places.{LineAt}
-use Rattle.scc_base.specs.Layouts.{first_heap}
+use Rattle.scc_base.specs.Places.{first_heap, LineAt}
 
 -- a line of the heap of one of the chip's cores
 pub record IsInHeap (line : LineAt) : Type 0 where

@@ -1,10 +1,10 @@
 //! Lines and words of the heap, as a lab names them.
 
-use scc_base::{CoreId, Line, Place};
+use scc_base::{Buf, CoreId, Line, Place};
 use std::marker::Model;
 
 /// The number of the first heap line in a core's buffer.
-const FIRST: u8 = 225;
+const FIRST: u8 = Buf::FIRST;
 
 /// A line of the heap of a core's buffer. Its lines 225 to 255 have the numbers 0 to 30 in a lab.
 #[derive(Clone, Copy)]

@@ -2,7 +2,7 @@
 -- shared buffer has one offset on all cores is of the RCCE specification 2.0; the lines and the rule of
 -- the lowest run are this project's profile.
 use Rattle.std.specs.Prelude.{◌≡◌, ℕ, ◌+◌, ◌-◌, ◌/◌, ◌<◌, ◌≤◌, Bool, ◌==◌, ◌&&◌, nat_lt, nat_le, if◌then◌else◌, List, [], ◌∷◌, ◌++◌, Option, None, Some, Result, Ok, Err, max, min, find, is_some, not}
-use Rattle.scc_base.specs.Places.{LineRun}
+use Rattle.scc_base.specs.Places.{LineRun, first_heap}
 use Rattle.mpb_alloc.specs.declared.heap.Run.{Run}
 use Rattle.mpb_alloc.specs.declared.heap.MallocFault.{MallocFault}
 use Rattle.mpb_alloc.specs.declared.heap.MallocFault.TheVariants.{Empty, Full}
@@ -22,7 +22,7 @@ pub record LineHeap : Type 0 where
 
 -- no buffer is out
 abbrev pub all_free : LineHeap
-all_free = record { free = (record { first = 225; lines = 31 }) ∷ []; out = [] }
+all_free = record { free = (record { first = first_heap; lines = 31 }) ∷ []; out = [] }
 
 -- the lines that a buffer of n bytes takes
 abbrev pub lines_for : ℕ → ℕ
@@ -39,7 +39,7 @@ StandApart low (r ∷ rs) = (low ≤ r.first) × (0 < r.lines) × (end_of r ≤ 
 
 -- the run has a line, and all its lines are of the heap
 abbrev pub IsWithin : Run → Type 0
-IsWithin r = (225 ≤ r.first) × (0 < r.lines) × (end_of r ≤ 256)
+IsWithin r = (first_heap ≤ r.first) × (0 < r.lines) × (end_of r ≤ 256)
 
 -- each run is such
 abbrev pub StandWithin : List Run → Type 0
@@ -58,10 +58,10 @@ times_at line (r ∷ rs) = (if has_line line r then 1 else 0) + times_at line rs
 
 -- each line of the heap is free, or is in one buffer that is out
 pub record IsHeap (h : LineHeap) : Type 0 where
-  pub free_apart : StandApart 225 h.free
+  pub free_apart : StandApart first_heap h.free
   pub out_within : StandWithin h.out
   pub all_lines : line_count h.free + line_count h.out ≡ 31
-  pub each_once : (line : ℕ) → 225 ≤ line → line < 256 → times_at line h.free + times_at line h.out ≡ 1
+  pub each_once : (line : ℕ) → first_heap ≤ line → line < 256 → times_at line h.free + times_at line h.out ≡ 1
 
 -- the lowest run of at least `lines` lines
 abbrev pub lowest_fit : ℕ → List Run → Option Run

@@ -1,8 +1,7 @@
 -- Stores of heap words leave a record's stage, so that one after the other is permitted.
 use Rattle.std.proofs.Common.{◌≡◌, ℕ, ◌+◌, ◌<◌, ◌≤◌, Bool, true, false, if◌then◌else◌, slice_index_or, List, [], ◌∷◌, ◌++◌, Option, Some, None, slice_index, sym, refl, ◌∙◌, ap, subst, arith}
-use Rattle.scc_base.specs.Places.{LineAt, WordAt, line_of_word, same_line}
+use Rattle.scc_base.specs.Places.{first_heap, LineAt, WordAt, line_of_word, same_line}
 use Rattle.scc_base.specs.Setups.{SetupView, IsSetup, host_of}
-use Rattle.scc_base.specs.Layouts.{first_heap}
 use Rattle.scc_base.specs.Events.{store_of}
 use Rattle.scc_base.specs.declared.events.Event.{Event}
 use Rattle.scc_proto.specs.Stages.{Record}

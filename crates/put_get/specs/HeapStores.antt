@@ -1,9 +1,8 @@
 -- Stores into the heap of the message passing buffers, by a rank that has drafted nothing, takes no chunk and is in
 -- no barrier (this project's profile).
 use Rattle.std.specs.Prelude.{◌≡◌, ℕ, ◌<◌, ◌≤◌, true, List, Option, Some, IfSome}
-use Rattle.scc_base.specs.Places.{LineAt, WordAt, line_of_word}
+use Rattle.scc_base.specs.Places.{first_heap, LineAt, WordAt, line_of_word}
 use Rattle.scc_base.specs.Setups.{SetupView, IsSetup, host_of}
-use Rattle.scc_base.specs.Layouts.{first_heap}
 use Rattle.scc_base.specs.declared.events.Event.{Event}
 use Rattle.scc_proto.specs.Stages.{Record}
 use Rattle.scc_proto.specs.Permission.{leaves_heap}

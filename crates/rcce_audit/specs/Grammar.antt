@@ -5,7 +5,7 @@ use Rattle.std.specs.Str.{bytes_eq}
 use Rattle.scc_base.specs.declared.communicators.CommRule.{CommRule}
 use Rattle.scc_base.specs.declared.communicators.CommRule.TheVariants.{Absent, World, Mod, Div}
 use Rattle.scc_base.specs.declared.kinds.Kind.{Kind}
-use Rattle.scc_base.specs.Heads.{MessageHead, kind_number}
+use Rattle.scc_base.specs.Heads.{MessageHead, kind_number, most_message, most_post}
 use Rattle.scc_base.specs.Calls.{DataCall, Send, Recv, Post, Bar}
 use Rattle.scc_base.specs.Communicators.{rule_of}
 use Rattle.rcce_audit.specs.declared.faults.LogKind.{LogKind}
@@ -47,7 +47,7 @@ head_of kind comm len = only_if (not (kind_number kind == 0 && not (comm == 0)))
 
 -- the head that three words say: a kind, a communicator from 0 to 15 and a length up to 65,536
 abbrev pub head_said : List ℕ → List ℕ → List ℕ → Option MessageHead
-head_said kind comm len = kind_said kind >>= λ k. range_said 0 15 comm >>= λ c. range_said 0 65536 len >>= head_of k c
+head_said kind comm len = kind_said kind >>= λ k. range_said 0 15 comm >>= λ c. range_said 0 most_message len >>= head_of k c
 
 -- as many bytes as the head says
 abbrev pub bytes_said : ℕ → List ℕ → Option (List ℕ)
@@ -55,7 +55,7 @@ bytes_said len word = hex_said word >>= λ bytes. only_if (length bytes == len) 
 
 -- whether a head is one that a post may have
 abbrev pub is_post : MessageHead → Bool
-is_post head = head.kind == 0 && (head.comm == 0 && nat_le head.len 3584)
+is_post head = head.kind == 0 && (head.comm == 0 && nat_le head.len most_post)
 
 -- what a verb makes of a message
 abbrev pub call_named : List ℕ → ℕ → MessageHead → List ℕ → Option DataCall

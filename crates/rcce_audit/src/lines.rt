@@ -62,7 +62,7 @@ fn head_said(kind: &[u8], comm: &[u8], len: &[u8]) -> Option<Head>
 {
     let kind = kind_said(kind)?;
     let comm = range_said(comm, 0, 15)?;
-    let len = range_said(len, 0, 65_536)?;
+    let len = range_said(len, 0, Head::MOST)?;
     Head::new(kind, comm as u8, len)
 }
 

@@ -16,6 +16,7 @@ use Rattle.script_plain.specs.Program.{Act, Prim}
 use Rattle.rcce_ue.specs.Ues.{UeView}
 use Rattle.rcce_ue.specs.declared.calls.Open.{Open}
 use Rattle.rcce_ue.specs.declared.calls.Open.TheVariants.{Nothing, Sending, Receiving, Meeting}
+use Rattle.scc_base.specs.Heads.{most_post}
 
 -- the bound of a barrier: two turns for each member of the group, and one more
 abbrev pub barrier_bound : SetupView → ℕ → ℕ → ℕ
@@ -24,7 +25,7 @@ barrier_bound s rank comm = 2 * size_of s comm rank + 1
 -- the bound of a primitive that is a message or a barrier
 abbrev pub bound_of : SetupView → ℕ → Lengths → Act → ℕ
 bound_of s rank l (Act.Send to head source) = message_bound s.layout (source_length l source)
-bound_of s rank l (Act.Post to reg) = message_bound s.layout (min (length_at l reg) 3584)
+bound_of s rank l (Act.Post to reg) = message_bound s.layout (min (length_at l reg) most_post)
 bound_of s rank l (Act.Recv from reg head) = message_bound s.layout head.len
 bound_of s rank l (Act.Gather from head sized) = message_bound s.layout (asked_length l head sized)
 bound_of s rank l (Act.Bar comm) = barrier_bound s rank comm

@@ -4,7 +4,7 @@ use Rattle.std.specs.Prelude.{◌≡◌, ◌≢◌, ◌⊎◌, ℕ, Bool, true, 
 use Rattle.std.specs.List.{count_by}
 use Rattle.scc_base.specs.Calls.{DataCall}
 use Rattle.scc_base.specs.Calls.DataCall.{Send, Post}
-use Rattle.scc_base.specs.Heads.{MessageHead}
+use Rattle.scc_base.specs.Heads.{MessageHead, most_message}
 use Rattle.scc_proto.specs.Messages.{Notes}
 use Rattle.scc_proto.specs.Ports.{Sight, record_in}
 use Rattle.scc_proto.specs.Stages.{Record}
@@ -110,7 +110,7 @@ pub record Tied (ue : UeView) (s : Sight) : Type 0 where
   -- the slot and the parity are the record's
   pub slot_is : SlotStands s.seat (record_in s) ue.slot
   pub parity_is : IsParityOf (record_in s) ue.parity
-  pub room : length ue.inbox ≡ 65536
+  pub room : length ue.inbox ≡ most_message
   -- the message posted last, which is the one in the slot
   pub posted_is : ue.posted ≡ option_map on_its_way last
   pub target : IsLastTarget ue.slot last

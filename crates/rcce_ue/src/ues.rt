@@ -9,7 +9,7 @@ use crate::receiving::front_of;
 use barrier::Parity;
 use line_cache::Evict;
 use put_get::Core;
-use scc_base::{Call, Rank, Setup, Turn};
+use scc_base::{Call, Head, Rank, Setup, Turn};
 use scc_proto::Port;
 use script_plain::{Machine, OnItsWay, PrintedItem, UeEnd};
 use script_reader::Scripts;
@@ -214,7 +214,7 @@ impl<'s, V: Evict + Drop> Ue<'s, V> {
     {
         scripts.acceptance_law();
         let machine = Machine::new(alloc, scripts, setup, rank)?;
-        let inbox = vec![in alloc; 0u8; 65536]?;
+        let inbox = vec![in alloc; 0u8; Head::MOST as usize]?;
         let op = begin(&machine.call());
         Ok(Ue {
             machine,

@@ -88,10 +88,14 @@ host_list nue cores = map (host_at nue cores) (range_with_len 0 48)
 abbrev pub enough : ℕ → ℕ → List ℕ → Result (List ℕ) HostFault
 enough nue lines cores = if nat_lt (length cores) nue then Err (record { line = lines + 1; kind = kind.TooFew }) else Ok (host_list nue cores)
 
+-- the most bytes of a host file
+abbrev pub most_host_bytes : ℕ
+most_host_bytes = 65536
+
 -- the core of each rank that a host file says, or its first fault
 abbrev pub parse_hosts : List ℕ → ℕ → Result (List ℕ) HostFault
 parse_hosts bytes nue =
-    if nat_lt 65536 (length bytes) then Err (record { line = 0; kind = kind.TooLong })
+    if nat_lt most_host_bytes (length bytes) then Err (record { line = 0; kind = kind.TooLong })
     else read_lines 0 [] (file_lines bytes) >>= enough nue (length (file_lines bytes))
 
 -- each rank on the core of its number

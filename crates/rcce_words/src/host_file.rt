@@ -4,14 +4,14 @@ ghost use Rattle.std.specs.Prelude.{◌≡◌, ◌≤◌, ◌<◌, ℕ, IfOk, If
 ghost use Rattle.std.specs.Prelude.{◌==◌};
 ghost use Rattle.std.specs.List.{position_or_len};
 ghost use Rattle.scc_base.specs.Setups.{AreApart};
-ghost use Rattle.rcce_words.specs.HostFile.{core_of_word, default_hosts, digits_of, entry_of, file_lines, host_kind_name, host_list, parse_hosts, read_line, read_lines};
+ghost use Rattle.rcce_words.specs.HostFile.{core_of_word, default_hosts, digits_of, entry_of, file_lines, host_kind_name, host_list, parse_hosts, read_line, read_lines, most_host_bytes};
 
 use crate::cores::Cores;
 use scc_base::CoreId;
 use script_reader::{is_text, number, uncommented};
 
 /// The longest host file, in bytes.
-const MOST_BYTES: usize = 65_536;
+pub const MOST_HOST_BYTES: usize = 65_536;
 
 /// What is wrong in a host file. In a line the checks go in this order.
 #[derive(Clone, Copy, PartialEq, Eq)]
@@ -132,10 +132,10 @@ struct Entries {
 
 /// The entries of a host file.
 fn read_lines(bytes: &[u8]) -> Result<Entries, HostFault>
-    requires few { length bytes.now ≤ 65536 }
+    requires few { length bytes.now ≤ most_host_bytes }
     ensures gives { MatchResult result (λ entries. read_lines 0 [] (file_lines bytes.now) ≡ Ok entries.cores) (λ fault. read_lines 0 [] (file_lines bytes.now) ≡ Err fault) }
     ensures lines { IfOk result (λ entries. entries.lines ≡ length (file_lines bytes.now)) }
-    ensures few { IfOk result (λ entries. entries.lines ≤ 65536) }
+    ensures few { IfOk result (λ entries. entries.lines ≤ most_host_bytes) }
 {
     let mut cores = Cores::new();
     let mut lines: u32 = 0;
@@ -185,7 +185,7 @@ pub fn read_hosts(bytes: &[u8], nue: u8) -> Result<[CoreId; 48], HostFault>
     // A setup may have them.
     ensures apart { IfOk result (AreApart nue) }
 {
-    if bytes.len() > MOST_BYTES {
+    if bytes.len() > MOST_HOST_BYTES {
         return Err(HostFault {
             line: 0,
             kind: HostKind::TooLong,

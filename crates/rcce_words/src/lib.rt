@@ -11,7 +11,7 @@ mod script_words;
 mod words;
 
 pub use command::{Job, WordFault, Work, complaint, parse_words, word_at};
-pub use host_file::{HostFault, HostKind, default_hosts, read_hosts};
+pub use host_file::{HostFault, HostKind, MOST_HOST_BYTES, default_hosts, read_hosts};
 pub use script_files::read_script_file;
 pub use script_words::{ScriptJob, parse_script_words, script_job};
 pub use words::arguments;

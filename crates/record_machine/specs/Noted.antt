@@ -5,6 +5,7 @@ use Rattle.scc_proto.specs.Messages.{Notes, noted, head_of}
 use Rattle.scc_proto.specs.Permission.{is_empty, says_head}
 use Rattle.record_machine.specs.declared.chunks.NotedChunk.{NotedChunk}
 use Rattle.record_machine.specs.declared.lines.NotedLine.{NotedLine}
+use Rattle.scc_base.specs.Layouts.{most_chunk_words}
 
 -- each of the first n slots has what is noted under its number
 abbrev pub AreSlotsOf : ℕ → List (Option ℕ) → Notes → Type 0
@@ -16,7 +17,7 @@ IsLineOf line notes = AreSlotsOf 4 line.words notes
 
 -- a machine's chunk has exactly the words that are noted, and tells whether there are any
 pub record IsChunkOf (chunk : NotedChunk) (notes : Notes) : Type 0 where
-  pub words : AreSlotsOf 828 chunk.words notes
+  pub words : AreSlotsOf most_chunk_words chunk.words notes
   pub some : chunk.some ≡ not (is_empty notes)
 
 -- the head that noted words say, where they say one that a message may have

@@ -9,6 +9,7 @@ use Rattle.record_machine.specs.declared.looks.Look.{Look}
 use Rattle.record_machine.specs.declared.looks.Look.TheVariants as look
 use Rattle.record_machine.specs.declared.steps.Step.{Step}
 use Rattle.record_machine.specs.declared.steps.Step.TheVariants as step
+use Rattle.scc_base.specs.Layouts.{most_chunk_words}
 
 -- whether a look saw the flag of a rank set
 abbrev pub look_of : Look → ℕ → Bool
@@ -38,9 +39,9 @@ move_of step.Misplaced = Misplaced
 -- the numbers are those of words of a header line or of a chunk buffer, and of communicators
 abbrev pub IsStepWithin : Step → Type 0
 IsStepWithin (step.DraftHeader word value) = word < 4
-IsStepWithin (step.DraftChunk word value) = word < 828
+IsStepWithin (step.DraftChunk word value) = word < most_chunk_words
 IsStepWithin (step.ReadHeader from word value) = word < 4
-IsStepWithin (step.ReadChunk from word value) = word < 828
+IsStepWithin (step.ReadChunk from word value) = word < most_chunk_words
 IsStepWithin (step.FlipGather comm value last) = comm < 16
 IsStepWithin (step.LookGather comm from place value) = comm < 16
 IsStepWithin (step.WriteRelease comm to place value last) = comm < 16

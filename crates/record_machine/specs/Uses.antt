@@ -8,6 +8,7 @@ use Rattle.record_machine.specs.declared.uses.Use.TheVariants as word_use
 use Rattle.scc_proto.specs.Records.{forget_ready, forget_sent, note_ready, note_sent}
 use Rattle.scc_proto.specs.Stages.{FlagWords}
 use Rattle.scc_proto.specs.Words.{Role, HeaderWord, ChunkWord, SentFlag, ReadyFlag, SentFlags, ReadyFlags, GatherFlag, ReleaseFlag, HeapWord, IdleWord}
+use Rattle.scc_base.specs.Layouts.{most_chunk_words}
 
 -- the role that is meant
 abbrev pub role_meant : Use → Role
@@ -31,7 +32,7 @@ pub record IsMemberUse (s : SetupView) (comm owner : ℕ) : Type 0 where
 -- the numbers are those of words and of flags that the setup has
 abbrev pub IsWordUse : SetupView → Use → Type 0
 IsWordUse s (word_use.Header owner word) = word < 4
-IsWordUse s (word_use.Chunk owner word) = word < 828
+IsWordUse s (word_use.Chunk owner word) = word < most_chunk_words
 IsWordUse s (word_use.Gather comm owner) = IsMemberUse s comm owner
 IsWordUse s (word_use.Release comm owner) = IsMemberUse s comm owner
 IsWordUse s of = Unit {0}

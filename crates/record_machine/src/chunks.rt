@@ -2,15 +2,18 @@
 
 ghost use Rattle.std.specs.Prelude.{◌≡◌};
 
-use scc_base::byte_of;
+use scc_base::{Head, byte_of};
 
 /// The longest message, in bytes.
-pub(crate) const MOST: usize = 65_536;
+pub(crate) const MOST: usize = Head::MOST as usize;
+
+/// The most words of a chunk in either layout.
+pub(crate) const WORDS: usize = 828;
 
 /// The words of a chunk buffer, each where it is noted, and whether any is.
 #[derive(Drop)]
 pub struct NotedChunk {
-    pub words: [Option<u64>; 828],
+    pub words: [Option<u64>; WORDS],
     pub some: bool,
 }
 
@@ -19,13 +22,15 @@ impl NotedChunk {
     ghost use Rattle.scc_proto.specs.Messages.{Notes, byte_at, bytes_from, has_all, is_zero_from, note_word};
     ghost use Rattle.scc_proto.specs.Permission.{is_empty};
     ghost use Rattle.record_machine.specs.Noted.{IsChunkOf};
+    ghost use Rattle.scc_base.specs.Heads.{most_message};
+    ghost use Rattle.scc_base.specs.Layouts.{most_chunk, most_chunk_words};
 
     /// No word is noted.
     pub(crate) fn new() -> NotedChunk
         ensures none { IsChunkOf result [] }
     {
         NotedChunk {
-            words: [None; 828],
+            words: [None; WORDS],
             some: false,
         }
     }
@@ -34,13 +39,13 @@ impl NotedChunk {
     pub(crate) fn clear(&mut self)
         ensures none { IsChunkOf self.new [] }
     {
-        self.words = [None; 828];
+        self.words = [None; WORDS];
         self.some = false;
     }
 
     /// One word more is noted, and counts before what was noted of it.
     pub(crate) fn note(&mut self, word: u16, value: u64)
-        requires below { word < 828 }
+        requires below { word < most_chunk_words }
         ensures notes { (notes : Notes) → IsChunkOf self.old notes → IsChunkOf self.new (note_word word value notes) }
     {
         self.words[word as usize] = Some(value);
@@ -49,7 +54,7 @@ impl NotedChunk {
 
     /// Whether the first words are all noted.
     pub(crate) fn has_all(&self, count: usize) -> bool
-        requires within { count ≤ 828 }
+        requires within { count ≤ most_chunk_words }
         ensures tells { (notes : Notes) → IsChunkOf self.now notes → result ≡ has_all notes count }
     {
         for at in 0..count {
@@ -62,7 +67,7 @@ impl NotedChunk {
 
     /// A byte of the noted words, 0 where its word is not noted.
     fn byte(&self, at: usize) -> u8
-        requires below { at < 6624 }
+        requires below { at < most_chunk }
         ensures gives { (notes : Notes) → IsChunkOf self.now notes → result ≡ byte_at notes at }
     {
         byte_of(self.words[at / 8].unwrap_or(0), at % 8)
@@ -70,7 +75,7 @@ impl NotedChunk {
 
     /// Whether the `count` bytes from byte `start` on are zero.
     pub(crate) fn is_zero_from(&self, start: usize, count: usize) -> bool
-        requires within { start + count ≤ 6624 }
+        requires within { start + count ≤ most_chunk }
         ensures tells { (notes : Notes) → IsChunkOf self.now notes → result ≡ is_zero_from notes start count }
     {
         let mut at = start;
@@ -87,10 +92,10 @@ impl NotedChunk {
 
     /// Appends the first bytes, as far as a message may have them.
     pub(crate) fn push_bytes(&self, bytes: &mut Vec<u8>, count: usize)
-        requires room { 65536 ≤ vec_capacity bytes.old }
-        requires within { count ≤ 6624 }
+        requires room { most_message ≤ vec_capacity bytes.old }
+        requires within { count ≤ most_chunk }
         ensures room { vec_capacity bytes.new ≡ vec_capacity bytes.old }
-        ensures items { (notes : Notes) → IsChunkOf self.now notes → vec_len bytes.old + count ≤ 65536
+        ensures items { (notes : Notes) → IsChunkOf self.now notes → vec_len bytes.old + count ≤ most_message
             → bytes.new.items ≡ bytes.old.items ++ bytes_from notes 0 count }
     {
         let mut at = 0;

@@ -34,6 +34,7 @@ impl Work {
     ghost use Rattle.record_machine.specs.Standing.{StandsFor};
     ghost use Rattle.record_machine.specs.Following.{Decides, MovesOn};
     ghost use Rattle.record_machine.specs.Steps.{look_of};
+    ghost use Rattle.scc_base.specs.Layouts.{most_chunk_words};
 
     /// Whether `sent` may be lowered.
     pub(crate) fn may_take(&self, from: Rank) -> bool
@@ -82,7 +83,7 @@ impl Work {
     }
 
     pub(crate) fn read_chunk(&mut self, from: Rank, word: u16, value: u64)
-        requires below { word < 828 }
+        requires below { word < most_chunk_words }
         ensures size { self.new.size ≡ self.old.size }
         ensures moves { MovesOn self.old self.new (ReadChunk from word value) None }
     {

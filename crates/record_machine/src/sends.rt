@@ -15,6 +15,7 @@ impl Work {
     ghost use Rattle.record_machine.specs.Following.{Decides, MovesOn, OpensDraft};
     ghost use Rattle.record_machine.specs.Standing.{StandsFor};
     ghost use Rattle.record_machine.specs.Steps.{look_of};
+    ghost use Rattle.scc_base.specs.Layouts.{most_chunk_words};
 
     /// Whether a header word may be drafted: before the first chunk is raised, with no post on its way.
     pub(crate) fn may_draft_header(&self) -> bool
@@ -118,7 +119,7 @@ impl Work {
     }
 
     pub(crate) fn draft_chunk(&mut self, word: u16, value: u64)
-        requires below { word < 828 }
+        requires below { word < most_chunk_words }
         ensures size { self.new.size ≡ self.old.size }
         ensures moves { MovesOn self.old self.new (DraftChunk word value) None }
     {

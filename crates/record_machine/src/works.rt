@@ -1,6 +1,8 @@
 //! What a rank is in the midst of.
 
 ghost use Rattle.std.specs.Prelude.{◌≤◌, vec_capacity};
+ghost use Rattle.scc_base.specs.Heads.{most_message};
+ghost use Rattle.scc_base.specs.Layouts.{most_chunk};
 
 use crate::chunks::{MOST, NotedChunk};
 use crate::lines::NotedLine;
@@ -128,8 +130,8 @@ pub struct Work {
     pub post: Option<Posted>,
     pub flags: [u64; 16],
     pub bytes: Vec<u8>,
-    ghost within: { size ≤ 6624 },
-    ghost room: { 65536 ≤ vec_capacity bytes },
+    ghost within: { size ≤ most_chunk },
+    ghost room: { most_message ≤ vec_capacity bytes },
 }
 
 impl Work {
@@ -141,10 +143,11 @@ impl Work {
     ghost use Rattle.record_machine.specs.Noted.{IsChunkOf};
     ghost use Rattle.record_machine.specs.Standing.{IsInHand, StandsFor};
     ghost use Rattle.record_machine.specs.Steps.{IsStepWithin, move_of};
+    ghost use Rattle.scc_base.specs.Layouts.{most_chunk};
 
     /// The work of a rank that has done nothing, where a whole chunk has `size` bytes.
     pub fn new(alloc: Global, size: u32) -> Result<Work, AllocError>
-        requires within { size ≤ 6624 }
+        requires within { size ≤ most_chunk }
         ensures size { IfOk result (λ w. w.size ≡ size) }
         ensures stands { IfOk result (λ w. StandsFor w blank) }
     {
@@ -165,7 +168,7 @@ impl Work {
     pub(crate) fn left(&self, head: Head) -> usize
         ensures gives { (message : Progress) → IsInHand self.now.size head self.now.bytes.items message
             → result ≡ chunk_bytes self.now.size message }
-        ensures within { result ≤ 6624 }
+        ensures within { result ≤ most_chunk }
     {
         let left = (head.len() as usize).saturating_sub(self.bytes.len());
         left.min(self.size as usize)
@@ -173,7 +176,7 @@ impl Work {
 
     /// Whether the chunk in hand, of `count` bytes, has all its words noted.
     pub(crate) fn is_whole(&self, count: usize) -> bool
-        requires within { count ≤ 6624 }
+        requires within { count ≤ most_chunk }
         ensures tells { (message : Progress) (notes : Notes) → IsChunkOf self.now.chunk notes → count ≡ chunk_bytes self.now.size message
             → result ≡ is_whole self.now.size message notes }
     {
@@ -182,7 +185,7 @@ impl Work {
 
     /// Whether the chunk in hand, of `count` bytes, has all its words noted, with zeros past its end.
     pub(crate) fn is_drafted(&self, count: usize) -> bool
-        requires within { count ≤ 6624 }
+        requires within { count ≤ most_chunk }
         ensures tells { (message : Progress) (notes : Notes) → IsChunkOf self.now.chunk notes → count ≡ chunk_bytes self.now.size message
             → result ≡ is_drafted self.now.size message notes }
     {

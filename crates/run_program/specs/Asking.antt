@@ -11,7 +11,7 @@ use Rattle.outcomes.specs.Coming.{ByTest, Holds}
 use Rattle.outcomes.specs.Outcomes.{Outcome, Ran, run_outcome}
 use Rattle.outcomes.specs.Statuses.{is_quiet}
 use Rattle.rcce_words.specs.FaultTexts.{word_at}
-use Rattle.rcce_words.specs.HostFile.{default_hosts, parse_hosts}
+use Rattle.rcce_words.specs.HostFile.{default_hosts, parse_hosts, most_host_bytes}
 use Rattle.rcce_words.specs.ScriptFiles.{ScriptIn}
 use Rattle.rcce_words.specs.declared.command.Job.{Job}
 use Rattle.rcce_words.specs.declared.command.Work.{Work}
@@ -30,7 +30,7 @@ setup_by job hosts script = record { nue = job.nue; layout = layout_by job.bits;
 
 -- a host file of at most 65,536 bytes has these hosts, where files are told
 abbrev pub HostsIn : List ℕ → Option (List NamedFile) → ℕ → List ℕ → Type 0
-HostsIn file told nue hosts = (bytes : List ℕ) × (length bytes ≤ 65536) × Holds told file bytes × (parse_hosts bytes nue ≡ Ok hosts)
+HostsIn file told nue hosts = (bytes : List ℕ) × (length bytes ≤ most_host_bytes) × Holds told file bytes × (parse_hosts bytes nue ≡ Ok hosts)
 
 -- the hosts that words ask for: rank r on core r, or those of the host file
 abbrev pub AreHosts : List (List ℕ) → Option (List NamedFile) → ℕ → Option ℕ → List ℕ → Type 0

@@ -6,7 +6,7 @@ use Rattle.outcomes.specs.Plans.{Plan, Program}
 use Rattle.outcomes.specs.Plans.Plan.{Runs, Refuses, Reads}
 use Rattle.rcce_words.specs.CommandLine.{parse_command}
 use Rattle.rcce_words.specs.FaultTexts.{fault_text, word_at}
-use Rattle.rcce_words.specs.HostFile.{host_kind_name, parse_hosts}
+use Rattle.rcce_words.specs.HostFile.{host_kind_name, parse_hosts, most_host_bytes}
 use Rattle.rcce_words.specs.ScriptFiles.{script_plan}
 use Rattle.rcce_words.specs.declared.command.Job.{Job}
 use Rattle.rcce_words.specs.declared.command.Work.{Work}
@@ -35,7 +35,7 @@ hosts_plan file nue next bytes = listed_plan file next (parse_hosts bytes nue)
 -- the host file comes first, if there is one, and has at most 64 KiB
 abbrev pub plan_behind : List (List ℕ) → ℕ → Plan → Option ℕ → Plan
 plan_behind words nue next None = next
-plan_behind words nue next (Some at) = Reads (word_at words at) 65536 (hosts_plan (word_at words at) nue next)
+plan_behind words nue next (Some at) = Reads (word_at words at) most_host_bytes (hosts_plan (word_at words at) nue next)
 
 -- the run of the script that is made of a number: no file is asked for
 abbrev pub made_plan : ℕ → ℕ → Plan

@@ -13,6 +13,7 @@ use Rattle.rcce_run.specs.UeRuns.{ShowsEnd}
 use Rattle.chip_run.specs.declared.ends.RunEnd.{RunEnd}
 use Rattle.scc_mesh.specs.Scenes.{ChipView}
 use Rattle.run_program.specs.History.{Asked, HasRun}
+use Rattle.scc_base.specs.Heads.{most_message}
 
 -- each rank has come to what the plain meaning of the script leaves of it
 pub record HaveEnded (script : Script) (crew : List (Member UeView)) : Type 0 where
@@ -27,7 +28,7 @@ pub record CountsPlain (script : Script) (rank : ℕ) (ue : UeView) : Type 0 whe
   pub sent : ue.sent ≡ counted (sum_by sends_of state.matched)
   pub bytes : ue.sent_bytes ≡ counted (sum_by sent_bytes_of state.matched)
   pub few : sum_by sends_of state.matched ≤ cost_of (local_start script rank)
-  pub short : sum_by sent_bytes_of state.matched ≤ 65536 * sum_by sends_of state.matched
+  pub short : sum_by sent_bytes_of state.matched ≤ most_message * sum_by sends_of state.matched
 
 -- each unit of execution has counted what its rank sent
 pub record HaveSent (script : Script) (crew : List (Member UeView)) : Type 0 where

@@ -9,7 +9,7 @@ ghost use Rattle.outcomes.specs.Complaints.{complaint_outcome};
 ghost use Rattle.outcomes.specs.Outcomes.{file_refused};
 ghost use Rattle.outcomes.specs.Plans.Plan.{Reads};
 ghost use Rattle.rcce_words.specs.CommandLine.{IsSeedInRange, parse_command};
-ghost use Rattle.rcce_words.specs.HostFile.{host_kind_name};
+ghost use Rattle.rcce_words.specs.HostFile.{host_kind_name, most_host_bytes};
 ghost use Rattle.run_program.specs.Asking.{AsksFor, layout_by, setup_by};
 ghost use Rattle.script_gen.specs.Texts.{gen_text};
 ghost use Rattle.run_program.specs.Loading.{AsksBehind, AsksListed, AsksMade, AsksOn, LoadsBy, LoadsPlan, LoadsWords};
@@ -19,16 +19,13 @@ use crate::loaded::Loaded;
 use outcomes::{Complaint, read_file};
 use rcce_io::Files;
 use rcce_words::{
-    HostFault, Job, Work, complaint, default_hosts, parse_words, read_hosts, read_script_file,
-    word_at,
+    HostFault, Job, MOST_HOST_BYTES, Work, complaint, default_hosts, parse_words, read_hosts,
+    read_script_file, word_at,
 };
 use scc_base::{CoreId, Layout};
 use script_gen::{gen_script, generated_scripts_are_read};
 use script_reader::{ReadStop, Scripts, read_script};
 use std::alloc::Global;
-
-/// The longest host file, in bytes.
-const HOST_BYTES: usize = 65_536;
 
 /// Loads the run that the words ask for.
 pub fn load<'a, F: Files>(
@@ -121,10 +118,10 @@ fn load_hosts<'a, F: Files>(
 ) -> Result<Loaded, Complaint<'a>>
     requires some { 1 ≤ job.nue }
     requires most { job.nue ≤ 48 }
-    ensures { LoadsPlan (Reads list.now 65536 (hosts_plan list.now job.nue (file_plan script.now job.nue)))
+    ensures { LoadsPlan (Reads list.now most_host_bytes (hosts_plan list.now job.nue (file_plan script.now job.nue)))
         (AsksListed list.now script.now (F.seen files.old).told job) (F.seen files.old) (F.seen files.new) result }
 {
-    match read_file(alloc, files, list, HOST_BYTES) {
+    match read_file(alloc, files, list, MOST_HOST_BYTES) {
         Ok(bytes) => load_listed(alloc, files, job, list, bytes.as_slice(), script),
         Err(complaint) => Err(complaint),
     }
@@ -141,7 +138,7 @@ fn load_listed<'a, F: Files>(
 ) -> Result<Loaded, Complaint<'a>>
     requires some { 1 ≤ job.nue }
     requires most { job.nue ≤ 48 }
-    requires within { length bytes.now ≤ 65536 }
+    requires within { length bytes.now ≤ most_host_bytes }
     ensures { Holds (F.seen files.old).told list.now bytes.now → LoadsPlan (hosts_plan list.now job.nue (file_plan script.now job.nue) bytes.now)
         (AsksListed list.now script.now (F.seen files.old).told job) (F.seen files.old) (F.seen files.new) result }
 {

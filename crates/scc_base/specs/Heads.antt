@@ -1,7 +1,9 @@
 -- What the head of a message says, as numbers (this project's profile: RCCE itself sends no head).
 use Rattle.std.specs.Prelude.{◌≡◌, refl, ℕ, zero, suc, ◌<◌, ◌≤◌, List, codes}
+use Rattle.scc_base.specs.Layouts.{chunk_size}
 use Rattle.scc_base.specs.declared.kinds.Kind.{Kind}
 use Rattle.scc_base.specs.declared.kinds.Kind.TheVariants.{Plain, Bcast, Reduce, AllUp, AllDown}
+use Rattle.scc_base.specs.declared.layouts.Layout.TheVariants.{LineFlags}
 
 -- a message's kind by its number, its communicator, and its length in bytes
 pub record MessageHead : Type 0 where
@@ -41,12 +43,20 @@ kind_text Reduce = codes "reduce"
 kind_text AllUp = codes "allup"
 kind_text AllDown = codes "alldown"
 
+-- the most bytes of a message and of a register (this project's profile)
+abbrev pub most_message : ℕ
+most_message = 65536
+
+-- the most bytes of a post: one chunk in either layout
+abbrev pub most_post : ℕ
+most_post = chunk_size LineFlags
+
 -- a head that a message may have: one of five kinds, one of sixteen communicators, at most 65,536 bytes,
 -- and the world where the message is plain
 pub record IsHead (head : MessageHead) : Type 0 where
   pub kind_below : head.kind < 5
   pub comm_below : head.comm < 16
-  pub len_within : head.len ≤ 65536
+  pub len_within : head.len ≤ most_message
   pub plain_in_world : head.kind ≡ 0 → head.comm ≡ 0
 
 -- a head that a posted message may have: plain, with at most 3,584 bytes, so that it goes as one chunk
@@ -54,7 +64,7 @@ pub record IsHead (head : MessageHead) : Type 0 where
 pub record IsPostHead (head : MessageHead) : Type 0 where
   pub plain : head.kind ≡ 0
   pub in_world : head.comm ≡ 0
-  pub len_within : head.len ≤ 3584
+  pub len_within : head.len ≤ most_post
 
 -- the head of a plain message
 abbrev pub plain_head : ℕ → MessageHead

@@ -1,6 +1,6 @@
 -- The tables of the two layouts of the message passing buffer (this project's profile).
-use Rattle.std.specs.Prelude.{ℕ, ◌+◌, ◌*◌, ◌/◌, ◌%◌}
-use Rattle.scc_base.specs.Places.{FlagPlace}
+use Rattle.std.specs.Prelude.{ℕ, ◌+◌, ◌-◌, ◌*◌, ◌/◌, ◌%◌}
+use Rattle.scc_base.specs.Places.{FlagPlace, first_heap}
 use Rattle.scc_base.specs.declared.layouts.Layout.{Layout}
 use Rattle.scc_base.specs.declared.layouts.Layout.TheVariants.{LineFlags, BitFlags}
 
@@ -49,15 +49,18 @@ abbrev pub first_chunk : Layout → ℕ
 first_chunk LineFlags = 113
 first_chunk BitFlags = 18
 
--- the first line of the heap, which goes up to the last line
-abbrev pub first_heap : ℕ
-first_heap = 225
-
 -- how many lines the chunk buffer has
 abbrev pub chunk_lines : Layout → ℕ
-chunk_lines LineFlags = 112
-chunk_lines BitFlags = 207
+chunk_lines layout = first_heap - first_chunk layout
 
 -- how many bytes of a message the chunk buffer holds at once
 abbrev pub chunk_size : Layout → ℕ
 chunk_size layout = 32 * chunk_lines layout
+
+-- the most bytes of a chunk in either layout
+abbrev pub most_chunk : ℕ
+most_chunk = chunk_size BitFlags
+
+-- the most words of a chunk in either layout
+abbrev pub most_chunk_words : ℕ
+most_chunk_words = most_chunk / 8

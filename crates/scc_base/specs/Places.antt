@@ -35,10 +35,14 @@ pub record IsLine (line : LineAt) : Type 0 where
   pub core_below : line.core < 48
   pub line_below : line.line < 256
 
+-- the first line of the heap, which goes up to the last line (this project's profile)
+abbrev pub first_heap : ℕ
+first_heap = 225
+
 -- a buffer that a program may own: at least one line, all of them heap lines
 pub record IsBuf (run : LineRun) : Type 0 where
   pub some_lines : 1 ≤ run.lines
-  pub from_heap : 225 ≤ run.first
+  pub from_heap : first_heap ≤ run.first
   pub to_heap : run.first + run.lines ≤ 256
 
 -- a flag that a line has, below the bits of 48 ranks

@@ -1,6 +1,7 @@
 //! The head of a message, and of a posted one.
 
 use crate::kinds::Kind;
+use crate::layouts::Layout;
 use std::marker::Model;
 
 /// What the first line of a message says of it: its kind, its communicator and its length in bytes.
@@ -28,7 +29,7 @@ impl Model for Head {
 
 impl Head {
     ghost use Rattle.std.specs.Prelude.{◌≡◌, ◌≤◌, SomeIff};
-    ghost use Rattle.scc_base.specs.Heads.{IsHead, kind_at, kind_number, kind_text, plain_head};
+    ghost use Rattle.scc_base.specs.Heads.{IsHead, kind_at, kind_number, kind_text, plain_head, most_message};
 
     /// The longest message, in bytes.
     pub const MOST: u32 = 65_536;
@@ -48,7 +49,7 @@ impl Head {
 
     /// The head of a plain message.
     pub fn plain(len: u32) -> Option<Head>
-        ensures gives { SomeIff result (len ≤ 65536) (plain_head len) }
+        ensures gives { SomeIff result (len ≤ most_message) (plain_head len) }
     {
         Head::new(Kind::Plain, 0, len)
     }
@@ -97,27 +98,27 @@ pub struct PostHead {
 
 impl Model for PostHead {
     ghost use Rattle.std.specs.Prelude.{◌≤◌};
-    ghost use Rattle.scc_base.specs.Heads.{MessageHead, plain_head};
+    ghost use Rattle.scc_base.specs.Heads.{MessageHead, plain_head, most_post};
 
     ghost Value = { MessageHead };
 
     ghost view = { λ h. plain_head h.len };
 
-    ghost invariant = { λ h. h.len ≤ 3584 };
+    ghost invariant = { λ h. h.len ≤ most_post };
 
     ghost inverse = { λ v. record { len = v.len } };
 }
 
 impl PostHead {
     ghost use Rattle.std.specs.Prelude.{◌≡◌, ◌≤◌, SomeIff};
-    ghost use Rattle.scc_base.specs.Heads.{IsPostHead, plain_head};
+    ghost use Rattle.scc_base.specs.Heads.{IsPostHead, plain_head, most_post};
 
     /// The longest posted message, in bytes.
-    pub const MOST: u32 = 3_584;
+    pub const MOST: u32 = Layout::LINE_CHUNK;
 
     /// The head of a posted message of this length.
     pub fn plain(len: u32) -> Option<PostHead>
-        ensures gives { SomeIff result (len ≤ 3584) (plain_head len) }
+        ensures gives { SomeIff result (len ≤ most_post) (plain_head len) }
     {
         if len <= PostHead::MOST {
             Some(PostHead { len })

@@ -27,6 +27,12 @@ impl Layout {
     ghost use Rattle.scc_base.specs.declared.layouts.Layout.TheVariants.{LineFlags, BitFlags};
     ghost use Rattle.scc_base.specs.Layouts.{chunk_size, first_chunk, sent_at, ready_at, gather_at, release_at};
 
+    /// The bytes of a chunk with line flags.
+    pub const LINE_CHUNK: u32 = 3_584;
+
+    /// The bytes of a chunk with bit flags.
+    pub const BIT_CHUNK: u32 = 6_624;
+
     pub const fn lines() -> Layout
         ensures gives { result ≡ LineFlags }
     {
@@ -54,8 +60,8 @@ impl Layout {
         ensures gives { result ≡ chunk_size self }
     {
         match self {
-            Layout::LineFlags => 3_584,
-            Layout::BitFlags => 6_624,
+            Layout::LineFlags => Layout::LINE_CHUNK,
+            Layout::BitFlags => Layout::BIT_CHUNK,
         }
     }
 

@@ -15,7 +15,7 @@ use Rattle.scc_proto.specs.Words.{Memory, IsStep, memory_after, HeapWord, role_o
 use Rattle.scc_proto.specs.Records.{IsPermitted, IsHonest, record_of}
 use Rattle.scc_proto.specs.Soundness.{IsSound}
 use Rattle.scc_proto.specs.Agreement.{Agrees}
-use Rattle.scc_proto.specs.Memories.{memory_of}
+use Rattle.scc_proto.specs.Memories.{memory_of, number_count}
 use Rattle.scc_mesh.specs.SeatViews.{View, known, list_at, IsKnown, with_event}
 
 -- the record of each rank's events
@@ -47,7 +47,7 @@ pub record IsSeatOf (s : SetupView) (owner : ℕ → ℕ) (lists : ℕ → List 
 -- The rule: the table's words and the lists of all views agree.
 pub record Kept (s : SetupView) (words : List ℕ) (views : List View) : Type 0 where
   pub valid : IsSetup s
-  pub count : length words ≡ 49200
+  pub count : length words ≡ number_count
   -- the seat that stands for each rank, and the rank's list
   pub owner : ℕ → ℕ
   pub lists : ℕ → List Event

@@ -28,12 +28,13 @@ pub struct Space {
 impl Model for Space {
     ghost use Rattle.std.specs.Prelude.{◌≡◌};
     ghost use Rattle.scc_mesh.specs.Spaces.{SpaceView};
+    ghost use Rattle.scc_proto.specs.Memories.{number_count};
 
     ghost Value = { SpaceView };
 
     ghost view = { λ s. record { about = s.about; table = s.table.shared.table_id } };
 
-    ghost invariant = { λ s. (s.table.shared.key ≡ s.about) × (s.table.shared.table_id.words ≡ 49200) };
+    ghost invariant = { λ s. (s.table.shared.key ≡ s.about) × (s.table.shared.table_id.words ≡ number_count) };
 }
 
 impl Space {

@@ -8,7 +8,7 @@ use Rattle.scc_proto.specs.Stages.{Record}
 use Rattle.scc_proto.specs.Words.{Memory, zeros, SameWords}
 use Rattle.scc_proto.specs.Records.{record_of}
 use Rattle.scc_proto.specs.Histories.{memory_from}
-use Rattle.scc_proto.specs.Memories.{memory_of}
+use Rattle.scc_proto.specs.Memories.{memory_of, number_count}
 use Rattle.scc_proto.specs.Ports.{Sight}
 use Rattle.scc_proto.specs.Agreement.{Agrees}
 
@@ -28,7 +28,7 @@ records_alone s me events = λ r. record_of s r (lists_alone me events r)
 pub record IsLone (s : SetupView) (me : ℕ) (words : List ℕ) (events : List Event) : Type 0 where
   pub valid : IsSetup s
   pub below : me < s.nue
-  pub count : length words ≡ 49200
+  pub count : length words ≡ number_count
   pub holds : SameWords (memory_since me events) (memory_of words)
   pub agree : Agrees s (memory_since me events) (records_alone s me events)
 

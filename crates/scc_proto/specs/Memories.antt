@@ -11,6 +11,10 @@ word_number core line word = 1024 * core + 4 * line + word
 abbrev pub register_number : ℕ → ℕ
 register_number core = 49152 + core
 
+-- how many numbers the words and the registers of the chip have: 1,024 words and a register a core
+abbrev pub number_count : ℕ
+number_count = 49200
+
 -- the chip has such a word
 abbrev pub is_word : ℕ → ℕ → ℕ → Bool
 is_word core line word = nat_lt core 48 && (nat_lt line 256 && nat_lt word 4)

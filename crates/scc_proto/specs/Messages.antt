@@ -2,7 +2,7 @@
 -- RCCE's messages: a header line, and chunks of the size of the chunk buffer).
 use Rattle.std.specs.Prelude.{◌≡◌, ℕ, zero, suc, ◌+◌, ◌-◌, ◌*◌, ◌/◌, ◌%◌, min, Bool, true, ◌&&◌, ◌==◌, nat_lt, nat_le, if◌then◌else◌, List, [], ◌∷◌, ◌++◌, Option, Some, None, unwrap_or, is_some}
 use Rattle.scc_base.specs.Bytes.{byte_of_word}
-use Rattle.scc_base.specs.Heads.{MessageHead}
+use Rattle.scc_base.specs.Heads.{MessageHead, most_message, most_post}
 use Rattle.scc_base.specs.Calls.{DataCall, Send, Recv, Post, Bar}
 pub use Rattle.scc_base.specs.Calls.{Message}
 
@@ -60,11 +60,11 @@ head_of notes = record { kind = unwrap_or (noted notes 0) 0; comm = unwrap_or (n
 
 -- a head that a message may have
 abbrev pub is_head : MessageHead → Bool
-is_head head = nat_lt head.kind 5 && (nat_lt head.comm 16 && (nat_le head.len 65536 && (if head.kind == 0 then head.comm == 0 else true)))
+is_head head = nat_lt head.kind 5 && (nat_lt head.comm 16 && (nat_le head.len most_message && (if head.kind == 0 then head.comm == 0 else true)))
 
 -- a head that a posted message may have
 abbrev pub is_post_head : MessageHead → Bool
-is_post_head head = (head.kind == 0) && ((head.comm == 0) && nat_le head.len 3584)
+is_post_head head = (head.kind == 0) && ((head.comm == 0) && nat_le head.len most_post)
 
 -- a message of which some chunks are through, with their bytes
 pub record Progress : Type 0 where

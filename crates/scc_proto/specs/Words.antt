@@ -1,8 +1,8 @@
 -- The shared words of the chip, what one event is to them, and what each buffer word is for (SCC External
 -- Architecture Specification; the word as the unit and the table of words are this project's profile).
 use Rattle.std.specs.Prelude.{◌≡◌, ℕ, zero, suc, ◌+◌, ◌-◌, ◌*◌, ◌⊎◌, Bool, true, false, not, ◌&&◌, ◌==◌, nat_lt, nat_le, if◌then◌else◌, List, [], ◌∷◌, Option, Some, None}
-use Rattle.scc_base.specs.Places.{WordAt}
-use Rattle.scc_base.specs.Layouts.{first_gather, first_release, first_chunk, first_heap}
+use Rattle.scc_base.specs.Places.{first_heap, WordAt}
+use Rattle.scc_base.specs.Layouts.{first_gather, first_release, first_chunk}
 use Rattle.scc_base.specs.Setups.{SetupView, host_of}
 use Rattle.scc_base.specs.Communicators.{rule_of}
 use Rattle.scc_base.specs.declared.communicators.CommRule.{CommRule}

@@ -2,7 +2,7 @@
 
 ghost use Rattle.std.specs.Prelude.{◌≡◌, ◌<◌};
 ghost use Rattle.scc_base.specs.Places.{IsPlace};
-ghost use Rattle.scc_proto.specs.Memories.{register_number, word_number};
+ghost use Rattle.scc_proto.specs.Memories.{register_number, word_number, number_count};
 
 use scc_base::{CoreId, Place};
 
@@ -21,7 +21,7 @@ pub fn number_of_word(place: Place) -> usize
 /// The number of a core's register in the list.
 pub fn number_of_register(core: CoreId) -> usize
     ensures gives { result ≡ register_number core }
-    ensures below { result < 49200 }
+    ensures below { result < number_count }
     ensures core { core < 48 }
 {
     49_152 + core.number() as usize

@@ -1,7 +1,6 @@
 -- Events that no message and no barrier is made of: of registers, and of words of the heap's lines.
 use Rattle.std.specs.Prelude.{◌≡◌, ℕ, Bool, true, ◌&&◌, nat_le, List, [], ◌∷◌, None}
-use Rattle.scc_base.specs.Places.{WordAt}
-use Rattle.scc_base.specs.Layouts.{first_heap}
+use Rattle.scc_base.specs.Places.{first_heap, WordAt}
 use Rattle.scc_base.specs.declared.events.Access.{Access}
 use Rattle.scc_base.specs.declared.events.Access.TheVariants.{Load, Store, Take, Free}
 use Rattle.scc_base.specs.declared.events.Event.{Event}

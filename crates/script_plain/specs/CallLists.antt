@@ -1,7 +1,7 @@
 -- The calls of a rank without the bytes that go with them, which are known of its program before it runs (this project's
 -- profile).
 use Rattle.std.specs.Prelude.{ℕ, min, List, [], ◌∷◌, ◌++◌, Some, None}
-use Rattle.scc_base.specs.Heads.{plain_head}
+use Rattle.scc_base.specs.Heads.{plain_head, most_post}
 use Rattle.scc_base.specs.declared.calls.Call.{Call}
 use Rattle.scc_base.specs.declared.calls.Call.TheVariants as call
 use Rattle.script_reader.specs.Script.{Script}
@@ -13,7 +13,7 @@ use Rattle.script_plain.specs.Program.Act.{Send, Post, Recv, Gather, Bar}
 -- the call that a primitive makes where these are the lengths, if it makes one
 abbrev pub called : Lengths → Act → List Call
 called l (Send to head source) = call.Send to (with_length head (source_length l source)) ∷ []
-called l (Post to reg) = call.Post to (plain_head (min (length_at l reg) 3584)) ∷ []
+called l (Post to reg) = call.Post to (plain_head (min (length_at l reg) most_post)) ∷ []
 called l (Recv from reg head) = call.Recv from head ∷ []
 called l (Gather from head None) = call.Recv from head ∷ []
 called l (Gather from head (Some reg)) = call.Recv from (with_length head (length_at l reg)) ∷ []

@@ -1,7 +1,7 @@
 -- What a rank holds has the lengths that the reader of the script reckoned, and what is left of its program keeps them.
 use Rattle.std.specs.Prelude.{◌≡◌, ℕ, ◌≤◌, List, [], ◌∷◌, length, reverse, Option, Some, None}
 use Rattle.std.specs.Prelude.{◌⊎◌}
-use Rattle.scc_base.specs.Heads.{MessageHead}
+use Rattle.scc_base.specs.Heads.{MessageHead, most_post}
 use Rattle.script_reader.specs.Checks.{length_at}
 use Rattle.script_reader.specs.Script.{Script}
 use Rattle.script_plain.specs.Local.{Local, register_at}
@@ -36,7 +36,7 @@ gathering had got _ = got
 abbrev pub Sets : (ℕ → Option ℕ) → Option ℕ → Option ℕ → Act → Type 0
 Sets had acc got (Act.Set reg content) = had reg ≡ Some (length content)
 Sets had acc got (Act.Recv from reg head) = had reg ≡ Some head.len
-Sets had acc got (Act.Post to reg) = (n : ℕ) × (had reg ≡ Some n) × (n ≤ 3584)
+Sets had acc got (Act.Post to reg) = (n : ℕ) × (had reg ≡ Some n) × (n ≤ most_post)
 Sets had acc got (Act.Accept reg) = had reg ≡ got
 Sets had acc got (Act.Finish reg) = had reg ≡ acc
 Sets had acc got _ = Unit {0}

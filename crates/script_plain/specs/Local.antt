@@ -1,7 +1,7 @@
 -- What a rank holds, and what it does next. A register is its number and the bytes that it has; one that is not set
 -- has none.
 use Rattle.std.specs.Prelude.{ℕ, ◌+◌, ◌%◌, ◌==◌, ◌&&◌, min, if◌then◌else◌, List, [], ◌∷◌, ◌++◌, Option, Some, None, length, drop, slice_get, slice_index_or, slice_set, replicate}
-use Rattle.scc_base.specs.Heads.{MessageHead, plain_head}
+use Rattle.scc_base.specs.Heads.{MessageHead, plain_head, most_post}
 use Rattle.scc_base.specs.declared.calls.Call.{Call}
 use Rattle.scc_base.specs.declared.calls.Call.TheVariants as call
 use Rattle.groups.specs.declared.operations.Op.{Op}
@@ -95,7 +95,7 @@ asked_head u head (Some reg) = with_length head (length (register_at u reg))
 -- the message that a post leaves behind. (A register that is posted has at most 3,584 bytes: the grammar sees to it.)
 abbrev pub message_of : Local → ℕ → ℕ → ℕ → Posted
 message_of u line to reg =
-    record { to = to; head = plain_head (min (length (register_at u reg)) 3584); bytes = register_at u reg; line = line }
+    record { to = to; head = plain_head (min (length (register_at u reg)) most_post); bytes = register_at u reg; line = line }
 
 -- what an action is to a rank: a step of its own with what it holds afterwards, or a call
 abbrev pub next_by_act : Local → ℕ → Act → Next Local

@@ -4,7 +4,7 @@ use Rattle.std.specs.Prelude.{ℕ, zero, suc, ◌+◌, ◌-◌, ◌%◌, Bool, t
 use Rattle.std.specs.List.{filter_map, range_with_len}
 use Rattle.std.specs.Option.{option_to_list}
 use Rattle.scc_base.specs.Communicators.{rule_of}
-use Rattle.scc_base.specs.Heads.{MessageHead, plain_head}
+use Rattle.scc_base.specs.Heads.{MessageHead, plain_head, most_message}
 use Rattle.scc_base.specs.Setups.{SetupView}
 use Rattle.scc_base.specs.declared.layouts.Layout.TheVariants as layout
 use Rattle.groups.specs.declared.collectives.Coll.{Coll}
@@ -108,7 +108,7 @@ collective_of (stmt.End start) = None
 -- a collective call that rank r may make. (A script that was read has no others.)
 abbrev pub can_call : SetupView → ℕ → Coll → Bool
 can_call s r c =
-    nat_lt (comm_of c) 16 && not (is_absent (rule_of s.comms (comm_of c))) && nat_le (len_of c) 65536 && nat_lt r s.nue && has_root s r c
+    nat_lt (comm_of c) 16 && not (is_absent (rule_of s.comms (comm_of c))) && nat_le (len_of c) most_message && nat_lt r s.nue && has_root s r c
 
 -- a step of a collective call: a send is one of the accumulator where the call has begun, else of the source
 abbrev pub part_of : Operands → Bool → Step → Act

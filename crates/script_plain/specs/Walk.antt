@@ -16,6 +16,7 @@ use Rattle.script_plain.specs.Program.{Act, Prim, Unrolled, copies, filling, mar
 use Rattle.script_plain.specs.Program.Act.{Set, Apply, Print, Send, Post, Recv, Gather, Bar, Begin, Fold, Accept, Finish}
 use Rattle.groups.specs.Folds.{bytes_of}
 use Rattle.std.specs.Prelude.{pos}
+use Rattle.scc_base.specs.Heads.{most_message}
 
 -- the bytes that a register is set to
 abbrev pub content_of : Content → List ℕ
@@ -25,7 +26,7 @@ content_of (content.Number ty number) = bytes_of ty (pos number)
 
 -- a register is set to at most as many bytes as a message may have
 abbrev pub IsShort : Action → Type 0
-IsShort (action.Set reg content) = length (content_of content) ≤ 65536
+IsShort (action.Set reg content) = length (content_of content) ≤ most_message
 IsShort _ = Unit {0}
 
 -- the primitive that is meant

@@ -15,6 +15,7 @@ ghost use Rattle.script_plain.specs.Meaning.{State, next_of};
 ghost use Rattle.script_plain.specs.Paths.{Came, Did};
 ghost use Rattle.script_plain.specs.Program.{marks_in, prims_in, program_of};
 ghost use Rattle.script_plain.specs.Ready.{IsReady};
+ghost use Rattle.script_reader.specs.Limits.{most_operations};
 
 /// Wherever a rank of a script that was read comes by itself, the call that stands next can be made.
 pub fn calls_can_be_made()
@@ -38,5 +39,5 @@ pub fn primitives_are_operations()
         → length (marks_in script rank) ≡ operations script.nue (reverse script.items) rank }
     ensures among { (script : Script) (rank : ℕ) → prims_in (marks_in script rank) ≡ program_of script rank }
     ensures most { (script : Script) → IsWhole script.nue script.items → IsClosed script → (rank : ℕ) → rank < script.nue
-        → length (program_of script rank) ≤ 100000 }
+        → length (program_of script rank) ≤ most_operations }
 {}

@@ -19,6 +19,7 @@ impl<'s> Machine<'s> {
     ghost use Rattle.script_plain.specs.Matches.{line_of};
     ghost use Rattle.script_plain.specs.Moves.{bytes_out, length_in, line_out, post_of};
     ghost use Rattle.script_plain.specs.Next.{call_of, is_going};
+    ghost use Rattle.scc_base.specs.Heads.{most_message};
 
     /// Whether a statement of the rank alone stands next.
     pub fn is_going(&self) -> bool
@@ -98,7 +99,7 @@ impl<'s> Machine<'s> {
     /// The same bytes: no more than a message may have.
     pub(crate) fn sent(&self) -> &[u8]
         ensures same { result.now ≡ bytes_out (local_next self.now.local) }
-        ensures within { length (bytes_out (local_next self.now.local)) ≤ 65536 }
+        ensures within { length (bytes_out (local_next self.now.local)) ≤ most_message }
     {
         match self.prim() {
             Some(

@@ -6,6 +6,7 @@ ghost use Rattle.std.specs.Option.{option_map};
 ghost use Rattle.script_plain.specs.Local.{end_by_slot, with_length};
 ghost use Rattle.script_plain.specs.Machine.{on_its_way};
 ghost use Rattle.script_plain.specs.declared.posts.Posted.{Posted};
+ghost use Rattle.scc_base.specs.Heads.{most_message};
 
 use crate::ends::UeEnd;
 use crate::held::Held;
@@ -50,7 +51,7 @@ impl<'s> Model for Machine<'s> {
 impl<'s> Machine<'s> {
     ghost use Rattle.std.specs.Prelude.{◌≡◌, ◌<◌, ◌≤◌, [], false, length, min, slice_get, IfOk, IfSome, IsTrue, Option, Some};
     ghost use Rattle.std.specs.Option.{option_map};
-    ghost use Rattle.scc_base.specs.Heads.{plain_head};
+    ghost use Rattle.scc_base.specs.Heads.{plain_head, most_message, most_post};
     ghost use Rattle.script_reader.specs.Script.{rules_of};
     ghost use Rattle.script_plain.specs.Local.{asked_head, end_of, local_next, local_start, next_prim, register_at, source_bytes, stopped_at};
     ghost use Rattle.script_plain.specs.Holds.{empty, local_with};
@@ -115,7 +116,7 @@ impl<'s> Machine<'s> {
     /// How many bytes a register has.
     fn len(&self, reg: u8) -> u32
         ensures same { result ≡ length (register_at self.now.local reg) }
-        ensures within { result ≤ 65536 }
+        ensures within { result ≤ most_message }
     {
         self.held.registers.bytes(reg).len() as u32
     }
@@ -123,7 +124,7 @@ impl<'s> Machine<'s> {
     /// The bytes that a send takes.
     pub(crate) fn source(&self, source: Source) -> &[u8]
         ensures same { result.now ≡ source_bytes self.now.local source }
-        ensures within { length (source_bytes self.now.local source) ≤ 65536 }
+        ensures within { length (source_bytes self.now.local source) ≤ most_message }
     {
         match source {
             Source::Own { reg } => self.held.registers.bytes(reg),
@@ -143,7 +144,7 @@ impl<'s> Machine<'s> {
 
     /// The head of the message that a post of a register leaves behind.
     pub(crate) fn post_head(&self, reg: u8) -> PostHead
-        ensures { result ≡ plain_head (min (length (register_at self.now.local reg)) 3584) }
+        ensures { result ≡ plain_head (min (length (register_at self.now.local reg)) most_post) }
     {
         match PostHead::plain(self.len(reg).min(PostHead::MOST)) {
             Some(head) => head,
@@ -289,7 +290,7 @@ impl<'s> Machine<'s> {
 
 /// A head with another length.
 pub(crate) fn with_length(head: Head, len: u32) -> Head
-    requires { len ≤ 65536 }
+    requires { len ≤ most_message }
     ensures { result ≡ with_length head len }
 {
     match Head::new(head.kind(), head.comm(), len) {

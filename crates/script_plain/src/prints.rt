@@ -1,6 +1,7 @@
 //! What a rank printed, in memory that was taken at the start.
 
 ghost use Rattle.std.specs.Prelude.{◌≡◌, ◌≤◌, ◌+◌, ◌++◌, length, vec_capacity};
+ghost use Rattle.scc_base.specs.Heads.{most_message};
 
 use script_reader::Form;
 use std::alloc::{AllocError, Global};
@@ -80,6 +81,7 @@ impl<'p> PrintedItem<'p> {
 impl Prints {
     ghost use Rattle.std.specs.Prelude.{◌≡◌, ◌<◌, ◌≤◌, ◌+◌, ◌++◌, ◌∷◌, [], length, slice_get, IfOk, Some};
     ghost use Rattle.script_plain.specs.Lengths.{printed_bytes};
+    ghost use Rattle.scc_base.specs.Heads.{most_message};
 
     /// Room for this many items that have this many bytes.
     pub fn new(alloc: Global, items: usize, bytes: usize) -> Result<Prints, AllocError>
@@ -107,7 +109,7 @@ impl Prints {
 
     /// Puts a register behind the items.
     pub fn print(&mut self, reg: u8, form: Form, bytes: &[u8])
-        requires short { length bytes.now ≤ 65536 }
+        requires short { length bytes.now ≤ most_message }
         requires item { length self.old.items < self.old.room }
         requires room { printed_bytes self.old.items + length bytes.now ≤ self.old.bytes }
         ensures { self.new ≡ record self.old { items = self.old.items ++ record { reg = reg; form = form; bytes = bytes.now } ∷ [] } }
@@ -156,7 +158,7 @@ fn append(bytes: &mut Vec<u8>, more: &[u8])
 }
 
 fn short_len(bytes: &[u8]) -> u32
-    requires { length bytes.now ≤ 65536 }
+    requires { length bytes.now ≤ most_message }
     ensures { result ≡ length bytes.now }
 {
     bytes.len() as u32

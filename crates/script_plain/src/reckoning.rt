@@ -5,6 +5,7 @@ ghost use Rattle.script_reader.specs.Script.{rules_of};
 ghost use Rattle.script_plain.specs.Program.{program_of};
 ghost use Rattle.script_plain.specs.Rooms.{AreWithin, greater, nothing_held, rooms_of};
 ghost use Rattle.script_plain.specs.Walk.{content_of};
+ghost use Rattle.scc_base.specs.Heads.{most_message};
 
 use crate::prims::{Action, Content};
 use crate::rooms::Length;
@@ -350,7 +351,7 @@ fn greater_count(one: usize, other: usize) -> usize
 
 /// How many bytes a register is set to.
 fn content_len(content: &Content) -> Length
-    requires { length (content_of content.now) ≤ 65536 }
+    requires { length (content_of content.now) ≤ most_message }
     ensures { result ≡ length (content_of content.now) }
 {
     match content {

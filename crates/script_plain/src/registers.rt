@@ -1,7 +1,7 @@
 //! The bytes of a message on its way.
 
 ghost use Rattle.std.specs.Prelude.{◌≡◌, ◌≤◌};
-ghost use Rattle.scc_base.specs.Heads.{plain_head};
+ghost use Rattle.scc_base.specs.Heads.{plain_head, most_message};
 
 use scc_base::Head;
 use std::alloc::{AllocError, Global};
@@ -9,7 +9,7 @@ use std::marker::Model;
 
 /// The head of a plain message of this many bytes.
 pub fn plain_message(len: u32) -> Head
-    requires { len ≤ 65536 }
+    requires { len ≤ most_message }
     ensures { result ≡ plain_head len }
 {
     match Head::plain(len) {
@@ -26,20 +26,22 @@ pub struct Register {
 
 impl Model for Register {
     ghost use Rattle.std.specs.Prelude.{ℕ, ◌≤◌, List, length};
+    ghost use Rattle.scc_base.specs.Heads.{most_message};
 
     ghost Value = { List ℕ };
 
     ghost view = { λ r. r.bytes.items };
 
-    ghost invariant = { λ r. length r.bytes.items ≤ 65536 };
+    ghost invariant = { λ r. length r.bytes.items ≤ most_message };
 }
 
 impl Register {
     ghost use Rattle.std.specs.Prelude.{◌≡◌, ◌≤◌, length, IfOk};
+    ghost use Rattle.scc_base.specs.Heads.{most_message};
 
     /// A copy of these bytes.
     pub fn new(alloc: Global, bytes: &[u8]) -> Result<Register, AllocError>
-        requires { length bytes.now ≤ 65536 }
+        requires { length bytes.now ≤ most_message }
         ensures { IfOk result (λ r. r ≡ bytes.now) }
     {
         Ok(Register {

@@ -16,21 +16,23 @@ pub struct Length {
 
 impl Model for Length {
     ghost use Rattle.std.specs.Prelude.{ℕ, ◌≤◌};
+    ghost use Rattle.scc_base.specs.Heads.{most_message};
 
     ghost Value = { ℕ };
 
     ghost view = { λ l. l.len };
 
-    ghost invariant = { λ l. l.len ≤ 65536 };
+    ghost invariant = { λ l. l.len ≤ most_message };
 
     ghost inverse = { λ n. record { len = n } };
 }
 
 impl Length {
     ghost use Rattle.std.specs.Prelude.{◌≡◌, ◌≤◌};
+    ghost use Rattle.scc_base.specs.Heads.{most_message};
 
     pub fn of(len: u32) -> Length
-        requires { len ≤ 65536 }
+        requires { len ≤ most_message }
         ensures { result ≡ len }
     {
         Length { len }
@@ -38,7 +40,7 @@ impl Length {
 
     pub fn get(self) -> u32
         ensures same { result ≡ self }
-        ensures within { result ≤ 65536 }
+        ensures within { result ≤ most_message }
     {
         self.len
     }
@@ -67,6 +69,7 @@ impl Room {
     ghost use Rattle.std.specs.Prelude.{◌≡◌, ◌≤◌, [], length, IfOk};
     ghost use Rattle.script_plain.specs.Local.{folded};
     ghost use Rattle.script_plain.specs.Walk.{content_of};
+    ghost use Rattle.scc_base.specs.Heads.{most_message};
 
     /// An empty room for this many bytes.
     pub fn new(alloc: Global, room: Length) -> Result<Room, AllocError>
@@ -79,7 +82,7 @@ impl Room {
     /// The bytes that it holds.
     pub fn bytes(&self) -> &[u8]
         ensures same { result.now ≡ self.now.bytes }
-        ensures within { length self.now.bytes ≤ 65536 }
+        ensures within { length self.now.bytes ≤ most_message }
     {
         let _most = self.room.get();
         self.bytes.as_slice()
@@ -154,6 +157,7 @@ impl Registers {
     ghost use Rattle.std.specs.Prelude.{◌≡◌, ◌<◌, ◌≤◌, [], length, replicate, slice_index_or, slice_set, IfOk};
     ghost use Rattle.script_plain.specs.Local.{folded};
     ghost use Rattle.script_plain.specs.Walk.{content_of};
+    ghost use Rattle.scc_base.specs.Heads.{most_message};
 
     /// Registers with these rooms, none of them set.
     pub fn new(alloc: Global, lengths: &[Length]) -> Result<Registers, AllocError>
@@ -169,7 +173,7 @@ impl Registers {
     /// The bytes of a register: none where no register has this number.
     pub fn bytes(&self, reg: u8) -> &[u8]
         ensures same { result.now ≡ slice_index_or self.now.registers reg [] }
-        ensures within { length (slice_index_or self.now.registers reg []) ≤ 65536 }
+        ensures within { length (slice_index_or self.now.registers reg []) ≤ most_message }
     {
         match self.rooms.get(reg as usize) {
             Some(room) => room.bytes(),

@@ -15,6 +15,7 @@ use Rattle.script_reader.specs.Checks.{length_at}
 use Rattle.script_reader.specs.Effects.{EachUse, comm_needed, effect_of}
 use Rattle.script_reader.specs.Script.{Script, has_rank, rules_of}
 use Rattle.script_reader.specs.Settled.{run_with}
+use Rattle.scc_base.specs.Heads.{most_post}
 
 -- a fact holds for each statement, by its place and its effect, and for each rank that runs it
 abbrev pub ForEachRun : Script → (ℕ → Effect → ℕ → Type 0) → Type 0
@@ -69,4 +70,4 @@ pub record IsFitting (run : SetupView) (len : ℕ → Option ℕ) (e : Effect) (
 
 -- a post has one chunk at most
 abbrev pub IsPostable : (ℕ → Option ℕ) → Effect → Type 0
-IsPostable len e = IfSome e.posts (λ reg. IfSome (len reg) (λ size. size ≤ 3584))
+IsPostable len e = IfSome e.posts (λ reg. IfSome (len reg) (λ size. size ≤ most_post))

@@ -36,6 +36,8 @@ use Rattle.script_reader.specs.declared.version.Version.{Version}
 use Rattle.script_reader.specs.declared.version.Version.TheVariants as version
 use Rattle.script_reader.specs.Effects.{comm_needed, effect_of, is_split_of, parent_of, some_use}
 use Rattle.script_reader.specs.Script.{has_rank, peer_of, rules_of}
+use Rattle.scc_base.specs.Heads.{most_message, most_post}
+use Rattle.script_reader.specs.Limits.{most_open, most_operations, most_printed}
 
 -- whether some rank below n passes
 abbrev pub some_below : ℕ → (ℕ → Bool) → Bool
@@ -228,7 +230,7 @@ is_stray repeats nesting.Stays = false
 
 -- TooDeep: a ninth open repeat
 abbrev pub is_too_deep : List Open → Nesting → Bool
-is_too_deep repeats (nesting.Opens times) = nat_lt 7 (length repeats)
+is_too_deep repeats (nesting.Opens times) = nat_lt (most_open - 1) (length repeats)
 is_too_deep repeats (nesting.Closes start) = false
 is_too_deep repeats nesting.Stays = false
 
@@ -261,13 +263,13 @@ operations nue (item ∷ past) rank = operations nue past rank + (if has_rank it
 
 -- TooManyOps: at a repeat, the statements in it would run more than 100,000 times
 abbrev pub turns_too_often : ℕ → Nesting → Bool
-turns_too_often turns (nesting.Opens times) = nat_lt 100000 (turns * times)
+turns_too_often turns (nesting.Opens times) = nat_lt most_operations (turns * times)
 turns_too_often turns (nesting.Closes start) = false
 turns_too_often turns nesting.Stays = false
 
 -- TooManyOps: at another statement, a rank has more than 100,000 operations with it
 abbrev pub is_overworked : SetupView → ℕ → ℕ → Cost → ℕ → Bool
-is_overworked run done turns cost rank = nat_lt 100000 (done + turns * cost_of run cost rank)
+is_overworked run done turns cost rank = nat_lt most_operations (done + turns * cost_of run cost rank)
 
 -- how many register bytes a statement of a rank prints, where it runs once
 abbrev pub prints : (ℕ → Option ℕ) → Effect → ℕ
@@ -280,7 +282,7 @@ printed nue (item ∷ past) rank = printed nue past rank + (if has_rank item.who
 
 -- a length that a statement says is more than a message has
 abbrev pub is_past_most : Size → Bool
-is_past_most (size.Bytes len) = nat_lt 65536 len
+is_past_most (size.Bytes len) = nat_lt most_message len
 is_past_most (size.Same reg) = false
 
 -- TooLong: a length that the statement sets is more than a message has
@@ -289,11 +291,11 @@ is_too_long e = option_map_or (λ target. is_past_most target.size) e.sets false
 
 -- TooLong: a post of more than one chunk
 abbrev pub posts_too_much : (ℕ → Option ℕ) → Effect → Bool
-posts_too_much had e = option_map_or (λ reg. nat_lt 3584 (unwrap_or (had reg) 0)) e.posts false
+posts_too_much had e = option_map_or (λ reg. nat_lt most_post (unwrap_or (had reg) 0)) e.posts false
 
 -- TooLong: a print with which a rank prints more than 1,048,576 bytes
 abbrev pub prints_too_much : (ℕ → Option ℕ) → ℕ → ℕ → Effect → Bool
-prints_too_much had done turns e = nat_lt 1048576 (done + turns * prints had e)
+prints_too_much had done turns e = nat_lt most_printed (done + turns * prints had e)
 
 -- whether a statement has this fault for a rank of its section, behind the statements before it
 abbrev pub refuses : FaultKind → ℕ → List Item → Effect → ℕ → Bool

@@ -23,6 +23,7 @@ use Rattle.script_reader.specs.declared.script.Form.{Form}
 use Rattle.script_reader.specs.declared.script.Form.TheVariants as form
 use Rattle.script_reader.specs.declared.script.Stmt.{Stmt}
 use Rattle.script_reader.specs.declared.script.Stmt.TheVariants as stmt
+use Rattle.scc_base.specs.Heads.{most_message}
 
 -- the effect of a statement that is one operation, and needs and does nothing else
 abbrev pub plain_effect : Effect
@@ -131,5 +132,5 @@ split_rule (group.Split split by) comm = if split == comm then by else rule.Abse
 
 -- a length that a statement says is at most 65,536, the most that a message has
 abbrev pub IsSizedBy : Size → Type 0
-IsSizedBy (size.Bytes len) = len ≤ 65536
+IsSizedBy (size.Bytes len) = len ≤ most_message
 IsSizedBy (size.Same reg) = Unit {0}

@@ -4,6 +4,7 @@ pub mod Closed
 pub mod Effects
 pub mod Ends
 pub mod Faults
+pub mod Limits
 pub mod Progress
 pub mod Reading
 pub mod Run

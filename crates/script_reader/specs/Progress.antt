@@ -33,6 +33,7 @@ use Rattle.script_reader.specs.declared.version.Version.{Version}
 use Rattle.script_reader.specs.Checks.{has_no_parent, innermost, is_stray, is_too_deep, is_too_long, is_unknown, open_of, refuses, run_of, some_rank, turns_in, turns_too_often}
 use Rattle.script_reader.specs.Effects.{effect_of}
 use Rattle.script_reader.specs.Faults.{◌>>=◌}
+use Rattle.script_reader.specs.Limits.{most_names}
 
 -- what the lines so far have given: the statements, the names of the registers, the section that is open, and whether no
 -- line has had words yet
@@ -88,7 +89,7 @@ has_fault p e kind.StrayEnd = is_stray (open_of (past p)) e.nesting
 has_fault p e kind.TooDeep = is_too_deep (open_of (past p)) e.nesting
 has_fault p e kind.TooManyOps = turns_too_often (turns_in (open_of (past p))) e.nesting || is_refused kind.TooManyOps p e
 has_fault p e kind.TooLong = is_too_long e || is_refused kind.TooLong p e
-has_fault p e kind.TooManyNames = nat_lt 64 (length p.names)
+has_fault p e kind.TooManyNames = nat_lt most_names (length p.names)
 
 -- the faults that a statement may have, in the order of the fault table: the first that it has counts
 abbrev pub fault_table : List FaultKind

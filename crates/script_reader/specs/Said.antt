@@ -25,6 +25,7 @@ use Rattle.script_reader.specs.declared.version.Version.{Version}
 use Rattle.script_reader.specs.declared.version.Version.TheVariants as version
 use Rattle.script_reader.specs.Faults.{◌>>=◌}
 use Rattle.script_reader.specs.Words.{bytes_of, is_name, number_of, value_of_word}
+use Rattle.script_reader.specs.Limits.{most_operations}
 
 -- a word as a number, or the kind of its fault
 abbrev pub number_said : List ℕ → Result ℕ FaultKind
@@ -326,7 +327,7 @@ allreduce_said words = of_five_words allreduce_words words
 -- `repeat N`
 abbrev pub repeat_said : List (List ℕ) → Result Said FaultKind
 repeat_said (times ∷ []) = do
-  times ← range_said 1 100000 times
+  times ← range_said 1 most_operations times
   Ok (said.Repeat times)
 repeat_said _ = Err kind.WrongCount
 

@@ -25,6 +25,7 @@ use Rattle.script_reader.specs.Effects.{comm_needed, effect_of}
 use Rattle.script_reader.specs.Progress.{Progress, named, register_of}
 use Rattle.script_reader.specs.Script.{IsSized, first_split, has_rank, rules_of}
 use Rattle.script_reader.specs.Settled.{AreInLine, ArePassed, HaveRules, IsNamed, IsSettled}
+use Rattle.script_reader.specs.Limits.{most_names, most_operations, most_printed}
 
 -- the length that a tally has for a register, if it has one
 abbrev pub length_in : Tally → ℕ → Option ℕ
@@ -37,8 +38,8 @@ split_in tally comm = slice_index_or tally.splits comm false
 -- a tally says of a rank's statements what the checks ask: its operations and its printed bytes, each up to one more than
 -- is allowed, the length of each register, and its splits
 pub record IsTally (tally : Tally) (nue : ℕ) (past : List Item) (rank : ℕ) : Type 0 where
-  pub operations_are : tally.operations ≡ min (operations nue past rank) 100001
-  pub printed_are : tally.printed ≡ min (printed nue past rank) 1048577
+  pub operations_are : tally.operations ≡ min (operations nue past rank) (most_operations + 1)
+  pub printed_are : tally.printed ≡ min (printed nue past rank) (most_printed + 1)
   pub lengths_are : (reg : ℕ) → length_in tally reg ≡ length_at nue past rank reg
   pub splits_are : (comm : ℕ) → split_in tally comm ≡ has_split past rank comm
   pub lengths_room : length tally.lengths ≡ 256
@@ -84,8 +85,8 @@ with_split splits (group.Split comm rule) = slice_set splits comm true
 -- a tally after one more statement of its rank, which runs `turns` times
 abbrev pub noted : SetupView → ℕ → Effect → ℕ → Tally → Tally
 noted run turns e rank tally = record {
-  operations = min (tally.operations + turns * cost_of run e.cost rank) 100001;
-  printed = min (tally.printed + turns * prints (length_in tally) e) 1048577;
+  operations = min (tally.operations + turns * cost_of run e.cost rank) (most_operations + 1);
+  printed = min (tally.printed + turns * prints (length_in tally) e) (most_printed + 1);
   lengths = with_length tally.lengths (set_by run (length_in tally) e rank);
   splits = with_split tally.splits e.group;
 }
@@ -181,7 +182,7 @@ is_new_split run (group.Split comm rule) = not (is_known run comm)
 -- the lines so far have given at most as many statements as there are lines, and at most 64 names; the version stays
 pub record IsUpTo (version : Version) (line : ℕ) (p : Progress) : Type 0 where
   pub same : p.version ≡ version
-  pub named : length p.names ≤ 64
+  pub named : length p.names ≤ most_names
   pub counted : length p.items ≤ line
 
 -- the numbers of two registers, of which the first is named first

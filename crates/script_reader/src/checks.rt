@@ -10,13 +10,13 @@ use crate::run::Run;
 use crate::tally::{MOST_OPERATIONS, MOST_PRINTED, Setting, Tally};
 use crate::version::Version;
 use groups::Ty;
-use scc_base::{CommRule, Rank};
+use scc_base::{CommRule, Head, PostHead, Rank};
 
 /// The most bytes of a message and of a register.
-const MOST_BYTES: u64 = 65_536;
+const MOST_BYTES: u64 = Head::MOST as u64;
 
 /// The most bytes of a post: one chunk in the layout of line flags.
-const MOST_POSTED: u64 = 3_584;
+const MOST_POSTED: u64 = PostHead::MOST as u64;
 
 fn has_no_root(run: &Run, effect: &Effect, rank: u8) -> bool
     requires { rank < run.now.nue }

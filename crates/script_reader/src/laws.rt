@@ -7,6 +7,7 @@ ghost use Rattle.script_reader.specs.Closed.{IsClosed};
 ghost use Rattle.script_reader.specs.Reading.{parse_script, read_as, read_file, version_of};
 ghost use Rattle.script_reader.specs.Settled.{NamesCommsTo, SplitsWorldAlone};
 ghost use Rattle.script_reader.specs.Words.{lines_of, number_of};
+ghost use Rattle.script_reader.specs.Limits.{most_names};
 
 /// A file is read by the grammar of version 1, but where its first line that has words is `rcce 2`.
 /// A script of version 1 has no parent but the world, and names no communicator from 8 on; one of version 2 names none from
@@ -21,7 +22,7 @@ pub fn version_law()
 /// A script that was read names at most 64 registers. None of its repeats is open at its end, and each repeat has the place
 /// of its end, in its section.
 pub fn script_law()
-    ensures few { (bytes : List ℕ) (nue : ℕ) → IfOk (parse_script bytes nue) (λ script. length script.names ≤ 64) }
+    ensures few { (bytes : List ℕ) (nue : ℕ) → IfOk (parse_script bytes nue) (λ script. length script.names ≤ most_names) }
     ensures closed { (bytes : List ℕ) (nue : ℕ) → IfOk (parse_script bytes nue) IsClosed }
 {}
 

@@ -8,6 +8,7 @@ ghost use Rattle.script_reader.specs.Checks.{last_comm};
 ghost use Rattle.script_reader.specs.Settled.{HasCommsTo, NamesCommsTo, SplitsWorldAlone};
 ghost use Rattle.script_reader.specs.declared.version.Version.TheVariants.{One};
 ghost use Rattle.script_reader.specs.Words.{lines_of};
+ghost use Rattle.script_reader.specs.Limits.{most_names};
 
 use crate::fault::{FaultKind, LineStop, ReadFault, ReadStop};
 use crate::reader::Reader;
@@ -64,7 +65,7 @@ fn read_words(
     number: u32,
     words: &[&[u8]],
 ) -> Result<(), LineStop>
-    requires few { length reader.old.names ≤ 64 }
+    requires few { length reader.old.names ≤ most_names }
     requires counted { length reader.old.items < number }
     ensures gives { LineGives (λ _. reader.new) result (read_words number reader.old (map (λ word. word.now) words.now)) }
     ensures kept { OnOk result (IsUpTo reader.old.version number reader.new) }
@@ -80,7 +81,7 @@ fn read_words(
 }
 
 fn read_line(alloc: Global, reader: &mut Reader, number: u32, line: &[u8]) -> Result<(), LineStop>
-    requires few { length reader.old.names ≤ 64 }
+    requires few { length reader.old.names ≤ most_names }
     requires counted { length reader.old.items < number }
     ensures gives { LineGives (λ _. reader.new) result (read_line number reader.old line.now) }
     ensures kept { OnOk result (IsUpTo reader.old.version number reader.new) }

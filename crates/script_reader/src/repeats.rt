@@ -4,13 +4,11 @@ ghost use Rattle.std.specs.Prelude.{◌≡◌, false};
 ghost use Rattle.script_reader.specs.Checks.{innermost, is_stray, is_too_deep, opened, turns_in, turns_too_often};
 
 use crate::effect::Nesting;
+use crate::tally::MOST_OPERATIONS;
 use arrayvec::ArrayVec;
 
 /// How many repeats may be open.
 pub(crate) const MOST_OPEN: usize = 8;
-
-/// How often a statement may run.
-const MOST_TURNS: u64 = 100_000;
 
 /// An open repeat: its place among the statements, and how often a statement in it runs.
 #[derive(Clone, Copy, Default)]
@@ -64,7 +62,7 @@ pub(crate) fn turns_too_often(turns: u32, nesting: Nesting) -> bool
     ensures { result ≡ turns_too_often turns nesting }
 {
     match nesting {
-        Nesting::Opens(times) => (turns as u64).saturating_mul(times as u64) > MOST_TURNS,
+        Nesting::Opens(times) => (turns as u64).saturating_mul(times as u64) > MOST_OPERATIONS,
         Nesting::Closes(_) | Nesting::Stays => false,
     }
 }

@@ -13,6 +13,7 @@ use crate::said_locals::{
     recv_said, send_said,
 };
 use crate::script::Form;
+use crate::tally::MOST_OPERATIONS;
 use crate::version::Version;
 use crate::words::{Parts, is_word, number_said, range_said};
 use groups::{Op, Ty};
@@ -185,7 +186,7 @@ fn repeat_said(words: &[&[u8]]) -> Result<Said, FaultKind>
 {
     match words {
         [times] => {
-            let times = range_said(times, 1, 100_000)?;
+            let times = range_said(times, 1, MOST_OPERATIONS as u32)?;
             Ok(Said::Repeat { times })
         }
         _ => Err(FaultKind::WrongCount),

@@ -225,6 +225,8 @@ impl Scripts {
     ghost use Rattle.script_reader.specs.Script.{rules_of};
     ghost use Rattle.script_reader.specs.Settled.{ArePassed, IsAccepted, IsNamed, IsSettled, IsWhole};
     ghost use Rattle.std.specs.Prelude.{◌≡◌, ◌<◌, ◌≤◌, ℕ, All, [], length, reverse, slice_get, slice_index_or, take};
+    ghost use Rattle.scc_base.specs.Heads.{most_message};
+    ghost use Rattle.script_reader.specs.Limits.{most_open, most_operations, most_printed};
 
     /// How many statements the script has.
     pub fn len(&self) -> usize
@@ -298,12 +300,12 @@ impl Scripts {
 
     /// The limits of a script that was read.
     pub fn limits_law(&self)
-        ensures short { (rank reg len : ℕ) → length_of self.now rank reg ≡ Some len → len ≤ 65536 }
-        ensures worked { (rank : ℕ) → rank < self.now.nue → operations self.now.nue (reverse self.now.items) rank ≤ 100000 }
-        ensures printed { (rank : ℕ) → rank < self.now.nue → printed self.now.nue (reverse self.now.items) rank ≤ 1048576 }
+        ensures short { (rank reg len : ℕ) → length_of self.now rank reg ≡ Some len → len ≤ most_message }
+        ensures worked { (rank : ℕ) → rank < self.now.nue → operations self.now.nue (reverse self.now.items) rank ≤ most_operations }
+        ensures printed { (rank : ℕ) → rank < self.now.nue → printed self.now.nue (reverse self.now.items) rank ≤ most_printed }
         ensures named { All (λ item. IsNamed (length self.now.names) (effect_of item.stmt)) self.now.items }
         // Before each statement, and at the end.
-        ensures shallow { (place : ℕ) → length (open_of (reverse (take place self.now.items))) ≤ 8 }
+        ensures shallow { (place : ℕ) → length (open_of (reverse (take place self.now.items))) ≤ most_open }
     {
         let _ranks = self.ranks;
     }

@@ -6,6 +6,7 @@ ghost use Rattle.script_reader.specs.Progress.{after, after_group, after_local, 
 ghost use Rattle.script_reader.specs.Tally.{IsParted, IsUpTo, IsWithin};
 ghost use Rattle.script_reader.specs.declared.said.Collective.TheVariants.{Allreduce, Bcast, Reduce, Split};
 ghost use Rattle.script_reader.specs.declared.said.Section.TheVariants.{Span};
+ghost use Rattle.script_reader.specs.Limits.{most_names};
 
 use crate::fault::{FaultKind, LineStop};
 use crate::name::Name;
@@ -89,7 +90,7 @@ fn take_section(reader: &mut Reader, section: Section) -> Result<(), FaultKind>
 }
 
 fn take_local(reader: &mut Reader, line: u32, local: Local) -> Result<(), LineStop>
-    requires few { length reader.old.names ≤ 64 }
+    requires few { length reader.old.names ≤ most_names }
     requires counted { length reader.old.items < line }
     ensures gives { LineGives (λ _. reader.new) result (after_local line reader.old local) }
     ensures kept { OnOk result (IsUpTo reader.old.version line reader.new) }
@@ -119,7 +120,7 @@ fn take_local(reader: &mut Reader, line: u32, local: Local) -> Result<(), LineSt
 }
 
 fn take_message(reader: &mut Reader, line: u32, message: Message) -> Result<(), LineStop>
-    requires few { length reader.old.names ≤ 64 }
+    requires few { length reader.old.names ≤ most_names }
     requires counted { length reader.old.items < line }
     ensures gives { LineGives (λ _. reader.new) result (after_message line reader.old message) }
     ensures kept { OnOk result (IsUpTo reader.old.version line reader.new) }
@@ -153,7 +154,7 @@ fn take_reduce(
     dst: Name,
     src: Name,
 ) -> Result<(), LineStop>
-    requires few { length reader.old.names ≤ 64 }
+    requires few { length reader.old.names ≤ most_names }
     requires counted { length reader.old.items < line }
     ensures gives { LineGives (λ _. reader.new) result (after_group line reader.old (Reduce comm root op ty dst src)) }
     ensures kept { OnOk result (IsUpTo reader.old.version line reader.new) }
@@ -183,7 +184,7 @@ fn take_allreduce(
     dst: Name,
     src: Name,
 ) -> Result<(), LineStop>
-    requires few { length reader.old.names ≤ 64 }
+    requires few { length reader.old.names ≤ most_names }
     requires counted { length reader.old.items < line }
     ensures gives { LineGives (λ _. reader.new) result (after_group line reader.old (Allreduce comm op ty dst src)) }
     ensures kept { OnOk result (IsUpTo reader.old.version line reader.new) }
@@ -210,7 +211,7 @@ fn take_bcast(
     name: Name,
     len: u32,
 ) -> Result<(), LineStop>
-    requires few { length reader.old.names ≤ 64 }
+    requires few { length reader.old.names ≤ most_names }
     requires counted { length reader.old.items < line }
     ensures gives { LineGives (λ _. reader.new) result (after_group line reader.old (Bcast comm root name len)) }
     ensures kept { OnOk result (IsUpTo reader.old.version line reader.new) }
@@ -237,7 +238,7 @@ fn take_split(
     colour: Colour,
     parts: Parts,
 ) -> Result<(), LineStop>
-    requires few { length reader.old.names ≤ 64 }
+    requires few { length reader.old.names ≤ most_names }
     requires counted { length reader.old.items < line }
     ensures gives { LineGives (λ _. reader.new) result (after_group line reader.old (Split comm parent colour parts)) }
     ensures kept { OnOk result (IsUpTo reader.old.version line reader.new) }
@@ -248,7 +249,7 @@ fn take_split(
 }
 
 fn take_group(reader: &mut Reader, line: u32, group: Collective) -> Result<(), LineStop>
-    requires few { length reader.old.names ≤ 64 }
+    requires few { length reader.old.names ≤ most_names }
     requires counted { length reader.old.items < line }
     ensures gives { LineGives (λ _. reader.new) result (after_group line reader.old group) }
     ensures kept { OnOk result (IsUpTo reader.old.version line reader.new) }
@@ -290,7 +291,7 @@ fn take_group(reader: &mut Reader, line: u32, group: Collective) -> Result<(), L
 
 /// Takes in what a line says.
 pub(crate) fn take(reader: &mut Reader, line: u32, said: Said) -> Result<(), LineStop>
-    requires few { length reader.old.names ≤ 64 }
+    requires few { length reader.old.names ≤ most_names }
     requires counted { length reader.old.items < line }
     ensures gives { LineGives (λ _. reader.new) result (after line reader.old said) }
     ensures kept { OnOk result (IsUpTo reader.old.version line reader.new) }

@@ -4,8 +4,8 @@ use Rattle.std.specs.Prelude.{◌≡◌, ◌≢◌, ℕ, ◌+◌, ◌-◌, ◌*�
 use Rattle.std.specs.List.{list_all}
 use Rattle.scc_base.specs.Heads.{MessageHead, IsHead}
 use Rattle.scc_base.specs.Calls.{DataCall, Recv}
-use Rattle.scc_base.specs.Places.{LineAt, flag_word}
-use Rattle.scc_base.specs.Layouts.{sent_at, first_chunk, first_heap}
+use Rattle.scc_base.specs.Places.{first_heap, LineAt, flag_word}
+use Rattle.scc_base.specs.Layouts.{sent_at, first_chunk}
 use Rattle.scc_base.specs.Setups.{host_of}
 use Rattle.scc_base.specs.declared.layouts.Layout.{Layout}
 use Rattle.scc_base.specs.declared.layouts.Layout.TheVariants.{LineFlags, BitFlags}

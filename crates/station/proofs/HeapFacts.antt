@@ -1,8 +1,7 @@
 -- What calls over the heap do to the record of a rank: what it stored there, and nothing else.
 use Rattle.std.proofs.Common.{◌≡◌, ℕ, zero, suc, ◌+◌, ◌<◌, ◌≤◌, Bool, true, false, if◌then◌else◌, List, [], ◌∷◌, ◌++◌, slice_index, slice_index_or, Option, Some, None, Result, Ok, Err, OnErr, OnOk, is_none, is_some, refl, sym, ap, ◌∙◌, subst, arith}
-use Rattle.scc_base.specs.Places.{WordAt}
+use Rattle.scc_base.specs.Places.{first_heap, WordAt}
 use Rattle.scc_base.specs.Setups.{IsSetup, host_of}
-use Rattle.scc_base.specs.Layouts.{first_heap}
 use Rattle.scc_base.specs.Events.{free_of, load_of, store_of}
 use Rattle.scc_base.specs.declared.events.Event.{Event}
 use Rattle.scc_base.specs.declared.events.Stalled as base

@@ -17,6 +17,7 @@ impl<V: Evict> Station<V> {
     ghost use Rattle.sync_flags.specs.Tries.{AtFlag, AtRegister, TriedInVain};
     ghost use Rattle.sync_flags.specs.Writes.{WritesFlag};
     ghost use Rattle.station.specs.Stations.{KeepsAllButHeap, KeepsSlot, NoCallOpen};
+    ghost use Rattle.scc_base.specs.Places.{first_heap};
 
     /// Takes one line of the heap for flags (RCCE_flag_alloc). `free` gives it back (RCCE_flag_free).
     pub fn flag_alloc(&mut self) -> Result<Buf, MallocFault>
@@ -41,7 +42,7 @@ impl<V: Evict> Station<V> {
     ) -> Result<(), Stalled>
         requires free { NoCallOpen (P.sight port.old) self.old }
         requires below { at < (P.sight port.old).seat.setup.nue }
-        requires heap { 225 ≤ flag.line }
+        requires heap { first_heap ≤ flag.line }
         ensures free { NoCallOpen (P.sight port.new) self.new }
         ensures calls { (record_in (P.sight port.new)).calls ≡ (record_in (P.sight port.old)).calls }
         ensures writes { WritesFlag (P.sight port.old) self.old.core (flag_of (P.sight port.old).seat.setup at flag) flag.bit value
@@ -59,7 +60,7 @@ impl<V: Evict> Station<V> {
     pub fn read<P: Port>(&mut self, port: &mut P, at: Rank, flag: Flag) -> bool
         requires free { NoCallOpen (P.sight port.old) self.old }
         requires below { at < (P.sight port.old).seat.setup.nue }
-        requires heap { 225 ≤ flag.line }
+        requires heap { first_heap ≤ flag.line }
         ensures free { NoCallOpen (P.sight port.new) self.new }
         ensures calls { (record_in (P.sight port.new)).calls ≡ (record_in (P.sight port.old)).calls }
         ensures reads { ReadsFlag (P.sight port.old) self.old.core (flag_of (P.sight port.old).seat.setup at flag) flag.bit result
@@ -79,7 +80,7 @@ impl<V: Evict> Station<V> {
         want: bool,
     ) -> Result<(), Stalled>
         requires free { NoCallOpen (P.sight port.old) self.old }
-        requires heap { 225 ≤ flag.line }
+        requires heap { first_heap ≤ flag.line }
         ensures free { NoCallOpen (P.sight port.new) self.new }
         ensures calls { (record_in (P.sight port.new)).calls ≡ (record_in (P.sight port.old)).calls }
         ensures waits { WaitsFor (P.sight port.old) self.old.core

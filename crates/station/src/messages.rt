@@ -1,7 +1,7 @@
 //! Messages of a station.
 
 ghost use Rattle.std.specs.Prelude.{◌≡◌, ◌≤◌, length};
-ghost use Rattle.scc_base.specs.Heads.{plain_head};
+ghost use Rattle.scc_base.specs.Heads.{plain_head, most_message};
 ghost use Rattle.station.specs.Stops.{recv_stop_of};
 
 use crate::stations::Station;
@@ -13,7 +13,7 @@ use send_recv::{RecvOp, SendOp, SendStop, recv, recv_test, send};
 
 // The head of a plain message of these bytes.
 pub(crate) fn head_of(bytes: &[u8]) -> Head
-    requires short { length bytes.now ≤ 65536 }
+    requires short { length bytes.now ≤ most_message }
     ensures gives { result ≡ plain_head (length bytes.now) }
 {
     let Some(head) = Head::plain(bytes.len() as u32) else {
@@ -39,7 +39,7 @@ fn recv_stop_of(stop: send_recv::RecvStop) -> RecvStop
 impl<V: Evict> Station<V> {
     ghost use Rattle.std.specs.Prelude.{◌≡◌, ◌≤◌, [], ◌∷◌, ◌++◌, true, false, length, IfOk, IfErr, Ok, if◌then◌else◌};
     ghost use Rattle.scc_base.specs.Calls.{Send, Recv};
-    ghost use Rattle.scc_base.specs.Heads.{plain_head};
+    ghost use Rattle.scc_base.specs.Heads.{plain_head, most_message};
     ghost use Rattle.scc_proto.specs.Ports.{record_in};
     ghost use Rattle.scc_proto.specs.Words.{are_peers};
     ghost use Rattle.send_recv.specs.Calling.{Received, Sent, SendStalled, TestEnds};
@@ -100,7 +100,7 @@ impl<V: Evict> Station<V> {
     pub fn send<P: Port>(&mut self, port: &mut P, to: Rank, bytes: &[u8]) -> Result<(), SendStall>
         requires free { NoCallOpen (P.sight port.old) self.old }
         requires peers { are_peers (P.sight port.old).seat.setup (P.sight port.old).seat.rank to ≡ true }
-        requires short { length bytes.now ≤ 65536 }
+        requires short { length bytes.now ≤ most_message }
         ensures free { IfOk result (λ done. NoCallOpen (P.sight port.new) self.new) }
         ensures calls { IfOk result (λ done. (record_in (P.sight port.new)).calls
             ≡ (record_in (P.sight port.old)).calls ++ Send to (plain_head (length bytes.now)) bytes.now ∷ []) }
@@ -153,7 +153,7 @@ impl<V: Evict> Station<V> {
     ) -> Result<(), RecvStop>
         requires free { NoCallOpen (P.sight port.old) self.old }
         requires peers { are_peers (P.sight port.old).seat.setup (P.sight port.old).seat.rank from ≡ true }
-        requires short { length buffer.old ≤ 65536 }
+        requires short { length buffer.old ≤ most_message }
         ensures free { IfOk result (λ done. NoCallOpen (P.sight port.new) self.new) }
         ensures calls { IfOk result (λ done. (record_in (P.sight port.new)).calls
             ≡ (record_in (P.sight port.old)).calls ++ Recv from (plain_head (length buffer.old)) buffer.new ∷ []) }
@@ -203,7 +203,7 @@ impl<V: Evict> Station<V> {
     ) -> Result<bool, RecvStop>
         requires free { NoCallOpen (P.sight port.old) self.old }
         requires peers { are_peers (P.sight port.old).seat.setup (P.sight port.old).seat.rank from ≡ true }
-        requires short { length buffer.old ≤ 65536 }
+        requires short { length buffer.old ≤ most_message }
         ensures free { IfOk result (λ found. NoCallOpen (P.sight port.new) self.new) }
         ensures calls { IfOk result (λ found. (record_in (P.sight port.new)).calls
             ≡ (record_in (P.sight port.old)).calls ++ (if found then Recv from (plain_head (length buffer.old)) buffer.new ∷ [] else [])) }

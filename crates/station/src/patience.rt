@@ -24,7 +24,7 @@ impl<V: Evict> Station<V> {
     ghost use Rattle.std.specs.Prelude.{◌≡◌, ◌≢◌, ◌<◌, ◌≤◌, [], ◌∷◌, ◌++◌, true, length, IfOk, IfErr};
     ghost use Rattle.scc_base.specs.Calls.{Bar, Recv, Send};
     ghost use Rattle.scc_base.specs.Communicators.{rule_of};
-    ghost use Rattle.scc_base.specs.Heads.{plain_head};
+    ghost use Rattle.scc_base.specs.Heads.{plain_head, most_message};
     ghost use Rattle.scc_base.specs.declared.communicators.CommRule.TheVariants.{Absent};
     ghost use Rattle.scc_proto.specs.Ports.{record_in};
     ghost use Rattle.scc_proto.specs.Words.{are_peers};
@@ -47,7 +47,7 @@ impl<V: Evict> Station<V> {
     ) -> Result<(), SendStall>
         requires free { NoCallOpen (P.sight port.old) self.old }
         requires peers { are_peers (P.sight port.old).seat.setup (P.sight port.old).seat.rank to ≡ true }
-        requires short { length bytes.now ≤ 65536 }
+        requires short { length bytes.now ≤ most_message }
         ensures free { IfOk result (λ done. NoCallOpen (P.sight port.new) self.new) }
         ensures calls { IfOk result (λ done. (record_in (P.sight port.new)).calls
             ≡ (record_in (P.sight port.old)).calls ++ Send to (plain_head (length bytes.now)) bytes.now ∷ []) }
@@ -87,7 +87,7 @@ impl<V: Evict> Station<V> {
     ) -> Result<(), RecvStop>
         requires free { NoCallOpen (P.sight port.old) self.old }
         requires peers { are_peers (P.sight port.old).seat.setup (P.sight port.old).seat.rank from ≡ true }
-        requires short { length buffer.old ≤ 65536 }
+        requires short { length buffer.old ≤ most_message }
         ensures free { IfOk result (λ done. NoCallOpen (P.sight port.new) self.new) }
         ensures calls { IfOk result (λ done. (record_in (P.sight port.new)).calls
             ≡ (record_in (P.sight port.old)).calls ++ Recv from (plain_head (length buffer.old)) buffer.new ∷ []) }

@@ -11,7 +11,7 @@ use send_recv::SendOp;
 impl<V: Evict> Station<V> {
     ghost use Rattle.std.specs.Prelude.{◌≡◌, ◌≤◌, [], ◌∷◌, ◌++◌, true, Some, length, IfOk, IfErr};
     ghost use Rattle.scc_base.specs.Calls.{Post};
-    ghost use Rattle.scc_base.specs.Heads.{plain_head};
+    ghost use Rattle.scc_base.specs.Heads.{plain_head, most_post};
     ghost use Rattle.scc_proto.specs.Ports.{record_in};
     ghost use Rattle.scc_proto.specs.Words.{are_peers};
     ghost use Rattle.send_recv.specs.Calling.{Sent, SendStalled};
@@ -23,7 +23,7 @@ impl<V: Evict> Station<V> {
     pub fn post<P: Port>(&mut self, port: &mut P, to: Rank, bytes: &[u8]) -> Result<(), SendStall>
         requires free { NoCallOpen (P.sight port.old) self.old }
         requires peers { are_peers (P.sight port.old).seat.setup (P.sight port.old).seat.rank to ≡ true }
-        requires short { length bytes.now ≤ 3584 }
+        requires short { length bytes.now ≤ most_post }
         ensures free { IfOk result (λ done. NoCallOpen (P.sight port.new) self.new) }
         ensures calls { IfOk result (λ done. (record_in (P.sight port.new)).calls
             ≡ (record_in (P.sight port.old)).calls ++ Post to (plain_head (length bytes.now)) bytes.now ∷ []) }

@@ -1,12 +1,12 @@
 //! Many accesses to a bare table.
 
 ghost use Rattle.std.specs.Prelude.{◌≡◌};
+ghost use Rattle.scc_proto.specs.Memories.{number_count};
 
 use crate::accesses::Kind;
 use atomic_table::{Play, Seat, Shared, Table, TableRule};
+use scc_proto::NUMBERS;
 use std::alloc::{AllocError, Global};
-
-const WORDS: usize = 49_200;
 
 /// A table of which nothing is claimed.
 struct Anything;
@@ -22,7 +22,7 @@ impl Play<(), ()> for Anything {
 }
 
 fn load_many(words: &Shared<(), (), (), Anything>, seat: &mut Seat<(), ()>, count: u32)
-    requires table { (seat.old.table_id ≡ words.now.table_id) × (words.now.table_id.words ≡ 49200) }
+    requires table { (seat.old.table_id ≡ words.now.table_id) × (words.now.table_id.words ≡ number_count) }
 {
     'steps: for i in 0..count {
         words.load::<Anything>(seat, 960 + (i % 4) as usize);
@@ -30,7 +30,7 @@ fn load_many(words: &Shared<(), (), (), Anything>, seat: &mut Seat<(), ()>, coun
 }
 
 fn store_many(words: &Shared<(), (), (), Anything>, seat: &mut Seat<(), ()>, count: u32)
-    requires table { (seat.old.table_id ≡ words.now.table_id) × (words.now.table_id.words ≡ 49200) }
+    requires table { (seat.old.table_id ≡ words.now.table_id) × (words.now.table_id.words ≡ number_count) }
 {
     'steps: for i in 0..count {
         words.store::<Anything>(seat, 960 + (i % 4) as usize, i as u64);
@@ -39,7 +39,7 @@ fn store_many(words: &Shared<(), (), (), Anything>, seat: &mut Seat<(), ()>, cou
 
 /// Makes that many loads, or stores, of which nothing is claimed.
 pub fn bare(alloc: Global, kind: Kind, count: u32) -> Result<(), AllocError> {
-    let words = vec![in alloc; 0u64; WORDS]?;
+    let words = vec![in alloc; 0u64; NUMBERS]?;
     let (table, mut seat) = Table::<(), (), (), Anything, Global>::of_words(
         alloc,
         words.as_slice(),

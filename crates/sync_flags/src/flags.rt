@@ -35,11 +35,12 @@ impl Model for Flag {
 impl Flag {
     ghost use Rattle.std.specs.Prelude.{◌≡◌, ◌<◌, ◌≤◌, Some, None, IfSome};
     ghost use Rattle.sync_flags.specs.Flags.{flag_at, is_set_in, flag_spot};
+    ghost use Rattle.scc_base.specs.Places.{first_heap};
 
     /// The flag that has the buffer's first line for itself.
     pub fn line(buffer: &Buf) -> Flag
         ensures gives { result ≡ record { line = buffer.now.first; word = 0; bit = None } }
-        ensures heap { 225 ≤ result.line }
+        ensures heap { first_heap ≤ result.line }
     {
         Flag {
             line: buffer.first(),
@@ -52,7 +53,7 @@ impl Flag {
     pub fn bit(buffer: &Buf, i: u8) -> Flag
         requires below { i < 64 }
         ensures gives { result ≡ record { line = buffer.now.first; word = 0; bit = Some i } }
-        ensures heap { 225 ≤ result.line }
+        ensures heap { first_heap ≤ result.line }
     {
         Flag {
             line: buffer.first(),

@@ -11,6 +11,7 @@ ghost use Rattle.tas_lock.specs.Holds.{IsNotHolding};
 ghost use Rattle.sync_flags.specs.Flags.{FlagView, flag_of};
 ghost use Rattle.sync_flags.specs.Writes.{MayWrite};
 ghost use Rattle.sync_flags.specs.Tries.{Aim, TriedInVain, EndsInVain};
+ghost use Rattle.scc_base.specs.Places.{first_heap};
 
 /// A call has tried in vain often enough exactly where its events end with a part that has `polls` tries, all of them
 /// vain, and no store and no free.
@@ -21,10 +22,10 @@ pub fn tries_law()
 /// A rank may store into the heap wherever it has drafted nothing, takes no chunk and is in no barrier; so it may
 /// write a flag there: a word at once, and a bit where it does not hold the register of the flag's core.
 pub fn heap_law()
-    ensures store { (seat : Seat) (rec : Record) (r : ℕ) (f : FlagView) (value : ℕ) → IsSetup seat.setup → r < seat.setup.nue → 225 ≤ f.line
+    ensures store { (seat : Seat) (rec : Record) (r : ℕ) (f : FlagView) (value : ℕ) → IsSetup seat.setup → r < seat.setup.nue → first_heap ≤ f.line
         → leaves_heap rec.stage ≡ true → MayMake seat rec (store_of (flag_of seat.setup r f) value) }
-    ensures word { (seat : Seat) (rec : Record) (r : ℕ) (f : FlagView) (set : Bool) → IsSetup seat.setup → r < seat.setup.nue → 225 ≤ f.line
+    ensures word { (seat : Seat) (rec : Record) (r : ℕ) (f : FlagView) (set : Bool) → IsSetup seat.setup → r < seat.setup.nue → first_heap ≤ f.line
         → leaves_heap rec.stage ≡ true → MayWrite seat rec (flag_of seat.setup r f) None set }
-    ensures bit { (seat : Seat) (rec : Record) (r : ℕ) (f : FlagView) (b : ℕ) (set : Bool) → IsSetup seat.setup → r < seat.setup.nue → 225 ≤ f.line
+    ensures bit { (seat : Seat) (rec : Record) (r : ℕ) (f : FlagView) (b : ℕ) (set : Bool) → IsSetup seat.setup → r < seat.setup.nue → first_heap ≤ f.line
         → leaves_heap rec.stage ≡ true → IsNotHolding rec (host_of seat.setup.hosts r) → MayWrite seat rec (flag_of seat.setup r f) (Some b) set }
 {}

@@ -1,6 +1,7 @@
 //! The shared words of a chip.
 
 ghost use Rattle.std.specs.Prelude.{◌≡◌, ℕ, IfOk, length, slice_index, vec_len};
+ghost use Rattle.scc_proto.specs.Memories.{number_count};
 
 use scc_base::{Access, CoreId, Event, Place};
 use scc_proto::{NUMBERS, number_of_register, number_of_word};
@@ -17,7 +18,7 @@ fn zeros(alloc: Global, count: usize) -> Result<Vec<u64>, AllocError>
 #[derive(Drop)]
 pub(crate) struct ChipWords {
     pub(crate) numbers: Vec<u64>,
-    ghost long: { vec_len numbers ≡ 49200 },
+    ghost long: { vec_len numbers ≡ number_count },
 }
 
 impl ChipWords {

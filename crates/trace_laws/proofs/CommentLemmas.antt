@@ -4,8 +4,8 @@ use Rattle.std.specs.Prelude.{nat_le, nat_lt}
 use Rattle.std.proofs.lemmas.Fmt.{length-decimal-le}
 use Rattle.rcce_io.specs.Sending.{joined}
 use Rattle.scc_base.specs.Events.{IsAccess}
-use Rattle.scc_base.specs.Layouts.{first_chunk, first_gather, first_heap, first_release}
-use Rattle.scc_base.specs.Places.{IsPlace, WordAt}
+use Rattle.scc_base.specs.Layouts.{first_chunk, first_gather, first_release}
+use Rattle.scc_base.specs.Places.{first_heap, IsPlace, WordAt}
 use Rattle.scc_base.specs.Setups.{SetupView, host_of}
 use Rattle.scc_base.specs.declared.events.Access.{Access}
 use Rattle.scc_base.specs.declared.events.Access.TheVariants.{Load, Store, Take, Free}

@@ -1,8 +1,8 @@
 -- A legal run stays so with other cores for ranks that it has not.
 use Rattle.std.proofs.Common.{◌≡◌, ℕ, zero, suc, ◌+◌, ◌-◌, ◌*◌, ◌<◌, cond, ◌==◌, List, [], ◌∷◌, Option, Some, None, refl, sym, ap, subst, ◌∙◌, arith}
 use Rattle.std.specs.Prelude.{nat_lt}
-use Rattle.scc_base.specs.Layouts.{first_chunk, first_gather, first_heap}
-use Rattle.scc_base.specs.Places.{WordAt}
+use Rattle.scc_base.specs.Layouts.{first_chunk, first_gather}
+use Rattle.scc_base.specs.Places.{first_heap, WordAt}
 use Rattle.scc_base.specs.Setups.{SetupView, host_of}
 use Rattle.scc_base.specs.declared.events.Access.{Access}
 use Rattle.scc_base.specs.declared.events.Access.TheVariants.{Load, Store, Take, Free}

@@ -2,8 +2,8 @@
 -- record permits it where it permits the move.
 use Rattle.std.proofs.Common.{◌≡◌, ◌≢◌, ℕ, ◌+◌, ◌*◌, ◌^◌, ◌<◌, ◌≤◌, Bool, true, false, not, ◌&&◌, ◌==◌, Option, Some, None, is_some, is_none, refl, sym, ◌∙◌, ap, subst}
 use Rattle.std.specs.Int.{bit_at}
-use Rattle.scc_base.specs.Places.{WordAt, flag_word}
-use Rattle.scc_base.specs.Layouts.{sent_at, ready_at, gather_at, release_at, first_chunk, first_heap, chunk_lines}
+use Rattle.scc_base.specs.Places.{first_heap, WordAt, flag_word}
+use Rattle.scc_base.specs.Layouts.{sent_at, ready_at, gather_at, release_at, first_chunk, chunk_lines}
 use Rattle.scc_base.specs.Setups.{IsSetup, host_of, place_of}
 use Rattle.scc_base.specs.Events.{load_of, store_of, take_of, free_of}
 use Rattle.scc_base.specs.declared.layouts.Layout.{Layout}

@@ -2,8 +2,8 @@
 use Rattle.std.proofs.Common.{◌≡◌, ◌≢◌, ℕ, zero, suc, ◌+◌, ◌-◌, ◌*◌, ◌/◌, ◌%◌, ◌<◌, ◌≤◌, Bool, true, false, ◌&&◌, ◌==◌, if◌then◌else◌, List, Option, Some, None, refl, sym, ◌∙◌, ap, arith}
 use Rattle.std.specs.Prelude.{nat_lt, nat_le}
 use Rattle.std.proofs.lemmas.Bool.Decides.{nat_tests}
-use Rattle.scc_base.specs.Places.{WordAt, flag_word}
-use Rattle.scc_base.specs.Layouts.{sent_at, ready_at, gather_at, release_at, first_gather, first_release, first_chunk, first_heap, chunk_lines}
+use Rattle.scc_base.specs.Places.{first_heap, WordAt, flag_word}
+use Rattle.scc_base.specs.Layouts.{sent_at, ready_at, gather_at, release_at, first_gather, first_release, first_chunk, chunk_lines}
 use Rattle.scc_base.specs.Setups.{SetupView, IsSetup, AreApart, host_of}
 use Rattle.scc_base.specs.declared.layouts.Layout.{Layout}
 use Rattle.scc_base.specs.declared.layouts.Layout.TheVariants.{LineFlags, BitFlags}

@@ -1,8 +1,7 @@
 -- Ports of ranks that are in no call: heap words may be stored and loaded, and they are in no call after it.
 use Rattle.std.proofs.Common.{◌≡◌, ℕ, ◌<◌, ◌≤◌, List, [], ◌∷◌, None, sym, ◌∙◌, ap, subst}
 use Rattle.scc_base.specs.Events.{store_of}
-use Rattle.scc_base.specs.Layouts.{first_heap}
-use Rattle.scc_base.specs.Places.{WordAt}
+use Rattle.scc_base.specs.Places.{first_heap, WordAt}
 use Rattle.scc_base.specs.Setups.{IsSetup}
 use Rattle.scc_base.specs.declared.events.Event.{Event}
 use Rattle.scc_proto.specs.Stages.{Record}

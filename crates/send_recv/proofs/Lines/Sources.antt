@@ -1,7 +1,7 @@
 -- The header line of a sender, and the lines of its chunk buffer, as lines whose words a record notes.
 use Rattle.std.proofs.Common.{◌≡◌, ℕ, ◌+◌, ◌-◌, ◌*◌, ◌<◌, Bool, true, false, ◌==◌, cond, List, Option, Some, None, option_map, option_and_then, refl, sym, ◌∙◌, ap, arith, zero-add}
-use Rattle.scc_base.specs.Places.{LineAt}
-use Rattle.scc_base.specs.Layouts.{first_chunk, first_heap, chunk_lines}
+use Rattle.scc_base.specs.Places.{first_heap, LineAt}
+use Rattle.scc_base.specs.Layouts.{first_chunk, chunk_lines}
 use Rattle.scc_base.specs.Setups.{IsSetup, host_of}
 use Rattle.scc_proto.specs.Tables.{put}
 use Rattle.scc_proto.specs.Messages.{Notes, noted, note_word, Progress}
