@@ -1,7 +1,7 @@
 -- The words of a lab's lines: numbers, values, and words that a mark cuts in two (this project's profile).
 use Rattle.std.specs.Prelude.{ℕ, ◌+◌, ◌-◌, ◌*◌, ◌==◌, ◌&&◌, ◌||◌, nat_le, Bool, if◌then◌else◌, List, [], ◌∷◌, length, drop, take, Option, Some, None, option_and_then, option_map}
 use Rattle.std.specs.List.{position}
-use Rattle.script_reader.specs.Words.{number_of}
+use Rattle.texts.specs.Numbers.{number_of}
 
 -- the second step, if the first gave a value
 infixl 10 ◌>>=◌

@@ -11,9 +11,10 @@ use crate::said::{action_said, core_said};
 use crate::steps::Step;
 use crate::words::{lines, words};
 use scc_base::CoreId;
-use script_reader::{Bytes, is_text, number};
+use script_reader::{Bytes, is_text};
 use std::alloc::Global;
 use std::marker::Model;
+use texts::number;
 
 /// The most bytes of a lab's file: 1 MiB.
 pub const MOST_LAB_BYTES: usize = 1_048_576;

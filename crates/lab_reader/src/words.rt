@@ -6,8 +6,9 @@ ghost use Rattle.script_reader.specs.Words.{is_blank, lines_of, words_of};
 ghost use Rattle.lab_reader.specs.Words.{cut_at, hex_digit, range_said, value_said};
 ghost use Rattle.lab_reader.specs.Cuts.{cut_of};
 
-use script_reader::{number, uncommented};
+use script_reader::uncommented;
 use std::alloc::{AllocError, Global};
+use texts::number;
 
 fn is_blank(b: u8) -> bool
     ensures { result ≡ is_blank b }

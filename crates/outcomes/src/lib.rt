@@ -15,4 +15,4 @@ pub use piece::Piece;
 pub use reading::read_file;
 pub use report::Report;
 pub use status::Status;
-pub use words::{is_option, number_in, ue_count};
+pub use words::{is_option, ue_count};

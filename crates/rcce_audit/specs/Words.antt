@@ -6,7 +6,7 @@ use Rattle.std.specs.Str.{bytes_eq}
 use Rattle.hex.specs.Hex.{decode_of}
 use Rattle.scc_base.specs.declared.kinds.Kind.{Kind}
 use Rattle.scc_base.specs.declared.kinds.Kind.TheVariants.{Plain, Bcast, Reduce, AllUp, AllDown}
-use Rattle.script_reader.specs.Words.{number_of}
+use Rattle.texts.specs.Numbers.{number_of}
 
 -- the second step, if the first gave a value
 infixl 10 ◌>>=◌

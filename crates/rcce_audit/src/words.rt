@@ -5,8 +5,9 @@ ghost use Rattle.rcce_audit.specs.Words.{hex_said, is_lower, kind_said, number_s
 
 use hex::FromHexError;
 use scc_base::Kind;
-use script_reader::{Bytes, number};
+use script_reader::Bytes;
 use std::alloc::{AllocError, Global};
+use texts::number;
 
 /// The parts of a text between its line feeds.
 pub fn parts(alloc: Global, text: &[u8]) -> Result<Vec<&[u8]>, AllocError>

@@ -1,5 +1,5 @@
--- The first layer of the grammar: lines, words, numbers, names and bytes (this project's profile).
-use Rattle.std.specs.Prelude.{ℕ, ◌+◌, ◌-◌, ◌*◌, ◌^◌, ◌%◌, ◌==◌, ◌&&◌, ◌||◌, nat_le, not, Bool, if◌then◌else◌, List, [], ◌∷◌, length, drop, slice_index, slice_get, filter, codes, Option, Some, None}
+-- The first layer of the grammar: lines, words, values, names and bytes (this project's profile).
+use Rattle.std.specs.Prelude.{ℕ, ◌+◌, ◌-◌, ◌^◌, ◌%◌, ◌==◌, ◌&&◌, ◌||◌, nat_le, not, Bool, if◌then◌else◌, List, [], ◌∷◌, length, drop, slice_index, slice_get, filter, codes, Option, Some, None}
 use Rattle.std.specs.Char.{is_ascii_alphabetic, is_ascii_digit}
 use Rattle.std.specs.Int.{w32, w64, to_le_bytes}
 use Rattle.std.specs.List.{before_first, list_all, slice_split}
@@ -9,6 +9,7 @@ use Rattle.std.specs.Str.{bytes_eq}
 use Rattle.groups.specs.declared.operations.Ty.{Ty}
 use Rattle.groups.specs.declared.operations.Ty.TheVariants as ty
 use Rattle.hex.specs.Hex.{decode_of}
+use Rattle.texts.specs.Numbers.{decimal_of}
 
 -- a tab, a carriage return or a space
 abbrev pub is_blank : ℕ → Bool
@@ -42,20 +43,6 @@ is_text line = list_all is_text_byte (uncommented line)
 -- the words of a line: what stands between the blanks
 abbrev pub words_of : List ℕ → List (List ℕ)
 words_of line = filter (λ word. not (length word == 0)) (slice_split is_blank (uncommented line))
-
--- the value of the decimal digits that follow those of the value `front`, as long as it is at most `limit`
-abbrev pub digits_value : ℕ → ℕ → List ℕ → Option ℕ
-digits_value limit front [] = Some front
-digits_value limit front (b ∷ rest) =
-    if is_ascii_digit b && nat_le (front * 10 + (b - 48)) limit then digits_value limit (front * 10 + (b - 48)) rest else None
-
--- a number of 1 to `most` decimal digits with a value of at most `limit`, leading zeros accepted
-abbrev pub decimal_of : ℕ → ℕ → List ℕ → Option ℕ
-decimal_of most limit word = if nat_le 1 (length word) && nat_le (length word) most then digits_value limit 0 word else None
-
--- a number: 1 to 10 digits with a value of at most 4,294,967,295
-unfoldable pub number_of : List ℕ → Option ℕ
-number_of word = decimal_of 10 4294967295 word
 
 -- the greatest value of a type. The least one is one further below zero
 abbrev pub greatest : Ty → ℕ

@@ -26,8 +26,8 @@ pub use effect::{
     At, Cost, Effect, Fit, Group, Nesting, Size, Target, Use, Uses, effect_of, parent_of,
 };
 pub use fault::{FaultKind, ReadFault, ReadStop};
-pub use laws::{decimal_law, script_law, version_law};
+pub use laws::{script_law, version_law};
 pub use reading::{MOST_SCRIPT_BYTES, read_script};
 pub use script::{Form, Item, Peer, Scripts, Stmt, Who};
 pub use version::Version;
-pub use words::{is_text, number, uncommented};
+pub use words::{is_text, uncommented};

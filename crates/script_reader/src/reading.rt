@@ -15,8 +15,9 @@ use crate::said::said_of;
 use crate::script::Scripts;
 use crate::taking::take;
 use crate::version::Version;
-use crate::words::{is_text, is_word, line_count, lines, number, words};
+use crate::words::{is_text, is_word, line_count, lines, words};
 use std::alloc::{AllocError, Global};
+use texts::number;
 
 /// The most bytes of a script's file: 4 MiB.
 pub const MOST_SCRIPT_BYTES: usize = 4_194_304;

@@ -1,11 +1,11 @@
-//! Lines, words, numbers, names and bytes.
+//! Lines, words, values, names and bytes.
 
-ghost use Rattle.std.specs.Prelude.{◌≡◌, ◌+◌, ◌≤◌, length, map, IfOk, IfSome, OnOk, [], ◌++◌};
+ghost use Rattle.std.specs.Prelude.{◌≡◌, ◌+◌, ◌≤◌, length, map, IfOk, OnOk, [], ◌++◌};
 ghost use Rattle.std.specs.List.{list_all};
 ghost use Rattle.std.specs.Str.{bytes_eq};
 ghost use Rattle.script_reader.specs.Faults.{LineGives};
 ghost use Rattle.script_reader.specs.Said.{colour_said, hex_said, name_said, number_said, of_said, operation_said, peer_said, range_said, type_said, value_behind, values_said};
-ghost use Rattle.script_reader.specs.Words.{bytes_above, bytes_below, decimal_of, greatest, is_blank, is_name, is_name_byte, is_text, is_text_byte, line_count, lines_of, number_of, uncommented, words_of};
+ghost use Rattle.script_reader.specs.Words.{bytes_above, bytes_below, greatest, is_blank, is_name, is_name_byte, is_text, is_text_byte, line_count, lines_of, uncommented, words_of};
 
 use crate::bytes::Bytes;
 use crate::fault::{FaultKind, LineStop};
@@ -15,6 +15,7 @@ use groups::{Op, Ty};
 use hex::FromHexError;
 use std::alloc::{AllocError, Global};
 use std::marker::Model;
+use texts::{decimal, number};
 
 fn is_blank(b: u8) -> bool
     ensures { result ≡ is_blank b }
@@ -76,39 +77,6 @@ pub(crate) fn words(alloc: Global, line: &[u8]) -> Result<Vec<&[u8]>, AllocError
         .split(|b| is_blank(*b))
         .filter(|word| !word.is_empty())
         .collect(alloc)
-}
-
-/// The value of 1 to `most` decimal digits, at most `limit`, leading zeros accepted.
-fn decimal(word: &[u8], most: usize, limit: u64) -> Option<u64>
-    ensures gives { result ≡ decimal_of most limit word.now }
-    ensures within { IfSome result (λ value. value ≤ limit) }
-{
-    if word.is_empty() || word.len() > most {
-        return None;
-    }
-    let mut value: u64 = 0;
-    for b in word {
-        if !b.is_ascii_digit() {
-            return None;
-        }
-        let next = value as u128 * 10 + (*b - b'0') as u128;
-        if next > limit as u128 {
-            return None;
-        }
-        value = next as u64;
-    }
-    Some(value)
-}
-
-/// The number that a word stands for: 1 to 10 decimal digits with a value of at most 4,294,967,295, leading zeros
-/// accepted.
-pub fn number(word: &[u8]) -> Option<u32>
-    ensures { result ≡ number_of word.now }
-{
-    match decimal(word, 10, u32::MAX as u64) {
-        Some(value) => Some(value as u32),
-        None => None,
-    }
 }
 
 /// A word as a number.

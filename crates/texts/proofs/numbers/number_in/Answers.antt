@@ -1,6 +1,6 @@
 use Rattle.std.proofs.Common.{rules}
-use Rattle.outcomes.specs.Numbers.{number_in}
-use Rattle.outcomes.proofs.words.number_in.Goals as goal
+use Rattle.texts.specs.Numbers.{number_in}
+use Rattle.texts.proofs.numbers.number_in.Goals as goal
 
 pub returns-in-Some-clause-gives : goal.returns-in-Some-clause-gives
 unfolding number_in

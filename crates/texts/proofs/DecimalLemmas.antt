@@ -5,7 +5,7 @@ use Rattle.std.specs.Char.{is_ascii_digit}
 use Rattle.std.proofs.lemmas.Bool.{and_from, le-leb, cond-true}
 use Rattle.std.proofs.lemmas.Bool.Decides.{nat_tests}
 use Rattle.std.proofs.lemmas.Fmt.{decimal_by_steps, decimal_nonempty, length-decimal-le}
-use Rattle.script_reader.specs.Words.{number_of, digits_value}
+use Rattle.texts.specs.Numbers.{digits_value, number_of}
 
 passed : (t : Bool) (a b c : Option ℕ) (n : ℕ) → (a ≡ Some n → b ≡ c) → cond t a None ≡ Some n → cond t b None ≡ c
 passed true a b c n more is = more is

@@ -1,6 +1,6 @@
 use Rattle.std.proofs.Common.{rules}
-use Rattle.script_reader.specs.Words.{number_of}
-use Rattle.script_reader.proofs.words.number.Goals as goal
+use Rattle.texts.specs.Numbers.{number_of}
+use Rattle.texts.proofs.numbers.number.Goals as goal
 
 pub returns-in-Some : goal.returns-in-Some
 unfolding number_of

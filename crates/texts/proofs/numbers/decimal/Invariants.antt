@@ -1,6 +1,6 @@
 use Rattle.std.proofs.Common.{◌≡◌, ◌≤◌, drop}
-use Rattle.script_reader.specs.Words.{digits_value}
-use Rattle.script_reader.proofs.words.decimal.Given as goal
+use Rattle.texts.specs.Numbers.{digits_value}
+use Rattle.texts.proofs.numbers.decimal.Given as goal
 
 -- the digits that are left, behind the value so far, have the value of all
 abbrev pub invariant-loop-b : goal.invariant-loop-b

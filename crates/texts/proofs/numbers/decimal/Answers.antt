@@ -1,5 +1,5 @@
 use Rattle.std.proofs.Common.{rules}
-use Rattle.script_reader.proofs.words.decimal.Goals as goal
+use Rattle.texts.proofs.numbers.decimal.Goals as goal
 
 -- Answered by name, so that a body which turns this is refused at once, with no search for what else might be written.
 pub returns-then-is_empty-clause-gives : goal.returns-then-is_empty-clause-gives
