@@ -3,7 +3,6 @@
 
 mod complaint;
 mod delivery;
-mod piece;
 mod reading;
 mod report;
 mod status;
@@ -11,7 +10,6 @@ mod words;
 
 pub use complaint::Complaint;
 pub use delivery::deliver;
-pub use piece::Piece;
 pub use reading::read_file;
 pub use report::Report;
 pub use status::Status;

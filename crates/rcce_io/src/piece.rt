@@ -1,15 +1,17 @@
-use rcce_io::{Sink, TextSource, WriteFault, write_all};
+use crate::{Sink, TextSource, WriteFault, write_all, write_hex};
 
 /// A piece of a line. No memory is taken for its text.
 #[derive(Clone, Copy)]
 pub enum Piece<'a> {
     Text(&'a str),
     /// A number in decimal digits.
-    Number(u32),
+    Number(u64),
+    /// Bytes as hex digits in lower case, and `-` for none.
+    Hex(&'a [u8]),
 }
 
 impl TextSource for Piece<'_> {
-    ghost use Rattle.outcomes.specs.Pieces.{piece_text};
+    ghost use Rattle.rcce_io.specs.Pieces.{piece_text};
 
     ghost text = { piece_text };
 
@@ -20,6 +22,7 @@ impl TextSource for Piece<'_> {
                 let mut buffer = itoa::Buffer::new();
                 write_all(sink, buffer.format(*n).as_bytes())
             }
+            Piece::Hex(bytes) => write_hex(sink, bytes),
         }
     }
 }
