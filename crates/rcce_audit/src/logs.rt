@@ -4,8 +4,8 @@ ghost use Rattle.std.specs.Prelude.{◌≡◌, ◌<◌, ℕ};
 ghost use Rattle.scc_base.specs.Setups.{host_of};
 
 use scc_base::{CommRule, CoreId, Head, Layout, PostHead, Rank, Setup};
-use script_reader::Bytes;
 use std::marker::Model;
+use texts::Bytes;
 
 /// A call with the bytes that it moved.
 #[derive(Drop)]

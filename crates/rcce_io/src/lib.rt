@@ -3,7 +3,6 @@
 #![tactic(auto)]
 
 mod buffer;
-mod bytes;
 mod calls;
 mod digits;
 mod files;
@@ -17,7 +16,6 @@ mod text_source;
 mod writing;
 
 pub use buffer::Buffer;
-pub use bytes::Bytes;
 pub use digits::write_hex;
 pub use files::{Files, Got, Opened};
 pub use host::{HostFiles, StdSink};

@@ -4,7 +4,7 @@ use Rattle.std.specs.Char.{is_ascii_whitespace}
 use Rattle.std.specs.List.{prefix_len, suffix_len, range_with_len}
 use Rattle.std.specs.Str.{bytes_eq}
 use Rattle.script_reader.specs.Faults.{◌>>=◌}
-use Rattle.script_reader.specs.Words.{is_text, lines_of, uncommented}
+use Rattle.texts.specs.Cuts.{is_text, lines_of, uncommented}
 use Rattle.texts.specs.Numbers.{number_of}
 use Rattle.rcce_words.specs.Cores.{has_core}
 use Rattle.rcce_words.specs.declared.host_file.HostFault.{HostFault}

@@ -8,8 +8,7 @@ ghost use Rattle.rcce_words.specs.HostFile.{core_of_word, default_hosts, digits_
 
 use crate::cores::Cores;
 use scc_base::CoreId;
-use script_reader::{is_text, uncommented};
-use texts::number;
+use texts::{is_text, number, uncommented};
 
 /// The longest host file, in bytes.
 const MOST_BYTES: usize = 65_536;

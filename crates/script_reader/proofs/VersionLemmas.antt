@@ -42,7 +42,7 @@ use Rattle.script_reader.specs.Reading.{at_end, at_line, begun, most_script_byte
 use Rattle.script_reader.specs.Said.{of_said, version_number, allreduce_said, alone, apply_said, barrier_said, bcast_said, bytes_said, colour_said, dash_of, fill_said, hex_said, name_said, number_said, operation_said, peer_said, range_said, type_said, values_said, group_said, numbers_said, post_said, print_said, ranks_said, rank_of_said, rcce_said, recv_said, reduce_said, register_said, repeat_said, said_of, section_said, send_said, span_said, split_said, ue_said, values_named}
 use Rattle.script_reader.specs.Script.{Script, first_split, rules_of}
 use Rattle.script_reader.specs.Settled.{SplitsWorldAlone}
-use Rattle.script_reader.specs.Words.{is_text, line_count, lines_of, words_of}
+use Rattle.texts.specs.Cuts.{is_text, line_count, lines_of, words_of}
 use Rattle.script_reader.proofs.EndLemmas.{rules-with_ends}
 use Rattle.script_reader.proofs.RuleLemmas.{first_split-more, or_rule-either, split-at}
 

@@ -6,7 +6,7 @@ ghost use Rattle.script_reader.specs.Checks.{last_comm};
 ghost use Rattle.script_reader.specs.Closed.{IsClosed};
 ghost use Rattle.script_reader.specs.Reading.{parse_script, read_as, read_file, version_of};
 ghost use Rattle.script_reader.specs.Settled.{NamesCommsTo, SplitsWorldAlone};
-ghost use Rattle.script_reader.specs.Words.{lines_of};
+ghost use Rattle.texts.specs.Cuts.{lines_of};
 
 /// A file is read by the grammar of version 1, but where its first line that has words is `rcce 2`.
 /// A script of version 1 has no parent but the world, and names no communicator from 8 on; one of version 2 names none from

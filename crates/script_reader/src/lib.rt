@@ -1,7 +1,6 @@
 //! The script language: what a file of bytes says, as a list of statements, or the first fault in it.
 #![tactic(auto)]
 
-mod bytes;
 mod checks;
 mod effect;
 mod ends;
@@ -21,7 +20,6 @@ mod tally;
 mod version;
 mod words;
 
-pub use bytes::Bytes;
 pub use effect::{
     At, Cost, Effect, Fit, Group, Nesting, Size, Target, Use, Uses, effect_of, parent_of,
 };
@@ -30,4 +28,3 @@ pub use laws::{script_law, version_law};
 pub use reading::{MOST_SCRIPT_BYTES, read_script};
 pub use script::{Form, Item, Peer, Scripts, Stmt, Who};
 pub use version::Version;
-pub use words::{is_text, uncommented};

@@ -1,5 +1,5 @@
 -- Words that are numbers in decimal digits (this project's profile).
-use Rattle.std.specs.Prelude.{ℕ, ◌+◌, ◌-◌, ◌*◌, ◌&&◌, nat_le, if◌then◌else◌, List, [], ◌∷◌, length, Option, Some, None, option_and_then}
+use Rattle.std.specs.Prelude.{ℕ, ◌+◌, ◌-◌, ◌*◌, ◌==◌, ◌&&◌, nat_le, Bool, false, if◌then◌else◌, List, [], ◌∷◌, length, Option, Some, None, option_and_then}
 use Rattle.std.specs.Char.{is_ascii_digit}
 
 -- the value of the decimal digits that follow those of the value `front`, as long as it is at most `limit`
@@ -15,6 +15,11 @@ decimal_of most limit word = if nat_le 1 (length word) && nat_le (length word) m
 -- a number: 1 to 10 digits with a value of at most 4,294,967,295
 unfoldable pub number_of : List ℕ → Option ℕ
 number_of word = decimal_of 10 4294967295 word
+
+-- there is a number, and it is this one
+abbrev pub is_number : Option ℕ → ℕ → Bool
+is_number None wanted = false
+is_number (Some number) wanted = number == wanted
 
 -- the number n, if it is at least `least`
 abbrev pub not_below : ℕ → ℕ → Option ℕ

@@ -1,7 +1,7 @@
 //! Words that are numbers in decimal digits. No memory is taken.
 
 ghost use Rattle.std.specs.Prelude.{◌≡◌, ◌≤◌, IfSome};
-ghost use Rattle.texts.specs.Numbers.{decimal_of, number_in, number_of};
+ghost use Rattle.texts.specs.Numbers.{decimal_of, is_number, number_in, number_of};
 
 /// The longest number, in digits.
 const MOST_DIGITS: usize = 10;
@@ -36,6 +36,16 @@ pub fn number(word: &[u8]) -> Option<u32>
     match decimal(word, MOST_DIGITS, u32::MAX as u64) {
         Some(value) => Some(value as u32),
         None => None,
+    }
+}
+
+/// Whether there is a number, and it is this one.
+pub fn is_number(number: Option<u32>, wanted: u32) -> bool
+    ensures { result ≡ is_number number wanted }
+{
+    match number {
+        Some(number) => number == wanted,
+        None => false,
     }
 }
 

@@ -1,4 +1,4 @@
-//! A list of bytes of a register.
+//! Bytes that own their memory, as a list.
 
 use std::alloc::{AllocError, Global};
 use std::marker::Model;

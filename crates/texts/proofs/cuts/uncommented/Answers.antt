@@ -1,8 +1,8 @@
 use Rattle.std.proofs.Common.{◌==◌, ◌∙◌, ap, length, rules, take, tests, unwrap_or}
 use Rattle.std.proofs.lemmas.Iterator.{YieldsList-from_slice}
 use Rattle.std.proofs.lemmas.Iterator.Search.{position_from_yields_List}
-use Rattle.script_reader.proofs.WordLemmas.{unwrapped_position}
-use Rattle.script_reader.proofs.words.uncommented.Goals as goal
+use Rattle.texts.proofs.PlaceLemmas.{unwrapped_position}
+use Rattle.texts.proofs.cuts.uncommented.Goals as goal
 
 pub returns : goal.returns
 returns c =
