@@ -3,9 +3,9 @@ use Rattle.scc_base.specs.Setups.{IsSetup, SetupView}
 use Rattle.scc_base.specs.declared.communicators.CommRule.{CommRule}
 use Rattle.scc_base.specs.declared.layouts.Layout.{Layout}
 use Rattle.scc_base.specs.declared.layouts.Layout.TheVariants.{LineFlags}
-use Rattle.station.specs.Worlds.{own_cores, world_setup}
-use Rattle.station.proofs.WorldLemmas.{is_world}
-use Rattle.station.proofs.setups.world_of.Goals as goal
+use Rattle.scc_base.specs.Worlds.{own_cores, world_setup}
+use Rattle.scc_base.proofs.WorldCores.{is_world}
+use Rattle.scc_base.proofs.worlds.world_of.Goals as goal
 
 abbrev with : ℕ → Layout → List ℕ → List CommRule → SetupView
 with nue layout hosts comms = record { nue = nue; layout = layout; hosts = hosts; comms = comms }
