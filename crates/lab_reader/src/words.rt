@@ -1,22 +1,9 @@
-//! Words: numbers, values, and words that are cut.
+//! Words: values, and words that are cut.
 
 ghost use Rattle.std.specs.Prelude.{◌≡◌, ◌<◌, ◌≤◌, ◌==◌, IfSome, length, option_map};
 ghost use Rattle.std.specs.List.{position};
-ghost use Rattle.lab_reader.specs.Words.{cut_at, hex_digit, range_said, value_said};
+ghost use Rattle.lab_reader.specs.Words.{cut_at, hex_digit, value_said};
 ghost use Rattle.lab_reader.specs.Cuts.{cut_of};
-
-use texts::number;
-
-/// A number from 0 to a limit.
-pub(crate) fn range_said(word: &[u8], most: u32) -> Option<u32>
-    ensures gives { result ≡ range_said most word.now }
-    ensures most { IfSome result (λ n. n ≤ most) }
-{
-    match number(word) {
-        Some(n) if n <= most => Some(n),
-        _ => None,
-    }
-}
 
 /// A word that was cut: what stands before the mark, and behind it.
 #[derive(Clone, Copy)]
