@@ -22,7 +22,9 @@ fn says_version(words: &[&[u8]]) -> bool
 {
     match words {
         [first, second, version] => {
-            *first == b"rcce".as_slice() && *second == b"lab".as_slice() && is_number(number(version), 1)
+            *first == b"rcce".as_slice()
+                && *second == b"lab".as_slice()
+                && is_number(number(version), 1)
         }
         _ => false,
     }
