@@ -1,8 +1,8 @@
 //! A verdict, and its line on out.
 
-use outcomes::Piece::{Number, Text};
 use outcomes::Report;
 use rcce_audit::Verdict;
+use rcce_io::Piece::{Number, Text};
 use rcce_io::{Sink, WriteFault, write_all, write_texts};
 
 /// What the audit of a log came to.
@@ -27,9 +27,9 @@ impl Report for Judged {
                 sink,
                 &[
                     Text("not legal: ue "),
-                    Number(rank.number() as u32),
+                    Number(rank.number() as u64),
                     Text(" call "),
-                    Number(call),
+                    Number(call as u64),
                     Text("\n"),
                 ],
             ),

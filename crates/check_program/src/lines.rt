@@ -5,7 +5,7 @@ ghost use Rattle.check_program.specs.Texts.{cause_name, cause_rank};
 
 use crate::causes::Cause;
 use crate::trouble::{Found, Trouble};
-use outcomes::Piece::{Number, Text};
+use rcce_io::Piece::{Number, Text};
 use rcce_io::{Sink, TextSource, WriteFault, write_texts};
 use scc_base::Rank;
 use script_plain::Match;
@@ -26,19 +26,19 @@ impl TextSource for MatchLine<'_> {
         write_texts(
             sink,
             &[
-                Number(one.from.number() as u32),
+                Number(one.from.number() as u64),
                 Text(":"),
-                Number(one.send_line),
+                Number(one.send_line as u64),
                 Text(" -> "),
-                Number(one.to.number() as u32),
+                Number(one.to.number() as u64),
                 Text(":"),
-                Number(one.recv_line),
+                Number(one.recv_line as u64),
                 Text(" "),
                 Text(one.head.kind_text()),
                 Text(" "),
-                Number(one.head.comm() as u32),
+                Number(one.head.comm() as u64),
                 Text(" "),
-                Number(one.head.len()),
+                Number(one.head.len() as u64),
                 Text("\n"),
             ],
         )
@@ -73,7 +73,7 @@ impl TextSource for Found {
     ghost text = { found_line };
 
     fn write_to<S: Sink>(&self, sink: &mut S) -> Result<(), WriteFault> {
-        let rank = self.rank.number() as u32;
+        let rank = self.rank.number() as u64;
         match &self.trouble {
             Trouble::Finished => Ok(()),
             Trouble::Waits { on, why } => write_texts(
@@ -82,10 +82,10 @@ impl TextSource for Found {
                     Text("ue "),
                     Number(rank),
                     Text(" waits for "),
-                    Number(on.number() as u32),
+                    Number(on.number() as u64),
                     Text(", cause "),
                     Text(cause_name(why)),
-                    Number(cause_rank(why).number() as u32),
+                    Number(cause_rank(why).number() as u64),
                     Text("\n"),
                 ],
             ),
@@ -95,7 +95,7 @@ impl TextSource for Found {
                     Text("ue "),
                     Number(rank),
                     Text(" mismatch with "),
-                    Number(from.number() as u32),
+                    Number(from.number() as u64),
                     Text("\n"),
                 ],
             ),

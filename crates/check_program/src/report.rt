@@ -1,10 +1,9 @@
 //! What was found of a script, and its lines on out.
 
-ghost use Rattle.std.specs.Prelude.{◌≡◌, length, map, IfOk};
+ghost use Rattle.std.specs.Prelude.{◌≡◌, map, IfOk};
 ghost use Rattle.rcce_io.specs.Sending.{Sends, joined};
 ghost use Rattle.script_plain.specs.Matches.{plain_matches};
 ghost use Rattle.script_plain.specs.Meaning.{keys_of, plain_ends};
-ghost use Rattle.script_plain.specs.Ends.{all_finished};
 ghost use Rattle.check_program.specs.Program.{ran_of};
 ghost use Rattle.check_program.specs.Reports.{report_ran};
 ghost use Rattle.check_program.specs.Texts.{match_line};
@@ -12,8 +11,7 @@ ghost use Rattle.check_program.specs.Texts.{match_line};
 use crate::lines::MatchLine;
 use crate::trouble::{Found, all_found};
 use rcce_io::{Buffer, Sink, WriteFault, write_texts};
-use scc_base::Rank;
-use script_plain::{End, History, Matches, UeEnd, plain_history};
+use script_plain::{History, Matches, have_finished, plain_history};
 use script_reader::Scripts;
 use std::alloc::{AllocError, Global};
 
@@ -64,21 +62,8 @@ pub fn report_of(alloc: Global, script: &Scripts) -> Result<Report, AllocError>
     let History { matches, end } = plain_history(alloc, script)?;
     let found = all_found(alloc, &end, script)?;
     Ok(Report {
-        finished: is_finished(&end, script),
+        finished: have_finished(&end, script),
         matches,
         found,
     })
-}
-
-/// Whether each rank has finished.
-fn is_finished(end: &End, script: &Scripts) -> bool
-    requires { length end.now ≡ script.now.nue }
-    ensures { result ≡ all_finished end.now }
-{
-    for number in 0..script.nue() {
-        if !matches!(end.ue(Rank::of(number)), UeEnd::Finished) {
-            return false;
-        }
-    }
-    true
 }

@@ -1,8 +1,8 @@
 -- What the ranks of a run hand in, and what they get (this project's profile of `rccecoll`).
-use Rattle.std.specs.Prelude.{ℕ, ◌+◌, ◌*◌, ◌/◌, ◌%◌, List, ◌∷◌, map, replicate}
+use Rattle.std.specs.Prelude.{ℕ, ◌+◌, ◌*◌, ◌/◌, ◌%◌, List, map}
 use Rattle.std.specs.List.{range_with_len}
 use Rattle.scc_base.specs.Setups.{SetupView}
-use Rattle.scc_base.specs.declared.communicators.CommRule.TheVariants.{Absent, World}
+use Rattle.scc_base.specs.Worlds.{world_alone}
 use Rattle.rcce_words.specs.Setups.{default_setup}
 use Rattle.coll_more.specs.Pieces.{pieces_for}
 use Rattle.coll_more.specs.Tables.{src_len_of}
@@ -27,4 +27,4 @@ got_by job rank = pieces_for job.more job.nue job.len (src_of job) rank
 
 -- the setup of a run: rank r on core r, with line flags, and the world alone as communicator
 abbrev pub setup_of : ℕ → SetupView
-setup_of nue = default_setup nue (World ∷ replicate 15 Absent)
+setup_of nue = default_setup nue world_alone

@@ -4,7 +4,8 @@ use Rattle.std.specs.Str.{bytes_eq}
 use Rattle.rcce_io.specs.Files.{FilesView}
 use Rattle.coll_more.specs.declared.kinds.More.{More}
 use Rattle.coll_more.specs.declared.kinds.More.TheVariants.{Gather, Scatter, Allgather, Alltoall}
-use Rattle.outcomes.specs.Numbers.{number_in, ue_count_of}
+use Rattle.outcomes.specs.Numbers.{ue_count_of}
+use Rattle.texts.specs.Numbers.{number_in}
 use Rattle.outcomes.specs.Outcomes.{Ran}
 use Rattle.outcomes.specs.Plans.{Plan, Program}
 use Rattle.outcomes.specs.Plans.Plan.{Runs}

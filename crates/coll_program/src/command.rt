@@ -4,7 +4,8 @@ ghost use Rattle.std.specs.Prelude.{◌≡◌, ◌≤◌, ◌∷◌, [], map, st
 ghost use Rattle.coll_program.specs.Program.{job_of, more_of};
 
 use coll_more::More;
-use outcomes::{number_in, ue_count};
+use outcomes::ue_count;
+use texts::number_in;
 
 /// What the words ask for: how many ranks, which call, and the length of a piece.
 #[derive(Clone, Copy)]
@@ -43,7 +44,7 @@ fn job_by(count: &str, kind: &str, len: &str) -> Option<Job>
     Some(Job {
         nue: ue_count(count)?,
         more: more_of(kind)?,
-        len: number_in(len, 0, 1024)?,
+        len: number_in(len.as_bytes(), 0, 1024)?,
     })
 }
 

@@ -8,7 +8,7 @@ ghost use Rattle.coll_program.specs.Pieces.{dst_at};
 use coll_more::More;
 use coll_run::Member;
 use line_cache::Never;
-use outcomes::Piece::{Number, Text};
+use rcce_io::Piece::{Number, Text};
 use rcce_io::{Sink, WriteFault, write_all, write_hex, write_texts};
 
 /// The word of a call.
@@ -31,7 +31,7 @@ fn write_front<S: Sink>(sink: &mut S, more: More, rank: u8) -> Result<(), WriteF
         sink,
         &[
             Text("ue "),
-            Number(rank as u32),
+            Number(rank as u64),
             Text(" "),
             Text(kind_word(more)),
             Text(" "),

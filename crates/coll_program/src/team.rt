@@ -1,8 +1,6 @@
 //! The ranks of a run before their first turns, and the setup of its chip.
 
-ghost use Rattle.std.specs.Prelude.{◌≡◌, ◌≤◌, ◌<◌, ◌∷◌, IfOk, replicate};
-ghost use Rattle.scc_base.specs.Communicators.{AreRules};
-ghost use Rattle.scc_base.specs.declared.communicators.CommRule.TheVariants.{Absent, World};
+ghost use Rattle.std.specs.Prelude.{◌≡◌, ◌≤◌, ◌<◌, IfOk};
 ghost use Rattle.coll_program.specs.Jobs.{byte_at, setup_of, src_of};
 ghost use Rattle.coll_program.specs.Runs.{IsTeamOf};
 
@@ -11,7 +9,7 @@ use coll_more::{More, src_len};
 use coll_run::{Member, join};
 use line_cache::Never;
 use rcce_words::default_hosts;
-use scc_base::{CommRule, Layout, Rank, Setup};
+use scc_base::{Layout, Rank, Setup, world_alone};
 use std::alloc::{AllocError, Global};
 
 /// Byte i of what a rank hands in.
@@ -57,23 +55,13 @@ pub fn team_of(alloc: Global, job: &Job) -> Result<Vec<Member<Never>>, AllocErro
     Ok(team)
 }
 
-/// The world alone.
-fn rules() -> [CommRule; 16]
-    ensures gives { result ≡ World ∷ replicate 15 Absent }
-    ensures valid { AreRules result }
-{
-    let mut rules = [CommRule::Absent; 16];
-    rules[0] = CommRule::World;
-    rules
-}
-
 /// The setup of a run: rank r on core r, with line flags.
 pub fn setup_of(nue: u8) -> Setup
     requires some { 1 ≤ nue }
     requires most { nue ≤ 48 }
     ensures gives { result ≡ setup_of nue }
 {
-    let Some(setup) = Setup::new(nue, Layout::lines(), default_hosts(), rules()) else {
+    let Some(setup) = Setup::new(nue, Layout::lines(), default_hosts(), world_alone()) else {
         unreachable!()
     };
     setup

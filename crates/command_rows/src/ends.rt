@@ -3,10 +3,11 @@
 use crate::cases::words_of;
 use crate::line_count::line_count;
 use outcomes::Status::{Files, Finished, Memory, Script, Words, Write};
-use outcomes::{Complaint, Status, number_in, ue_count};
+use outcomes::{Complaint, Status, ue_count};
 use rcce_io::{MemFiles, MemSink};
 use std::alloc::{AllocError, Global};
 use std::process::Abort;
+use texts::number_in;
 
 /// A run of the program: its words, the call of each kind that fails, how it ends, and what it writes.
 ///
@@ -249,7 +250,7 @@ fn expect_counts<R: Abort>(rt: &R, rows: &[(&str, Option<u8>)]) {
 
 fn expect_numbers<R: Abort>(rt: &R, rows: &[(&str, u32, u32, Option<u32>)]) {
     for (word, least, most, number) in rows {
-        assert!(rt; number_in(word, *least, *most) == *number);
+        assert!(rt; number_in(word.as_bytes(), *least, *most) == *number);
     }
 }
 

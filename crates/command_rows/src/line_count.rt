@@ -7,8 +7,8 @@ ghost use Rattle.outcomes.specs.Delivery.{sinks};
 ghost use Rattle.outcomes.specs.Promises.{Promises};
 ghost use Rattle.command_rows.specs.LineCount.{count_ran, file_plan, lines, lines_in, words_plan};
 
-use outcomes::Piece::{Number, Text};
 use outcomes::{Complaint, Report, Status, deliver, is_option, read_file};
+use rcce_io::Piece::{Number, Text};
 use rcce_io::{Files, Sink, WriteFault, write_texts};
 use std::alloc::Global;
 use std::marker::Model;
@@ -38,7 +38,7 @@ impl Report for Count {
     }
 
     fn write_out<S: Sink>(&self, sink: &mut S) -> Result<(), WriteFault> {
-        write_texts(sink, &[Number(self.lines), Text("\n")])
+        write_texts(sink, &[Number(self.lines as u64), Text("\n")])
     }
 
     fn write_err<S: Sink>(&self, sink: &mut S) -> Result<(), WriteFault> {

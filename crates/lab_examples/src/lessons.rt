@@ -1,5 +1,5 @@
 //! The lessons, each with the read that answers another value than was expected; mended, all that is expected comes.
-#![tactic(auto, unfolding(script_reader::specs::Words::number_of, lab_plain::specs::Meaning::lab_start))]
+#![tactic(auto, unfolding(texts::specs::Numbers::number_in, texts::specs::Numbers::number_of, lab_plain::specs::Meaning::lab_start))]
 
 ghost use Rattle.std.specs.Prelude.{◌≡◌};
 ghost use Rattle.lab_examples.specs.Ends.{all_came, end_of_text, heap_word, loses_at};

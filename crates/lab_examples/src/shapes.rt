@@ -1,5 +1,5 @@
 //! What this memory does: small labs in which each value comes that is expected.
-#![tactic(auto, unfolding(script_reader::specs::Words::number_of, lab_plain::specs::Meaning::lab_start))]
+#![tactic(auto, unfolding(texts::specs::Numbers::number_in, texts::specs::Numbers::number_of, lab_plain::specs::Meaning::lab_start))]
 
 ghost use Rattle.std.specs.Prelude.{◌≡◌, Ok, Some};
 ghost use Rattle.lab_examples.specs.Ends.{all_came, end_of_text};

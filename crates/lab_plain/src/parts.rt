@@ -1,7 +1,6 @@
 //! The parts of the lines.
 
-use outcomes::Piece;
-use rcce_io::{Sink, TextSource, WriteFault, write_all, write_hex, write_texts};
+use rcce_io::{Piece, Sink, TextSource, WriteFault, write_all, write_hex, write_texts};
 use scc_base::{Buf, Line};
 
 /// A part of a line. No memory is taken for its text.
@@ -29,7 +28,7 @@ impl TextSource for Part<'_> {
         match self {
             Part::Text(text) => write_all(sink, text.as_bytes()),
             Part::Bytes(bytes) => write_all(sink, bytes),
-            Part::Number(number) => Piece::Number(*number).write_to(sink),
+            Part::Number(number) => Piece::Number(*number as u64).write_to(sink),
             Part::Value(value) => write_hex(sink, &value.to_be_bytes()),
             Part::Word { value, written } => {
                 if *written {
@@ -41,9 +40,9 @@ impl TextSource for Part<'_> {
             Part::Line(line) => write_texts(
                 sink,
                 &[
-                    Piece::Number(line.core().number() as u32),
+                    Piece::Number(line.core().number() as u64),
                     Piece::Text(":"),
-                    Piece::Number(line.line().saturating_sub(Buf::FIRST) as u32),
+                    Piece::Number(line.line().saturating_sub(Buf::FIRST) as u64),
                 ],
             ),
         }

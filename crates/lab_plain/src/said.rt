@@ -1,7 +1,7 @@
 //! What a lab prints.
 
 use scc_base::{CoreId, Line, Place};
-use script_reader::Bytes;
+use texts::Bytes;
 
 /// Where the answer of a read came from.
 #[derive(Clone, Copy)]

@@ -5,15 +5,16 @@ use Rattle.scc_base.specs.Places.{LineAt, WordAt, word_of_line}
 use Rattle.lab_reader.specs.declared.steps.Action.{Action}
 use Rattle.lab_reader.specs.declared.steps.Action.TheVariants as action
 use Rattle.lab_reader.specs.Places.{heap_line}
-use Rattle.lab_reader.specs.Words.{◌>>=◌, some_if, Cut, range_said, cut_at, value_said}
+use Rattle.lab_reader.specs.Words.{◌>>=◌, Cut, cut_at, value_said}
+use Rattle.texts.specs.Numbers.{number_in}
 
 -- a core
 abbrev pub core_said : List ℕ → Option ℕ
-core_said word = range_said 47 word
+core_said word = number_in 0 47 word
 
 -- a heap line of a core, by its number
 abbrev pub line_at_said : ℕ → List ℕ → Option LineAt
-line_at_said core word = range_said 30 word >>= λ n. Some (heap_line core n)
+line_at_said core word = number_in 0 30 word >>= λ n. Some (heap_line core n)
 
 -- a line whose word was cut at `:` or not: of the core before it, or of the own core
 abbrev pub line_cut : ℕ → List ℕ → Option Cut → Option LineAt
@@ -27,7 +28,7 @@ heap_line_said own word = line_cut own word (cut_at 58 word)
 -- a word of a heap line: `L.W` at the own core, or `K:L.W`
 abbrev pub word_said : ℕ → List ℕ → Option WordAt
 word_said own word =
-    cut_at 46 word >>= λ cut. heap_line_said own cut.front >>= λ line. range_said 3 cut.back >>= λ w. Some (word_of_line line w)
+    cut_at 46 word >>= λ cut. heap_line_said own cut.front >>= λ line. number_in 0 3 cut.back >>= λ w. Some (word_of_line line w)
 
 -- the four words of a line
 abbrev pub four_said : (first second third fourth : List ℕ) → Option (List ℕ)

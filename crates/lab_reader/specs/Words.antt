@@ -1,20 +1,11 @@
--- The words of a lab's lines: numbers, values, and words that a mark cuts in two (this project's profile).
-use Rattle.std.specs.Prelude.{ℕ, ◌+◌, ◌-◌, ◌*◌, ◌==◌, ◌&&◌, ◌||◌, nat_le, Bool, if◌then◌else◌, List, [], ◌∷◌, length, drop, take, Option, Some, None, option_and_then, option_map}
+-- The words of a lab's lines: values, and words that a mark cuts in two (this project's profile).
+use Rattle.std.specs.Prelude.{ℕ, ◌+◌, ◌-◌, ◌*◌, ◌==◌, ◌&&◌, ◌||◌, nat_le, if◌then◌else◌, List, [], ◌∷◌, length, drop, take, Option, Some, None, option_and_then, option_map}
 use Rattle.std.specs.List.{position}
-use Rattle.script_reader.specs.Words.{number_of}
 
 -- the second step, if the first gave a value
 infixl 10 ◌>>=◌
 abbrev pub ◌>>=◌ : {A B : Type 0} → Option A → (A → Option B) → Option B
 o >>= next = option_and_then next o
-
--- a value, if a test holds
-abbrev pub some_if : {A : Type 0} → Bool → A → Option A
-some_if test value = if test then Some value else None
-
--- a number from 0 to a limit
-abbrev pub range_said : ℕ → List ℕ → Option ℕ
-range_said most word = number_of word >>= λ n. some_if (nat_le n most) n
 
 -- a word that was cut: what stands before the mark, and behind it
 pub record Cut : Type 0 where

@@ -3,29 +3,18 @@
 ghost use Rattle.std.specs.Prelude.{◌≡◌, ◌<◌, ◌^◌, length, map};
 ghost use Rattle.lab_reader.specs.Faults.{Gives};
 ghost use Rattle.lab_reader.specs.Reading.{lab_of, lab_lines_said, says_version};
-ghost use Rattle.script_reader.specs.Reading.{is_number};
 ghost use Rattle.lab_reader.specs.declared.faults.LabStop.TheVariants.{Fault};
 
 use crate::faults::{LabFault, LabKind, LabStop};
 use crate::said::{action_said, core_said};
 use crate::steps::Step;
-use crate::words::{lines, words};
 use scc_base::CoreId;
-use script_reader::{Bytes, is_text, number};
 use std::alloc::Global;
 use std::marker::Model;
+use texts::{Bytes, is_number, is_text, lines, number, words};
 
 /// The most bytes of a lab's file: 1 MiB.
 pub const MOST_LAB_BYTES: usize = 1_048_576;
-
-fn is_one(number: Option<u32>) -> bool
-    ensures { result ≡ is_number number 1 }
-{
-    match number {
-        Some(number) => number == 1,
-        None => false,
-    }
-}
 
 /// Whether the words are `rcce lab 1`.
 fn says_version(words: &[&[u8]]) -> bool
@@ -33,7 +22,9 @@ fn says_version(words: &[&[u8]]) -> bool
 {
     match words {
         [first, second, version] => {
-            *first == b"rcce".as_slice() && *second == b"lab".as_slice() && is_one(number(version))
+            *first == b"rcce".as_slice()
+                && *second == b"lab".as_slice()
+                && is_number(number(version), 1)
         }
         _ => false,
     }

@@ -5,21 +5,22 @@ ghost use Rattle.lab_reader.specs.Said.{action_said, bare_said, core_said, expec
 
 use crate::places::{HeapLine, HeapWord};
 use crate::steps::Action;
-use crate::words::{cut_at, range_said, value_said};
+use crate::words::{cut_at, value_said};
 use scc_base::CoreId;
+use texts::number_in;
 
 /// A core.
 pub(crate) fn core_said(word: &[u8]) -> Option<CoreId>
     ensures { result ≡ core_said word.now }
 {
-    let core = range_said(word, 47)?;
+    let core = number_in(word, 0, 47)?;
     Some(CoreId::of(core as u8))
 }
 
 fn line_at_said(core: CoreId, word: &[u8]) -> Option<HeapLine>
     ensures { result ≡ line_at_said core word.now }
 {
-    let number = range_said(word, 30)?;
+    let number = number_in(word, 0, 30)?;
     Some(HeapLine::new(core, number as u8))
 }
 
@@ -39,7 +40,7 @@ fn word_said(own: CoreId, word: &[u8]) -> Option<HeapWord>
 {
     let cut = cut_at(word, b'.')?;
     let line = line_said(own, cut.front)?;
-    let number = range_said(cut.back, 3)?;
+    let number = number_in(cut.back, 0, 3)?;
     Some(line.word(number as u8))
 }
 

@@ -2,7 +2,7 @@
 
 use crate::places::{HeapLine, HeapWord};
 use scc_base::CoreId;
-use script_reader::Bytes;
+use texts::Bytes;
 
 /// What a core does.
 #[derive(Clone, Copy)]

@@ -1,47 +1,9 @@
-//! Lines, words and values.
+//! Words: values, and words that are cut.
 
-ghost use Rattle.std.specs.Prelude.{◌≡◌, ◌<◌, ◌≤◌, ◌==◌, IfOk, IfSome, length, map, option_map};
+ghost use Rattle.std.specs.Prelude.{◌≡◌, ◌<◌, ◌≤◌, ◌==◌, IfSome, length, option_map};
 ghost use Rattle.std.specs.List.{position};
-ghost use Rattle.script_reader.specs.Words.{is_blank, lines_of, words_of};
-ghost use Rattle.lab_reader.specs.Words.{cut_at, hex_digit, range_said, value_said};
+ghost use Rattle.lab_reader.specs.Words.{cut_at, hex_digit, value_said};
 ghost use Rattle.lab_reader.specs.Cuts.{cut_of};
-
-use script_reader::{number, uncommented};
-use std::alloc::{AllocError, Global};
-
-fn is_blank(b: u8) -> bool
-    ensures { result ≡ is_blank b }
-{
-    b == b'\t' || b == b'\r' || b == b' '
-}
-
-/// The lines of a file, each without its line feed.
-pub(crate) fn lines(alloc: Global, bytes: &[u8]) -> Result<Vec<&[u8]>, AllocError>
-    ensures { IfOk result (λ v. map (λ line. line.now) v.items ≡ lines_of bytes.now) }
-{
-    bytes.split(|b| *b == b'\n').collect(alloc)
-}
-
-/// The words of a line.
-pub(crate) fn words(alloc: Global, line: &[u8]) -> Result<Vec<&[u8]>, AllocError>
-    ensures { IfOk result (λ v. map (λ word. word.now) v.items ≡ words_of line.now) }
-{
-    uncommented(line)
-        .split(|b| is_blank(*b))
-        .filter(|word| !word.is_empty())
-        .collect(alloc)
-}
-
-/// A number from 0 to a limit.
-pub(crate) fn range_said(word: &[u8], most: u32) -> Option<u32>
-    ensures gives { result ≡ range_said most word.now }
-    ensures most { IfSome result (λ n. n ≤ most) }
-{
-    match number(word) {
-        Some(n) if n <= most => Some(n),
-        _ => None,
-    }
-}
 
 /// A word that was cut: what stands before the mark, and behind it.
 #[derive(Clone, Copy)]

@@ -1,7 +1,7 @@
 -- How a core at work over the chip stands for a scene of the plain meaning.
-use Rattle.std.specs.Prelude.{◌≡◌, ℕ, ◌<◌, List, ◌∷◌, ◌++◌, replicate}
+use Rattle.std.specs.Prelude.{◌≡◌, ℕ, ◌<◌, List, ◌++◌}
 use Rattle.scc_base.specs.Setups.{SetupView, IsSetup, host_of}
-use Rattle.scc_base.specs.declared.communicators.CommRule.TheVariants.{Absent, World}
+use Rattle.scc_base.specs.Worlds.{world_alone}
 use Rattle.scc_base.specs.declared.layouts.Layout.TheVariants.{LineFlags}
 use Rattle.scc_proto.specs.Stages.{Idle}
 use Rattle.scc_proto.specs.Words.{Memory, zeros}
@@ -28,7 +28,7 @@ pub record IsLabSetup (s : SetupView) : Type 0 where
   pub ranks : s.nue ≡ 48
   pub layout : s.layout ≡ LineFlags
   pub hosts : (r : ℕ) → r < 48 → host_of s.hosts r ≡ r
-  pub comms : s.comms ≡ World ∷ replicate 15 Absent
+  pub comms : s.comms ≡ world_alone
 
 -- a core may go on: no call of its rank is open, and in its write-combining buffer stands a heap line or none
 pub record IsReady (core : Private) (chip : LabChipView) : Type 0 where

@@ -14,8 +14,8 @@ use lab_plain::{Said, Stopped};
 use lab_reader::{Action, Step};
 use put_get::Core;
 use scc_base::{CoreId, Rank};
-use script_reader::Bytes;
 use std::alloc::{AllocError, Global};
+use texts::Bytes;
 
 /// Cores that hold nothing.
 fn new_cores(alloc: Global) -> Result<Vec<Core<Named>>, AllocError>

@@ -5,7 +5,7 @@ use Rattle.std.specs.Prelude.{is_some}
 use Rattle.std.specs.Option.{unwrap_or}
 use Rattle.std.proofs.lemmas.Bool.{cases_lt, eq-eqb}
 use Rattle.std.proofs.lemmas.List.{append-nil, get_or-set_other, get_or-set_same, get_or_past, length-set, length-take, length-replicate, map-append, take-append-drop, take-set, take_more, take_rest, get_or-take}
-use Rattle.std.proofs.lemmas.List.FromFn.{fill_by_all, get_or-range_with_len, length-range_with_len}
+use Rattle.std.proofs.lemmas.List.FromFn.{fill_by_all}
 use Rattle.std.proofs.lemmas.List.Quantifiers.{position-Some}
 use Rattle.std.proofs.lemmas.Bool.{ltb-false}
 use Rattle.std.proofs.lemmas.Bool.Decides.{nat_tests}
@@ -13,7 +13,7 @@ use Rattle.std.proofs.lemmas.List.Folds.{list_any-append}
 use Rattle.std.proofs.lemmas.List.Sums.{fails_before_first}
 use Rattle.std.proofs.lemmas.List.Splits.{length-slice_split, slice_split_at, slice_split_none}
 use Rattle.mesh_load.specs.Mesh.{core_of}
-use Rattle.mesh_program.specs.Cores.{are_different, by_rank, core_number, core_value, cores_in, is_comma, is_core, listed_cores, own_cores, parts_behind, parts_of, rank_numbers}
+use Rattle.mesh_program.specs.Cores.{are_different, by_rank, core_number, core_value, cores_in, is_comma, is_core, listed_cores, parts_behind, parts_of, rank_numbers}
 
 -- a word with a comma at a place
 pub cut_at : (word : List ℕ) (i : ℕ) → position is_comma word ≡ Some i → parts_of word ≡ take i word ∷ parts_of (drop (i + 1) word)
@@ -200,13 +200,3 @@ twice word nue i at w first more core so_far cuts is found =
     let alike : are_different (take i at ++ core ∷ []) ≡ false =
     different_push (take i at) core ∙ ap (λ (b : Bool). b && not (list_any (λ other. other == core) (take i at))) so_far.different ∙ ap not found in
     refuse_twice nue word (ap are_different cores ∙ different_front (take i at ++ core ∷ []) (map core_value (parts_behind more)) alike)
-
--- the cores of the ranks' own numbers
-pub own_filled : (nue : ℕ) (at : List ℕ) → nue ≤ 48 → length at ≡ 48 → ((k : ℕ) → k < nue → get_or at k 0 ≡ k) → ((k : ℕ) → nue ≤ k → get_or at k 0 ≡ 0) → at ≡ own_cores nue
-own_filled nue at most room front rest =
-    fill_by_all (core_of (range_with_len 0 nue)) at 48 0 room (λ k low.
-    ⊎_elim
-    (λ (within : k < nue). front k within ∙ sym (get_or-range_with_len 0 nue k 0 within ∙ zero-add k))
-    (λ (past : nue ≤ k). rest k past ∙ sym (get_or_past (range_with_len 0 nue) k 0 (omega (arith, past, length-range_with_len 0 nue))))
-    (cases_lt k nue))
-    ∙ ap (map (core_of (range_with_len 0 nue))) (sym numbers)

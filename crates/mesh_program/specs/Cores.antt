@@ -61,7 +61,3 @@ by_rank cores = map (core_of cores) rank_numbers
 -- the cores by rank of a word that lists as many as there are ranks
 abbrev pub listed_cores : ℕ → List ℕ → Option (List ℕ)
 listed_cores nue word = if lists_cores nue word then Some (by_rank (cores_in word)) else None
-
--- rank r on core r
-abbrev pub own_cores : ℕ → List ℕ
-own_cores nue = by_rank (range_with_len 0 nue)

@@ -3,4 +3,3 @@ pub mod Texts
 pub mod Program
 pub mod Jobs
 pub mod Reports
-pub mod Words

@@ -11,7 +11,8 @@ use Rattle.outcomes.specs.Plans.{Plan, Program}
 use Rattle.outcomes.specs.Plans.Plan.{Runs}
 use Rattle.rcce_words.specs.ScriptFiles.{script_plan}
 use Rattle.rcce_words.specs.ScriptWords.{Command, plan_of, script_command}
-use Rattle.mesh_program.specs.Cores.{listed_cores, own_cores}
+use Rattle.scc_base.specs.Worlds.{own_cores}
+use Rattle.mesh_program.specs.Cores.{listed_cores}
 use Rattle.mesh_program.specs.Texts.{mesh_text}
 
 -- a number of units of execution and the name of a script's file, and the core of each rank
@@ -25,7 +26,7 @@ placed_on command at = record { command = command; at = at }
 
 -- a command on the cores of its ranks' own numbers
 abbrev pub on_own : Command → Placed
-on_own command = placed_on command (own_cores command.nue)
+on_own command = placed_on command own_cores
 
 -- a command on the cores of a list, where it has as many as there are ranks
 abbrev pub on_listed : List ℕ → Command → Option Placed

@@ -4,9 +4,9 @@ ghost use Rattle.std.specs.Prelude.{◌≡◌, ◌≤◌, ◌∷◌, [], IfSome,
 ghost use Rattle.mesh_program.specs.Jobs.{placed_job};
 ghost use Rattle.mesh_program.specs.Program.{command_of};
 
-use crate::cores::{listed_cores, own_cores};
+use crate::cores::listed_cores;
 use rcce_words::{ScriptJob, script_job};
-use scc_base::CoreId;
+use scc_base::{CoreId, own_cores};
 
 /// What the words ask for: how many units of execution and the script's file, and the core of each rank.
 #[derive(Clone, Copy)]
@@ -42,7 +42,7 @@ fn own_job<'a>(option: &str, count: &str, script: &'a str) -> Option<Job<'a>>
     ensures most { IfSome result (λ job. job.asked.nue ≤ 48) }
 {
     let asked = script_job(option, count, script)?;
-    let at = own_cores(asked.nue);
+    let at = own_cores();
     Some(Job { asked, at })
 }
 

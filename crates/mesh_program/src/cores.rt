@@ -2,21 +2,9 @@
 
 ghost use Rattle.std.specs.Prelude.{◌≡◌, ◌∷◌, ◌==◌, ◌<◌, ◌≤◌, length, option_map, take, IfSome};
 ghost use Rattle.std.specs.List.{list_any, position};
-ghost use Rattle.mesh_program.specs.Cores.{core_number, is_comma, listed_cores, own_cores, parts_behind, parts_of};
+ghost use Rattle.mesh_program.specs.Cores.{core_number, is_comma, listed_cores, parts_behind, parts_of};
 
 use scc_base::CoreId;
-
-/// Rank r on core r.
-pub fn own_cores(nue: u8) -> [CoreId; 48]
-    requires { nue ≤ 48 }
-    ensures { result ≡ own_cores nue }
-{
-    let mut at = [CoreId::of(0); 48];
-    for number in 0..nue {
-        at[number as usize] = CoreId::of(number);
-    }
-    at
-}
 
 /// A word up to its first comma, and what is behind that comma.
 #[derive(Clone, Copy)]

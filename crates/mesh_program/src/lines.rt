@@ -6,33 +6,9 @@ ghost use Rattle.mesh_load.specs.Mesh.{link_at, neighbour};
 ghost use Rattle.mesh_load.specs.Tables.{load_on};
 ghost use Rattle.mesh_program.specs.Texts.{link_text, mesh_text, tile_text};
 
-use crate::lines::Word::{Number, Text};
 use mesh_load::{Dir, Load};
-use rcce_io::{Sink, TextSource, WriteFault, write_all, write_texts};
-
-/// A piece of a line. No memory is taken for its text.
-#[derive(Clone, Copy)]
-pub enum Word<'a> {
-    Text(&'a str),
-    /// A number in decimal digits.
-    Number(u64),
-}
-
-impl TextSource for Word<'_> {
-    ghost use Rattle.mesh_program.specs.Words.{word_text};
-
-    ghost text = { word_text };
-
-    fn write_to<S: Sink>(&self, sink: &mut S) -> Result<(), WriteFault> {
-        match self {
-            Word::Text(text) => write_all(sink, text.as_bytes()),
-            Word::Number(n) => {
-                let mut buffer = itoa::Buffer::new();
-                write_all(sink, buffer.format(*n).as_bytes())
-            }
-        }
-    }
-}
+use rcce_io::Piece::{Number, Text};
+use rcce_io::{Sink, WriteFault, write_texts};
 
 /// A tile of the mesh.
 #[derive(Clone, Copy)]

@@ -1,15 +1,14 @@
 //! The load of the mesh by a script, and its lines.
 
-ghost use Rattle.std.specs.Prelude.{◌≡◌, length, IfOk};
+ghost use Rattle.std.specs.Prelude.{IfOk};
 ghost use Rattle.script_plain.specs.Matches.{plain_matches};
-ghost use Rattle.script_plain.specs.Ends.{all_finished};
 ghost use Rattle.mesh_program.specs.Reports.{IsReportOf};
 
 use crate::lines::write_mesh;
 use mesh_load::{Load, load};
 use rcce_io::{Sink, WriteFault, write_all};
-use scc_base::{CoreId, Rank};
-use script_plain::{End, UeEnd, plain_history};
+use scc_base::CoreId;
+use script_plain::{have_finished, plain_history};
 use script_reader::Scripts;
 use std::alloc::{AllocError, Global};
 
@@ -47,20 +46,7 @@ pub fn report_of(alloc: Global, at: &[CoreId; 48], script: &Scripts) -> Result<R
 {
     let history = plain_history(alloc, script)?;
     Ok(Report {
-        finished: is_finished(&history.end, script),
+        finished: have_finished(&history.end, script),
         load: load(&history.matches, at),
     })
-}
-
-/// Whether each rank has finished.
-fn is_finished(end: &End, script: &Scripts) -> bool
-    requires { length end.now ≡ script.now.nue }
-    ensures { result ≡ all_finished end.now }
-{
-    for number in 0..script.nue() {
-        if !matches!(end.ue(Rank::of(number)), UeEnd::Finished) {
-            return false;
-        }
-    }
-    true
 }

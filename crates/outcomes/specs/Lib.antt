@@ -3,7 +3,6 @@ pub mod Complaints
 pub mod Delivery
 pub mod Numbers
 pub mod Outcomes
-pub mod Pieces
 pub mod Plans
 pub mod Promises
 pub mod Statuses

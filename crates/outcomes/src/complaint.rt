@@ -3,8 +3,8 @@ ghost use Rattle.rcce_io.specs.Sending.{Sends};
 ghost use Rattle.outcomes.specs.Complaints.{complaint_outcome};
 ghost use Rattle.outcomes.specs.Outcomes.{words_refused};
 
-use crate::Piece::{Number, Text};
 use crate::Status;
+use rcce_io::Piece::{Number, Text};
 use rcce_io::{Sink, WriteFault, write_texts};
 
 /// Why a program did not run.
@@ -99,7 +99,7 @@ impl<'a> Complaint<'a> {
                     Text(": "),
                     Text(file),
                     Text(" line "),
-                    Number(line),
+                    Number(line as u64),
                     Text(": "),
                     Text(kind),
                     Text("\n"),

@@ -3,7 +3,6 @@
 
 mod complaint;
 mod delivery;
-mod piece;
 mod reading;
 mod report;
 mod status;
@@ -11,8 +10,7 @@ mod words;
 
 pub use complaint::Complaint;
 pub use delivery::deliver;
-pub use piece::Piece;
 pub use reading::read_file;
 pub use report::Report;
 pub use status::Status;
-pub use words::{is_option, number_in, ue_count};
+pub use words::{is_option, ue_count};

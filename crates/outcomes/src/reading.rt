@@ -3,8 +3,9 @@ ghost use Rattle.outcomes.specs.Coming.{Holds};
 ghost use Rattle.outcomes.specs.Complaints.{ReadsFile};
 
 use crate::Complaint;
-use rcce_io::{Bytes, Files, ReadEnd, read_all};
+use rcce_io::{Files, ReadEnd, read_all};
 use std::alloc::Global;
+use texts::Bytes;
 
 /// Reads a file of at most `limit` bytes. A longer one is refused.
 pub fn read_file<'a, F: Files>(

@@ -6,8 +6,9 @@ mod rallies;
 
 use line_cache::Never;
 use rallies::{Ball, rally};
+use scc_base::world_of;
 use scc_mesh::Chip;
-use station::{Station, world_of};
+use station::Station;
 use std::io;
 
 /// How many balls are served.

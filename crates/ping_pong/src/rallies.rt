@@ -5,7 +5,7 @@ ghost use Rattle.scc_proto.specs.Ports.{Sight};
 ghost use Rattle.scc_proto.specs.Records.{record_of};
 ghost use Rattle.scc_mesh.specs.Scenes.{IsHomeBelow, IsNew, IsWhole, about_in, events_in, sight_away, table_in};
 ghost use Rattle.station.specs.Stations.{NoCallOpen};
-ghost use Rattle.station.specs.Worlds.{world_setup};
+ghost use Rattle.scc_base.specs.Worlds.{world_setup};
 ghost use Rattle.ping_pong.specs.GivingUp.{HasCome, HitStops, ServeStops};
 ghost use Rattle.ping_pong.specs.Rallies.{IsFresh, hits, serves};
 

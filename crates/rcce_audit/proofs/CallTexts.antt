@@ -21,7 +21,8 @@ use Rattle.rcce_audit.specs.Grammar.{Reading, RankedCall, rank_said, end_ranks, 
 use Rattle.rcce_audit.specs.Logs.{IsMessage, IsLogCall}
 use Rattle.rcce_io.specs.Digits.{hex_text}
 use Rattle.rcce_audit.specs.Texts.{message_words, call_words, line_of, text_of}
-use Rattle.rcce_audit.specs.Words.{◌>>=◌, only_if, parts_of, words_of, range_said}
+use Rattle.rcce_audit.specs.Words.{◌>>=◌, only_if, words_of, range_said}
+use Rattle.texts.specs.Cuts.{lines_of}
 use Rattle.rcce_audit.proofs.HexTextLemmas.{digit_at}
 use Rattle.rcce_audit.proofs.WordLemmas.{range_said-decimal, kind_said-kind_text, hex_said-hex_text}
 
@@ -117,11 +118,11 @@ are_lines-append [] ys are more = more
 are_lines-append (x ∷ xs) ys (is, rest) more = (is, are_lines-append xs ys rest more)
 
 -- the parts of lines with their line feeds
-pub parts_of-text_of : (lines : List (List ℕ)) → AreLines lines → parts_of (text_of lines) ≡ lines ++ [] ∷ []
-parts_of-text_of [] are = refl
-parts_of-text_of (line ∷ lines) (is, rest) =
-    ap parts_of (append_assoc line (10 ∷ []) (text_of lines))
-    ∙ slice_split_at (λ b. b == 10) line 10 (text_of lines) is refl ∙ ap (λ (t : List (List ℕ)). line ∷ t) (parts_of-text_of lines rest)
+pub lines_of-text_of : (lines : List (List ℕ)) → AreLines lines → lines_of (text_of lines) ≡ lines ++ [] ∷ []
+lines_of-text_of [] are = refl
+lines_of-text_of (line ∷ lines) (is, rest) =
+    ap lines_of (append_assoc line (10 ∷ []) (text_of lines))
+    ∙ slice_split_at (λ b. b == 10) line 10 (text_of lines) is refl ∙ ap (λ (t : List (List ℕ)). line ∷ t) (lines_of-text_of lines rest)
 
 -- the words of a call
 pub small_word : (n : ℕ) → n ≤ 65536 → IsWord (decimal n)

@@ -19,7 +19,8 @@ use Rattle.rcce_audit.specs.declared.lines.CommSplit.{CommSplit}
 use Rattle.rcce_audit.specs.Grammar.{Reading, RankedCall, with_comm, with_call, is_in_order, add_call, begins_comm, comm_said, call_said, line_said, kind_of, lines_said, end_said, nue_of, world_alone, no_calls, start_of, first_said, all_said, parts_said, log_of, is_present, ◌>=>◌}
 use Rattle.rcce_audit.specs.Logs.{LogView, calls_of, IsLogCall, IsLog, most_log_bytes}
 use Rattle.rcce_audit.specs.Texts.{head_words, line_of, rule_lines, call_words, call_lines, table_lines, log_lines, text_of, log_text, IsFileLog}
-use Rattle.rcce_audit.specs.Words.{◌>>=◌, parts_of, words_of}
+use Rattle.rcce_audit.specs.Words.{◌>>=◌, words_of}
+use Rattle.texts.specs.Cuts.{lines_of}
 use Rattle.rcce_audit.proofs.ListLemmas.{get_or-replicate_same}
 use Rattle.rcce_audit.proofs.WordLemmas.{then_some, only_some}
 use Rattle.rcce_audit.proofs.LineLemmas.{line_of-words_of, IsRankedWords, call_line, IsSplitRule, ByMod, ByDiv, IsSplitWords, comm_line, head_line}
@@ -366,14 +367,14 @@ last_part {X} parts d some =
     ap (λ (t : List X). take n parts ++ get_or parts n d ∷ t) (sym none) ∙ ap (λ (t : List X). take n parts ++ t) (sym rest) ∙ take-append-drop n parts
 
 -- what the parts of a text say, the text says
-pub log_told : (bytes : List ℕ) (parts : List (List ℕ)) (said : Result LogView LogFault) → length bytes ≤ most_log_bytes → parts ≡ parts_of bytes → parts_said parts ≡ said → log_of bytes ≡ said
+pub log_told : (bytes : List ℕ) (parts : List (List ℕ)) (said : Result LogView LogFault) → length bytes ≤ most_log_bytes → parts ≡ lines_of bytes → parts_said parts ≡ said → log_of bytes ≡ said
 log_told bytes parts said within same is = cond-false (nat_lt most_log_bytes (length bytes)) _ _ (le-ltb most_log_bytes (length bytes) within) ∙ ap parts_said (sym same) ∙ is
 
 -- a text has at most one part more than bytes
-pub few_parts : (bytes : List ℕ) (parts : List (List ℕ)) → parts ≡ parts_of bytes → length parts ≤ length bytes + 1
+pub few_parts : (bytes : List ℕ) (parts : List (List ℕ)) → parts ≡ lines_of bytes → length parts ≤ length bytes + 1
 few_parts bytes parts same = omega (arith, ap length same, length-slice_split (λ b. b == 10) bytes, count_by-le-length (λ b. b == 10) bytes)
 
-pub some_part : (bytes : List ℕ) (parts : List (List ℕ)) → parts ≡ parts_of bytes → 0 < length parts
+pub some_part : (bytes : List ℕ) (parts : List (List ℕ)) → parts ≡ lines_of bytes → 0 < length parts
 some_part bytes parts same = omega (arith, ap length same, length-slice_split (λ b. b == 10) bytes)
 
 -- a text that says a log is the log's text

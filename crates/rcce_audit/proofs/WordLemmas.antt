@@ -12,8 +12,8 @@ use Rattle.hex.proofs.HexLemmas.{decode_of-encode_lower, length-encode_with}
 use Rattle.rcce_audit.proofs.HexTextLemmas.{lower_text, text_lower}
 use Rattle.scc_base.specs.declared.kinds.Kind.{Kind}
 use Rattle.scc_base.specs.declared.kinds.Kind.TheVariants.{Plain, Bcast, Reduce, AllUp, AllDown}
-use Rattle.script_reader.specs.Words.{number_of}
-use Rattle.script_reader.proofs.DecimalLemmas.{number_of-decimal}
+use Rattle.texts.specs.Numbers.{number_of}
+use Rattle.texts.proofs.DecimalLemmas.{number_of-decimal}
 use Rattle.scc_base.specs.Heads.{kind_text}
 use Rattle.rcce_io.specs.Digits.{hex_text}
 use Rattle.rcce_audit.specs.Words.{◌>>=◌, only_if, spelled, number_said, range_said, kind_said, is_lower, hex_said}

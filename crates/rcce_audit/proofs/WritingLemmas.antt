@@ -18,7 +18,7 @@ use Rattle.rcce_audit.specs.Logs.{LogView, IsLogCall, IsLog, most_log_bytes}
 use Rattle.rcce_audit.specs.Texts.{head_words, split_words, call_words, line_of, rule_lines, call_lines, table_lines, log_lines, log_text, IsFileLog}
 use Rattle.rcce_audit.specs.Words.{◌>>=◌, only_if, words_of, range_said}
 use Rattle.rcce_audit.proofs.WordLemmas.{range_said-decimal}
-use Rattle.rcce_audit.proofs.CallTexts.{IsWord, AreWords, words_of-line_of, line_is, AreLines, are_lines-append, parts_of-text_of, small_word, call_are, present_is, line_told}
+use Rattle.rcce_audit.proofs.CallTexts.{IsWord, AreWords, words_of-line_of, line_is, AreLines, are_lines-append, lines_of-text_of, small_word, call_are, present_is, line_told}
 
 -- lines that lead from one reading to another
 abbrev LeadsTo : Reading → List (List ℕ) → Reading → Type 0
@@ -206,7 +206,7 @@ at_zero n = omega arith
 pub text_told : (log : LogView) → IsFileLog log → log_of (log_text log) ≡ Ok log
 text_told log is =
     cond-false (nat_lt most_log_bytes (length (log_text log))) _ _ (le-ltb most_log_bytes (length (log_text log)) is.fits)
-    ∙ ap parts_said (parts_of-text_of (log_lines log) lines_are) ∙ parts_told (log_lines log) ∙ all_told log.comms refl
+    ∙ ap parts_said (lines_of-text_of (log_lines log) lines_are) ∙ parts_told (log_lines log) ∙ all_told log.comms refl
   where
     written : IsLog log
     written = is.written

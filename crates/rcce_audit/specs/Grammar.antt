@@ -16,7 +16,8 @@ use Rattle.rcce_audit.specs.declared.faults.LogStop.TheVariants as stop
 use Rattle.rcce_audit.specs.declared.lines.CommSplit.{CommSplit}
 use Rattle.rcce_audit.specs.declared.lines.EndRanks.{EndRanks}
 use Rattle.rcce_audit.specs.Logs.{LogView, most_log_bytes}
-use Rattle.rcce_audit.specs.Words.{◌>>=◌, only_if, parts_of, words_of, range_said, kind_said, hex_said}
+use Rattle.rcce_audit.specs.Words.{◌>>=◌, only_if, words_of, range_said, kind_said, hex_said}
+use Rattle.texts.specs.Cuts.{lines_of}
 
 -- how far a log is read: what its lines so far say, its last communicator, and the rank of its last call
 pub record Reading : Type 0 where
@@ -213,7 +214,7 @@ parts_said parts = all_said (take (length parts - 1) parts) (slice_index_or part
 abbrev pub log_of : List ℕ → Result LogView LogFault
 log_of bytes =
     if nat_lt most_log_bytes (length bytes) then Err (record { line = 0; kind = kind.TooLong })
-    else parts_said (parts_of bytes)
+    else parts_said (lines_of bytes)
 
 -- a reading gives what the grammar says, seen through a view: its value or its fault. It may end for want of memory
 abbrev pub Gives : {A X : Type 0} → (X → A) → Result X LogStop → Result A LogFault → Type 0

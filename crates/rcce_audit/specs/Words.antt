@@ -1,12 +1,13 @@
 -- The words of a log's lines (this project's profile).
 use Rattle.std.specs.Prelude.{ℕ, ◌==◌, ◌&&◌, ◌||◌, nat_le, not, Bool, if◌then◌else◌, List, [], length, codes, decimal, Option, Some, None, option_and_then}
-use Rattle.std.specs.List.{list_all, slice_split}
+use Rattle.std.specs.List.{list_all}
 use Rattle.std.specs.Result.{result_ok}
 use Rattle.std.specs.Str.{bytes_eq}
 use Rattle.hex.specs.Hex.{decode_of}
 use Rattle.scc_base.specs.declared.kinds.Kind.{Kind}
 use Rattle.scc_base.specs.declared.kinds.Kind.TheVariants.{Plain, Bcast, Reduce, AllUp, AllDown}
-use Rattle.script_reader.specs.Words.{number_of}
+use Rattle.texts.specs.Cuts.{cut_by}
+use Rattle.texts.specs.Numbers.{number_of}
 
 -- the second step, if the first gave a value
 infixl 10 ◌>>=◌
@@ -17,13 +18,9 @@ o >>= next = option_and_then next o
 abbrev pub only_if : {A : Type 0} → Bool → A → Option A
 only_if test value = if test then Some value else None
 
--- the parts of a text between its line feeds
-abbrev pub parts_of : List ℕ → List (List ℕ)
-parts_of text = slice_split (λ b. b == 10) text
-
 -- the words of a line: what stands between its blanks
 abbrev pub words_of : List ℕ → List (List ℕ)
-words_of line = slice_split (λ b. b == 32) line
+words_of line = cut_by 32 line
 
 -- a number is said by its own decimal digits, without leading zeros
 abbrev pub spelled : List ℕ → ℕ → Option ℕ

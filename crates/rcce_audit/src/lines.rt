@@ -7,8 +7,8 @@ ghost use Rattle.rcce_audit.specs.Views.{data_of, ranked_of};
 use crate::logs::LogCall;
 use crate::words::{hex_said, kind_said, range_said};
 use scc_base::{CommRule, Head, PostHead, Rank};
-use script_reader::Bytes;
 use std::alloc::{AllocError, Global};
+use texts::Bytes;
 
 /// A call with its rank.
 #[derive(Drop)]

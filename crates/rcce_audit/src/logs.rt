@@ -1,11 +1,10 @@
 //! A log of calls.
 
 ghost use Rattle.std.specs.Prelude.{◌≡◌, ◌<◌, ℕ};
-ghost use Rattle.scc_base.specs.Setups.{host_of};
 
-use scc_base::{CommRule, CoreId, Head, Layout, PostHead, Rank, Setup};
-use script_reader::Bytes;
+use scc_base::{CommRule, Head, Layout, PostHead, Rank, Setup, own_cores};
 use std::marker::Model;
+use texts::Bytes;
 
 /// A call with the bytes that it moved.
 #[derive(Drop)]
@@ -97,15 +96,4 @@ impl Log {
             None => unreachable!(),
         }
     }
-}
-
-/// Each rank on the core of its number.
-fn own_cores() -> [CoreId; 48]
-    ensures { (r : ℕ) → r < 48 → host_of result r ≡ r }
-{
-    let mut cores = [CoreId::of(0); 48];
-    for number in 0..48 {
-        cores[number as usize] = CoreId::of(number);
-    }
-    cores
 }

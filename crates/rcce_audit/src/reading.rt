@@ -8,8 +8,9 @@ use crate::faults::{LogFault, LogKind, LogStop};
 use crate::lines::{begins_comm, nue_of};
 use crate::logs::Log;
 use crate::reader::Reader;
-use crate::words::{parts, words};
+use crate::words::words;
 use std::alloc::Global;
+use texts::lines;
 
 /// The most bytes of a log's text: 64 MiB.
 pub const MOST_LOG_BYTES: usize = 67_108_864;
@@ -99,7 +100,7 @@ pub fn read_log(alloc: Global, bytes: &[u8]) -> Result<Log, LogStop>
             kind: LogKind::TooLong,
         }));
     }
-    let parts = parts(alloc, bytes)?;
+    let parts = lines(alloc, bytes)?;
     match read_parts(alloc, parts.as_slice()) {
         Ok(reader) => Ok(Log::new(reader.nue, reader.comms, reader.lists)),
         Err(stop) => Err(stop),

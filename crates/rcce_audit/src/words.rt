@@ -1,25 +1,18 @@
 //! The words of a log's lines: numbers, kinds and bytes.
 
 ghost use Rattle.std.specs.Prelude.{◌≡◌, ◌≤◌, IfOk, IfSome, map};
-ghost use Rattle.rcce_audit.specs.Words.{hex_said, is_lower, kind_said, number_said, parts_of, range_said, words_of};
+ghost use Rattle.rcce_audit.specs.Words.{hex_said, is_lower, kind_said, number_said, range_said, words_of};
 
 use hex::FromHexError;
 use scc_base::Kind;
-use script_reader::{Bytes, number};
 use std::alloc::{AllocError, Global};
-
-/// The parts of a text between its line feeds.
-pub fn parts(alloc: Global, text: &[u8]) -> Result<Vec<&[u8]>, AllocError>
-    ensures { IfOk result (λ v. map (λ part. part.now) v.items ≡ parts_of text.now) }
-{
-    text.split(|b| *b == b'\n').collect(alloc)
-}
+use texts::{Bytes, number, parts};
 
 /// The words of a line.
 pub fn words(alloc: Global, line: &[u8]) -> Result<Vec<&[u8]>, AllocError>
     ensures { IfOk result (λ v. map (λ word. word.now) v.items ≡ words_of line.now) }
 {
-    line.split(|b| *b == b' ').collect(alloc)
+    parts(alloc, line, b' ')
 }
 
 /// The number that a word spells: its decimal digits without leading zeros.

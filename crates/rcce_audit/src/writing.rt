@@ -7,35 +7,9 @@ ghost use Rattle.rcce_audit.specs.Texts.{call_lines, head_words, message_words, 
 ghost use Rattle.rcce_audit.specs.Views.{data_lists};
 
 use crate::logs::{Log, LogCall};
-use crate::writing::Piece::{Hex, Number, Text};
-use rcce_io::{Sink, TextSource, WriteFault, write_all, write_hex, write_texts};
+use rcce_io::Piece::{Hex, Number, Text};
+use rcce_io::{Sink, TextSource, WriteFault, write_texts};
 use scc_base::{CommRule, Head, Rank};
-
-/// A piece of a line.
-#[derive(Clone, Copy)]
-pub(crate) enum Piece<'a> {
-    Text(&'a str),
-    Number(u32),
-    /// Bytes as hex digits, and `-` for none.
-    Hex(&'a [u8]),
-}
-
-impl TextSource for Piece<'_> {
-    ghost use Rattle.rcce_audit.specs.Pieces.{piece_text};
-
-    ghost text = { piece_text };
-
-    fn write_to<S: Sink>(&self, sink: &mut S) -> Result<(), WriteFault> {
-        match self {
-            Piece::Text(text) => write_all(sink, text.as_bytes()),
-            Piece::Number(n) => {
-                let mut buffer = itoa::Buffer::new();
-                write_all(sink, buffer.format(*n).as_bytes())
-            }
-            Piece::Hex(bytes) => write_hex(sink, bytes),
-        }
-    }
-}
 
 pub(crate) fn write_message<'a, S: Sink>(
     sink: &mut S,
@@ -50,17 +24,17 @@ pub(crate) fn write_message<'a, S: Sink>(
     write_texts(
         sink,
         &[
-            Number(rank as u32),
+            Number(rank as u64),
             Text(" "),
             Text(verb),
             Text(" "),
-            Number(peer.number() as u32),
+            Number(peer.number() as u64),
             Text(" "),
             Text(head.kind_text()),
             Text(" "),
-            Number(head.comm() as u32),
+            Number(head.comm() as u64),
             Text(" "),
-            Number(head.len()),
+            Number(head.len() as u64),
             Text(" "),
             Hex(bytes),
             Text("\n"),
@@ -74,9 +48,9 @@ pub(crate) fn write_barrier<S: Sink>(sink: &mut S, rank: u8, comm: u8) -> Result
     write_texts(
         sink,
         &[
-            Number(rank as u32),
+            Number(rank as u64),
             Text(" bar "),
-            Number(comm as u32),
+            Number(comm as u64),
             Text("\n"),
         ],
     )
@@ -134,13 +108,13 @@ fn write_split<S: Sink>(
         sink,
         &[
             Text("comm "),
-            Number(comm as u32),
+            Number(comm as u64),
             Text(" "),
-            Number(parent as u32),
+            Number(parent as u64),
             Text(" "),
             Text(how),
             Text(" "),
-            Number(k as u32),
+            Number(k as u64),
             Text("\n"),
         ],
     )
@@ -170,7 +144,7 @@ pub(crate) fn write_rules<S: Sink>(sink: &mut S, comms: &[CommRule; 16]) -> Resu
 pub(crate) fn write_head<S: Sink>(sink: &mut S, nue: u8) -> Result<(), WriteFault>
     ensures { Sends (ended (head_words nue)) (S.seen sink.old) (S.seen sink.new) result }
 {
-    write_texts(sink, &[Text("rcce log "), Number(nue as u32), Text("\n")])
+    write_texts(sink, &[Text("rcce log "), Number(nue as u64), Text("\n")])
 }
 
 /// Writes a log.

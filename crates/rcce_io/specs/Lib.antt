@@ -4,5 +4,6 @@ pub mod Files
 pub mod Host
 pub mod Memory
 pub mod MemoryFiles
+pub mod Pieces
 pub mod Reading
 pub mod Sending

@@ -3,25 +3,25 @@
 #![tactic(auto)]
 
 mod buffer;
-mod bytes;
 mod calls;
 mod digits;
 mod files;
 mod host;
 mod memory_files;
 mod memory_sink;
+mod piece;
 mod reading;
 mod sink;
 mod text_source;
 mod writing;
 
 pub use buffer::Buffer;
-pub use bytes::Bytes;
 pub use digits::write_hex;
 pub use files::{Files, Got, Opened};
 pub use host::{HostFiles, StdSink};
 pub use memory_files::MemFiles;
 pub use memory_sink::MemSink;
+pub use piece::Piece;
 pub use reading::{ReadEnd, read_all};
 pub use sink::{Put, Sink};
 pub use text_source::TextSource;

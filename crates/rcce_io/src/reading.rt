@@ -1,8 +1,9 @@
 ghost use Rattle.std.specs.Prelude.{◌<◌, IsTrue};
 ghost use Rattle.rcce_io.specs.Reading.{ReadsAll, ReadsRest, ReadsBlock};
 
-use crate::{Bytes, Files, Got, Opened};
+use crate::{Files, Got, Opened};
 use std::alloc::{AllocError, Global};
+use texts::Bytes;
 
 /// How many bytes one read asks for at most.
 const BLOCK: usize = 4096;
@@ -56,7 +57,7 @@ fn read_rest<F: Files>(alloc: Global, files: &mut F, limit: usize) -> Result<Byt
             break;
         }
     }
-    Ok(Bytes::from(bytes))
+    Ok(Bytes::from_vec(bytes))
 }
 
 // Whether a block was read; at the end of the file none was.

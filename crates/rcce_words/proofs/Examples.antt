@@ -4,8 +4,7 @@ use Rattle.std.specs.Prelude.{codes, true, false, Some, None, Ok, Err}
 use Rattle.rcce_words.specs.declared.command.Job.{Job}
 use Rattle.rcce_words.specs.declared.command.Work.TheVariants as work
 use Rattle.rcce_words.specs.declared.command.WordFault.TheVariants as fault
-use Rattle.outcomes.specs.Numbers.{number_in}
-use Rattle.script_reader.specs.Words.{number_of}
+use Rattle.texts.specs.Numbers.{number_in, number_of}
 use Rattle.rcce_words.specs.CommandLine.{parse_command}
 use Rattle.rcce_words.specs.FaultTexts.{fault_text}
 use Rattle.rcce_words.specs.HostFile.{parse_hosts}

@@ -5,7 +5,7 @@ use Rattle.std.proofs.lemmas.Bool.{eq-eqb, eqb-false, eqb-true, lt-ltb}
 use Rattle.std.proofs.lemmas.Bool.Decides.{nat_tests}
 use Rattle.std.proofs.lemmas.Cmp.{nat_eq_equiv}
 use Rattle.std.proofs.lemmas.List.{drop_all, get_or_default, length-append, length-drop, take_all}
-use Rattle.std.proofs.lemmas.List.FromFn.{get_or-map-range_with_len, get_or-range_with_len, fill_by_all}
+use Rattle.std.proofs.lemmas.List.FromFn.{get_or-map-range_with_len, fill_by_all}
 use Rattle.std.proofs.lemmas.List.Folds.{list_any-append, list_any-from_Any}
 use Rattle.std.proofs.lemmas.List.Splits.{length-slice_split, slice_split_first, slice_split_none}
 use Rattle.std.proofs.lemmas.List.Sums.{fails_before_first}
@@ -13,7 +13,7 @@ use Rattle.std.proofs.lemmas.Map.Keys.{IsDistinct-push, apart_from_distinct}
 use Rattle.std.proofs.lemmas.Map.Steps.{length-le_from_distinct_below}
 use Rattle.scc_base.specs.Setups.{AreApart, host_of}
 use Rattle.rcce_words.specs.Cores.{AreCores, has_core}
-use Rattle.rcce_words.specs.HostFile.{default_hosts, file_lines, host_at, host_list, without_last}
+use Rattle.rcce_words.specs.HostFile.{file_lines, host_at, host_list, without_last}
 
 abbrev pub is_feed : ℕ → Bool
 is_feed b = b == 10
@@ -91,25 +91,10 @@ hosts_apart nue cores most enough h r q before below same =
     let apart = apart_from_distinct eqb cores r q 0 h.distinct before (omega (arith, below, enough)) in
     cc (apart, eq-eqb _ _ alike)
 
--- each rank is on the core of its number
-host_own : (r : ℕ) → r < 48 → host_of default_hosts r ≡ r
-host_own r h = get_or-range_with_len 0 48 r 0 h ∙ omega arith
-
-pub default_apart : (nue : ℕ) → nue ≤ 48 → AreApart nue default_hosts
-default_apart nue most r q before below same =
-    let alike = sym (host_own r (omega (arith, before, below, most))) ∙ same ∙ host_own q (omega (arith, below, most)) in
-    omega (arith, alike, before)
-
 -- the hosts, by rank
 pub hosts_filled : (nue : ℕ) (cores hosts : List ℕ) → length hosts ≡ 48 → ((k : ℕ) → k < 48 → slice_index hosts k ≡ host_at nue cores k) → hosts ≡ host_list nue cores
 hosts_filled nue cores hosts all each = fill_by_all (host_at nue cores) hosts 48 0 all each
 
-pub defaults_filled : (hosts : List ℕ) → length hosts ≡ 48 → ((k : ℕ) → k < 48 → slice_index hosts k ≡ k) → hosts ≡ default_hosts
-defaults_filled hosts all each = fill_by_all (λ k. k) hosts 48 0 all each
-
 pub filled_apart : (nue : ℕ) (cores hosts : List ℕ) → length hosts ≡ 48 → ((k : ℕ) → k < 48 → slice_index hosts k ≡ host_at nue cores k)
     → nue ≤ 48 → nue ≤ length cores → AreCores cores → AreApart nue hosts
 filled_apart nue cores hosts all each most enough h = subst (λ (xs : List ℕ). AreApart nue xs) (sym (hosts_filled nue cores hosts all each)) (hosts_apart nue cores most enough h)
-
-pub defaults_apart : (hosts : List ℕ) → length hosts ≡ 48 → ((k : ℕ) → k < 48 → slice_index hosts k ≡ k) → (nue : ℕ) → nue ≤ 48 → AreApart nue hosts
-defaults_apart hosts all each nue most = subst (λ (xs : List ℕ). AreApart nue xs) (sym (defaults_filled hosts all each)) (default_apart nue most)

@@ -2,7 +2,8 @@
 use Rattle.std.specs.Prelude.{◌≤◌, ℕ, ◌+◌, ◌||◌, Bool, true, false, if◌then◌else◌, List, [], ◌∷◌, codes, Option, Some, None, is_some, IfSome, Result, Ok, Err, ⊤}
 use Rattle.std.specs.Option.{ok_or}
 use Rattle.std.specs.Str.{bytes_eq}
-use Rattle.outcomes.specs.Numbers.{is_option, number_in}
+use Rattle.outcomes.specs.Numbers.{is_option}
+use Rattle.texts.specs.Numbers.{number_in}
 use Rattle.script_reader.specs.Faults.{◌>>=◌}
 use Rattle.rcce_words.specs.declared.command.Job.{Job}
 use Rattle.rcce_words.specs.declared.command.Work.{Work}

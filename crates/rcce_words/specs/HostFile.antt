@@ -3,8 +3,10 @@ use Rattle.std.specs.Prelude.{ℕ, ◌+◌, ◌-◌, ◌==◌, nat_lt, if◌then
 use Rattle.std.specs.Char.{is_ascii_whitespace}
 use Rattle.std.specs.List.{prefix_len, suffix_len, range_with_len}
 use Rattle.std.specs.Str.{bytes_eq}
+use Rattle.scc_base.specs.Worlds.{own_cores}
 use Rattle.script_reader.specs.Faults.{◌>>=◌}
-use Rattle.script_reader.specs.Words.{is_text, lines_of, number_of, uncommented}
+use Rattle.texts.specs.Cuts.{is_text, lines_of, uncommented}
+use Rattle.texts.specs.Numbers.{number_of}
 use Rattle.rcce_words.specs.Cores.{has_core}
 use Rattle.rcce_words.specs.declared.host_file.HostFault.{HostFault}
 use Rattle.rcce_words.specs.declared.host_file.HostKind.{HostKind}
@@ -100,4 +102,4 @@ parse_hosts bytes nue =
 
 -- each rank on the core of its number
 abbrev pub default_hosts : List ℕ
-default_hosts = range_with_len 0 48
+default_hosts = own_cores

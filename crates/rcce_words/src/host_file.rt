@@ -7,8 +7,8 @@ ghost use Rattle.scc_base.specs.Setups.{AreApart};
 ghost use Rattle.rcce_words.specs.HostFile.{core_of_word, default_hosts, digits_of, entry_of, file_lines, host_kind_name, host_list, parse_hosts, read_line, read_lines, most_host_bytes};
 
 use crate::cores::Cores;
-use scc_base::CoreId;
-use script_reader::{is_text, number, uncommented};
+use scc_base::{CoreId, own_cores};
+use texts::{is_text, number, uncommented};
 
 /// The longest host file, in bytes.
 pub const MOST_HOST_BYTES: usize = 65_536;
@@ -170,11 +170,7 @@ pub fn default_hosts() -> [CoreId; 48]
     ensures gives { result ≡ default_hosts }
     ensures apart { (nue : ℕ) → nue ≤ 48 → AreApart nue result }
 {
-    let mut hosts = [CoreId::of(0); 48];
-    for rank in 0..48 {
-        hosts[rank] = CoreId::of(rank as u8);
-    }
-    hosts
+    own_cores()
 }
 
 /// The core of each rank that a host file says, or its first fault. No memory is taken.

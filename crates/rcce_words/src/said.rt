@@ -5,7 +5,8 @@ ghost use Rattle.rcce_words.specs.CommandLine.{IsWithin, has, is_against, nothin
 
 use crate::command::WordFault;
 use crate::flags::{Flag, flag_of};
-use outcomes::{is_option, number_in};
+use outcomes::is_option;
+use texts::number_in;
 
 /// What was given of each option, and the number of the word that names the script.
 #[derive(Clone, Copy)]
@@ -26,7 +27,7 @@ fn number_behind(at: usize, least: u32, most: u32, behind: Option<&str>) -> Resu
     ensures most { IfOk result (λ n. n ≤ most) }
 {
     match behind {
-        Some(word) => match number_in(word, least, most) {
+        Some(word) => match number_in(word.as_bytes(), least, most) {
             Some(n) => Ok(n),
             None => Err(WordFault::BadNumber { at }),
         },

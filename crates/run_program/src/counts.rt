@@ -10,8 +10,8 @@ ghost use Rattle.script_plain.specs.Meaning.{plain_end};
 ghost use Rattle.run_program.specs.Runs.{HaveSent};
 
 use crate::endings::Endings;
-use crate::pieces::Piece::{Count, Number, Text};
 use line_cache::Choice;
+use rcce_io::Piece::{Number, Text};
 use rcce_io::{Sink, WriteFault, write_texts};
 use rcce_run::Crew;
 use scc_base::Rank;
@@ -92,15 +92,15 @@ pub fn write_counts<S: Sink>(
         sink,
         &[
             Text("gen "),
-            Number(seed),
+            Number(u64::from(seed)),
             Text(" ues "),
-            Number(u32::from(nue)),
+            Number(u64::from(nue)),
             Text(" sends "),
-            Count(sends),
+            Number(sends),
             Text(" bytes "),
-            Count(bytes),
+            Number(bytes),
             Text(" sum "),
-            Number(sum),
+            Number(u64::from(sum)),
             Text("\n"),
         ],
     )

@@ -6,8 +6,9 @@ ghost use Rattle.script_plain.specs.Ends.{is_finished};
 ghost use Rattle.run_program.specs.Reports.{end_text};
 ghost use Rattle.run_program.specs.Texts.{call_pieces, item_line, message_pieces, mismatch_line, type_text, waiting_line};
 
-use crate::pieces::Piece::{Hex, Number, Text, Values};
+use crate::pieces::Part;
 use groups::Ty;
+use rcce_io::Piece::{Hex, Number, Text};
 use rcce_io::{Sink, TextSource, WriteFault, write_texts};
 use scc_base::{Call, Head, Rank};
 use script_plain::{PrintedItem, UeEnd};
@@ -35,7 +36,7 @@ impl TextSource for ItemLine<'_> {
     ghost text = { λ l. item_line l.rank l.name.now l.item.now.form l.item.now.bytes };
 
     fn write_to<S: Sink>(&self, sink: &mut S) -> Result<(), WriteFault> {
-        let ue = self.rank.number() as u32;
+        let ue = self.rank.number() as u64;
         let bytes = self.item.bytes();
         match self.item.form() {
             Form::Hex => write_texts(
@@ -53,14 +54,14 @@ impl TextSource for ItemLine<'_> {
             Form::Decimal(ty) => write_texts(
                 sink,
                 &[
-                    Text("ue "),
-                    Number(ue),
-                    Text(" "),
-                    Text(self.name),
-                    Text(" "),
-                    Text(type_text(ty)),
-                    Values(ty, bytes),
-                    Text("\n"),
+                    Part::Plain(Text("ue ")),
+                    Part::Plain(Number(ue)),
+                    Part::Plain(Text(" ")),
+                    Part::Plain(Text(self.name)),
+                    Part::Plain(Text(" ")),
+                    Part::Plain(Text(type_text(ty))),
+                    Part::Values(ty, bytes),
+                    Part::Plain(Text("\n")),
                 ],
             ),
         }
@@ -120,18 +121,18 @@ fn write_message<S: Sink>(
         sink,
         &[
             Text("ue "),
-            Number(rank.number() as u32),
+            Number(rank.number() as u64),
             Text(" waits at line "),
-            Number(line),
+            Number(line as u64),
             Text(": "),
             Text(does),
-            Number(peer.number() as u32),
+            Number(peer.number() as u64),
             Text(" "),
             Text(head.kind_text()),
             Text(" "),
-            Number(head.comm() as u32),
+            Number(head.comm() as u64),
             Text(" "),
-            Number(head.len()),
+            Number(head.len() as u64),
             Text("\n"),
         ],
     )
@@ -144,12 +145,12 @@ fn write_barrier<S: Sink>(sink: &mut S, rank: Rank, line: u32, comm: u8) -> Resu
         sink,
         &[
             Text("ue "),
-            Number(rank.number() as u32),
+            Number(rank.number() as u64),
             Text(" waits at line "),
-            Number(line),
+            Number(line as u64),
             Text(": "),
             Text("barrier "),
-            Number(comm as u32),
+            Number(comm as u64),
             Text("\n"),
         ],
     )
@@ -169,23 +170,23 @@ fn write_mismatch<S: Sink>(
         sink,
         &[
             Text("ue "),
-            Number(rank.number() as u32),
+            Number(rank.number() as u64),
             Text(" mismatch at line "),
-            Number(line),
+            Number(line as u64),
             Text(": from "),
-            Number(from.number() as u32),
+            Number(from.number() as u64),
             Text(" sent "),
             Text(sent.kind_text()),
             Text(" "),
-            Number(sent.comm() as u32),
+            Number(sent.comm() as u64),
             Text(" "),
-            Number(sent.len()),
+            Number(sent.len() as u64),
             Text(", asked "),
             Text(asked.kind_text()),
             Text(" "),
-            Number(asked.comm() as u32),
+            Number(asked.comm() as u64),
             Text(" "),
-            Number(asked.len()),
+            Number(asked.len() as u64),
             Text("\n"),
         ],
     )

@@ -1,55 +1,33 @@
-//! The pieces of a line, written one after the other. No memory is taken.
+//! The values of a line, written one after the other. No memory is taken.
 
-ghost use Rattle.std.specs.Prelude.{◌≡◌, ◌≤◌, ◌<◌, ◌*◌, ◌/◌, ◌++◌, codes, length, flat_map, decimal};
+ghost use Rattle.std.specs.Prelude.{◌≡◌, ◌≤◌, ◌<◌, ◌*◌, ◌/◌, ◌++◌, codes, length, flat_map};
 ghost use Rattle.std.specs.Fmt.{signed_decimal};
 ghost use Rattle.groups.specs.Folds.{bytes_in, value_of};
 ghost use Rattle.rcce_io.specs.Sending.{Sends};
 ghost use Rattle.run_program.specs.Texts.{value_text, values_text};
 
 use groups::Ty;
-use rcce_io::{Buffer, Sink, TextSource, WriteFault, write_all, write_hex};
+use rcce_io::{Buffer, Piece, Sink, TextSource, WriteFault, write_all};
 
-/// A piece of a line.
+/// A part of the line of a printed register.
 #[derive(Clone, Copy)]
-pub enum Piece<'a> {
-    Text(&'a str),
-    Number(u32),
-    /// A number that may be long.
-    Count(u64),
-    /// Bytes as hex digits in lower case, and `-` for none.
-    Hex(&'a [u8]),
+pub enum Part<'a> {
+    Plain(Piece<'a>),
     /// Bytes as values of a type, each behind a blank.
     Values(Ty, &'a [u8]),
 }
 
-impl TextSource for Piece<'_> {
-    ghost use Rattle.run_program.specs.Pieces.{piece_text};
+impl TextSource for Part<'_> {
+    ghost use Rattle.run_program.specs.Pieces.{item_part_text};
 
-    ghost text = { piece_text };
+    ghost text = { item_part_text };
 
     fn write_to<S: Sink>(&self, sink: &mut S) -> Result<(), WriteFault> {
         match self {
-            Piece::Text(text) => write_all(sink, text.as_bytes()),
-            Piece::Number(n) => write_number(sink, *n),
-            Piece::Count(n) => write_count(sink, *n),
-            Piece::Hex(bytes) => write_hex(sink, bytes),
-            Piece::Values(ty, bytes) => write_values(sink, *ty, bytes),
+            Part::Plain(piece) => piece.write_to(sink),
+            Part::Values(ty, bytes) => write_values(sink, *ty, bytes),
         }
     }
-}
-
-fn write_number<S: Sink>(sink: &mut S, n: u32) -> Result<(), WriteFault>
-    ensures { Sends (decimal n) (S.seen sink.old) (S.seen sink.new) result }
-{
-    let mut buffer = itoa::Buffer::new();
-    write_all(sink, buffer.format(n).as_bytes())
-}
-
-fn write_count<S: Sink>(sink: &mut S, n: u64) -> Result<(), WriteFault>
-    ensures { Sends (decimal n) (S.seen sink.old) (S.seen sink.new) result }
-{
-    let mut buffer = itoa::Buffer::new();
-    write_all(sink, buffer.format(n).as_bytes())
 }
 
 /// Writes bytes as values of a type.

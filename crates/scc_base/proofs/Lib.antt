@@ -6,4 +6,5 @@ pub mod KeyLemmas
 pub mod SetupLemmas
 pub mod SplitLaws
 pub mod TableLemmas
+pub mod WorldCores
 pub mod WorldRules

@@ -10,3 +10,4 @@ pub mod Places
 pub mod Runs
 pub mod Setups
 pub mod Tables
+pub mod Worlds

@@ -1,5 +1,5 @@
 //! Scripts that are refused, each with the line and the kind of its first fault.
-#![tactic(auto, unfolding(script_reader::specs::Words::number_of, hex::specs::Hex::decode_pairs))]
+#![tactic(auto, unfolding(texts::specs::Numbers::number_of, hex::specs::Hex::decode_pairs))]
 
 ghost use Rattle.std.specs.Prelude.{◌≡◌, codes, Err};
 ghost use Rattle.script_reader.specs.Reading.{parse_script};

@@ -7,7 +7,7 @@ use Rattle.std.proofs.lemmas.Bool.Decides.{nat_tests}
 use Rattle.std.proofs.lemmas.Fmt.{decimal_by_steps, decimal_nonempty}
 use Rattle.std.proofs.lemmas.List.Elements.{All-nil, All-cons}
 use Rattle.std.proofs.lemmas.List.Splits.{slice_split_none, slice_split_at}
-use Rattle.script_reader.specs.Words.{is_blank, is_text, is_text_byte, lines_of, uncommented, words_of}
+use Rattle.texts.specs.Cuts.{is_blank, is_text, is_text_byte, lines_of, uncommented, words_of}
 use Rattle.script_gen.specs.Texts.{text_of_lines}
 
 -- a byte of a word of a generated script: a letter, a digit or a sign among others, and neither a blank nor a `#`

@@ -16,7 +16,7 @@ use Rattle.script_reader.specs.Faults.{◌>>=◌}
 use Rattle.script_reader.specs.Effects.{effect_of}
 use Rattle.script_reader.specs.Progress.{Progress, start}
 use Rattle.script_reader.specs.Reading.{at_end, most_script_bytes, parse_script, read_all_lines, read_lines, version_of}
-use Rattle.script_reader.specs.Words.{line_count, lines_of}
+use Rattle.texts.specs.Cuts.{line_count, lines_of}
 use Rattle.script_gen.specs.Scripts.{item_of, lone_script}
 use Rattle.script_gen.specs.Texts.{text_of_lines, turns_of}
 use Rattle.script_gen.proofs.Checks.{AreLight, Passes, clears, not_above, placed, stage}

@@ -15,8 +15,8 @@ use Rattle.script_reader.specs.Progress.{Progress, after, named, place, register
 use Rattle.script_reader.specs.Reading.{at_line, begun, read_line, read_lines, read_words}
 use Rattle.script_reader.specs.Said.{said_of}
 use Rattle.script_reader.specs.Script.{Script}
-use Rattle.script_reader.specs.Words.{number_of}
-use Rattle.script_reader.proofs.DecimalLemmas.{number_of-decimal}
+use Rattle.texts.specs.Numbers.{number_of}
+use Rattle.texts.proofs.DecimalLemmas.{number_of-decimal}
 use Rattle.script_gen.specs.Texts.{text_of_lines}
 use Rattle.script_gen.proofs.Lines.{AreWords, line_of, text_line, words_of_line}
 

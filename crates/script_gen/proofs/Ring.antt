@@ -12,7 +12,7 @@ use Rattle.script_reader.specs.declared.version.Version.TheVariants as version
 use Rattle.script_reader.specs.Faults.{◌>>=◌}
 use Rattle.script_reader.specs.Progress.{Progress, start}
 use Rattle.script_reader.specs.Reading.{at_end, most_script_bytes, parse_script, read_all_lines, read_lines, version_of}
-use Rattle.script_reader.specs.Words.{line_count, lines_of}
+use Rattle.texts.specs.Cuts.{line_count, lines_of}
 use Rattle.script_gen.specs.Scripts.{recv_last, ring_script, send_next}
 use Rattle.script_gen.specs.Texts.{text_of_lines, turns_of}
 use Rattle.script_gen.proofs.Checks.{not_above, placed, stage}

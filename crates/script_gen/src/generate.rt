@@ -7,8 +7,8 @@ ghost use Rattle.script_gen.specs.Texts.{gen_text};
 
 use crate::pieces::Piece::{Number, Text};
 use crate::pieces::{Piece, push_all};
-use rcce_io::Bytes;
 use std::alloc::{AllocError, Global};
+use texts::Bytes;
 
 /// The script of a number `s` for this many ranks: each rank sends `s` bytes round the ring and takes part in a sum over
 /// all ranks, `1 + s mod 10` times, and prints what it has then.
@@ -28,7 +28,7 @@ pub fn gen_script(alloc: Global, nue: u8, s: u32) -> Result<Bytes, AllocError>
         push_section(&mut text, "even", s, &even, "print g\n")?;
         push_section(&mut text, "odd", s, &odd, "print g\n")?;
     }
-    Ok(Bytes::from(text))
+    Ok(Bytes::from_vec(text))
 }
 
 /// Puts the section of these ranks behind a text: `exchange` are the lines of a turn round the ring, and `shown` are those

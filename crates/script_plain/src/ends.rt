@@ -2,12 +2,13 @@
 
 ghost use Rattle.std.specs.Prelude.{◌≡◌, ◌<◌, length, IfOk};
 ghost use Rattle.script_plain.specs.Code.{IsNoneGoing};
-ghost use Rattle.script_plain.specs.Ends.{ends_of};
+ghost use Rattle.script_plain.specs.Ends.{all_finished, ends_of};
 
 use crate::posts::Left;
 use crate::prints::{PrintedItem, Prints};
 use crate::ues::Ue;
 use scc_base::{Call, Head, Rank};
+use script_reader::Scripts;
 use std::alloc::{AllocError, Global};
 use std::marker::Model;
 
@@ -172,4 +173,17 @@ impl End {
         let rest = &self.ranks[rank.number() as usize];
         rest.target
     }
+}
+
+/// Whether each rank of a script has finished.
+pub fn have_finished(end: &End, script: &Scripts) -> bool
+    requires { length end.now ≡ script.now.nue }
+    ensures { result ≡ all_finished end.now }
+{
+    for number in 0..script.nue() {
+        if !matches!(end.ue(Rank::of(number)), UeEnd::Finished) {
+            return false;
+        }
+    }
+    true
 }

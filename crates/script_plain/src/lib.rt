@@ -32,7 +32,7 @@ pub use collective_laws::{
     broadcasts_arrive, calls_are_counted_alike, messages_arrive_as_sent, ranks_go_their_own_ways,
     reductions_fold, used_up_statements_are_done,
 };
-pub use ends::{End, UeEnd};
+pub use ends::{End, UeEnd, have_finished};
 pub use held_laws::ends_are_explained;
 pub use laws::{
     barriers_meet, every_order_has_one_end, every_order_is_finite, lowest_owner_steps,

@@ -2,7 +2,8 @@
 
 use groups::{Coll, Op, Step, Ty};
 use scc_base::{Head, Rank};
-use script_reader::{Bytes, Form};
+use script_reader::Form;
+use texts::Bytes;
 
 /// The bytes that a register is set to.
 #[derive(Clone, Copy)]

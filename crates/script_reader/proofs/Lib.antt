@@ -3,7 +3,6 @@ pub mod BareLemmas
 pub mod CheckLemmas
 pub mod ClosedLemmas
 pub mod CountLemmas
-pub mod DecimalLemmas
 pub mod EndLemmas
 pub mod FaultLemmas
 pub mod RankLemmas

@@ -25,7 +25,7 @@ use Rattle.script_reader.specs.Progress.{Progress, after, after_group, after_loc
 use Rattle.script_reader.specs.Reading.{at_end, at_line, begun, most_script_bytes, parse_script, read_all_lines, read_line, read_lines, read_words, script_of, version_of}
 use Rattle.script_reader.specs.Said.{said_of}
 use Rattle.script_reader.specs.Script.{Script}
-use Rattle.script_reader.specs.Words.{is_text, line_count, lines_of, words_of}
+use Rattle.texts.specs.Cuts.{is_text, line_count, lines_of, words_of}
 
 abbrev Keeps : {E : Type 0} → ℕ → Result Progress E → Type 0
 Keeps nue r = IfOk r (λ p. p.nue ≡ nue)

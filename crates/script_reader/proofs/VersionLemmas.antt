@@ -42,7 +42,7 @@ use Rattle.script_reader.specs.Reading.{at_end, at_line, begun, most_script_byte
 use Rattle.script_reader.specs.Said.{allreduce_said, allreduce_words, alone, apply_said, apply_words, barrier_said, bcast_said, bcast_words, bytes_said, colour_said, dash_of, fill_said, fill_words, group_said, hex_said, name_said, number_said, numbers_said, of_five_words, of_four_words, of_said, of_six_words, of_three_words, of_two_words, operation_said, peer_said, post_said, post_words, print_said, range_said, rank_of_said, ranks_said, rcce_said, recv_said, recv_words, reduce_said, reduce_words, register_said, repeat_said, said_of, section_said, send_said, send_words, span_said, split_said, type_said, ue_said, values_named, values_said, version_number}
 use Rattle.script_reader.specs.Script.{Script, first_split, rules_of}
 use Rattle.script_reader.specs.Settled.{SplitsWorldAlone}
-use Rattle.script_reader.specs.Words.{is_text, line_count, lines_of, words_of}
+use Rattle.texts.specs.Cuts.{is_text, line_count, lines_of, words_of}
 use Rattle.script_reader.proofs.EndLemmas.{rules-with_ends}
 use Rattle.script_reader.proofs.RuleLemmas.{first_split-more, or_rule-either, split-at}
 

@@ -33,7 +33,7 @@ use Rattle.script_reader.specs.Progress.{Progress, after, after_group, after_loc
 use Rattle.script_reader.specs.Reading.{at_end, at_line, begun, most_script_bytes, parse_script, read_all_lines, read_line, read_lines, read_words, script_of, version_of}
 use Rattle.script_reader.specs.Said.{said_of}
 use Rattle.script_reader.specs.Script.{Script}
-use Rattle.script_reader.specs.Words.{is_text, line_count, lines_of, words_of}
+use Rattle.texts.specs.Cuts.{is_text, line_count, lines_of, words_of}
 use Rattle.script_reader.proofs.ClosedLemmas.{closed-of}
 use Rattle.script_reader.proofs.FaultLemmas.{IsSound, no-fault}
 use Rattle.script_reader.proofs.VersionLemmas.{IsPlain, said-plain}

@@ -1,23 +1,16 @@
--- Lemmas on words, names and places.
-use Rattle.std.proofs.Common.{◌≡◌, ℕ, ◌<◌, ◌≤◌, Bool, true, false, cond, ltb, ◌&&◌, List, length, Some, None, unwrap_or, arith, inl, inr, lit<}
+-- Lemmas on words and names.
+use Rattle.std.proofs.Common.{◌≡◌, ℕ, ◌<◌, ◌≤◌, Bool, true, false, ◌&&◌, List, length, arith, inl, inr, lit<}
 use Rattle.std.proofs.lemmas.Bool.{and_parts, cases_lt, leb-true}
 use Rattle.std.proofs.lemmas.Bool.Decides.{nat_tests}
 use Rattle.std.proofs.lemmas.List.{get_or_past}
 use Rattle.std.proofs.lemmas.List.Elements.{All-get_or}
-use Rattle.std.proofs.lemmas.List.Sums.{AllPass-from_list_all, prefix_len-le-length}
+use Rattle.std.proofs.lemmas.List.Sums.{AllPass-from_list_all}
 use Rattle.std.proofs.lemmas.Str.{IsUtf8-from_ascii}
 use Rattle.std.specs.Prelude.{nat_le, slice_index}
 use Rattle.std.specs.Char.{is_ascii_alphabetic}
-use Rattle.std.specs.List.{AllPass, list_all, position, position_or_len}
+use Rattle.std.specs.List.{AllPass, list_all}
 use Rattle.std.specs.Str.{IsAscii, IsUtf8}
 use Rattle.script_reader.specs.Words.{is_name, is_name_byte}
-
-place-unwrapped : (n len : ℕ) → n ≤ len → unwrap_or (cond (ltb n len) (Some n) None) len ≡ n
-place-unwrapped n len h = grind (arith, nat_tests)
-
--- the first place at which p passes, or the length
-pub unwrapped_position : {X : Type 0} (p : X → Bool) (xs : List X) → unwrap_or (position p xs) (length xs) ≡ position_or_len p xs
-unwrapped_position p xs = place-unwrapped (position_or_len p xs) (length xs) (prefix_len-le-length _ xs)
 
 and-right : (a b : Bool) → (a && b) ≡ true → b ≡ true
 and-right true b h = h

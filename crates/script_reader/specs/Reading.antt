@@ -12,12 +12,8 @@ use Rattle.script_reader.specs.Faults.{◌>>=◌}
 use Rattle.script_reader.specs.Progress.{Progress, after, past, start}
 use Rattle.script_reader.specs.Said.{said_of}
 use Rattle.script_reader.specs.Script.{Script}
-use Rattle.script_reader.specs.Words.{is_text, line_count, lines_of, number_of, words_of}
-
--- a word is a number, and this one
-abbrev pub is_number : Option ℕ → ℕ → Bool
-is_number None wanted = false
-is_number (Some number) wanted = number == wanted
+use Rattle.texts.specs.Cuts.{is_text, line_count, lines_of, words_of}
+use Rattle.texts.specs.Numbers.{is_number, number_of}
 
 -- the words of the first line that asks for version 2
 abbrev pub says_two : List (List ℕ) → Bool

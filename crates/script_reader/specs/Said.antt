@@ -24,8 +24,9 @@ use Rattle.script_reader.specs.declared.script.Form.TheVariants as form
 use Rattle.script_reader.specs.declared.version.Version.{Version}
 use Rattle.script_reader.specs.declared.version.Version.TheVariants as version
 use Rattle.script_reader.specs.Faults.{◌>>=◌}
-use Rattle.script_reader.specs.Words.{bytes_of, is_name, number_of, value_of_word}
+use Rattle.script_reader.specs.Words.{bytes_of, is_name, value_of_word}
 use Rattle.script_reader.specs.Limits.{most_operations}
+use Rattle.texts.specs.Numbers.{number_of}
 
 -- a word as a number, or the kind of its fault
 abbrev pub number_said : List ℕ → Result ℕ FaultKind

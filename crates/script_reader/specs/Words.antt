@@ -1,61 +1,15 @@
--- The first layer of the grammar: lines, words, numbers, names and bytes (this project's profile).
-use Rattle.std.specs.Prelude.{ℕ, ◌+◌, ◌-◌, ◌*◌, ◌^◌, ◌%◌, ◌==◌, ◌&&◌, ◌||◌, nat_le, not, Bool, if◌then◌else◌, List, [], ◌∷◌, length, drop, slice_index, slice_get, filter, codes, Option, Some, None}
+-- The first layer of the grammar: values, names and bytes (this project's profile). Lines, words and numbers are those of texts.
+use Rattle.std.specs.Prelude.{ℕ, ◌+◌, ◌-◌, ◌^◌, ◌%◌, ◌==◌, ◌&&◌, ◌||◌, nat_le, Bool, if◌then◌else◌, List, [], length, drop, slice_index, codes, Option, Some}
 use Rattle.std.specs.Char.{is_ascii_alphabetic, is_ascii_digit}
 use Rattle.std.specs.Int.{w32, w64, to_le_bytes}
-use Rattle.std.specs.List.{before_first, list_all, slice_split}
+use Rattle.std.specs.List.{list_all}
 use Rattle.std.specs.Option.{option_map}
 use Rattle.std.specs.Result.{result_ok}
 use Rattle.std.specs.Str.{bytes_eq}
 use Rattle.groups.specs.declared.operations.Ty.{Ty}
 use Rattle.groups.specs.declared.operations.Ty.TheVariants as ty
 use Rattle.hex.specs.Hex.{decode_of}
-
--- a tab, a carriage return or a space
-abbrev pub is_blank : ℕ → Bool
-is_blank b = b == 9 || b == 13 || b == 32
-
--- a byte that may stand outside a comment: a blank, the end of a line or a printable character of ASCII
-abbrev pub is_text_byte : ℕ → Bool
-is_text_byte b = b == 9 || b == 10 || b == 13 || nat_le 32 b && nat_le b 126
-
--- the parts of a file between its line feeds
-abbrev pub lines_of : List ℕ → List (List ℕ)
-lines_of bytes = slice_split (λ b. b == 10) bytes
-
--- the number of lines: the last one may lack its line feed, and after a last line feed there is no line more
-abbrev pub lines_before : List (List ℕ) → ℕ → Option (List ℕ) → ℕ
-lines_before lines others None = 0
-lines_before lines others (Some last) = if length last == 0 then others else length lines
-
--- how many lines a file has
-abbrev pub line_count : List (List ℕ) → ℕ
-line_count lines = lines_before lines (length lines - 1) (slice_get lines (length lines - 1))
-
--- a line up to its first `#`
-abbrev pub uncommented : List ℕ → List ℕ
-uncommented line = before_first (λ b. b == 35) line
-
--- whether each byte outside the comment may stand there
-abbrev pub is_text : List ℕ → Bool
-is_text line = list_all is_text_byte (uncommented line)
-
--- the words of a line: what stands between the blanks
-abbrev pub words_of : List ℕ → List (List ℕ)
-words_of line = filter (λ word. not (length word == 0)) (slice_split is_blank (uncommented line))
-
--- the value of the decimal digits that follow those of the value `front`, as long as it is at most `limit`
-abbrev pub digits_value : ℕ → ℕ → List ℕ → Option ℕ
-digits_value limit front [] = Some front
-digits_value limit front (b ∷ rest) =
-    if is_ascii_digit b && nat_le (front * 10 + (b - 48)) limit then digits_value limit (front * 10 + (b - 48)) rest else None
-
--- a number of 1 to `most` decimal digits with a value of at most `limit`, leading zeros accepted
-abbrev pub decimal_of : ℕ → ℕ → List ℕ → Option ℕ
-decimal_of most limit word = if nat_le 1 (length word) && nat_le (length word) most then digits_value limit 0 word else None
-
--- a number: 1 to 10 digits with a value of at most 4,294,967,295
-unfoldable pub number_of : List ℕ → Option ℕ
-number_of word = decimal_of 10 4294967295 word
+use Rattle.texts.specs.Numbers.{decimal_of}
 
 -- the greatest value of a type. The least one is one further below zero
 abbrev pub greatest : Ty → ℕ

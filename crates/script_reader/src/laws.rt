@@ -1,13 +1,13 @@
-//! The laws of the versions of the language, of a script's names and repeats, and of numbers.
+//! The laws of the versions of the language, and of a script's names and repeats.
 
-ghost use Rattle.std.specs.Prelude.{◌≡◌, ◌≤◌, ℕ, IfOk, List, Some, decimal, length};
+ghost use Rattle.std.specs.Prelude.{◌≡◌, ◌≤◌, ℕ, IfOk, List, length};
 ghost use Rattle.script_reader.specs.declared.version.Version.TheVariants.{One, Two};
 ghost use Rattle.script_reader.specs.Checks.{last_comm};
 ghost use Rattle.script_reader.specs.Closed.{IsClosed};
 ghost use Rattle.script_reader.specs.Reading.{parse_script, read_as, read_file, version_of};
 ghost use Rattle.script_reader.specs.Settled.{NamesCommsTo, SplitsWorldAlone};
-ghost use Rattle.script_reader.specs.Words.{lines_of, number_of};
 ghost use Rattle.script_reader.specs.Limits.{most_names};
+ghost use Rattle.texts.specs.Cuts.{lines_of};
 
 /// A file is read by the grammar of version 1, but where its first line that has words is `rcce 2`.
 /// A script of version 1 has no parent but the world, and names no communicator from 8 on; one of version 2 names none from
@@ -24,9 +24,4 @@ pub fn version_law()
 pub fn script_law()
     ensures few { (bytes : List ℕ) (nue : ℕ) → IfOk (parse_script bytes nue) (λ script. length script.names ≤ most_names) }
     ensures closed { (bytes : List ℕ) (nue : ℕ) → IfOk (parse_script bytes nue) IsClosed }
-{}
-
-/// The decimal text of a number is read as the number.
-pub fn decimal_law()
-    ensures reads { (n : ℕ) → n ≤ 4294967295 → number_of (decimal n) ≡ Some n }
 {}

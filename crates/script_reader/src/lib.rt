@@ -1,7 +1,6 @@
 //! The script language: what a file of bytes says, as a list of statements, or the first fault in it.
 #![tactic(auto)]
 
-mod bytes;
 mod checks;
 mod effect;
 mod ends;
@@ -21,13 +20,11 @@ mod tally;
 mod version;
 mod words;
 
-pub use bytes::Bytes;
 pub use effect::{
     At, Cost, Effect, Fit, Group, Nesting, Size, Target, Use, Uses, effect_of, parent_of,
 };
 pub use fault::{FaultKind, ReadFault, ReadStop};
-pub use laws::{decimal_law, script_law, version_law};
+pub use laws::{script_law, version_law};
 pub use reading::{MOST_SCRIPT_BYTES, read_script};
 pub use script::{Form, Item, Peer, Scripts, Stmt, Who};
 pub use version::Version;
-pub use words::{is_text, number, uncommented};

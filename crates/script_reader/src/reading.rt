@@ -2,13 +2,13 @@
 
 ghost use Rattle.std.specs.Prelude.{◌≡◌, ◌<◌, ◌≤◌, ◌^◌, IfOk, OnOk, length, map};
 ghost use Rattle.script_reader.specs.Faults.{Gives, LineGives, stop_of};
-ghost use Rattle.script_reader.specs.Reading.{is_number, parse_script, read_all_lines, read_file, read_line, read_lines, read_words, says_two, version_of};
+ghost use Rattle.script_reader.specs.Reading.{parse_script, read_all_lines, read_file, read_line, read_lines, read_words, says_two, version_of};
 ghost use Rattle.script_reader.specs.Tally.{IsUpTo};
 ghost use Rattle.script_reader.specs.Checks.{last_comm};
 ghost use Rattle.script_reader.specs.Settled.{HasCommsTo, NamesCommsTo, SplitsWorldAlone};
 ghost use Rattle.script_reader.specs.declared.version.Version.TheVariants.{One};
-ghost use Rattle.script_reader.specs.Words.{lines_of};
 ghost use Rattle.script_reader.specs.Limits.{most_names};
+ghost use Rattle.texts.specs.Cuts.{lines_of};
 
 use crate::fault::{FaultKind, LineStop, ReadFault, ReadStop};
 use crate::reader::Reader;
@@ -16,20 +16,12 @@ use crate::said::said_of;
 use crate::script::Scripts;
 use crate::taking::take;
 use crate::version::Version;
-use crate::words::{is_text, is_word, line_count, lines, number, words};
+use crate::words::is_word;
 use std::alloc::{AllocError, Global};
+use texts::{is_number, is_text, line_count, lines, number, words};
 
 /// The most bytes of a script's file: 4 MiB.
 pub const MOST_SCRIPT_BYTES: usize = 4_194_304;
-
-fn is_number(number: Option<u32>, wanted: u32) -> bool
-    ensures { result ≡ is_number number wanted }
-{
-    match number {
-        Some(number) => number == wanted,
-        None => false,
-    }
-}
 
 /// Whether the words are `rcce 2`.
 fn says_two(words: &[&[u8]]) -> bool

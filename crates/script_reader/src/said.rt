@@ -4,7 +4,6 @@ ghost use Rattle.std.specs.Prelude.{◌≡◌, map};
 ghost use Rattle.script_reader.specs.Faults.{LineGives};
 ghost use Rattle.script_reader.specs.Said.{dash_of, ranks_said, alone, group_said, rcce_said, register_said, repeat_said, said_of, section_said, span_said, ue_said};
 
-use crate::bytes::Bytes;
 use crate::fault::{FaultKind, LineStop};
 use crate::name::Name;
 use crate::said_groups::{allreduce_said, barrier_said, bcast_said, reduce_said, split_said};
@@ -18,6 +17,7 @@ use crate::version::Version;
 use crate::words::{Parts, is_word, number_said, range_said};
 use groups::{Op, Ty};
 use std::alloc::Global;
+use texts::Bytes;
 
 /// What a line says, before it is held against the lines before it.
 #[derive(Drop)]

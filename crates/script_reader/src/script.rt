@@ -3,12 +3,12 @@
 ghost use Rattle.std.specs.Prelude.{◌≡◌, ◌<◌, ◌≤◌};
 ghost use Rattle.script_reader.specs.Script.{IsSized, first_split, has_rank, peer_of, rules_of};
 
-use crate::bytes::Bytes;
 use crate::effect::effect_of;
 use crate::name::Name;
 use groups::{Op, Ty};
 use scc_base::{CommRule, CoreId, Layout, Rank, Setup};
 use std::marker::Model;
+use texts::Bytes;
 
 /// The ranks of a section.
 #[derive(Drop)]

@@ -1,13 +1,12 @@
-//! Lines, words, numbers, names and bytes.
+//! Words: numbers, values, names and bytes.
 
-ghost use Rattle.std.specs.Prelude.{◌≡◌, ◌+◌, ◌≤◌, length, map, IfOk, IfSome, OnOk, [], ◌++◌};
+ghost use Rattle.std.specs.Prelude.{◌≡◌, ◌+◌, ◌≤◌, length, map, IfOk, OnOk, [], ◌++◌};
 ghost use Rattle.std.specs.List.{list_all};
 ghost use Rattle.std.specs.Str.{bytes_eq};
 ghost use Rattle.script_reader.specs.Faults.{LineGives};
 ghost use Rattle.script_reader.specs.Said.{colour_said, hex_said, name_said, number_said, of_said, operation_said, peer_said, range_said, type_said, value_behind, values_said};
-ghost use Rattle.script_reader.specs.Words.{bytes_above, bytes_below, decimal_of, greatest, is_blank, is_name, is_name_byte, is_text, is_text_byte, line_count, lines_of, number_of, uncommented, words_of};
+ghost use Rattle.script_reader.specs.Words.{bytes_above, bytes_below, greatest, is_name, is_name_byte};
 
-use crate::bytes::Bytes;
 use crate::fault::{FaultKind, LineStop};
 use crate::name::Name;
 use crate::said::{Colour, PeerSaid};
@@ -15,100 +14,12 @@ use groups::{Op, Ty};
 use hex::FromHexError;
 use std::alloc::{AllocError, Global};
 use std::marker::Model;
-
-fn is_blank(b: u8) -> bool
-    ensures { result ≡ is_blank b }
-{
-    b == b'\t' || b == b'\r' || b == b' '
-}
-
-fn is_text_byte(b: u8) -> bool
-    ensures { result ≡ is_text_byte b }
-{
-    b == b'\t' || b == b'\n' || b == b'\r' || b' ' <= b && b <= b'~'
-}
+use texts::{Bytes, decimal, number};
 
 fn is_name_byte(b: u8) -> bool
     ensures { result ≡ is_name_byte b }
 {
     b.is_ascii_alphabetic() || b.is_ascii_digit() || b == b'_'
-}
-
-/// The lines of a file, each without its line feed.
-pub(crate) fn lines(alloc: Global, bytes: &[u8]) -> Result<Vec<&[u8]>, AllocError>
-    ensures { IfOk result (λ v. map (λ line. line.now) v.items ≡ lines_of bytes.now) }
-{
-    bytes.split(|b| *b == b'\n').collect(alloc)
-}
-
-/// The number of lines: the last one may lack its line feed, and after a last line feed there is no line more.
-pub(crate) fn line_count(lines: &[&[u8]]) -> usize
-    ensures same { result ≡ line_count (map (λ line. line.now) lines.now) }
-    ensures within { result ≤ length lines.now }
-{
-    let others = lines.len().saturating_sub(1);
-    match lines.get(others) {
-        Some(last) => { if last.is_empty() { others } else { lines.len() } }
-        None => 0,
-    }
-}
-
-/// A line up to its first `#`.
-pub fn uncommented(line: &[u8]) -> &[u8]
-    ensures { result.now ≡ uncommented line.now }
-{
-    let end = line.iter().position(|b| *b == b'#').unwrap_or(line.len());
-    &line[..end]
-}
-
-/// Whether each byte outside the comment may stand there.
-pub fn is_text(line: &[u8]) -> bool
-    ensures { result ≡ is_text line.now }
-{
-    uncommented(line).iter().all(|b| is_text_byte(*b))
-}
-
-/// The words of a line.
-pub(crate) fn words(alloc: Global, line: &[u8]) -> Result<Vec<&[u8]>, AllocError>
-    ensures { IfOk result (λ v. map (λ word. word.now) v.items ≡ words_of line.now) }
-{
-    uncommented(line)
-        .split(|b| is_blank(*b))
-        .filter(|word| !word.is_empty())
-        .collect(alloc)
-}
-
-/// The value of 1 to `most` decimal digits, at most `limit`, leading zeros accepted.
-fn decimal(word: &[u8], most: usize, limit: u64) -> Option<u64>
-    ensures gives { result ≡ decimal_of most limit word.now }
-    ensures within { IfSome result (λ value. value ≤ limit) }
-{
-    if word.is_empty() || word.len() > most {
-        return None;
-    }
-    let mut value: u64 = 0;
-    for b in word {
-        if !b.is_ascii_digit() {
-            return None;
-        }
-        let next = value as u128 * 10 + (*b - b'0') as u128;
-        if next > limit as u128 {
-            return None;
-        }
-        value = next as u64;
-    }
-    Some(value)
-}
-
-/// The number that a word stands for: 1 to 10 decimal digits with a value of at most 4,294,967,295, leading zeros
-/// accepted.
-pub fn number(word: &[u8]) -> Option<u32>
-    ensures { result ≡ number_of word.now }
-{
-    match decimal(word, 10, u32::MAX as u64) {
-        Some(value) => Some(value as u32),
-        None => None,
-    }
 }
 
 /// A word as a number.

@@ -3,7 +3,6 @@ pub mod HeapFacts
 pub mod PatienceLemmas
 pub mod PortLemmas
 pub mod CollLemmas
-pub mod WorldLemmas
 pub mod StepLemmas
 pub mod GroupLemmas
 pub mod ReduceLemmas

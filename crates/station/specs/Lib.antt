@@ -3,7 +3,6 @@ pub mod Calls
 pub mod Stops
 pub mod Patience
 pub mod Collectives
-pub mod Worlds
 pub mod Steps
 pub mod Groups
 pub mod Reductions

@@ -10,14 +10,12 @@ mod messages;
 mod patience;
 mod posts;
 mod reductions;
-mod setups;
 mod stations;
 mod steps;
 mod stops;
 mod texts;
 
 pub use laws::{bcast_law, other_port_law};
-pub use setups::world_of;
 pub use stations::Station;
 pub use steps::{Folding, GroupOp, Hand};
 pub use stops::{

@@ -7,14 +7,14 @@ ghost use Rattle.scc_proto.specs.Ports.{Sight};
 ghost use Rattle.scc_mesh.specs.Scenes.{IsNew, IsOpen, table_in};
 ghost use Rattle.station.specs.Groups.{GroupStart, IsInGroup, held_in, in_group_call, op_in};
 ghost use Rattle.station.specs.Stations.{NoCallOpen};
-ghost use Rattle.station.specs.Worlds.{world_setup};
+ghost use Rattle.scc_base.specs.Worlds.{world_setup};
 
 use groups::{Coll, Op, Ty};
 use line_cache::Never;
-use scc_base::Rank;
+use scc_base::{Rank, world_of};
 use scc_mesh::{Chip, SeatPort, Token};
 use scc_proto::Port;
-use station::{Folding, GroupStop, Station, Stop, world_of};
+use station::{Folding, GroupStop, Station, Stop};
 use std::test::Fail;
 use std::thread;
 use std::thread::Threads;

@@ -1,39 +1,17 @@
 //! Many accesses through a port of a chip.
 
 ghost use Rattle.std.specs.Prelude.{◌≡◌, ◌<◌, ℕ, [], IfOk};
-ghost use Rattle.scc_base.specs.Setups.{host_of};
-ghost use Rattle.scc_base.specs.Communicators.{AreRules};
 ghost use Rattle.scc_mesh.specs.Scenes.{IsWhole, IsNew, about_in, events_in};
 ghost use Rattle.steps_program.specs.Steps.{HasMade, HasMadeAway};
 
 use crate::accesses::{Kind, make_many};
-use scc_base::{CommRule, CoreId, Layout, Rank, Setup};
+use scc_base::{Layout, Rank, Setup, own_cores, world_alone};
 use scc_mesh::{Chip, Token};
 use std::alloc::{AllocError, Global};
 
-// Each rank on the core of its number.
-fn hosts() -> [CoreId; 48]
-    ensures { (r : ℕ) → r < 48 → host_of result r ≡ r }
-{
-    let mut hosts = [CoreId::of(0); 48];
-    for core in 0..48 {
-        hosts[core] = CoreId::of(core as u8);
-    }
-    hosts
-}
-
-// The world alone.
-fn rules() -> [CommRule; 16]
-    ensures { AreRules result }
-{
-    let mut rules = [CommRule::Absent; 16];
-    rules[0] = CommRule::World;
-    rules
-}
-
 // 48 ranks with line flags.
 fn setup() -> Setup {
-    match Setup::new(48, Layout::lines(), hosts(), rules()) {
+    match Setup::new(48, Layout::lines(), own_cores(), world_alone()) {
         Some(setup) => setup,
         None => unreachable!(),
     }

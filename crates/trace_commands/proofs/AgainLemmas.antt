@@ -8,7 +8,7 @@ use Rattle.outcomes.specs.Outcomes.{Outcome, Ran, run_outcome, too_long}
 use Rattle.outcomes.specs.Plans.{contents_outcome, expected, plan_outcome, words_outcome}
 use Rattle.outcomes.specs.declared.status.Status.{Status}
 use Rattle.outcomes.specs.declared.status.Status.TheVariants as status
-use Rattle.rcce_audit.specs.Words.{parts_of}
+use Rattle.texts.specs.Cuts.{lines_of}
 use Rattle.rcce_io.specs.Files.{FilesView, NamedFile, contents_of}
 use Rattle.rcce_io.specs.Sending.{SinkView, with_text}
 use Rattle.rcce_words.specs.CommandLine.{parse_command}
@@ -55,7 +55,7 @@ are_made s records (e ∷ run) (below, made, permitted, rest) =
 fits : (text : List ℕ) (trace : TraceView) → trace_of text ≡ Ok trace → nat_lt most_trace_bytes (length text) ≡ false
 fits text trace said = by (nat_lt most_trace_bytes (length text)) refl said
   where
-    by : (long : Bool) → nat_lt most_trace_bytes (length text) ≡ long → cond long (Err (record { line = 0; kind = kind.TooLong })) (parts_taken (parts_of text)) ≡ Ok trace → nat_lt most_trace_bytes (length text) ≡ false
+    by : (long : Bool) → nat_lt most_trace_bytes (length text) ≡ long → cond long (Err (record { line = 0; kind = kind.TooLong })) (parts_taken (lines_of text)) ≡ Ok trace → nat_lt most_trace_bytes (length text) ≡ false
     by true is same = absurd (cc)
     by false is same = is
 

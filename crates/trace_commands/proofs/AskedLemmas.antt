@@ -9,7 +9,8 @@ use Rattle.rcce_io.specs.Files.{NamedFile}
 use Rattle.scc_base.specs.Setups.{IsSetup, SetupView, host_of}
 use Rattle.script_reader.specs.Faults.{◌>>=◌}
 use Rattle.script_reader.specs.Script.{Script, first_split, rules_of}
-use Rattle.script_reader.specs.Words.{is_text, number_of}
+use Rattle.texts.specs.Cuts.{is_text}
+use Rattle.texts.specs.Numbers.{number_of}
 use Rattle.rcce_words.specs.Cores.{has_core}
 use Rattle.rcce_words.specs.HostFile.{at_line, core_of_number, core_of_word, default_hosts, digits_of, enough, entry_of, file_lines, host_at, host_list, parse_hosts, read_line, read_lines, with_core}
 use Rattle.rcce_words.specs.declared.command.Job.{Job}

@@ -9,7 +9,7 @@ use Rattle.std.proofs.lemmas.List.FromFn.{get_or-map-range_with_len}
 use Rattle.rcce_io.specs.Sending.{joined}
 use Rattle.rcce_audit.specs.Grammar.{world_alone}
 use Rattle.rcce_audit.specs.Texts.{rule_lines, table_lines, text_of}
-use Rattle.rcce_audit.specs.Words.{parts_of}
+use Rattle.texts.specs.Cuts.{lines_of}
 use Rattle.rcce_audit.proofs.TextLemmas.{text_of-append}
 use Rattle.scc_base.specs.Communicators.{IsRule, rule_of}
 use Rattle.scc_base.specs.Setups.{AreApart, SetupView, host_of}
@@ -123,8 +123,8 @@ module _ (s : SetupView) (rs : List CommRule) (run : List RankEvent) (is : IsTol
       ∙ ap (λ (t : List ℕ). head_body s ++ 10 ∷ (text_of splits ++ t)) (events_are s run)
       ∙ ap (λ (t : List ℕ). head_body s ++ 10 ∷ t) (sym (text_of-append splits (map (event_body s) run)))
 
-  parts_are : parts_of (trace_text s run) ≡ (head_body s ∷ later) ++ [] ∷ []
-  parts_are = ap parts_of text_is ∙ first_part (head_body s) (text_of later) head_line_is ∙ ap (λ (parts : List (List ℕ)). head_body s ∷ parts) (all_parts later are_lines)
+  parts_are : lines_of (trace_text s run) ≡ (head_body s ∷ later) ++ [] ∷ []
+  parts_are = ap lines_of text_is ∙ first_part (head_body s) (text_of later) head_line_is ∙ ap (λ (parts : List (List ℕ)). head_body s ∷ parts) (all_parts later are_lines)
 
   -- how many they are: each has a line feed
   feeds : text_lines (trace_text s run) ≡ length (head_body s ∷ later)
@@ -182,7 +182,7 @@ module _ (s : SetupView) (rs : List CommRule) (run : List RankEvent) (is : IsTol
 
   text_long : most_trace_lines < text_lines (trace_text s run) → trace_of (trace_text s run) ≡ too_long
   text_long many =
-      either_way (nat_lt most_trace_bytes (length (trace_text s run))) (parts_taken (parts_of (trace_text s run)))
+      either_way (nat_lt most_trace_bytes (length (trace_text s run))) (parts_taken (lines_of (trace_text s run)))
       (ap parts_taken parts_are ∙ lines_long (head_body s ∷ later) (subst (λ (n : ℕ). most_trace_lines < n) feeds many))
 
 -- ---- any setup

@@ -5,7 +5,7 @@ use Rattle.std.proofs.lemmas.List.Elements.{All-head, All-tail}
 use Rattle.std.proofs.lemmas.List.Splits.{slice_split_at}
 use Rattle.rcce_io.specs.Sending.{joined}
 use Rattle.rcce_audit.specs.Texts.{line_of, rule_lines, split_words, table_lines, text_of}
-use Rattle.rcce_audit.specs.Words.{parts_of}
+use Rattle.texts.specs.Cuts.{lines_of}
 use Rattle.scc_base.specs.Communicators.{IsRule}
 use Rattle.scc_base.specs.Setups.{SetupView}
 use Rattle.scc_base.specs.declared.communicators.CommRule.{CommRule}
@@ -40,13 +40,13 @@ are_append [] ys are more = more
 are_append (x ∷ xs) ys (is, short, rest) more = (is, short, are_append xs ys rest more)
 
 -- the parts of a text of lines
-pub first_part : (line : List ℕ) (rest : List ℕ) → IsLine line → parts_of (line ++ 10 ∷ rest) ≡ line ∷ parts_of rest
+pub first_part : (line : List ℕ) (rest : List ℕ) → IsLine line → lines_of (line ++ 10 ∷ rest) ≡ line ∷ lines_of rest
 first_part line rest is = slice_split_at (λ b. b == 10) line 10 rest is refl
 
-pub all_parts : (lines : List (List ℕ)) → AreLines lines → parts_of (text_of lines) ≡ lines ++ [] ∷ []
+pub all_parts : (lines : List (List ℕ)) → AreLines lines → lines_of (text_of lines) ≡ lines ++ [] ∷ []
 all_parts [] are = refl
 all_parts (line ∷ lines) (is, short, rest) =
-    ap parts_of (append_assoc line (10 ∷ []) (text_of lines)) ∙ first_part line (text_of lines) is ∙ ap (λ (t : List (List ℕ)). line ∷ t) (all_parts lines rest)
+    ap lines_of (append_assoc line (10 ∷ []) (text_of lines)) ∙ first_part line (text_of lines) is ∙ ap (λ (t : List (List ℕ)). line ∷ t) (all_parts lines rest)
 
 -- how long the text is
 pub text_size : (lines : List (List ℕ)) → AreLines lines → length (text_of lines) ≤ 63 * length lines

@@ -1,8 +1,6 @@
--- The pieces of the lines that `rccetrace` prints.
+-- The parts of the lines that `rccetrace` prints.
 use Rattle.std.specs.Prelude.{ℕ, List, decimal}
 use Rattle.trace_program.specs.NextTexts.{next_text}
-use Rattle.trace_program.specs.declared.next_texts.Piece.{Piece}
-use Rattle.trace_program.specs.declared.next_texts.Piece.TheVariants as piece
 use Rattle.std.specs.Int.{w64, to_be_bytes}
 use Rattle.rcce_io.specs.Digits.{hex_text}
 use Rattle.trace_program.specs.declared.report.Part.{Part}
@@ -14,8 +12,3 @@ trace_part_text (part.Text text) = text.now
 trace_part_text (part.Count n) = decimal n
 trace_part_text (part.Value value) = hex_text (to_be_bytes w64 value)
 trace_part_text (part.Next next) = next_text next
-
--- a piece as text: its own text, or a number in decimal
-abbrev pub piece_text : Piece → List ℕ
-piece_text (piece.Text text) = text.now
-piece_text (piece.Count n) = decimal n

@@ -8,8 +8,8 @@ ghost use Rattle.record_machine.specs.Following.{moved_by};
 
 use rcce_audit::{LogCall, no_calls, push_call};
 use scc_base::{Call, Rank};
-use script_reader::Bytes;
 use std::alloc::{AllocError, Global};
+use texts::Bytes;
 
 /// How many calls each of the ranks 0 to 47 has finished, and these calls where they are asked for.
 #[derive(Drop)]

@@ -4,32 +4,9 @@ ghost use Rattle.std.specs.Prelude.{codes};
 ghost use Rattle.rcce_io.specs.Sending.{Sends};
 ghost use Rattle.trace_program.specs.NextTexts.{next_text, ready_text, store_text, text_round};
 
-use rcce_io::{Sink, TextSource, WriteFault, write_all, write_texts};
+use rcce_io::{Piece, Sink, WriteFault, write_all, write_texts};
 use record_machine::{NextEvent, NextStore};
 use scc_base::Rank;
-
-/// A piece of a text.
-#[derive(Clone, Copy)]
-enum Piece<'a> {
-    Text(&'a str),
-    Count(u8),
-}
-
-impl TextSource for Piece<'_> {
-    ghost use Rattle.trace_program.specs.Parts.{piece_text};
-
-    ghost text = { piece_text };
-
-    fn write_to<S: Sink>(&self, sink: &mut S) -> Result<(), WriteFault> {
-        match self {
-            Piece::Text(text) => write_all(sink, text.as_bytes()),
-            Piece::Count(count) => {
-                let mut buffer = itoa::Buffer::new();
-                write_all(sink, buffer.format(*count).as_bytes())
-            }
-        }
-    }
-}
 
 /// Writes a text with a number in it.
 fn write_round<'x, S: Sink>(
@@ -44,7 +21,7 @@ fn write_round<'x, S: Sink>(
         sink,
         &[
             Piece::Text(before),
-            Piece::Count(number),
+            Piece::Number(number as u64),
             Piece::Text(after),
         ],
     )

@@ -11,7 +11,7 @@ use crate::judging::RefusedEvent;
 use crate::next_texts::write_next;
 use outcomes::Report;
 use rcce_audit::{LogCall, write_lists};
-use rcce_io::{Sink, TextSource, WriteFault, write_all, write_hex, write_texts};
+use rcce_io::{Piece, Sink, TextSource, WriteFault, write_all, write_hex, write_texts};
 use record_machine::NextEvent;
 use scc_base::Rank;
 use trace_judge::Refusal;
@@ -31,7 +31,7 @@ pub enum TraceVerdict {
     NotLegal(RefusedEvent),
 }
 
-/// A piece of a line.
+/// A part of a line.
 #[derive(Clone, Copy)]
 enum Part<'a> {
     Text(&'a str),
@@ -50,10 +50,7 @@ impl TextSource for Part<'_> {
     fn write_to<S: Sink>(&self, sink: &mut S) -> Result<(), WriteFault> {
         match self {
             Part::Text(text) => write_all(sink, text.as_bytes()),
-            Part::Count(count) => {
-                let mut buffer = itoa::Buffer::new();
-                write_all(sink, buffer.format(*count).as_bytes())
-            }
+            Part::Count(count) => Piece::Number(*count as u64).write_to(sink),
             Part::Value(value) => write_hex(sink, &value.to_be_bytes()),
             Part::Next(next) => write_next(sink, next),
         }

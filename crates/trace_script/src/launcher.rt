@@ -16,8 +16,8 @@ ghost use Rattle.trace_script.specs.Tracing.{IsTracedOver, StandsTraced, TellsEn
 use crate::endings::TraceEnd;
 use chip_run::RunEnd;
 use line_cache::Choice;
-use outcomes::Piece::{Number, Text};
 use outcomes::{Complaint, Report, Status, deliver};
+use rcce_io::Piece::{Number, Text};
 use rcce_io::{Files, Sink, WriteFault, write_texts};
 use rcce_run::Crew;
 use run_program::{Loaded, Run, crew_of, load};
@@ -194,7 +194,7 @@ fn write_refused<E: Sink>(err: &mut E, rank: Rank) -> Result<(), WriteFault>
         err,
         &[
             Text("rccetrace: an event of ue "),
-            Number(u32::from(rank.number())),
+            Number(u64::from(rank.number())),
             Text(" is not legal\n"),
         ],
     )

@@ -20,7 +20,8 @@ use Rattle.scc_base.specs.declared.layouts.Layout.{Layout}
 use Rattle.scc_proto.specs.Words.{RankEvent, rank_below}
 use Rattle.rcce_audit.specs.declared.lines.CommSplit.{CommSplit}
 use Rattle.rcce_audit.specs.Grammar.{begins_comm, comm_said, rank_said, world_alone}
-use Rattle.rcce_audit.specs.Words.{◌>>=◌, is_lower, only_if, parts_of, range_said, words_of}
+use Rattle.rcce_audit.specs.Words.{◌>>=◌, is_lower, only_if, range_said, words_of}
+use Rattle.texts.specs.Cuts.{lines_of}
 use Rattle.rcce_audit.proofs.ReadingLemmas.{no_rules, world_rules}
 use Rattle.rcce_audit.proofs.WordLemmas.{only_some, range_word, then_some}
 use Rattle.trace_text.specs.Grammar.{HostTable, TraceHead, TraceReading, access_said, all_hosts_said, all_taken, are_head_words, behind_head, event_added, event_by, event_said, event_taken, first_taken, free_event_said, head_of_words, head_said, head_values_said, host_said, hosts_said, last_taken, line_fault, line_taken, lines_taken, load_event_said, no_hosts, parts_taken, split_added, split_taken, store_event_said, take_event_said, trace_of, ◌>->◌}
@@ -331,4 +332,4 @@ parts_said parts trace said =
     (not_err (nat_lt most_trace_lines (length parts - 1)) _ (all_taken (take (length parts - 1) parts) (slice_index_or parts (length parts - 1) [])) trace said)
 
 pub trace_said : (bytes : List ℕ) (trace : TraceView) → trace_of bytes ≡ Ok trace → IsSaid trace
-trace_said bytes trace said = parts_said (parts_of bytes) trace (not_err (nat_lt most_trace_bytes (length bytes)) _ (parts_taken (parts_of bytes)) trace said)
+trace_said bytes trace said = parts_said (lines_of bytes) trace (not_err (nat_lt most_trace_bytes (length bytes)) _ (parts_taken (lines_of bytes)) trace said)

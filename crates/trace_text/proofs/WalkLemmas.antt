@@ -8,7 +8,7 @@ use Rattle.std.proofs.Math.Seq.{get_or-append_seam, take-append_seam, take-lengt
 use Rattle.std.proofs.lemmas.Bool.{cond-false, cond-true, le-ltb, lt-ltb, ltb-false, ltb-true}
 use Rattle.std.proofs.lemmas.List.{length-take-le, take-append-le, take_all}
 use Rattle.std.proofs.lemmas.List.Splits.{slice_split-cons_no, slice_split-cons_yes}
-use Rattle.rcce_audit.specs.Words.{parts_of}
+use Rattle.texts.specs.Cuts.{lines_of}
 use Rattle.rcce_audit.specs.Grammar.{begins_comm}
 use Rattle.rcce_audit.proofs.ReadingLemmas.{few_parts, some_part}
 use Rattle.trace_text.specs.Grammar.{TraceHead, TraceReading, all_taken, behind_head, first_taken, head_said, last_taken, line_fault, line_taken, lines_taken, parts_taken, trace_of, ◌>->◌}
@@ -70,7 +70,7 @@ module _ {X : Type 0} (p : X → Bool) where
 
 -- ---- the lines of a text
 
-cut_is : (text : List ℕ) (whole : List (List ℕ)) (last : List ℕ) → parts_of text ≡ whole ++ last ∷ [] → (whole_lines text ≡ whole) × (last_line text ≡ last)
+cut_is : (text : List ℕ) (whole : List (List ℕ)) (last : List ℕ) → lines_of text ≡ whole ++ last ∷ [] → (whole_lines text ≡ whole) × (last_line text ≡ last)
 unfolding whole_lines last_line
 cut_is text whole last is =
     let one : length (whole ++ last ∷ []) - 1 ≡ length whole = omega (arith, length-append whole (last ∷ [])) in (
@@ -99,8 +99,8 @@ line_more text b feed =
 pub few_lines : (text : List ℕ) → length (whole_lines text) ≤ length text
 unfolding whole_lines
 few_lines text =
-    let few = few_parts text (parts_of text) refl in
-    let long = length-take-le (length (parts_of text) - 1) (parts_of text) (omega arith) in
+    let few = few_parts text (lines_of text) refl in
+    let long = length-take-le (length (lines_of text) - 1) (lines_of text) (omega arith) in
     omega (arith, few, long)
 
 -- ---- what lines say
@@ -203,7 +203,7 @@ pub text_ended : (text : List ℕ) → length text ≤ most_trace_bytes → trac
     else ended (text_reading text) (length (whole_lines text)) (last_line text))
 unfolding whole_lines last_line text_reading
 text_ended text within =
-    let parts = parts_of text in
+    let parts = lines_of text in
     let long : length (take (length parts - 1) parts) ≡ length parts - 1 = length-take-le (length parts - 1) parts (omega arith) in
     cond-false (nat_lt most_trace_bytes (length text)) _ _ (le-ltb most_trace_bytes (length text) within)
     ∙ (λ i. if nat_lt most_trace_lines (sym long i) then Err (record { line = 0; kind = kind.TooLong }) else all_ended (take (length parts - 1) parts) (slice_index_or parts (length parts - 1) []) i)

@@ -8,7 +8,8 @@ use Rattle.scc_base.specs.Events.{load_of, store_of, take_of, free_of}
 use Rattle.scc_proto.specs.Words.{RankEvent, rank_below}
 use Rattle.rcce_audit.specs.declared.lines.CommSplit.{CommSplit}
 use Rattle.rcce_audit.specs.Grammar.{rank_said, comm_said, begins_comm, world_alone}
-use Rattle.rcce_audit.specs.Words.{◌>>=◌, only_if, parts_of, words_of, range_said}
+use Rattle.rcce_audit.specs.Words.{◌>>=◌, only_if, words_of, range_said}
+use Rattle.texts.specs.Cuts.{lines_of}
 use Rattle.trace_text.specs.declared.faults.TraceKind.{TraceKind}
 use Rattle.trace_text.specs.declared.faults.TraceKind.TheVariants as kind
 use Rattle.trace_text.specs.declared.faults.TraceFault.{TraceFault}
@@ -173,4 +174,4 @@ parts_taken parts =
 abbrev pub trace_of : List ℕ → Result TraceView TraceFault
 trace_of bytes =
     if nat_lt most_trace_bytes (length bytes) then Err (record { line = 0; kind = kind.TooLong })
-    else parts_taken (parts_of bytes)
+    else parts_taken (lines_of bytes)

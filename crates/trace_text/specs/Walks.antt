@@ -1,18 +1,18 @@
 -- A text that is read from front to end: what its lines say so far (this project's profile).
 use Rattle.std.specs.Prelude.{◌≡◌, ◌⊎◌, ℕ, zero, suc, ◌+◌, ◌-◌, ◌<◌, List, [], ◌∷◌, length, slice_index_or, take, Option, Some, None, Result, Ok, Err}
 use Rattle.std.specs.Option.{ok_or}
-use Rattle.rcce_audit.specs.Words.{parts_of}
+use Rattle.texts.specs.Cuts.{lines_of}
 use Rattle.scc_proto.specs.Words.{RankEvent}
 use Rattle.trace_text.specs.Grammar.{TraceReading, event_added, first_taken, line_fault, line_taken, lines_taken, trace_of, ◌>->◌}
 use Rattle.trace_text.specs.declared.faults.TraceFault.{TraceFault}
 
 -- the lines of a text that have their line feed
 unfoldable pub whole_lines : List ℕ → List (List ℕ)
-whole_lines text = take (length (parts_of text) - 1) (parts_of text)
+whole_lines text = take (length (lines_of text) - 1) (lines_of text)
 
 -- what stands behind the last line feed
 unfoldable pub last_line : List ℕ → List ℕ
-last_line text = slice_index_or (parts_of text) (length (parts_of text) - 1) []
+last_line text = slice_index_or (lines_of text) (length (lines_of text) - 1) []
 
 -- what lines say; where there is none, nothing
 abbrev pub trace_lines_said : List (List ℕ) → Option (Result TraceReading TraceFault)

@@ -1,22 +1,22 @@
 -- The words of a trace's lines (this project's profile).
 use Rattle.std.specs.Prelude.{ℕ, ◌==◌, Bool, true, if◌then◌else◌, List, [], ◌∷◌, codes, slice_index, Option, Some, None, option_map}
 use Rattle.std.specs.Int.{w64, from_be_bytes}
-use Rattle.std.specs.List.{slice_split}
 use Rattle.std.specs.Result.{result_ok}
 use Rattle.std.specs.Str.{bytes_eq}
 use Rattle.hex.specs.Hex.{decode_sized}
 use Rattle.rcce_audit.specs.Words.{◌>>=◌, only_if, is_lower, range_said}
+use Rattle.texts.specs.Cuts.{cut_by}
 use Rattle.scc_base.specs.Places.{WordAt}
 use Rattle.scc_base.specs.declared.layouts.Layout.{Layout}
 use Rattle.scc_base.specs.declared.layouts.Layout.TheVariants.{LineFlags, BitFlags}
 
 -- the parts of a word between its dots
 abbrev pub dot_parts : List ℕ → List (List ℕ)
-dot_parts word = slice_split (λ b. b == 46) word
+dot_parts word = cut_by 46 word
 
 -- the parts of a word between its commas
 abbrev pub comma_parts : List ℕ → List (List ℕ)
-comma_parts word = slice_split (λ b. b == 44) word
+comma_parts word = cut_by 44 word
 
 -- a value: 16 hex digits in lower case, the highest first
 abbrev pub hex_word_said : List ℕ → Option ℕ

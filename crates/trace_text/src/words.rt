@@ -7,19 +7,20 @@ ghost use Rattle.trace_text.specs.Words.{dot_parts, is_comment, layout_said, com
 use rcce_audit::words::{is_lower, range_said};
 use scc_base::{CoreId, Layout, Place};
 use std::alloc::{AllocError, Global};
+use texts::parts;
 
 /// What stands between the dots of a word.
 pub(crate) fn dot_parts(alloc: Global, word: &[u8]) -> Result<Vec<&[u8]>, AllocError>
     ensures { IfOk result (λ v. map (λ part. part.now) v.items ≡ dot_parts word.now) }
 {
-    word.split(|b| *b == b'.').collect(alloc)
+    parts(alloc, word, b'.')
 }
 
 /// What stands between the commas of a word.
 pub(crate) fn comma_parts(alloc: Global, word: &[u8]) -> Result<Vec<&[u8]>, AllocError>
     ensures { IfOk result (λ v. map (λ part. part.now) v.items ≡ comma_parts word.now) }
 {
-    word.split(|b| *b == b',').collect(alloc)
+    parts(alloc, word, b',')
 }
 
 /// A value: 16 hex digits in lower case, the highest first.

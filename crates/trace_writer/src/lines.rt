@@ -6,7 +6,7 @@ ghost use Rattle.rcce_io.specs.Sending.{Sends, joined};
 ghost use Rattle.record_machine.specs.Uses.{role_meant};
 ghost use Rattle.trace_writer.specs.Lines.{access_name, comm_line, comma_before, comm_line_behind, comment_words, event_line, first_lines, header_word_name, host_words, layout_name, place_words, role_words, split_line};
 
-use outcomes::Piece::{Number, Text};
+use rcce_io::Piece::{Number, Text};
 use rcce_io::{Sink, TextSource, WriteFault, write_all, write_hex, write_texts};
 use record_machine::{Use, use_of};
 use scc_base::{Access, CommRule, Event, Layout, Rank, Setup};
@@ -71,7 +71,7 @@ fn write_host<S: Sink>(sink: &mut S, setup: &Setup, number: u8) -> Result<(), Wr
     let _ = setup.nue();
     let core = setup.core_of(Rank::of(number));
     let comma = comma_before(number);
-    write_texts(sink, &[Text(comma), Number(u32::from(core.number()))])
+    write_texts(sink, &[Text(comma), Number(u64::from(core.number()))])
 }
 
 fn write_hosts<S: Sink>(sink: &mut S, setup: &Setup) -> Result<(), WriteFault>
@@ -97,11 +97,11 @@ fn write_split<S: Sink>(
         sink,
         &[
             Text("comm "),
-            Number(u32::from(comm)),
+            Number(u64::from(comm)),
             Text(" "),
-            Number(u32::from(parent)),
+            Number(u64::from(parent)),
             Text(how),
-            Number(u32::from(parts)),
+            Number(u64::from(parts)),
             Text("\n"),
         ],
     )
@@ -135,7 +135,7 @@ impl TextSource for FirstLines<'_> {
             sink,
             &[
                 Text("rcce trace 1 nue "),
-                Number(u32::from(self.setup.nue())),
+                Number(u64::from(self.setup.nue())),
                 Text(" layout "),
                 Text(layout_name(self.setup.layout())),
                 Text(" hosts "),
@@ -161,9 +161,9 @@ fn write_numbered<'a, S: Sink>(
         sink,
         &[
             Text(first),
-            Number(u32::from(one)),
+            Number(u64::from(one)),
             Text(then),
-            Number(u32::from(other)),
+            Number(u64::from(other)),
         ],
     )
 }
@@ -177,7 +177,7 @@ fn write_use<S: Sink>(sink: &mut S, of: Use) -> Result<(), WriteFault>
             sink,
             &[
                 Text("header of "),
-                Number(u32::from(owner.number())),
+                Number(u64::from(owner.number())),
                 Text(": "),
                 Text(header_word_name(word)),
             ],
@@ -201,11 +201,11 @@ fn write_use<S: Sink>(sink: &mut S, of: Use) -> Result<(), WriteFault>
         ),
         Use::SentBits { owner } => write_texts(
             sink,
-            &[Text("sent flags of "), Number(u32::from(owner.number()))],
+            &[Text("sent flags of "), Number(u64::from(owner.number()))],
         ),
         Use::ReadyBits { owner } => write_texts(
             sink,
-            &[Text("ready flags of "), Number(u32::from(owner.number()))],
+            &[Text("ready flags of "), Number(u64::from(owner.number()))],
         ),
         Use::Gather { comm, owner } => write_numbered(
             sink,
@@ -236,9 +236,9 @@ impl EventLine<'_> {
                 sink,
                 &[
                     Text("."),
-                    Number(u32::from(self.event.place.line())),
+                    Number(u64::from(self.event.place.line())),
                     Text("."),
-                    Number(u32::from(self.event.place.word())),
+                    Number(u64::from(self.event.place.word())),
                 ],
             ),
             Access::Take | Access::Free => write_all(sink, b".register"),
@@ -263,11 +263,11 @@ impl TextSource for EventLine<'_> {
         write_texts(
             sink,
             &[
-                Number(u32::from(self.rank.number())),
+                Number(u64::from(self.rank.number())),
                 Text(" "),
                 Text(access_name(self.event.access)),
                 Text(" "),
-                Number(u32::from(self.event.place.core().number())),
+                Number(u64::from(self.event.place.core().number())),
             ],
         )?;
         self.write_place(sink)?;

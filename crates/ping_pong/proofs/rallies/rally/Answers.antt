@@ -5,7 +5,7 @@ use Rattle.scc_proto.specs.Records.{record_of}
 use Rattle.scc_mesh.specs.AwayRanks.{Ticket}
 use Rattle.scc_mesh.specs.Scenes.{about_in, records_in, sight_away}
 use Rattle.station.specs.declared.stops.Stop.{Stop}
-use Rattle.station.specs.Worlds.{world_setup}
+use Rattle.scc_base.specs.Worlds.{world_setup}
 use Rattle.ping_pong.specs.GivingUp.{ServeStops}
 use Rattle.ping_pong.specs.Rallies.{serves}
 use Rattle.ping_pong.proofs.RallyLemmas.{back_same, map_ok, same_calls, seen_same}

@@ -2,7 +2,7 @@ use Rattle.std.proofs.Common.{drop, refl}
 use Rattle.std.specs.Char.{is_ascii_whitespace}
 use Rattle.std.specs.List.{prefix_len}
 use Rattle.std.proofs.lemmas.Str.Ascii.{trim_ascii_is}
-use Rattle.script_reader.specs.Words.{uncommented}
+use Rattle.texts.specs.Cuts.{uncommented}
 use Rattle.rcce_words.proofs.host_file.entry_of.Goals as goal
 
 pub returns : goal.returns

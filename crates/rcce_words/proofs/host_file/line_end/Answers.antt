@@ -2,7 +2,7 @@ use Rattle.std.proofs.Common.{◌==◌, ◌∙◌, ap, length, rules, tests, unw
 use Rattle.std.proofs.lemmas.Iterator.{YieldsList-from_slice}
 use Rattle.std.proofs.lemmas.Iterator.Search.{position_from_yields_List}
 use Rattle.std.proofs.lemmas.List.Sums.{prefix_len-le-length}
-use Rattle.script_reader.proofs.WordLemmas.{unwrapped_position}
+use Rattle.texts.proofs.PlaceLemmas.{unwrapped_position}
 use Rattle.rcce_words.proofs.host_file.line_end.Goals as goal
 
 pub returns-clause-same : goal.returns-clause-same

@@ -1,6 +1,6 @@
 use Rattle.std.proofs.Common.{refl}
 use Rattle.std.specs.Int.{int_wrap}
-use Rattle.script_reader.specs.Words.{number_of}
+use Rattle.texts.specs.Numbers.{number_of}
 use Rattle.script_plain.specs.Local.{local_next}
 use Rattle.script_plain.specs.Program.{unrolled}
 use Rattle.script_examples.proofs.values.a_repeat_is_done_twice.Goals as goal

@@ -9,12 +9,12 @@ returns c =
     elim c.if-nue-eq1.branch [
       | then-nue-eq1+in_ok-push_section+in_ok-push_section-2 w ↦
           let s = c.args.s in
-          let written : c.from.result ≡ section_text (codes "even") s [] [] ++ section_text (codes "odd") s [] [] =
-          simp (c.from.ensures, w.text-is, w.in_ok-push_section-2.ensures, w.in_ok-push_section.ensures, c.new-text.ensures.items) in
+          let written : c.from_vec.result ≡ section_text (codes "even") s [] [] ++ section_text (codes "odd") s [] [] =
+          simp (c.from_vec.ensures, w.text-is, w.in_ok-push_section-2.ensures, w.in_ok-push_section.ensures, c.new-text.ensures.items) in
           written ∙ alone_text c.args.nue c.args.s w.if-nue-eq1.true
       | else-nue-eq1+in_ok-push_section-3+in_ok-push_section-4 w ↦
           let s = c.args.s in
-          let written : c.from.result ≡ section_text (codes "even") s (even_pieces (decimal s)) (codes "print g\n") ++ section_text (codes "odd") s (odd_pieces (decimal s)) (codes "print g\n") =
-          simp (c.from.ensures, w.text-is, w.in_ok-push_section-4.ensures, w.in_ok-push_section-3.ensures, c.new-text.ensures.items) in
+          let written : c.from_vec.result ≡ section_text (codes "even") s (even_pieces (decimal s)) (codes "print g\n") ++ section_text (codes "odd") s (odd_pieces (decimal s)) (codes "print g\n") =
+          simp (c.from_vec.ensures, w.text-is, w.in_ok-push_section-4.ensures, w.in_ok-push_section-3.ensures, c.new-text.ensures.items) in
           written ∙ ring_text c.args.nue c.args.s w.if-nue-eq1.false
     ]

@@ -2,7 +2,7 @@ use Rattle.std.proofs.Common.{ℕ, Bool, List, ◌∙◌, ap, length, rules, tes
 use Rattle.std.proofs.lemmas.Iterator.{YieldsList-from_slice}
 use Rattle.std.proofs.lemmas.Iterator.Search.{position_from_yields_List}
 use Rattle.std.specs.Str.{bytes_eq}
-use Rattle.script_reader.proofs.WordLemmas.{unwrapped_position}
+use Rattle.texts.proofs.PlaceLemmas.{unwrapped_position}
 use Rattle.script_reader.proofs.reader.place_of.Goals as goal
 
 pub returns-clause-place : goal.returns-clause-place

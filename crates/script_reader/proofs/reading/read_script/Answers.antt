@@ -4,7 +4,7 @@ use Rattle.script_reader.specs.declared.version.Version.{Version}
 use Rattle.script_reader.specs.Reading.{read_as, version_of}
 use Rattle.script_reader.specs.Settled.{NamesCommsTo, SplitsWorldAlone}
 use Rattle.script_reader.specs.Checks.{last_comm}
-use Rattle.script_reader.specs.Words.{lines_of}
+use Rattle.texts.specs.Cuts.{lines_of}
 use Rattle.script_reader.proofs.CommLemmas.{names-low}
 use Rattle.script_reader.proofs.RankLemmas.{parse_has}
 use Rattle.script_reader.proofs.VersionLemmas.{IfOk-given, first-flat}

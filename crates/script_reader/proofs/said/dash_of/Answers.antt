@@ -1,7 +1,7 @@
 use Rattle.std.proofs.Common.{◌==◌, ◌∙◌, ap, length, rules, tests, unwrap_or}
 use Rattle.std.proofs.lemmas.Iterator.{YieldsList-from_slice}
 use Rattle.std.proofs.lemmas.Iterator.Search.{position_from_yields_List}
-use Rattle.script_reader.proofs.WordLemmas.{unwrapped_position}
+use Rattle.texts.proofs.PlaceLemmas.{unwrapped_position}
 use Rattle.script_reader.proofs.said.dash_of.Goals as goal
 
 pub returns : goal.returns

@@ -1,6 +1,0 @@
-use Rattle.std.proofs.Common.{rules}
-use Rattle.script_reader.proofs.words.decimal.Goals as goal
-
--- Answered by name, so that a body which turns this is refused at once, with no search for what else might be written.
-pub returns-then-is_empty-clause-gives : goal.returns-then-is_empty-clause-gives
-returns-then-is_empty-clause-gives c = search rules

@@ -1,6 +1,0 @@
-use Rattle.std.proofs.Common.{refl}
-use Rattle.scc_base.proofs.WorldRules.{world_alone}
-use Rattle.steps_program.proofs.ports.rules.Goals as goal
-
-pub returns : goal.returns
-returns c = world_alone _ refl
