@@ -14,6 +14,7 @@ mod names;
 mod orders;
 mod places;
 mod setups;
+mod signals;
 
 pub use bytes::byte_of;
 pub use calls::Call;
@@ -27,3 +28,4 @@ pub use names::{CoreId, Rank};
 pub use orders::{OwnedSteps, any_first, lowest_first, one_end};
 pub use places::{Buf, FlagAt, Line, Place};
 pub use setups::Setup;
+pub use signals::Signal;

@@ -5,7 +5,8 @@ use Rattle.std.specs.List.{list_all}
 use Rattle.scc_base.specs.Heads.{MessageHead, IsHead}
 use Rattle.scc_base.specs.Calls.{DataCall, Recv}
 use Rattle.scc_base.specs.Places.{LineAt, flag_word}
-use Rattle.scc_base.specs.Layouts.{sent_at, first_chunk, first_heap}
+use Rattle.scc_base.specs.Layouts.{signal_at, first_chunk, first_heap}
+use Rattle.scc_base.specs.declared.signals.Signal.TheVariants.{Sent}
 use Rattle.scc_base.specs.Setups.{host_of}
 use Rattle.scc_base.specs.declared.layouts.Layout.{Layout}
 use Rattle.scc_base.specs.declared.layouts.Layout.TheVariants.{LineFlags, BitFlags}
@@ -147,7 +148,7 @@ lines_of_turn layout size old now answer = (lines_left layout size old - lines_l
 
 -- the spot at which a stage makes its one try, where it makes one
 abbrev pub spot_by : Layout → ℕ → ℕ → ℕ → RecvStage → Option Spot
-spot_by layout own other from Look = Some (Flag (flag_word own (sent_at layout from)) (sent_at layout from).bit)
+spot_by layout own other from Look = Some (Flag (flag_word own (signal_at layout Sent from)) (signal_at layout Sent from).bit)
 spot_by BitFlags own other from Lower = Some (Register own)
 spot_by BitFlags own other from Raise = Some (Register other)
 spot_by layout own other from stage = None

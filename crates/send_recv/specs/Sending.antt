@@ -5,7 +5,8 @@ use Rattle.std.specs.List.{list_all}
 use Rattle.scc_base.specs.Heads.{MessageHead, IsHead, IsPostHead}
 use Rattle.scc_base.specs.Calls.{DataCall, Send, Post}
 use Rattle.scc_base.specs.Places.{LineAt, flag_word}
-use Rattle.scc_base.specs.Layouts.{ready_at, first_chunk}
+use Rattle.scc_base.specs.Layouts.{signal_at, first_chunk}
+use Rattle.scc_base.specs.declared.signals.Signal.TheVariants.{Ready}
 use Rattle.scc_base.specs.Setups.{host_of}
 use Rattle.scc_base.specs.declared.layouts.Layout.{Layout}
 use Rattle.scc_base.specs.declared.layouts.Layout.TheVariants.{LineFlags, BitFlags}
@@ -51,7 +52,7 @@ pub record SlotStands (seat : Seat) (rec : Record) (slot : SlotAt) : Type 0 wher
 
 -- the spot at which a slot's turn makes its one try
 abbrev pub slot_spot_by : Layout → ℕ → Option ℕ → Bool → Option Spot
-slot_spot_by layout own (Some to) false = Some (Flag (flag_word own (ready_at layout to)) (ready_at layout to).bit)
+slot_spot_by layout own (Some to) false = Some (Flag (flag_word own (signal_at layout Ready to)) (signal_at layout Ready to).bit)
 slot_spot_by BitFlags own (Some to) true = Some (Register own)
 slot_spot_by layout own to seen = None
 
@@ -220,7 +221,7 @@ send_left layout size op slot = send_left_by (slot_left slot) (of_chunk layout o
 -- the spot at which a stage makes its one try; at the start it is the slot's
 abbrev pub send_spot_by : Layout → ℕ → ℕ → ℕ → Option Spot → SendStage → Option Spot
 send_spot_by layout own other to slot Header = slot
-send_spot_by layout own other to slot Look = Some (Flag (flag_word own (ready_at layout to)) (ready_at layout to).bit)
+send_spot_by layout own other to slot Look = Some (Flag (flag_word own (signal_at layout Ready to)) (signal_at layout Ready to).bit)
 send_spot_by BitFlags own other to slot Raise = Some (Register other)
 send_spot_by BitFlags own other to slot Lower = Some (Register own)
 send_spot_by layout own other to slot stage = None

@@ -2,7 +2,8 @@
 use Rattle.std.specs.Prelude.{◌≡◌, ◌≢◌, ℕ, ◌+◌, ◌==◌, ◌&&◌, Bool, true, false, if◌then◌else◌, nat_lt, List, [], Some, None, slice_index}
 use Rattle.scc_base.specs.Heads.{MessageHead}
 use Rattle.scc_base.specs.Places.{LineAt, FlagPlace, flag_word}
-use Rattle.scc_base.specs.Layouts.{sent_at, ready_at, chunk_size}
+use Rattle.scc_base.specs.Layouts.{signal_at, chunk_size}
+use Rattle.scc_base.specs.declared.signals.Signal.TheVariants.{Sent, Ready}
 use Rattle.scc_base.specs.Setups.{host_of}
 use Rattle.scc_base.specs.declared.events.Spot.{Spot}
 use Rattle.scc_base.specs.declared.events.Spot.TheVariants.{Flag}
@@ -34,11 +35,11 @@ core_of seat j = host_of seat.setup.hosts j
 
 -- the flag that tells a receiver of a chunk, by the sender
 abbrev pub sent_flag : Seat → ℕ → FlagPlace
-sent_flag seat from = sent_at seat.setup.layout from
+sent_flag seat from = signal_at seat.setup.layout Sent from
 
 -- the flag that tells a sender that its chunk is taken, by the receiver
 abbrev pub ready_flag : Seat → ℕ → FlagPlace
-ready_flag seat by = ready_at seat.setup.layout by
+ready_flag seat by = signal_at seat.setup.layout Ready by
 
 -- the spot of a flag at a core: its word, and its bit
 abbrev pub flag_spot : ℕ → FlagPlace → Spot

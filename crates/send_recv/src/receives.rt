@@ -9,7 +9,7 @@ use crate::slices::put_line;
 use crate::stages::RecvStage;
 use line_cache::Evict;
 use put_get::Core;
-use scc_base::{Head, Line, Rank};
+use scc_base::{Head, Line, Rank, Signal};
 use scc_proto::Port;
 use std::marker::Model;
 
@@ -76,7 +76,7 @@ impl RecvOp {
         ensures answers { result ≡ recv_or_waits (goes_on result) (sent_spot (P.sight port.old) self.old.from) }
         ensures steps { MadeSteps P.stepped (P.sight port.old) (P.sight port.new) }
     {
-        let flag = layout_of(port).sent(self.from);
+        let flag = layout_of(port).signal(Signal::Sent, self.from);
         if let Some(spot) = look_own(core, port, flag) {
             return RecvTurn::Waiting(spot);
         }
@@ -119,7 +119,7 @@ impl RecvOp {
         ensures steps { goes_on result ≡ false → MadeSteps P.stepped (P.sight port.old) (P.sight port.new) }
     {
         let layout = layout_of(port);
-        if let Some(spot) = lower_own(core, port, layout.sent(self.from)) {
+        if let Some(spot) = lower_own(core, port, layout.signal(Signal::Sent, self.from)) {
             return RecvTurn::Waiting(spot);
         }
         if lines_in(layout, self.head.len(), self.chunk) == 0 {
@@ -179,7 +179,7 @@ impl RecvOp {
     {
         let other = core_of(port, self.from);
         let layout = layout_of(port);
-        let flag = layout.ready(port.rank());
+        let flag = layout.signal(Signal::Ready, port.rank());
         if let Some(spot) = raise_at(core, port, other, flag) {
             return RecvTurn::Waiting(spot);
         }

@@ -12,7 +12,7 @@ use crate::slots::Slot;
 use crate::stages::SendStage;
 use line_cache::Evict;
 use put_get::Core;
-use scc_base::{Head, Layout, Line, PostHead, Rank, Turn};
+use scc_base::{Head, Layout, Line, PostHead, Rank, Signal, Turn};
 use scc_proto::Port;
 use std::marker::Model;
 
@@ -165,7 +165,7 @@ impl SendOp {
         ensures steps { moves_on result ≡ false → MadeSteps P.stepped (P.sight port.old) (P.sight port.new) }
     {
         let other = core_of(port, self.to);
-        let flag = layout_of(port).sent(port.rank());
+        let flag = layout_of(port).signal(Signal::Sent, port.rank());
         if let Some(spot) = raise_at(core, port, other, flag) {
             return Turn::Waiting(spot);
         }
@@ -187,7 +187,7 @@ impl SendOp {
         ensures answers { result ≡ moved_or_waits (moves_on result) (ready_spot (P.sight port.old) self.old.to) }
         ensures steps { MadeSteps P.stepped (P.sight port.old) (P.sight port.new) }
     {
-        let flag = layout_of(port).ready(self.to);
+        let flag = layout_of(port).signal(Signal::Ready, self.to);
         if let Some(spot) = look_own(core, port, flag) {
             return Turn::Waiting(spot);
         }
@@ -205,7 +205,7 @@ impl SendOp {
         ensures steps { moves_on result ≡ false → MadeSteps P.stepped (P.sight port.old) (P.sight port.new) }
     {
         let layout = layout_of(port);
-        if let Some(spot) = lower_own(core, port, layout.ready(self.to)) {
+        if let Some(spot) = lower_own(core, port, layout.signal(Signal::Ready, self.to)) {
             return Turn::Waiting(spot);
         }
         if is_last(layout, self.head.len(), self.chunk) {

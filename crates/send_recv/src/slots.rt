@@ -4,7 +4,7 @@ use crate::flags::{look_own, lower_own};
 use crate::places::{known, layout_of};
 use line_cache::Evict;
 use put_get::Core;
-use scc_base::{Rank, Turn};
+use scc_base::{Rank, Signal, Turn};
 use scc_proto::Port;
 use std::marker::Model;
 
@@ -69,7 +69,7 @@ impl Slot {
         ensures answers { result ≡ moved_or_waits (moves_on result) (ready_spot (P.sight port.old) to) }
         ensures steps { MadeSteps P.stepped (P.sight port.old) (P.sight port.new) }
     {
-        let flag = layout_of(port).ready(to);
+        let flag = layout_of(port).signal(Signal::Ready, to);
         if let Some(spot) = look_own(core, port, flag) {
             return Turn::Waiting(spot);
         }
@@ -85,7 +85,7 @@ impl Slot {
         ensures answers { result ≡ moved_or_waits (moves_on result) (own_register (P.sight port.old)) }
         ensures steps { moves_on result ≡ false → MadeSteps P.stepped (P.sight port.old) (P.sight port.new) }
     {
-        let flag = layout_of(port).ready(to);
+        let flag = layout_of(port).signal(Signal::Ready, to);
         if let Some(spot) = lower_own(core, port, flag) {
             return Turn::Waiting(spot);
         }

@@ -1,7 +1,8 @@
 -- What a look at a flag of the own core is to the record and to the cache, in both layouts.
 use Rattle.std.proofs.Common.{◌≡◌, ◌≢◌, ℕ, ◌+◌, ◌<◌, ◌≤◌, Bool, true, false, ◌==◌, ◌&&◌, List, [], ◌∷◌, Option, Some, None, option_map, refl, sym, ◌∙◌, ap, subst, arith, slice_index}
 use Rattle.scc_base.specs.Places.{line_of_word, flag_word}
-use Rattle.scc_base.specs.Layouts.{sent_at, ready_at, first_gather}
+use Rattle.scc_base.specs.Layouts.{signal_at, first_gather}
+use Rattle.scc_base.specs.declared.signals.Signal.TheVariants.{Sent, Ready}
 use Rattle.scc_base.specs.Setups.{IsSetup}
 use Rattle.scc_base.specs.Events.{load_of}
 use Rattle.scc_base.specs.declared.events.Event.{Event}
@@ -115,8 +116,8 @@ at_itself : (j value : ℕ) → look_at j value j ≡ (value == 1)
 at_itself j value = ap (λ b. b && (value == 1)) (eqb_same j)
 
 sent_by : (layout : Layout) (s t : Sight) (j : ℕ) (words : List ℕ) → s.seat.setup.layout ≡ layout → IsSetup s.seat.setup → are_peers s.seat.setup s.seat.rank j ≡ true
-    → HoldsNoneBy layout (record_in s).held → Did s (loads_of (line_of_word (flag_word (own_core s.seat) (sent_at layout j))) words) t
-    → LooksAtSent s t j (is_set layout (sent_at layout j) (slice_index words (sent_at layout j).word))
+    → HoldsNoneBy layout (record_in s).held → Did s (loads_of (line_of_word (flag_word (own_core s.seat) (signal_at layout Sent j))) words) t
+    → LooksAtSent s t j (is_set layout (signal_at layout Sent j) (slice_index words (signal_at layout Sent j).word))
 sent_by LineFlags s t j words lines valid peers hands did = record {
   looked = record {
     sent = look_at j (slice_index words 0);
@@ -133,12 +134,12 @@ sent_by BitFlags s t j words bits valid peers hands did =
         ready = look_at_bits s.seat.setup s.seat.rank (slice_index words 1);
         is = record_did s _ t did ∙ bits_line s.seat (record_in s) words valid bits p.one (hands (own_core s.seat));
       };
-      tells = ap (λ b. b && (is_set BitFlags (sent_at BitFlags j) (slice_index words 0))) peers;
+      tells = ap (λ b. b && (is_set BitFlags (signal_at BitFlags Sent j) (slice_index words 0))) peers;
     }
 
 ready_by : (layout : Layout) (s t : Sight) (j : ℕ) (words : List ℕ) → s.seat.setup.layout ≡ layout → IsSetup s.seat.setup → are_peers s.seat.setup s.seat.rank j ≡ true
-    → HoldsNoneBy layout (record_in s).held → Did s (loads_of (line_of_word (flag_word (own_core s.seat) (ready_at layout j))) words) t
-    → LooksAtReady s t j (is_set layout (ready_at layout j) (slice_index words (ready_at layout j).word))
+    → HoldsNoneBy layout (record_in s).held → Did s (loads_of (line_of_word (flag_word (own_core s.seat) (signal_at layout Ready j))) words) t
+    → LooksAtReady s t j (is_set layout (signal_at layout Ready j) (slice_index words (signal_at layout Ready j).word))
 ready_by LineFlags s t j words lines valid peers hands did = record {
   looked = record {
     sent = none_set;
@@ -155,16 +156,16 @@ ready_by BitFlags s t j words bits valid peers hands did =
         ready = look_at_bits s.seat.setup s.seat.rank (slice_index words 1);
         is = record_did s _ t did ∙ bits_line s.seat (record_in s) words valid bits p.one (hands (own_core s.seat));
       };
-      tells = ap (λ b. b && (is_set BitFlags (ready_at BitFlags j) (slice_index words 1))) peers;
+      tells = ap (λ b. b && (is_set BitFlags (signal_at BitFlags Ready j) (slice_index words 1))) peers;
     }
 
 -- a look at the `sent` flag of the messages from rank j
 pub looks_at_sent : (s t : Sight) (c d : Private) (j : ℕ) (found : Bool) → IsSetup s.seat.setup → are_peers s.seat.setup s.seat.rank j ≡ true → HoldsNone s.seat.setup.layout (record_in s)
-    → Looks s c (own_core s.seat) (sent_at s.seat.setup.layout j) found t d → LooksAtSent s t j found
+    → Looks s c (own_core s.seat) (signal_at s.seat.setup.layout Sent j) found t d → LooksAtSent s t j found
 looks_at_sent s t c d j found valid peers hands looks =
     subst (λ b. LooksAtSent s t j b) (sym looks.is) (sent_by s.seat.setup.layout s t j looks.words refl valid peers hands looks.looks.did)
 
 pub looks_at_ready : (s t : Sight) (c d : Private) (j : ℕ) (found : Bool) → IsSetup s.seat.setup → are_peers s.seat.setup s.seat.rank j ≡ true → HoldsNone s.seat.setup.layout (record_in s)
-    → Looks s c (own_core s.seat) (ready_at s.seat.setup.layout j) found t d → LooksAtReady s t j found
+    → Looks s c (own_core s.seat) (signal_at s.seat.setup.layout Ready j) found t d → LooksAtReady s t j found
 looks_at_ready s t c d j found valid peers hands looks =
     subst (λ b. LooksAtReady s t j b) (sym looks.is) (ready_by s.seat.setup.layout s t j looks.words refl valid peers hands looks.looks.did)

@@ -2,7 +2,8 @@
 use Rattle.std.proofs.Common.{◌≡◌, inl, inr, ℕ, Bool, true, false, ◌==◌, ◌&&◌, if◌then◌else◌, List, [], Option, Some, None, IfSome, option_map, refl, sym, ◌∙◌, ap, subst, arith}
 use Rattle.scc_base.specs.Calls.{DataCall}
 use Rattle.scc_base.specs.Places.{WordAt, flag_word, line_of_word}
-use Rattle.scc_base.specs.Layouts.{ready_at}
+use Rattle.scc_base.specs.Layouts.{signal_at}
+use Rattle.scc_base.specs.declared.signals.Signal.TheVariants.{Ready}
 use Rattle.scc_base.specs.Setups.{IsSetup}
 use Rattle.scc_base.specs.declared.events.Event.{Event}
 use Rattle.scc_base.specs.declared.events.Spot.{Spot}
@@ -155,7 +156,7 @@ nothing_turn s c slot none empty =
 
 -- ---- the look
 
-spot_unseen : (layout : Layout) (own to : ℕ) → slot_spot_by layout own (Some to) false ≡ Some (flag_spot own (ready_at layout to))
+spot_unseen : (layout : Layout) (own to : ℕ) → slot_spot_by layout own (Some to) false ≡ Some (flag_spot own (signal_at layout Ready to))
 spot_unseen LineFlags own to = refl
 spot_unseen BitFlags own to = refl
 

@@ -2,7 +2,8 @@
 use Rattle.std.proofs.Common.{◌≡◌, ℕ, ◌+◌, ◌-◌, ◌*◌, ◌<◌, ◌≤◌, Bool, true, false, ◌==◌, if◌then◌else◌, List, [], Option, Some, None, option_map, refl, sym, ◌∙◌, ap, subst, arith}
 use Rattle.std.proofs.lemmas.Bool.Decides.{nat_tests}
 use Rattle.scc_base.specs.Places.{flag_word, line_of_word}
-use Rattle.scc_base.specs.Layouts.{sent_at}
+use Rattle.scc_base.specs.Layouts.{signal_at}
+use Rattle.scc_base.specs.declared.signals.Signal.TheVariants.{Sent}
 use Rattle.scc_base.specs.Heads.{MessageHead, IsHead}
 use Rattle.scc_base.specs.Setups.{IsSetup}
 use Rattle.scc_base.specs.declared.layouts.Layout.{Layout}
@@ -79,7 +80,7 @@ pub holds_kept : (layout : Layout) (rec new : Record) → new.held ≡ rec.held 
 holds_kept LineFlags rec new same h = tt
 holds_kept BitFlags rec new same h = λ core. ap (λ (f : ℕ → Option FlagWords). f core) same ∙ h core
 
-spot_look : (layout : Layout) (own other from : ℕ) → spot_by layout own other from Look ≡ Some (flag_spot own (sent_at layout from))
+spot_look : (layout : Layout) (own other from : ℕ) → spot_by layout own other from Look ≡ Some (flag_spot own (signal_at layout Sent from))
 spot_look LineFlags own other from = refl
 spot_look BitFlags own other from = refl
 

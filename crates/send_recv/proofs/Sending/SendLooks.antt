@@ -1,7 +1,8 @@
 -- The turn of a send that looks whether the chunk was taken.
 use Rattle.std.proofs.Common.{◌≡◌, ◌⊎◌, inl, inr, ℕ, ◌+◌, ◌-◌, ◌*◌, ◌<◌, Bool, true, false, List, Option, Some, None, option_map, refl, sym, ◌∙◌, ap, subst, arith}
 use Rattle.scc_base.specs.Places.{flag_word, line_of_word}
-use Rattle.scc_base.specs.Layouts.{ready_at}
+use Rattle.scc_base.specs.Layouts.{signal_at}
+use Rattle.scc_base.specs.declared.signals.Signal.TheVariants.{Ready}
 use Rattle.scc_base.specs.Setups.{IsSetup}
 use Rattle.scc_base.specs.declared.events.Spot.{Spot}
 use Rattle.scc_base.specs.declared.layouts.Layout.{Layout}
@@ -52,7 +53,7 @@ look_part false q to message chunk part set (inl raised) =
     ap (λ (x : Part). look_ready q (Sending to x message chunk)) raised ∙ if_no (q to) (Sending to Answered message chunk) (Sending to Raised message chunk) set ∙ ap (λ (x : Part). Sending to x message chunk) (sym raised)
 look_part false q to message chunk part set (inr answered) = ap (λ (x : Part). look_ready q (Sending to x message chunk)) answered ∙ ap (λ (x : Part). Sending to x message chunk) (sym answered)
 
-spot_look : (layout : Layout) (own other to : ℕ) (slot : Option Spot) → send_spot_by layout own other to slot Look ≡ Some (flag_spot own (ready_at layout to))
+spot_look : (layout : Layout) (own other to : ℕ) (slot : Option Spot) → send_spot_by layout own other to slot Look ≡ Some (flag_spot own (signal_at layout Ready to))
 spot_look LineFlags own other to slot = refl
 spot_look BitFlags own other to slot = refl
 
