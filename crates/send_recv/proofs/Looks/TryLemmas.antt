@@ -2,6 +2,7 @@
 use Rattle.std.proofs.Common.{◌≡◌, ◌≢◌, ℕ, ◌<◌, ◌≤◌, Bool, true, false, not, if◌then◌else◌, List, [], Option, Some, None, unwrap_or, refl, sym, ◌∙◌, ap, subst, arith, slice_index}
 use Rattle.scc_base.specs.Places.{LineAt, FlagPlace, flag_word, line_of_word}
 use Rattle.scc_base.specs.Layouts.{signal_at}
+use Rattle.scc_base.specs.declared.signals.Signal.{Signal}
 use Rattle.scc_base.specs.declared.signals.Signal.TheVariants.{Sent, Ready}
 use Rattle.scc_base.specs.declared.events.Spot.{Spot}
 use Rattle.scc_base.specs.declared.events.Spot.TheVariants.{Register}
@@ -37,13 +38,10 @@ look_tried layout core flag words found spot below tells at same = by found tell
     by true t = Fruitful (aim_of layout (flag_spot core flag)) (ap (λ (o : Option Spot). aim_at layout o) at) tried.0 (tried.1 ∙ ap (λ (x : Bool). not x) (sym t)) refl
     by false t = Vain (aim_of layout (flag_spot core flag)) (ap (λ (o : Option Spot). aim_at layout o) at) tried.0 (tried.1 ∙ ap (λ (x : Bool). not x) (sym t)) (ap (λ (x : Spot). Some x) same)
 
-pub sent_spot : (layout : Layout) (core j : ℕ) → flag_spot core (signal_at layout Sent j) ≡ spot_of (aim_of layout (flag_spot core (signal_at layout Sent j)))
-sent_spot LineFlags core j = refl
-sent_spot BitFlags core j = refl
-
-pub ready_spot : (layout : Layout) (core j : ℕ) → flag_spot core (signal_at layout Ready j) ≡ spot_of (aim_of layout (flag_spot core (signal_at layout Ready j)))
-ready_spot LineFlags core j = refl
-ready_spot BitFlags core j = refl
+-- the spot of a signal's flag is that of the try at it
+pub signal_spot : (layout : Layout) (signal : Signal) (core j : ℕ) → flag_spot core (signal_at layout signal j) ≡ spot_of (aim_of layout (flag_spot core (signal_at layout signal j)))
+signal_spot LineFlags signal core j = refl
+signal_spot BitFlags signal core j = refl
 
 -- a spot of a receive is the flag that it looks at, or a register
 pub spot_cases : (P : Spot → Type 0) (layout : Layout) (own other from : ℕ) (stage : RecvStage) (at : Spot) → spot_by layout own other from stage ≡ Some at
@@ -72,13 +70,10 @@ look_elsewhere seat op core words at is spot ne =
 pub le_self : (n : ℕ) → n ≤ n
 le_self n = omega arith
 
-pub sent_word : (layout : Layout) (j : ℕ) → (signal_at layout Sent j).word < 4
-sent_word LineFlags j = omega arith
-sent_word BitFlags j = omega arith
-
-pub ready_word : (layout : Layout) (j : ℕ) → (signal_at layout Ready j).word < 4
-ready_word LineFlags j = omega arith
-ready_word BitFlags j = omega arith
+pub signal_low : (layout : Layout) (signal : Signal) (j : ℕ) → (signal_at layout signal j).word < 4
+signal_low LineFlags signal j = omega arith
+signal_low BitFlags Sent j = omega arith
+signal_low BitFlags Ready j = omega arith
 
 -- ---- the cache after a look
 

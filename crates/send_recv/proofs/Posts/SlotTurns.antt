@@ -37,10 +37,10 @@ use Rattle.send_recv.specs.Ranks.{SlotHolder, with_slot}
 use Rattle.send_recv.proofs.Posts.SlotApart.{is_apart, apart_in}
 use Rattle.send_recv.proofs.Lines.DraftNone.{ready_is_flag, look_drafts_none, change_drafts_none}
 use Rattle.send_recv.proofs.Looks.FlagMoves.{MovesFlag, may_change, flag_moved, ready_lowers}
-use Rattle.send_recv.proofs.Looks.LookLemmas.{looks_at_ready}
+use Rattle.send_recv.proofs.Looks.LookLemmas.{looks_at}
 use Rattle.send_recv.proofs.Receiving.LookTurn.{looked_post, looked_rest, looked_calls}
 use Rattle.send_recv.proofs.Receiving.HeadTurn.{post_kept, post_itself}
-use Rattle.send_recv.proofs.Looks.TryLemmas.{look_tried, ready_spot, ready_word, look_held}
+use Rattle.send_recv.proofs.Looks.TryLemmas.{look_tried, signal_spot, signal_low, look_held}
 use Rattle.put_get.proofs.FillLemmas.{fills_out, fills_evictions}
 use Rattle.send_recv.proofs.Looks.ChangeFacts.{change_facts}
 use Rattle.send_recv.proofs.Receiving.FlagTurns.{went_on}
@@ -203,14 +203,14 @@ slot_look_turn found s t c d slot to valid h empty hands full unseen looks =
     let flag = ready_flag s.seat to in
     let f = is_full s slot to h full in
     let peers : are_peers s.seat.setup s.seat.rank to ≡ true = subst (λ (o : Option ℕ). IfSome o (λ j. are_peers s.seat.setup s.seat.rank j ≡ true)) full h.peers in
-    let l = looks_at_ready s t c d to found valid peers hands looks in
-    let post : (record_in t).post ≡ option_map (post_answered l.looked.ready) (record_in s).post = ap (λ (r : Record). r.post) l.looked.is in
+    let l = looks_at Ready s t c d to found valid peers hands looks in
+    let post : (record_in t).post ≡ option_map (post_answered (l.looked.seen Ready)) (record_in s).post = ap (λ (r : Record). r.post) l.looked.is in
     let now = slot_seen found slot in
     let spot : slot_spot s.seat slot ≡ Some (flag_spot own flag) = ap (λ (o : Option ℕ). slot_spot_by layout own o slot.seen) full ∙ ap (λ b. slot_spot_by layout own (Some to) b) unseen ∙ spot_unseen layout own to in
     record {
       stands = subst (λ (x : Seat). SlotStands x (record_in t) now) (sym (seat_kept s _ t looks.looks.did)) (record {
-        to = looked_to found slot ∙ h.to ∙ sym (same_to l.looked.ready (record_in s).post) ∙ ap (λ (o : Option OnItsWay). option_map (λ (p : OnItsWay). p.to) o) (sym post);
-        seen = looked_seen found slot l.looked.ready (record_in s).post (record_in t).post f.post to unseen post f.is f.to_is l.tells;
+        to = looked_to found slot ∙ h.to ∙ sym (same_to (l.looked.seen Ready) (record_in s).post) ∙ ap (λ (o : Option OnItsWay). option_map (λ (p : OnItsWay). p.to) o) (sym post);
+        seen = looked_seen found slot (l.looked.seen Ready) (record_in s).post (record_in t).post f.post to unseen post f.is f.to_is l.tells;
         peers = subst (λ (o : Option ℕ). IfSome o (λ j. are_peers s.seat.setup s.seat.rank j ≡ true)) (sym (looked_to found slot)) h.peers;
       });
       turned = record {
@@ -218,13 +218,13 @@ slot_look_turn found s t c d slot to valid h empty hands full unseen looks =
         did = looks.looks.did;
         does = slot_does (with_slot s c slot) (Some to) false (moves_on (moved_or_waits found (flag_spot own flag))) found t d full unseen (moved_is found (flag_spot own flag)) looks;
         tried = tried_by found (flag_spot own flag) (aim_at layout (slot_spot s.seat slot)) _
-            (look_tried layout own flag looks.words found (slot_spot s.seat slot) (ready_word layout to) looks.is spot (ready_spot layout own to));
+            (look_tried layout own flag looks.words found (slot_spot s.seat slot) (signal_low layout Ready to) looks.is spot (signal_spot layout Ready own to));
         freed = refl;
         rests = λ spot e. refl;
         only = look_only found layout (flag_word own flag) flag.bit looks.words;
         nothing = λ e. never_done found (flag_spot own flag) e;
         means = look_means found slot (flag_spot own flag) to full unseen;
-        stage = ap (λ (r : Record). r.stage) l.looked.is ∙ looked_free l.looked.ready (record_in s).stage f.free;
+        stage = ap (λ (r : Record). r.stage) l.looked.is ∙ looked_free (l.looked.seen Ready) (record_in s).stage f.free;
         calls = looked_calls (chunk_of s.seat.setup) (record_in s) (record_in t) l.looked;
         post = λ same. looked_post (chunk_of s.seat.setup) (record_in s) (record_in t) l.looked;
         rest = looked_rest (chunk_of s.seat.setup) (record_in s) (record_in t) l.looked;

@@ -3,7 +3,7 @@ use Rattle.std.proofs.Common.{◌≡◌, ℕ, ◌+◌, ◌-◌, ◌*◌, ◌<◌
 use Rattle.std.proofs.lemmas.Bool.Decides.{nat_tests}
 use Rattle.scc_base.specs.Places.{flag_word, line_of_word}
 use Rattle.scc_base.specs.Layouts.{signal_at}
-use Rattle.scc_base.specs.declared.signals.Signal.TheVariants.{Sent}
+use Rattle.scc_base.specs.declared.signals.Signal.TheVariants.{Sent, Ready}
 use Rattle.scc_base.specs.Heads.{MessageHead, IsHead}
 use Rattle.scc_base.specs.Setups.{IsSetup}
 use Rattle.scc_base.specs.declared.layouts.Layout.{Layout}
@@ -29,8 +29,8 @@ use Rattle.send_recv.specs.Receiving.{IsAtStage, IsReceiving, RecvStands, RecvDo
 use Rattle.send_recv.specs.Steps.{own_core, core_of, sent_flag, flag_spot, after_look, recv_or_waits}
 use Rattle.send_recv.specs.Turns.{HoldsNone, IsSamePost, KeepsAllButMessages}
 use Rattle.send_recv.specs.Ranks.{Receiver, receiving}
-use Rattle.send_recv.proofs.Looks.LookLemmas.{IsLooked, looks_at_sent}
-use Rattle.send_recv.proofs.Looks.TryLemmas.{look_tried, sent_spot, look_elsewhere, le_self, sent_word, look_held}
+use Rattle.send_recv.proofs.Looks.LookLemmas.{IsLooked, looks_at}
+use Rattle.send_recv.proofs.Looks.TryLemmas.{look_tried, signal_spot, look_elsewhere, le_self, signal_low, look_held}
 use Rattle.put_get.proofs.FillLemmas.{fills_out, fills_evictions}
 
 -- a turn of a receive, and where it stands afterwards
@@ -49,7 +49,7 @@ same_post q None = refl
 same_post q (Some post) = (if q post.to then true else post.is_answered, refl, answered_stays (q post.to) post.is_answered)
 
 pub looked_post : (size : ℕ) (rec new : Record) → IsLooked size rec new → IsSamePost rec.post new.post
-looked_post size rec new l = subst (λ (p : Option OnItsWay). IsSamePost rec.post p) (sym (ap (λ (r : Record). r.post) l.is)) (same_post l.ready rec.post)
+looked_post size rec new l = subst (λ (p : Option OnItsWay). IsSamePost rec.post p) (sym (ap (λ (r : Record). r.post) l.is)) (same_post (l.seen Ready) rec.post)
 
 pub looked_rest : (size : ℕ) (rec new : Record) → IsLooked size rec new → KeepsAllButMessages rec new
 looked_rest size rec new l = record {
@@ -66,15 +66,15 @@ between_stays q true from rest h = refl
 between_stays q false from rest h = h
 
 pub looked_stage : (size : ℕ) (rec new : Record) (op : RecvAt) (bytes : List ℕ) → IsLooked size rec new → rec.stage ≡ between size op bytes → new.stage ≡ between size op bytes
-looked_stage size rec new op bytes l is = ap (λ (r : Record). r.stage) l.is ∙ ap (λ (st : Stage). look_ready l.ready st) is
-    ∙ between_stays l.ready (op.chunk == 0) op.from (Between op.from (progress_at size op.head op.chunk bytes)) refl
+looked_stage size rec new op bytes l is = ap (λ (r : Record). r.stage) l.is ∙ ap (λ (st : Stage). look_ready (l.seen Ready) st) is
+    ∙ between_stays (l.seen Ready) (op.chunk == 0) op.from (Between op.from (progress_at size op.head op.chunk bytes)) refl
 
 seen_notes : (b : Bool) (rest : Option Notes) → b ≡ true → (if b then Some [] else rest) ≡ Some []
 seen_notes true rest h = refl
 seen_notes false rest h = absurd (cc)
 
-looked_notes : (size : ℕ) (rec new : Record) (j : ℕ) (l : IsLooked size rec new) → l.sent j ≡ true → new.notes j ≡ Some []
-looked_notes size rec new j l set = ap (λ (r : Record). r.notes j) l.is ∙ seen_notes (l.sent j) (rec.notes j) set
+looked_notes : (size : ℕ) (rec new : Record) (j : ℕ) (l : IsLooked size rec new) → l.seen Sent j ≡ true → new.notes j ≡ Some []
+looked_notes size rec new j l set = ap (λ (r : Record). r.notes j) l.is ∙ seen_notes (l.seen Sent j) (rec.notes j) set
 
 pub holds_kept : (layout : Layout) (rec new : Record) → new.held ≡ rec.held → HoldsNone layout rec → HoldsNone layout new
 holds_kept LineFlags rec new same h = tt
@@ -118,7 +118,7 @@ look_waits : (s t : Sight) (c d : Private) (op : RecvAt) (bytes : List ℕ) → 
     → Turns s c op bytes t d op bytes (Waiting (flag_spot (own_core s.seat) (sent_flag s.seat op.from)))
 look_waits s t c d op bytes valid r look looks =
     let size = chunk_of s.seat.setup in
-    let l = looks_at_sent s t c d op.from false valid r.peers r.hands looks in
+    let l = looks_at Sent s t c d op.from false valid r.peers r.hands looks in
     let at : (record_in s).stage ≡ between size op bytes = subst (λ (st : RecvStage). IsAtStage s.seat (record_in s) c op bytes st) look r.at in
     let stage : (record_in t).stage ≡ between size op bytes = looked_stage size (record_in s) (record_in t) op bytes l.looked at in
     let rest = looked_rest size (record_in s) (record_in t) l.looked in
@@ -132,8 +132,8 @@ look_waits s t c d op bytes valid r look looks =
         events = loads_of (line_of_word (flag_word (own_core s.seat) (sent_flag s.seat op.from))) looks.words;
         did = looks.looks.did;
         does = recv_does (receiving s c op bytes) Look false t d look looks;
-        tried = look_tried s.seat.setup.layout (own_core s.seat) (sent_flag s.seat op.from) looks.words false (recv_spot s.seat op) (sent_word s.seat.setup.layout op.from) looks.is
-            (at_look s.seat op look) (sent_spot s.seat.setup.layout (own_core s.seat) op.from);
+        tried = look_tried s.seat.setup.layout (own_core s.seat) (sent_flag s.seat op.from) looks.words false (recv_spot s.seat op) (signal_low s.seat.setup.layout Sent op.from) looks.is
+            (at_look s.seat op look) (signal_spot s.seat.setup.layout Sent (own_core s.seat) op.from);
         freed = refl;
         elsewhere = λ at other ne. look_elsewhere s.seat op (own_core s.seat) looks.words at (at_look s.seat op look) other ne;
         fuller = le_self _;
@@ -200,7 +200,7 @@ look_finds : (s t : Sight) (c d : Private) (op : RecvAt) (bytes : List ℕ) (b :
 look_finds s t c d op bytes b first valid r look looks =
     let size = chunk_of s.seat.setup in
     let now : RecvAt = record op { stage = if b then Header else Lower } in
-    let l = looks_at_sent s t c d op.from true valid r.peers r.hands looks in
+    let l = looks_at Sent s t c d op.from true valid r.peers r.hands looks in
     let at : (record_in s).stage ≡ between size op bytes = subst (λ (st : RecvStage). IsAtStage s.seat (record_in s) c op bytes st) look r.at in
     let stage : (record_in t).stage ≡ between size op bytes = looked_stage size (record_in s) (record_in t) op bytes l.looked at in
     let rest = looked_rest size (record_in s) (record_in t) l.looked in
@@ -215,8 +215,8 @@ look_finds s t c d op bytes b first valid r look looks =
         events = loads_of (line_of_word (flag_word (own_core s.seat) (sent_flag s.seat op.from))) looks.words;
         did = looks.looks.did;
         does = recv_does (receiving s c op bytes) Look true t d look looks;
-        tried = look_tried s.seat.setup.layout (own_core s.seat) (sent_flag s.seat op.from) looks.words true (recv_spot s.seat op) (sent_word s.seat.setup.layout op.from) looks.is
-            (at_look s.seat op look) (sent_spot s.seat.setup.layout (own_core s.seat) op.from);
+        tried = look_tried s.seat.setup.layout (own_core s.seat) (sent_flag s.seat op.from) looks.words true (recv_spot s.seat op) (signal_low s.seat.setup.layout Sent op.from) looks.is
+            (at_look s.seat op look) (signal_spot s.seat.setup.layout Sent (own_core s.seat) op.from);
         freed = refl;
         elsewhere = λ at other ne. look_elsewhere s.seat op (own_core s.seat) looks.words at (at_look s.seat op look) other ne;
         fuller = seen_fuller size op b look;

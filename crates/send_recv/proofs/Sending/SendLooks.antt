@@ -29,9 +29,9 @@ use Rattle.send_recv.specs.Ranks.{sending}
 use Rattle.send_recv.specs.Steps.{moves_on, own_core, core_of, ready_flag, flag_spot, after_seen, moved_or_waits}
 use Rattle.send_recv.specs.Tries.{aim_at}
 use Rattle.send_recv.specs.Turns.{IsAtRest}
-use Rattle.send_recv.proofs.Looks.LookLemmas.{looks_at_ready}
+use Rattle.send_recv.proofs.Looks.LookLemmas.{looks_at}
 use Rattle.send_recv.proofs.Receiving.LookTurn.{holds_kept, looked_post, looked_rest, looked_calls}
-use Rattle.send_recv.proofs.Looks.TryLemmas.{look_tried, ready_spot, ready_word, look_held}
+use Rattle.send_recv.proofs.Looks.TryLemmas.{look_tried, signal_spot, signal_low, look_held}
 use Rattle.put_get.proofs.FillLemmas.{fills_out, fills_evictions}
 use Rattle.send_recv.proofs.Lines.DraftNone.{look_drafts_none}
 use Rattle.send_recv.proofs.Posts.SlotTurns.{moved_is, tried_by, never_done, look_only}
@@ -111,11 +111,11 @@ look_turn found s t c d op slot bytes valid r look looks =
     let flag = ready_flag s.seat op.to in
     let at = at_stage s.seat (record_in s) c op slot bytes Look r look in
     let up = at.5 in
-    let l = looks_at_ready s t c d op.to found valid r.peers r.hands looks in
+    let l = looks_at Ready s t c d op.to found valid r.peers r.hands looks in
     let message = progress_at size op.head op.chunk bytes in
     let stage : (record_in t).stage ≡ Sending op.to (part_seen found at.3) message up.chunk = ap (λ (x : Record). x.stage) l.looked.is
-    ∙ ap (λ (st : Stage). look_ready l.looked.ready st) up.stage_is ∙ look_part found l.looked.ready op.to message up.chunk at.3 l.tells at.4 in
-    let same : (record_in t).post ≡ (record_in s).post = ap (λ (x : Record). x.post) l.looked.is ∙ ap (λ (o : Option OnItsWay). option_map (post_answered l.looked.ready) o) at.1 ∙ sym at.1 in
+    ∙ ap (λ (st : Stage). look_ready (l.looked.seen Ready) st) up.stage_is ∙ look_part found (l.looked.seen Ready) op.to message up.chunk at.3 l.tells at.4 in
+    let same : (record_in t).post ≡ (record_in s).post = ap (λ (x : Record). x.post) l.looked.is ∙ ap (λ (o : Option OnItsWay). option_map (post_answered (l.looked.seen Ready)) o) at.1 ∙ sym at.1 in
     let rest = looked_rest size (record_in s) (record_in t) l.looked in
     let calls = looked_calls size (record_in s) (record_in t) l.looked in
     let post = looked_post size (record_in s) (record_in t) l.looked in
@@ -129,7 +129,7 @@ look_turn found s t c d op slot bytes valid r look looks =
         did = looks.looks.did;
         does = send_does (sending s c op slot bytes) Look (moves_on (moved_or_waits found (flag_spot own flag))) found t d look (moved_is found (flag_spot own flag)) looks;
         tried = tried_by found (flag_spot own flag) (aim_at layout (send_spot s.seat op slot)) _
-            (look_tried layout own flag looks.words found (send_spot s.seat op slot) (ready_word layout op.to) looks.is spot (ready_spot layout own op.to));
+            (look_tried layout own flag looks.words found (send_spot s.seat op slot) (signal_low layout Ready op.to) looks.is spot (signal_spot layout Ready own op.to));
         freed = refl;
         ends = λ e. never_done found (flag_spot own flag) e;
         rests = λ spot e. refl;
