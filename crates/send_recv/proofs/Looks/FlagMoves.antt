@@ -45,7 +45,7 @@ may_at s t es rec e did is may = subst (λ (x : Seat). MayMake x (record_in t) e
 -- ---- a change of a flag that is a move of the record
 
 -- the flags' line at the core of rank r was loaded under its register
-abbrev noted_under : Seat → Record → ℕ → List ℕ → Record
+abbrev pub noted_under : Seat → Record → ℕ → List ℕ → Record
 noted_under seat rec r words = with_hold rec (core_of seat r) (both_noted (slice_index words 0) (slice_index words 1))
 
 -- a bit at the core of rank r stands as the sound record says, and turned over it is this move
