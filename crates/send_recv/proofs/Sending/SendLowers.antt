@@ -5,8 +5,7 @@ use Rattle.scc_base.specs.Layouts.{chunk_size}
 use Rattle.scc_base.specs.Setups.{IsSetup}
 use Rattle.scc_base.specs.declared.events.Spot.{Spot}
 use Rattle.scc_base.specs.declared.events.Spot.TheVariants.{Register}
-use Rattle.scc_base.specs.declared.events.Turn.{Turn}
-use Rattle.scc_base.specs.declared.events.Turn.TheVariants.{Moved, Waiting, Done}
+use Rattle.scc_base.specs.declared.events.Turn.TheVariants.{Waiting}
 use Rattle.scc_base.specs.declared.layouts.Layout.{Layout}
 use Rattle.scc_base.specs.declared.layouts.Layout.TheVariants.{LineFlags, BitFlags}
 use Rattle.scc_proto.specs.Messages.{bytes_from, is_last, with_chunk}
@@ -33,7 +32,7 @@ use Rattle.send_recv.specs.Ranks.{sending}
 use Rattle.send_recv.specs.Steps.{moves_on, own_core, core_of, ready_flag, after_through, through_answer}
 use Rattle.sync_flags.specs.Tries.{Tried}
 use Rattle.send_recv.specs.Tries.{aim_at}
-use Rattle.send_recv.specs.Turns.{OnlyTries, waits_at}
+use Rattle.send_recv.specs.Turns.{OnlyTries}
 use Rattle.send_recv.proofs.Receiving.LookTurn.{holds_kept}
 use Rattle.send_recv.proofs.Looks.ChangeFacts.{change_facts}
 use Rattle.send_recv.proofs.Receiving.FlagTurns.{went_on}
@@ -44,7 +43,7 @@ use Rattle.send_recv.proofs.Lines.DraftNotes.{no_lines}
 use Rattle.send_recv.proofs.Lines.DraftWhole.{AreBytes, as_receive, drafted_read}
 use Rattle.send_recv.proofs.Sending.SendFacts.{SendTurns, send_does, slot_kept, stands_at, at_stage, left_at, spot_at}
 use Rattle.send_recv.proofs.Sending.SendWork.{change_work}
-use Rattle.send_recv.proofs.Sending.SendWaits.{no_stores, register_waits}
+use Rattle.send_recv.proofs.Sending.SendWaits.{no_stores, register_waits, next_answer, no_wait, goes_on, never_waits}
 
 -- ---- the flag may be lowered
 
@@ -118,9 +117,6 @@ spot_bits BitFlags own other to slot e = refl
 abbrev next_op : Bool → SendAt → SendAt
 next_op b op = if b then record op { stage = Finished } else record op { chunk = op.chunk + 1; stage = Lines 0 }
 
-abbrev next_answer : Bool → Turn
-next_answer b = if b then Done else Moved
-
 lower_stands : (b : Bool) (seat : Seat) (rec new : Record) (c d : Private) (op : SendAt) (slot : SlotAt) (bytes : List ℕ) → AreBytes bytes → is_last_chunk (chunk_of seat.setup) op.head.len op.chunk ≡ b → IsSending seat rec c op slot bytes
     → op.stage ≡ Lower → new ≡ after (chunk_of seat.setup) (LowerReady op.to) rec → d.out ≡ None → IsSending seat new d (next_op b op) slot bytes
 lower_stands true seat rec new c d op slot bytes small last r lower is out =
@@ -181,18 +177,6 @@ lower_means false s t c d op slot bytes small more up long below lower plain non
 same_op : (b : Bool) (op : SendAt) → ((next_op b op).to ≡ op.to) × ((next_op b op).head ≡ op.head) × ((next_op b op).posted ≡ op.posted)
 same_op true op = (refl, refl, refl)
 same_op false op = (refl, refl, refl)
-
-no_wait : (b : Bool) → waits_at (next_answer b) ≡ None
-no_wait true = refl
-no_wait false = refl
-
-goes_on : (b : Bool) → moves_on (next_answer b) ≡ true
-goes_on true = refl
-goes_on false = refl
-
-never_waits : (b : Bool) (spot : Spot) (P : Type 0) → next_answer b ≡ Waiting spot → P
-never_waits true spot P e = absurd (cc)
-never_waits false spot P e = absurd (cc)
 
 lower_goes : (b : Bool) (s t : Sight) (c d : Private) (op : SendAt) (slot : SlotAt) (bytes : List ℕ) → is_last_chunk (chunk_of s.seat.setup) op.head.len op.chunk ≡ b → IsSetup s.seat.setup → AreBytes bytes → SendStands s c op slot bytes → op.stage ≡ Lower
     → Changes s c (own_core s.seat) (ready_flag s.seat op.to) false true t d → SendTurns s c op slot bytes t d (next_op b op) slot (next_answer b)

@@ -7,8 +7,7 @@ use Rattle.scc_base.specs.Events.{store_of}
 use Rattle.scc_base.specs.declared.events.Event.{Event}
 use Rattle.scc_base.specs.declared.events.Spot.{Spot}
 use Rattle.scc_base.specs.declared.events.Spot.TheVariants.{Register}
-use Rattle.scc_base.specs.declared.events.Turn.{Turn}
-use Rattle.scc_base.specs.declared.events.Turn.TheVariants.{Moved, Waiting, Done}
+use Rattle.scc_base.specs.declared.events.Turn.TheVariants.{Waiting}
 use Rattle.scc_base.specs.declared.layouts.Layout.{Layout}
 use Rattle.scc_base.specs.declared.layouts.Layout.TheVariants.{LineFlags, BitFlags}
 use Rattle.scc_proto.specs.Stages.{Raised, Record}
@@ -32,7 +31,7 @@ use Rattle.sync_flags.specs.Tries.{Aim, AtFlag, AtWord, AtRegister, tries_at, al
 use Rattle.sync_flags.proofs.VainLemmas.{vain-append}
 use Rattle.sync_flags.proofs.RowLemmas.{changing-append}
 use Rattle.send_recv.specs.Tries.{aim_at}
-use Rattle.send_recv.specs.Turns.{KeepsAllButMessages, OnlyTries, LastHeld, NoLoad, StoresFromBuffer, waits_at}
+use Rattle.send_recv.specs.Turns.{KeepsAllButMessages, OnlyTries, LastHeld, NoLoad, StoresFromBuffer}
 use Rattle.send_recv.proofs.Looks.ChangeFacts.{change_facts}
 use Rattle.send_recv.proofs.Receiving.FlagTurns.{went_on}
 use Rattle.send_recv.proofs.Lines.DraftNone.{IsFlagWord, sent_is_flag, store_drafts_none, drafts_none_by}
@@ -42,7 +41,7 @@ use Rattle.send_recv.proofs.Sending.SendMoves.{SentRaised, sent_is_raised}
 use Rattle.send_recv.proofs.Sending.SendRaises.{offered, posted_now}
 use Rattle.send_recv.proofs.Lines.WaitingOut.{waiting_freed}
 use Rattle.send_recv.proofs.Sending.SendWork.{none_work, change_work}
-use Rattle.send_recv.proofs.Sending.SendWaits.{no_stores, register_waits}
+use Rattle.send_recv.proofs.Sending.SendWaits.{no_stores, register_waits, next_answer, no_wait, goes_on, never_waits}
 
 -- ---- the events
 
@@ -116,9 +115,6 @@ next_op b op = record op { stage = if b then Finished else Look }
 abbrev next_slot : Bool → SendAt → SlotAt → SlotAt
 next_slot b op slot = if b then record { to = Some op.to; seen = false } else slot
 
-abbrev next_answer : Bool → Turn
-next_answer b = if b then Done else Moved
-
 -- the record after the raise, and the empty buffer
 record After (s t : Sight) (c d : Private) (op : SendAt) (slot : SlotAt) (bytes : List ℕ) (b : Bool) : Type 0 where
   held : (record_in t).held ≡ (record_in s).held
@@ -179,18 +175,6 @@ spot_lines BitFlags own other to slot e = absurd (cc)
 spot_bits : (layout : Layout) (own other to : ℕ) (slot : Option Spot) → layout ≡ BitFlags → send_spot_by layout own other to slot Raise ≡ Some (Register other)
 spot_bits LineFlags own other to slot e = absurd (cc)
 spot_bits BitFlags own other to slot e = refl
-
-no_wait : (b : Bool) → waits_at (next_answer b) ≡ None
-no_wait true = refl
-no_wait false = refl
-
-goes_on : (b : Bool) → moves_on (next_answer b) ≡ true
-goes_on true = refl
-goes_on false = refl
-
-never_waits : (b : Bool) (spot : Spot) (P : Type 0) → next_answer b ≡ Waiting spot → P
-never_waits true spot P e = absurd (cc)
-never_waits false spot P e = absurd (cc)
 
 raise_goes : (b : Bool) (s t : Sight) (c d : Private) (op : SendAt) (slot : SlotAt) (bytes : List ℕ) → op.posted ≡ b → IsSetup s.seat.setup → AreBytes bytes → SendStands s c op slot bytes → op.stage ≡ Raise
     → Changes s c (core_of s.seat op.to) (sent_flag s.seat s.seat.rank) true true t d → SendTurns s c op slot bytes t d (next_op b op) (next_slot b op slot) (next_answer b)

@@ -1,11 +1,13 @@
--- The turn of a send that found the register of a flag taken.
-use Rattle.std.proofs.Common.{◌≡◌, inl, ℕ, Bool, true, false, List, [], Some, None, refl, sym, ap, subst}
+-- The turn of a send that found the register of a flag taken, and the answers of one that changed the flag.
+use Rattle.std.proofs.Common.{◌≡◌, inl, ℕ, Bool, true, false, if◌then◌else◌, List, [], Some, None, refl, sym, ap, subst}
 use Rattle.std.specs.List.{list_all}
 use Rattle.scc_base.specs.Places.{FlagPlace}
 use Rattle.scc_base.specs.Setups.{SetupView, IsSetup}
 use Rattle.scc_base.specs.declared.events.Event.{Event}
+use Rattle.scc_base.specs.declared.events.Spot.{Spot}
 use Rattle.scc_base.specs.declared.events.Spot.TheVariants.{Register}
-use Rattle.scc_base.specs.declared.events.Turn.TheVariants.{Waiting}
+use Rattle.scc_base.specs.declared.events.Turn.{Turn}
+use Rattle.scc_base.specs.declared.events.Turn.TheVariants.{Moved, Waiting, Done}
 use Rattle.scc_base.specs.declared.layouts.Layout.TheVariants.{BitFlags}
 use Rattle.scc_proto.specs.Stages.{Record}
 use Rattle.scc_proto.specs.Ports.{Seat, Sight, record_in}
@@ -16,7 +18,8 @@ use Rattle.send_recv.specs.Flags.{Changes}
 use Rattle.send_recv.specs.Ops.{SendAt, SlotAt}
 use Rattle.send_recv.specs.Sending.{IsSending, SendStands, SendDoes, send_spot}
 use Rattle.send_recv.specs.Ranks.{sending}
-use Rattle.send_recv.specs.Turns.{KeepsAllButMessages, StoresFromBuffer, is_no_draft}
+use Rattle.send_recv.specs.Steps.{moves_on}
+use Rattle.send_recv.specs.Turns.{KeepsAllButMessages, StoresFromBuffer, is_no_draft, waits_at}
 use Rattle.send_recv.proofs.Receiving.HeadTurn.{post_kept}
 use Rattle.send_recv.proofs.Looks.ChangeFacts.{change_facts}
 use Rattle.send_recv.proofs.Receiving.RecvTurns.{missed_by, waits_tried}
@@ -68,3 +71,21 @@ register_waits s t c d op slot bytes core flag set valid r empty plain spot chan
         work = change_work layout false (load_count facts.events) c.evictions d.evictions (send_spot s.seat op slot) (Register core) spot facts.work;
       };
     }
+
+-- ---- a turn that went on
+
+-- its answer: the operation is at its end, or not
+abbrev pub next_answer : Bool → Turn
+next_answer b = if b then Done else Moved
+
+pub no_wait : (b : Bool) → waits_at (next_answer b) ≡ None
+no_wait true = refl
+no_wait false = refl
+
+pub goes_on : (b : Bool) → moves_on (next_answer b) ≡ true
+goes_on true = refl
+goes_on false = refl
+
+pub never_waits : (b : Bool) (spot : Spot) (P : Type 0) → next_answer b ≡ Waiting spot → P
+never_waits true spot P e = absurd (cc)
+never_waits false spot P e = absurd (cc)
