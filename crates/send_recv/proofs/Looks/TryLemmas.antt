@@ -19,7 +19,7 @@ use Rattle.send_recv.specs.declared.stages.RecvStage.TheVariants.{Look, Header, 
 use Rattle.send_recv.specs.Flags.{bit_of, is_set}
 use Rattle.send_recv.specs.Ops.{RecvAt}
 use Rattle.send_recv.specs.Receiving.{spot_by, recv_spot, IsRecvSpot}
-use Rattle.send_recv.specs.Steps.{own_core, core_of, sent_flag, flag_spot}
+use Rattle.send_recv.specs.Steps.{own_core, core_of, signal_flag, flag_spot}
 use Rattle.send_recv.specs.Tries.{aim_of, aim_at}
 use Rattle.send_recv.specs.Turns.{LastHeld, Last}
 
@@ -39,9 +39,9 @@ look_tried layout core flag words found spot below tells at same = by found tell
     by false t = Vain (aim_of layout (flag_spot core flag)) (ap (λ (o : Option Spot). aim_at layout o) at) tried.0 (tried.1 ∙ ap (λ (x : Bool). not x) (sym t)) (ap (λ (x : Spot). Some x) same)
 
 -- the spot of a signal's flag is that of the try at it
-pub signal_spot : (layout : Layout) (signal : Signal) (core j : ℕ) → flag_spot core (signal_at layout signal j) ≡ spot_of (aim_of layout (flag_spot core (signal_at layout signal j)))
-signal_spot LineFlags signal core j = refl
-signal_spot BitFlags signal core j = refl
+pub signal_aimed : (layout : Layout) (signal : Signal) (core j : ℕ) → flag_spot core (signal_at layout signal j) ≡ spot_of (aim_of layout (flag_spot core (signal_at layout signal j)))
+signal_aimed LineFlags signal core j = refl
+signal_aimed BitFlags signal core j = refl
 
 -- a spot of a receive is the flag that it looks at, or a register
 pub spot_cases : (P : Spot → Type 0) (layout : Layout) (own other from : ℕ) (stage : RecvStage) (at : Spot) → spot_by layout own other from stage ≡ Some at
@@ -60,11 +60,11 @@ spot_cases P BitFlags own other from Raise at e flag register = subst P (ap (λ 
 spot_cases P BitFlags own other from Finished at e flag register = absurd (cc)
 
 -- a look at `sent` is no try at another spot of the receive
-pub look_elsewhere : (seat : Seat) (op : RecvAt) (core : ℕ) (words : List ℕ) (at : Spot) → recv_spot seat op ≡ Some (flag_spot (own_core seat) (sent_flag seat op.from))
+pub look_elsewhere : (seat : Seat) (op : RecvAt) (core : ℕ) (words : List ℕ) (at : Spot) → recv_spot seat op ≡ Some (flag_spot (own_core seat) (signal_flag seat Sent op.from))
     → IsRecvSpot seat op at → recv_spot seat op ≢ Some at
-    → tries_at (aim_of seat.setup.layout at) (loads_of (line_of_word (flag_word core (sent_flag seat op.from))) words) ≡ 0
+    → tries_at (aim_of seat.setup.layout at) (loads_of (line_of_word (flag_word core (signal_flag seat Sent op.from))) words) ≡ 0
 look_elsewhere seat op core words at is spot ne =
-    spot_cases (λ (x : Spot). recv_spot seat op ≢ Some x → tries_at (aim_of seat.setup.layout x) (loads_of (line_of_word (flag_word core (sent_flag seat op.from))) words) ≡ 0)
+    spot_cases (λ (x : Spot). recv_spot seat op ≢ Some x → tries_at (aim_of seat.setup.layout x) (loads_of (line_of_word (flag_word core (signal_flag seat Sent op.from))) words) ≡ 0)
     seat.setup.layout (own_core seat) (core_of seat op.from) op.from spot.0 at spot.1 (λ other. absurd (other is)) (λ register other. refl) ne
 
 pub le_self : (n : ℕ) → n ≤ n

@@ -37,7 +37,7 @@ use Rattle.send_recv.specs.Ranks.{receiving, with_bytes}
 use Rattle.send_recv.proofs.Receiving.LookTurn.{at_look}
 use Rattle.send_recv.proofs.Receiving.LinesTurn.{take_agree}
 use Rattle.send_recv.proofs.Receiving.HeadTurn.{post_itself}
-use Rattle.send_recv.proofs.Looks.TryLemmas.{spot_cases, signal_spot, le_self}
+use Rattle.send_recv.proofs.Looks.TryLemmas.{spot_cases, signal_aimed, le_self}
 
 -- ---- what stays
 
@@ -303,7 +303,7 @@ underway_ends {s} {m} {t} {c} {b} {d} {op} {cur} {now} {bytes} {mid} {after} pol
 spot_told : (seat : Seat) (op : RecvAt) (at : Spot) → recv_spot seat op ≡ Some at → at ≡ spot_of (aim_of seat.setup.layout at)
 spot_told seat op at is =
     spot_cases (λ (x : Spot). x ≡ spot_of (aim_of seat.setup.layout x)) seat.setup.layout (own_core seat) (core_of seat op.from) op.from op.stage at is
-    (signal_spot seat.setup.layout Sent (own_core seat) op.from) (λ core. refl)
+    (signal_aimed seat.setup.layout Sent (own_core seat) op.from) (λ core. refl)
 
 pub underway_stalls : {s m t : Sight} {c b d : Private} {op cur now : RecvAt} {bytes mid after : List ℕ} {vain : ℕ} {spot : Spot} → Underway s c op bytes vain m b cur mid
     → RecvStands t d now after → RecvTurned (receiving m b cur mid) (receiving t d now after) (turn.Waiting spot) → (polls : ℕ) → polls ≤ vain + 1 → RecvStalled (receiving s c op bytes) polls (receiving t d now after) spot

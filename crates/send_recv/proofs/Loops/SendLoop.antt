@@ -25,7 +25,7 @@ use Rattle.send_recv.specs.Steps.{own_core, core_of, flag_spot}
 use Rattle.send_recv.specs.Tries.{aim_of, aim_at}
 use Rattle.send_recv.specs.Turns.{KeepsAllButMessages, IsAtRest}
 use Rattle.send_recv.specs.Ranks.{sending, with_slot}
-use Rattle.send_recv.proofs.Looks.TryLemmas.{signal_spot}
+use Rattle.send_recv.proofs.Looks.TryLemmas.{signal_aimed}
 use Rattle.send_recv.proofs.Loops.RecvLoop.{rest_both, rest_itself, resting_quiet, aimed, row_on}
 
 pub record SendWay (s : Sight) (op : SendAt) (bytes : List ℕ) (vain : ℕ) (t : Sight) (d : Private) (now : SendAt) (after : SlotAt) : Type 0 where
@@ -116,10 +116,10 @@ some_at a b e = cc
 -- a spot of a send is a flag that tells that a chunk is taken, or a register
 slot_told : (layout : Layout) (own : ℕ) (to : Option ℕ) (seen : Bool) (at : Spot) → slot_spot_by layout own to seen ≡ Some at → at ≡ spot_of (aim_of layout at)
 slot_told LineFlags own None seen at e = absurd (cc)
-slot_told LineFlags own (Some to) false at e = subst (λ (x : Spot). x ≡ spot_of (aim_of LineFlags x)) (some_at (flag_spot own (signal_at LineFlags Ready to)) at e) (signal_spot LineFlags Ready own to)
+slot_told LineFlags own (Some to) false at e = subst (λ (x : Spot). x ≡ spot_of (aim_of LineFlags x)) (some_at (flag_spot own (signal_at LineFlags Ready to)) at e) (signal_aimed LineFlags Ready own to)
 slot_told LineFlags own (Some to) true at e = absurd (cc)
 slot_told BitFlags own None seen at e = absurd (cc)
-slot_told BitFlags own (Some to) false at e = subst (λ (x : Spot). x ≡ spot_of (aim_of BitFlags x)) (some_at (flag_spot own (signal_at BitFlags Ready to)) at e) (signal_spot BitFlags Ready own to)
+slot_told BitFlags own (Some to) false at e = subst (λ (x : Spot). x ≡ spot_of (aim_of BitFlags x)) (some_at (flag_spot own (signal_at BitFlags Ready to)) at e) (signal_aimed BitFlags Ready own to)
 slot_told BitFlags own (Some to) true at e = subst (λ (x : Spot). x ≡ spot_of (aim_of BitFlags x)) (some_at (Register own) at e) refl
 
 send_told : (layout : Layout) (own other to : ℕ) (slot : Option Spot) (stage : SendStage) (at : Spot) → (slot ≡ Some at → at ≡ spot_of (aim_of layout at)) → send_spot_by layout own other to slot stage ≡ Some at → at ≡ spot_of (aim_of layout at)
@@ -127,14 +127,14 @@ send_told LineFlags own other to slot Header at told e = told e
 send_told LineFlags own other to slot (Lines i) at told e = absurd (cc)
 send_told LineFlags own other to slot Flush at told e = absurd (cc)
 send_told LineFlags own other to slot Raise at told e = absurd (cc)
-send_told LineFlags own other to slot Look at told e = subst (λ (x : Spot). x ≡ spot_of (aim_of LineFlags x)) (some_at (flag_spot own (signal_at LineFlags Ready to)) at e) (signal_spot LineFlags Ready own to)
+send_told LineFlags own other to slot Look at told e = subst (λ (x : Spot). x ≡ spot_of (aim_of LineFlags x)) (some_at (flag_spot own (signal_at LineFlags Ready to)) at e) (signal_aimed LineFlags Ready own to)
 send_told LineFlags own other to slot Lower at told e = absurd (cc)
 send_told LineFlags own other to slot Finished at told e = absurd (cc)
 send_told BitFlags own other to slot Header at told e = told e
 send_told BitFlags own other to slot (Lines i) at told e = absurd (cc)
 send_told BitFlags own other to slot Flush at told e = absurd (cc)
 send_told BitFlags own other to slot Raise at told e = subst (λ (x : Spot). x ≡ spot_of (aim_of BitFlags x)) (some_at (Register other) at e) refl
-send_told BitFlags own other to slot Look at told e = subst (λ (x : Spot). x ≡ spot_of (aim_of BitFlags x)) (some_at (flag_spot own (signal_at BitFlags Ready to)) at e) (signal_spot BitFlags Ready own to)
+send_told BitFlags own other to slot Look at told e = subst (λ (x : Spot). x ≡ spot_of (aim_of BitFlags x)) (some_at (flag_spot own (signal_at BitFlags Ready to)) at e) (signal_aimed BitFlags Ready own to)
 send_told BitFlags own other to slot Lower at told e = subst (λ (x : Spot). x ≡ spot_of (aim_of BitFlags x)) (some_at (Register own) at e) refl
 send_told BitFlags own other to slot Finished at told e = absurd (cc)
 

@@ -26,11 +26,11 @@ use Rattle.send_recv.specs.Chunks.{chunk_count, chunk_start, chunk_len, lines_fr
 use Rattle.send_recv.specs.Flags.{Looks}
 use Rattle.send_recv.specs.Ops.{RecvAt, is_received}
 use Rattle.send_recv.specs.Receiving.{IsAtStage, IsReceiving, RecvStands, RecvDoes, RecvTurned, between, progress_at, spot_by, recv_spot, recv_left, recv_left_by, lines_now, lines_left, lines_left_by, flag_lines, is_look, filled_to, filled_by}
-use Rattle.send_recv.specs.Steps.{own_core, core_of, sent_flag, flag_spot, after_look, recv_or_waits}
+use Rattle.send_recv.specs.Steps.{own_core, core_of, signal_flag, flag_spot, after_look, recv_or_waits}
 use Rattle.send_recv.specs.Turns.{HoldsNone, IsSamePost, KeepsAllButMessages}
 use Rattle.send_recv.specs.Ranks.{Receiver, receiving}
 use Rattle.send_recv.proofs.Looks.LookLemmas.{IsLooked, looks_at}
-use Rattle.send_recv.proofs.Looks.TryLemmas.{look_tried, signal_spot, look_elsewhere, le_self, signal_low, look_held}
+use Rattle.send_recv.proofs.Looks.TryLemmas.{look_tried, signal_aimed, look_elsewhere, le_self, signal_low, look_held}
 use Rattle.put_get.proofs.FillLemmas.{fills_out, fills_evictions}
 
 -- a turn of a receive, and where it stands afterwards
@@ -85,7 +85,7 @@ spot_look LineFlags own other from = refl
 spot_look BitFlags own other from = refl
 
 -- the spot of a look
-pub at_look : (seat : Seat) (op : RecvAt) → op.stage ≡ Look → recv_spot seat op ≡ Some (flag_spot (own_core seat) (sent_flag seat op.from))
+pub at_look : (seat : Seat) (op : RecvAt) → op.stage ≡ Look → recv_spot seat op ≡ Some (flag_spot (own_core seat) (signal_flag seat Sent op.from))
 at_look seat op look =
     ap (λ (st : RecvStage). spot_by seat.setup.layout (own_core seat) (core_of seat op.from) op.from st) look ∙ spot_look seat.setup.layout (own_core seat) (core_of seat op.from) op.from
 
@@ -114,8 +114,8 @@ look_work events a b x false four look le = absurd (cc)
 
 -- the look found nothing
 look_waits : (s t : Sight) (c d : Private) (op : RecvAt) (bytes : List ℕ) → IsSetup s.seat.setup → RecvStands s c op bytes → op.stage ≡ Look
-    → Looks s c (own_core s.seat) (sent_flag s.seat op.from) false t d
-    → Turns s c op bytes t d op bytes (Waiting (flag_spot (own_core s.seat) (sent_flag s.seat op.from)))
+    → Looks s c (own_core s.seat) (signal_flag s.seat Sent op.from) false t d
+    → Turns s c op bytes t d op bytes (Waiting (flag_spot (own_core s.seat) (signal_flag s.seat Sent op.from)))
 look_waits s t c d op bytes valid r look looks =
     let size = chunk_of s.seat.setup in
     let l = looks_at Sent s t c d op.from false valid r.peers r.hands looks in
@@ -129,11 +129,11 @@ look_waits s t c d op bytes valid r look looks =
           (stands_after s.seat (record_in s) (record_in t) c d op op bytes r refl refl refl (fills_out looks.looks.fills ∙ r.empty) rest.hold
           (subst (λ (st : RecvStage). IsAtStage s.seat (record_in t) d op bytes st) (sym look) stage));
       turned = record {
-        events = loads_of (line_of_word (flag_word (own_core s.seat) (sent_flag s.seat op.from))) looks.words;
+        events = loads_of (line_of_word (flag_word (own_core s.seat) (signal_flag s.seat Sent op.from))) looks.words;
         did = looks.looks.did;
         does = recv_does (receiving s c op bytes) Look false t d look looks;
-        tried = look_tried s.seat.setup.layout (own_core s.seat) (sent_flag s.seat op.from) looks.words false (recv_spot s.seat op) (signal_low s.seat.setup.layout Sent op.from) looks.is
-            (at_look s.seat op look) (signal_spot s.seat.setup.layout Sent (own_core s.seat) op.from);
+        tried = look_tried s.seat.setup.layout (own_core s.seat) (signal_flag s.seat Sent op.from) looks.words false (recv_spot s.seat op) (signal_low s.seat.setup.layout Sent op.from) looks.is
+            (at_look s.seat op look) (signal_aimed s.seat.setup.layout Sent (own_core s.seat) op.from);
         freed = refl;
         elsewhere = λ at other ne. look_elsewhere s.seat op (own_core s.seat) looks.words at (at_look s.seat op look) other ne;
         fuller = le_self _;
@@ -148,7 +148,7 @@ look_waits s t c d op bytes valid r look looks =
         before = λ k low. refl;
         behind = λ k high. refl;
         held = look_held c d _ looks.words looks.looks.fills;
-        work = look_work (load_count (loads_of (line_of_word (flag_word (own_core s.seat) (sent_flag s.seat op.from))) looks.words)) c.evictions d.evictions _ (is_look op.stage)
+        work = look_work (load_count (loads_of (line_of_word (flag_word (own_core s.seat) (signal_flag s.seat Sent op.from))) looks.words)) c.evictions d.evictions _ (is_look op.stage)
             refl (ap is_look look) (fills_evictions looks.looks.fills);
       };
     }
@@ -195,7 +195,7 @@ seen_open true = refl
 seen_open false = refl
 
 look_finds : (s t : Sight) (c d : Private) (op : RecvAt) (bytes : List ℕ) (b : Bool) → (op.chunk == 0) ≡ b → IsSetup s.seat.setup → RecvStands s c op bytes → op.stage ≡ Look
-    → Looks s c (own_core s.seat) (sent_flag s.seat op.from) true t d
+    → Looks s c (own_core s.seat) (signal_flag s.seat Sent op.from) true t d
     → Turns s c op bytes t d (record op { stage = if b then Header else Lower }) bytes Moved
 look_finds s t c d op bytes b first valid r look looks =
     let size = chunk_of s.seat.setup in
@@ -212,11 +212,11 @@ look_finds s t c d op bytes b first valid r look looks =
           (stands_after s.seat (record_in s) (record_in t) c d op now bytes r refl refl refl (fills_out looks.looks.fills ∙ r.empty) rest.hold
           (seen_at s.seat (record_in t) d op bytes b first stage notes));
       turned = record {
-        events = loads_of (line_of_word (flag_word (own_core s.seat) (sent_flag s.seat op.from))) looks.words;
+        events = loads_of (line_of_word (flag_word (own_core s.seat) (signal_flag s.seat Sent op.from))) looks.words;
         did = looks.looks.did;
         does = recv_does (receiving s c op bytes) Look true t d look looks;
-        tried = look_tried s.seat.setup.layout (own_core s.seat) (sent_flag s.seat op.from) looks.words true (recv_spot s.seat op) (signal_low s.seat.setup.layout Sent op.from) looks.is
-            (at_look s.seat op look) (signal_spot s.seat.setup.layout Sent (own_core s.seat) op.from);
+        tried = look_tried s.seat.setup.layout (own_core s.seat) (signal_flag s.seat Sent op.from) looks.words true (recv_spot s.seat op) (signal_low s.seat.setup.layout Sent op.from) looks.is
+            (at_look s.seat op look) (signal_aimed s.seat.setup.layout Sent (own_core s.seat) op.from);
         freed = refl;
         elsewhere = λ at other ne. look_elsewhere s.seat op (own_core s.seat) looks.words at (at_look s.seat op look) other ne;
         fuller = seen_fuller size op b look;
@@ -231,14 +231,14 @@ look_finds s t c d op bytes b first valid r look looks =
         before = λ k low. refl;
         behind = λ k high. refl;
         held = look_held c d _ looks.words looks.looks.fills;
-        work = look_work (load_count (loads_of (line_of_word (flag_word (own_core s.seat) (sent_flag s.seat op.from))) looks.words)) c.evictions d.evictions _ (is_look op.stage)
+        work = look_work (load_count (loads_of (line_of_word (flag_word (own_core s.seat) (signal_flag s.seat Sent op.from))) looks.words)) c.evictions d.evictions _ (is_look op.stage)
             refl (ap is_look look) (fills_evictions looks.looks.fills);
       };
     }
 
 -- the turn that looks, by what the look found
 pub look_turn : (found : Bool) (s t : Sight) (c d : Private) (op : RecvAt) (bytes : List ℕ) → IsSetup s.seat.setup → RecvStands s c op bytes → op.stage ≡ Look
-    → Looks s c (own_core s.seat) (sent_flag s.seat op.from) found t d
-    → Turns s c op bytes t d (after_look found op) bytes (recv_or_waits found (flag_spot (own_core s.seat) (sent_flag s.seat op.from)))
+    → Looks s c (own_core s.seat) (signal_flag s.seat Sent op.from) found t d
+    → Turns s c op bytes t d (after_look found op) bytes (recv_or_waits found (flag_spot (own_core s.seat) (signal_flag s.seat Sent op.from)))
 look_turn true s t c d op bytes valid r look looks = look_finds s t c d op bytes (op.chunk == 0) refl valid r look looks
 look_turn false s t c d op bytes valid r look looks = look_waits s t c d op bytes valid r look looks

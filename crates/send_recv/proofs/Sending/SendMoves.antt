@@ -30,7 +30,7 @@ use Rattle.send_recv.specs.Chunks.{chunk_start}
 use Rattle.send_recv.specs.Flags.{Changes, ChangesBy, MayChange, MayChangeBy}
 use Rattle.send_recv.specs.Ops.{SendAt, SlotAt}
 use Rattle.send_recv.specs.Sending.{HasDrafted, First, Later, IsBeforeRaise, IsSending, SendStands, lines_in_hand, own_line, header_words, waiting}
-use Rattle.send_recv.specs.Steps.{own_core, core_of, sent_flag}
+use Rattle.send_recv.specs.Steps.{own_core, core_of, signal_flag}
 use Rattle.send_recv.specs.Turns.{HoldsNoneBy}
 use Rattle.send_recv.proofs.Looks.FlagMoves.{MovesFlag, may_change_by, flag_moved_by, sent_raises}
 use Rattle.send_recv.proofs.Lines.DraftWhole.{AreBytes, drafted_is, head_drafted, header_whole, begun_is}
@@ -117,7 +117,7 @@ may_by BitFlags s c op slot bytes bits valid small r hands none before =
     may_change_by BitFlags s c op.to (signal_at BitFlags Sent s.seat.rank) true (RaiseSent op.to) bits valid hands before.0 (raises_bit s c op slot bytes bits valid small r none before.1)
 
 pub may_raise_sent : (s : Sight) (c : Private) (op : SendAt) (slot : SlotAt) (bytes : List ℕ) → IsSetup s.seat.setup → AreBytes bytes → SendStands s c op slot bytes → op.stage ≡ Raise
-    → MayChange s c (core_of s.seat op.to) (sent_flag s.seat s.seat.rank) true
+    → MayChange s c (core_of s.seat op.to) (signal_flag s.seat Sent s.seat.rank) true
 may_raise_sent s c op slot bytes valid small r raise =
     let at = at_stage s.seat (record_in s) c op slot bytes Raise r raise in
     may_by s.seat.setup.layout s c op slot bytes refl valid small r r.hands at.0 at.1
@@ -155,7 +155,7 @@ raised_by BitFlags s t c d op slot bytes bits valid small r hands none before tr
 }
 
 pub sent_is_raised : (s t : Sight) (c d : Private) (op : SendAt) (slot : SlotAt) (bytes : List ℕ) → IsSetup s.seat.setup → AreBytes bytes → SendStands s c op slot bytes → op.stage ≡ Raise
-    → Changes s c (core_of s.seat op.to) (sent_flag s.seat s.seat.rank) true true t d → SentRaised s t op bytes
+    → Changes s c (core_of s.seat op.to) (signal_flag s.seat Sent s.seat.rank) true true t d → SentRaised s t op bytes
 sent_is_raised s t c d op slot bytes valid small r raise changes =
     let at = at_stage s.seat (record_in s) c op slot bytes Raise r raise in
     raised_by s.seat.setup.layout s t c d op slot bytes refl valid small r r.hands at.0 at.1 changes
