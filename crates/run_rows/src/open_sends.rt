@@ -9,7 +9,7 @@ use crate::scripts::{FOUR_BYTES, chip_with, setup_of};
 use chip_run::{Mode, Open};
 use line_cache::Never;
 use rcce_run::run;
-use scc_base::{Layout, Place, Rank, Setup};
+use scc_base::{Layout, Place, Rank, Setup, Signal};
 use scc_mesh::Chip;
 use scc_proto::Port;
 use script_reader::{Scripts, read_script};
@@ -44,8 +44,8 @@ fn words_of<P: Port>(port: &mut P) -> [u64; 7]
     let layout = setup.layout();
     let (sender, receiver) = (setup.core_of(Rank::of(0)), setup.core_of(Rank::of(1)));
     [
-        port.load(layout.sent(Rank::of(0)).place(receiver)),
-        port.load(layout.ready(Rank::of(1)).place(sender)),
+        port.load(layout.signal(Signal::Sent, Rank::of(0)).place(receiver)),
+        port.load(layout.signal(Signal::Ready, Rank::of(1)).place(sender)),
         port.load(Place::new(sender, 0, 0)),
         port.load(Place::new(sender, 0, 1)),
         port.load(Place::new(sender, 0, 2)),

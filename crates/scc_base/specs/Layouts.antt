@@ -3,6 +3,8 @@ use Rattle.std.specs.Prelude.{ℕ, ◌+◌, ◌-◌, ◌*◌, ◌/◌, ◌%◌}
 use Rattle.scc_base.specs.Places.{FlagPlace, first_heap}
 use Rattle.scc_base.specs.declared.layouts.Layout.{Layout}
 use Rattle.scc_base.specs.declared.layouts.Layout.TheVariants.{LineFlags, BitFlags}
+use Rattle.scc_base.specs.declared.signals.Signal.{Signal}
+use Rattle.scc_base.specs.declared.signals.Signal.TheVariants.{Sent, Ready}
 
 -- the flag that fills a line
 abbrev pub line_flag : ℕ → FlagPlace
@@ -16,15 +18,21 @@ bit_flag word bit = record { line = 1; word = word; bit = bit }
 abbrev pub barrier_flag : ℕ → ℕ → FlagPlace
 barrier_flag first comm = record { line = first + comm % 8; word = comm / 8; bit = 0 }
 
--- the flag that tells a receiver's core of a chunk, by the sender's rank
-abbrev pub sent_at : Layout → ℕ → FlagPlace
-sent_at LineFlags from = line_flag (1 + from)
-sent_at BitFlags from = bit_flag 0 from
+-- the line of the first of a signal's flags, where each fills a line
+abbrev pub first_signal : Signal → ℕ
+first_signal Sent = 1
+first_signal Ready = 49
 
--- the flag that tells a sender's core that a chunk is taken, by the receiver's rank
-abbrev pub ready_at : Layout → ℕ → FlagPlace
-ready_at LineFlags by = line_flag (49 + by)
-ready_at BitFlags by = bit_flag 1 by
+-- the word of line 1 that has a signal's flags as bits
+abbrev pub signal_word : Signal → ℕ
+signal_word Sent = 0
+signal_word Ready = 1
+
+-- the flag of a signal at the core of the rank that waits for it, by the rank that raises it: `sent`, by the sender,
+-- tells the receiver of a chunk; `ready`, by the receiver, tells the sender that its chunk is taken
+abbrev pub signal_at : Layout → Signal → ℕ → FlagPlace
+signal_at LineFlags signal by = line_flag (first_signal signal + by)
+signal_at BitFlags signal by = bit_flag (signal_word signal) by
 
 -- the line of the gather flag of communicator 0
 abbrev pub first_gather : Layout → ℕ

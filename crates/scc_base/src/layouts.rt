@@ -2,6 +2,7 @@
 
 use crate::names::Rank;
 use crate::places::FlagAt;
+use crate::signals::Signal;
 
 /// How the 256 lines of a core's message passing buffer are used. This is this project's profile; the
 /// library of RCCE has the same two kinds of flags.
@@ -25,7 +26,7 @@ pub enum Layout {
 impl Layout {
     ghost use Rattle.std.specs.Prelude.{◌≡◌, ◌<◌, ◌↔◌, IsTrue};
     ghost use Rattle.scc_base.specs.declared.layouts.Layout.TheVariants.{LineFlags, BitFlags};
-    ghost use Rattle.scc_base.specs.Layouts.{chunk_size, first_chunk, sent_at, ready_at, gather_at, release_at};
+    ghost use Rattle.scc_base.specs.Layouts.{chunk_size, first_chunk, signal_at, gather_at, release_at};
 
     /// The bytes of a chunk with line flags.
     pub const LINE_CHUNK: u32 = 3_584;
@@ -75,23 +76,14 @@ impl Layout {
         }
     }
 
-    /// The flag `sent` of a sender, at the receiver's core: it tells that a chunk is there.
-    pub fn sent(self, from: Rank) -> FlagAt
-        ensures gives { result ≡ sent_at self from }
+    /// The flag of a signal that this rank raises, at the core of the rank that waits for it.
+    #[inline]
+    pub fn signal(self, signal: Signal, by: Rank) -> FlagAt
+        ensures gives { result ≡ signal_at self signal by }
     {
         match self {
-            Layout::LineFlags => FlagAt::new(1 + from.number(), 0, 0),
-            Layout::BitFlags => FlagAt::new(1, 0, from.number()),
-        }
-    }
-
-    /// The flag `ready` of a receiver, at the sender's core: it tells that the chunk was taken.
-    pub fn ready(self, by: Rank) -> FlagAt
-        ensures gives { result ≡ ready_at self by }
-    {
-        match self {
-            Layout::LineFlags => FlagAt::new(49 + by.number(), 0, 0),
-            Layout::BitFlags => FlagAt::new(1, 1, by.number()),
+            Layout::LineFlags => FlagAt::new(signal.first_line() + by.number(), 0, 0),
+            Layout::BitFlags => FlagAt::new(1, signal.word(), by.number()),
         }
     }
 

@@ -14,6 +14,7 @@ mod names;
 mod orders;
 mod places;
 mod setups;
+mod signals;
 mod worlds;
 
 pub use bytes::byte_of;
@@ -28,4 +29,5 @@ pub use names::{CoreId, Rank};
 pub use orders::{OwnedSteps, any_first, lowest_first, one_end};
 pub use places::{Buf, FlagAt, Line, Place};
 pub use setups::Setup;
+pub use signals::Signal;
 pub use worlds::{own_cores, world_alone, world_of};

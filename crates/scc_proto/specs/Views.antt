@@ -2,7 +2,8 @@
 use Rattle.std.specs.Prelude.{ℕ, ◌+◌, ◌*◌, ◌/◌, ◌%◌, nat_lt, if◌then◌else◌, ◌<◌, true, ◌≡◌}
 use Rattle.std.specs.Int.{bit_at}
 use Rattle.scc_base.specs.Places.{FlagPlace}
-use Rattle.scc_base.specs.Layouts.{sent_at, ready_at, gather_at, release_at, first_chunk, chunk_lines}
+use Rattle.scc_base.specs.Layouts.{signal_at, gather_at, release_at, first_chunk, chunk_lines}
+use Rattle.scc_base.specs.declared.signals.Signal.TheVariants.{Sent, Ready}
 use Rattle.scc_base.specs.Setups.{SetupView, host_of}
 use Rattle.scc_base.specs.declared.layouts.Layout.{Layout}
 use Rattle.scc_base.specs.declared.layouts.Layout.TheVariants.{LineFlags, BitFlags}
@@ -34,8 +35,8 @@ word_of_flag memory core flag = memory.word core flag.line flag.word
 -- the words of a memory, read by what they are for
 abbrev pub view_of : SetupView → Memory → View
 view_of s memory = record {
-  sent = λ from to. flag_in s.layout (word_of_flag memory (host_of s.hosts to) (sent_at s.layout from)) (sent_at s.layout from);
-  ready = λ from to. flag_in s.layout (word_of_flag memory (host_of s.hosts from) (ready_at s.layout to)) (ready_at s.layout to);
+  sent = λ from to. flag_in s.layout (word_of_flag memory (host_of s.hosts to) (signal_at s.layout Sent from)) (signal_at s.layout Sent from);
+  ready = λ from to. flag_in s.layout (word_of_flag memory (host_of s.hosts from) (signal_at s.layout Ready to)) (signal_at s.layout Ready to);
   header = λ r k. memory.word (host_of s.hosts r) 0 k;
   chunk = λ r k. if nat_lt k (4 * chunk_lines s.layout) then memory.word (host_of s.hosts r) (first_chunk s.layout + k / 4) (k % 4) else 0;
   gather = λ comm r. word_of_flag memory (host_of s.hosts r) (gather_at s.layout comm);

@@ -3,7 +3,7 @@
 use crate::fixtures::cores_in_order;
 use scc_base::{
     Buf, Call, CommRule, CoreId, Event, FlagAt, Head, Kind, Layout, Line, Place, PostHead, Rank,
-    Setup, Spot, Turn,
+    Setup, Signal, Spot, Turn,
 };
 
 const NUMBERS: &[(u8, bool)] = &[(0, true), (47, true), (48, false), (255, false)];
@@ -80,8 +80,13 @@ fn has_flags_of_ranks(layout: Layout, rows: &[(u8, [u8; 3], [u8; 3])]) -> bool {
         let Some(rank) = Rank::new(rank) else {
             return false;
         };
-        if !stands_at(layout.sent(rank), sent[0], sent[1], sent[2])
-            || !stands_at(layout.ready(rank), ready[0], ready[1], ready[2])
+        if !stands_at(layout.signal(Signal::Sent, rank), sent[0], sent[1], sent[2])
+            || !stands_at(
+                layout.signal(Signal::Ready, rank),
+                ready[0],
+                ready[1],
+                ready[2],
+            )
         {
             return false;
         }

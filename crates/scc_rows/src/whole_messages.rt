@@ -7,7 +7,7 @@ ghost use Rattle.send_recv.specs.Calling.{IsBetweenMessages};
 use crate::fixtures::{Meeting, shows_in_both};
 use line_cache::{Evict, Never};
 use put_get::Core;
-use scc_base::{CoreId, Head, Layout, Place, PostHead, Rank, Spot};
+use scc_base::{CoreId, Head, Layout, Place, PostHead, Rank, Signal, Spot};
 use scc_proto::{CountingPort, Port};
 use send_recv::{RecvOp, RecvStop, SendOp, SendStop, Slot, recv, recv_test, send};
 use std::test::Fail;
@@ -115,7 +115,7 @@ pub(crate) fn answer_spot(layout: Layout) -> Spot {
     };
     Spot::Flag {
         place,
-        bit: layout.ready(Rank::of(1)).bit(),
+        bit: layout.signal(Signal::Ready, Rank::of(1)).bit(),
     }
 }
 

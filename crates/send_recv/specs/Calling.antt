@@ -5,6 +5,7 @@ use Rattle.std.specs.List.{list_all}
 use Rattle.scc_base.specs.Heads.{MessageHead}
 use Rattle.scc_base.specs.declared.events.Event.{Event}
 use Rattle.scc_base.specs.declared.events.Spot.{Spot}
+use Rattle.scc_base.specs.declared.signals.Signal.TheVariants as signal
 use Rattle.scc_proto.specs.Messages.{Notes}
 use Rattle.scc_proto.specs.Resting.{is_resting}
 use Rattle.scc_proto.specs.Stages.{Idle}
@@ -22,13 +23,13 @@ use Rattle.send_recv.specs.Ranks.{BufferHolder, Receiver, Sender, SlotHolder, re
 use Rattle.send_recv.specs.Sights.{chunk_at, layout_at}
 use Rattle.send_recv.specs.Tries.{aim_of}
 use Rattle.send_recv.specs.Turns.{HoldsNone, IsSamePost, KeepsAllButMessages, IsAtRest, IsOneTry}
-use Rattle.send_recv.specs.Steps.{own_core, sent_flag, flag_spot}
+use Rattle.send_recv.specs.Steps.{own_core, signal_flag, flag_spot}
 use Rattle.send_recv.specs.Receiving.{RecvStands, SaysHead, IsRecvSpot, recv_spot, recv_call, lines_left, filled_to}
 use Rattle.send_recv.specs.Sending.{SlotStands, SendStands, send_spot, send_call}
 
 -- what a receive's look at the sender's `sent` is for
 abbrev pub sent_aim : Seat → RecvAt → Aim
-sent_aim seat op = aim_of seat.setup.layout (flag_spot (own_core seat) (sent_flag seat op.from))
+sent_aim seat op = aim_of seat.setup.layout (flag_spot (own_core seat) (signal_flag seat signal.Sent op.from))
 
 -- a receive has not stalled: at each spot where it tries, fewer than its last `polls` tries were vain
 abbrev pub HasNotStalled : Seat → RecvAt → ℕ → List Event → Type 0

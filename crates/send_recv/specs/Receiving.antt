@@ -5,7 +5,8 @@ use Rattle.std.specs.List.{list_all}
 use Rattle.scc_base.specs.Heads.{MessageHead, IsHead}
 use Rattle.scc_base.specs.Calls.{DataCall, Recv}
 use Rattle.scc_base.specs.Places.{first_heap, LineAt, flag_word}
-use Rattle.scc_base.specs.Layouts.{sent_at, first_chunk}
+use Rattle.scc_base.specs.Layouts.{signal_at, first_chunk}
+use Rattle.scc_base.specs.declared.signals.Signal.TheVariants.{Sent, Ready}
 use Rattle.scc_base.specs.Setups.{host_of}
 use Rattle.scc_base.specs.declared.layouts.Layout.{Layout}
 use Rattle.scc_base.specs.declared.layouts.Layout.TheVariants.{LineFlags, BitFlags}
@@ -29,7 +30,7 @@ use Rattle.send_recv.specs.Chunks.{chunk_count, chunk_start, chunk_len, chunk_li
 use Rattle.send_recv.specs.Ops.{RecvAt, is_received}
 use Rattle.send_recv.specs.Ranks.{Receiver}
 use Rattle.sync_flags.specs.Tries.{Tried, tries_at, changing_after}
-use Rattle.send_recv.specs.Sights.{chunk_at, layout_at, header_line, chunk_line, LooksForSent, LowersSent, RaisesReady}
+use Rattle.send_recv.specs.Sights.{chunk_at, layout_at, header_line, chunk_line, LooksFor, Lowers, Raises}
 use Rattle.send_recv.specs.Steps.{cleared, before_line, goes_on}
 use Rattle.send_recv.specs.Tries.{aim_of, aim_at}
 use Rattle.send_recv.specs.Turns.{HoldsNone, IsSamePost, KeepsAllButMessages, IsAtRest, OnlyTries, is_no_draft, LastHeld, LoadsLines}
@@ -147,7 +148,7 @@ lines_of_turn layout size old now answer = (lines_left layout size old - lines_l
 
 -- the spot at which a stage makes its one try, where it makes one
 abbrev pub spot_by : Layout → ℕ → ℕ → ℕ → RecvStage → Option Spot
-spot_by layout own other from Look = Some (Flag (flag_word own (sent_at layout from)) (sent_at layout from).bit)
+spot_by layout own other from Look = Some (Flag (flag_word own (signal_at layout Sent from)) (signal_at layout Sent from).bit)
 spot_by BitFlags own other from Lower = Some (Register own)
 spot_by BitFlags own other from Raise = Some (Register other)
 spot_by layout own other from stage = None
@@ -194,11 +195,11 @@ filled_to size op = filled_by (chunk_start size op.chunk) op.head.len op.stage (
 -- what each stage does: it looks at one flag, reads one line, changes one flag, or does nothing; the look or the
 -- change is done where the flag was found set, or its register free
 abbrev pub RecvDoes : Receiver → RecvStage → (done : Bool) → Sight → Private → Type 0
-RecvDoes old Look done t d = LooksForSent old.sight old.core old.op.from done t d
+RecvDoes old Look done t d = LooksFor Sent old.sight old.core old.op.from done t d
 RecvDoes old Header done t d = (words : List ℕ) × ReadsLine old.sight (cleared old.core) (header_line old.sight old.op.from) words t d
-RecvDoes old Lower done t d = LowersSent old.sight old.core old.op.from done t d
+RecvDoes old Lower done t d = Lowers Sent old.sight old.core old.op.from done t d
 RecvDoes old (Lines i) done t d = (words : List ℕ) × ReadsLine old.sight (before_line i old.core) (chunk_line old.sight old.op.from i) words t d
-RecvDoes old Raise done t d = RaisesReady old.sight old.core old.op.from done t d
+RecvDoes old Raise done t d = Raises Ready old.sight old.core old.op.from done t d
 RecvDoes old Finished done t d = (t ≡ old.sight) × (d ≡ old.core)
 
 -- one turn of a receive

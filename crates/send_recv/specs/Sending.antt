@@ -5,7 +5,8 @@ use Rattle.std.specs.List.{list_all}
 use Rattle.scc_base.specs.Heads.{MessageHead, IsHead, IsPostHead}
 use Rattle.scc_base.specs.Calls.{DataCall, Send, Post}
 use Rattle.scc_base.specs.Places.{LineAt, flag_word}
-use Rattle.scc_base.specs.Layouts.{ready_at, first_chunk}
+use Rattle.scc_base.specs.Layouts.{signal_at, first_chunk}
+use Rattle.scc_base.specs.declared.signals.Signal.TheVariants.{Sent, Ready}
 use Rattle.scc_base.specs.Setups.{host_of}
 use Rattle.scc_base.specs.declared.layouts.Layout.{Layout}
 use Rattle.scc_base.specs.declared.layouts.Layout.TheVariants.{LineFlags, BitFlags}
@@ -31,7 +32,7 @@ use Rattle.send_recv.specs.Ops.{SendAt, SlotAt, is_sent, slot_left}
 use Rattle.send_recv.specs.Ranks.{Sender, SlotHolder, with_slot}
 use Rattle.send_recv.specs.Receiving.{progress_at}
 use Rattle.sync_flags.specs.Tries.{Aim, Tried, vain_from, changing_after}
-use Rattle.send_recv.specs.Sights.{chunk_at, layout_at, own_header_line, own_chunk_line, words_of_line, LooksForReady, RaisesSent, LowersReady}
+use Rattle.send_recv.specs.Sights.{chunk_at, layout_at, own_header_line, own_chunk_line, words_of_line, LooksFor, Raises, Lowers}
 use Rattle.send_recv.specs.Steps.{moves_on}
 use Rattle.send_recv.specs.Tries.{aim_at}
 use Rattle.send_recv.specs.Turns.{HoldsNone, IsSamePost, KeepsAllButMessages, IsAtRest, OnlyTries, is_no_draft, LastHeld, LoadsLines, StoresFromBuffer, lines_for_try, waits_at}
@@ -51,7 +52,7 @@ pub record SlotStands (seat : Seat) (rec : Record) (slot : SlotAt) : Type 0 wher
 
 -- the spot at which a slot's turn makes its one try
 abbrev pub slot_spot_by : Layout → ℕ → Option ℕ → Bool → Option Spot
-slot_spot_by layout own (Some to) false = Some (Flag (flag_word own (ready_at layout to)) (ready_at layout to).bit)
+slot_spot_by layout own (Some to) false = Some (Flag (flag_word own (signal_at layout Ready to)) (signal_at layout Ready to).bit)
 slot_spot_by BitFlags own (Some to) true = Some (Register own)
 slot_spot_by layout own to seen = None
 
@@ -73,8 +74,8 @@ SlotMeans slot now turn.Done = (slot.to ≡ None) × (now ≡ slot)
 -- look or the change is done where the flag was found set, or its register free
 abbrev pub SlotDoesBy : Sight → Private → (to : Option ℕ) → (seen : Bool) → (done : Bool) → Sight → Private → Type 0
 SlotDoesBy s c None seen done t d = (t ≡ s) × (d ≡ c)
-SlotDoesBy s c (Some to) false done t d = LooksForReady s c to done t d
-SlotDoesBy s c (Some to) true done t d = LowersReady s c to done t d
+SlotDoesBy s c (Some to) false done t d = LooksFor Ready s c to done t d
+SlotDoesBy s c (Some to) true done t d = Lowers Ready s c to done t d
 
 -- what a turn of a slot does
 abbrev pub SlotDoes : SlotHolder → (done : Bool) → Sight → Private → Type 0
@@ -220,7 +221,7 @@ send_left layout size op slot = send_left_by (slot_left slot) (of_chunk layout o
 -- the spot at which a stage makes its one try; at the start it is the slot's
 abbrev pub send_spot_by : Layout → ℕ → ℕ → ℕ → Option Spot → SendStage → Option Spot
 send_spot_by layout own other to slot Header = slot
-send_spot_by layout own other to slot Look = Some (Flag (flag_word own (ready_at layout to)) (ready_at layout to).bit)
+send_spot_by layout own other to slot Look = Some (Flag (flag_word own (signal_at layout Ready to)) (signal_at layout Ready to).bit)
 send_spot_by BitFlags own other to slot Raise = Some (Register other)
 send_spot_by BitFlags own other to slot Lower = Some (Register own)
 send_spot_by layout own other to slot stage = None
@@ -260,9 +261,9 @@ abbrev pub SendDoes : Sender → SendStage → (done : Bool) → Sight → Priva
 SendDoes old Header done t d = StartDoes old old.slot.to done t d
 SendDoes old (Lines i) done t d = WritesLine old.sight old.core (own_chunk_line old.sight i) (words_of_line old.bytes old.sight old.op.chunk i) t d
 SendDoes old Flush done t d = Flushes old.sight old.core t d
-SendDoes old Raise done t d = RaisesSent old.sight old.core old.op.to done t d
-SendDoes old Look done t d = LooksForReady old.sight old.core old.op.to done t d
-SendDoes old Lower done t d = LowersReady old.sight old.core old.op.to done t d
+SendDoes old Raise done t d = Raises Sent old.sight old.core old.op.to done t d
+SendDoes old Look done t d = LooksFor Ready old.sight old.core old.op.to done t d
+SendDoes old Lower done t d = Lowers Ready old.sight old.core old.op.to done t d
 SendDoes old Finished done t d = (t ≡ old.sight) × (d ≡ old.core)
 
 -- one turn of a send or of a post

@@ -3,6 +3,7 @@ use Rattle.std.specs.Prelude.{◌≡◌, ℕ, ◌+◌, ◌*◌, Bool, true, fals
 use Rattle.scc_base.specs.Layouts.{first_chunk}
 use Rattle.scc_base.specs.Places.{LineAt}
 use Rattle.scc_base.specs.declared.layouts.Layout.{Layout}
+use Rattle.scc_base.specs.declared.signals.Signal.{Signal}
 use Rattle.scc_base.specs.declared.events.Spot.{Spot}
 use Rattle.scc_base.specs.declared.events.Spot.TheVariants.{Register}
 use Rattle.scc_proto.specs.Words.{are_peers}
@@ -12,7 +13,7 @@ use Rattle.put_get.specs.Cores.{Private}
 use Rattle.send_recv.specs.Bytes.{words_at}
 use Rattle.send_recv.specs.Chunks.{chunk_start}
 use Rattle.send_recv.specs.Flags.{Looks, Changes, MayChange}
-use Rattle.send_recv.specs.Steps.{own_core, core_of, sent_flag, ready_flag, flag_spot, line_at}
+use Rattle.send_recv.specs.Steps.{own_core, core_of, signal_flag, flag_spot, line_at}
 
 -- the layout of the flags
 abbrev pub layout_at : Sight → Layout
@@ -50,57 +51,33 @@ own_chunk_line s line = chunk_line s s.seat.rank line
 abbrev pub words_of_line : List ℕ → Sight → (chunk line : ℕ) → List ℕ
 words_of_line bytes s chunk line = words_at bytes (first_byte s chunk line)
 
--- ---- the two flags of a message: the receiver's `sent`, and the sender's `ready`
+-- ---- the two signals of a message: `sent` at the receiver, `ready` at the sender
 
--- a receiver looks at its `sent` of a sender, which tells of a chunk
-abbrev pub LooksForSent : Sight → Private → (from : ℕ) → (found : Bool) → Sight → Private → Type 0
-LooksForSent s c from found t d = Looks s c (own_core s.seat) (sent_flag s.seat from) found t d
+-- a rank looks at its own flag of a signal that another rank raises
+abbrev pub LooksFor : Signal → Sight → Private → (by : ℕ) → (found : Bool) → Sight → Private → Type 0
+LooksFor signal s c by found t d = Looks s c (own_core s.seat) (signal_flag s.seat signal by) found t d
 
--- a sender looks at its `ready` of a receiver, which tells that a chunk was taken
-abbrev pub LooksForReady : Sight → Private → (to : ℕ) → (found : Bool) → Sight → Private → Type 0
-LooksForReady s c to found t d = Looks s c (own_core s.seat) (ready_flag s.seat to) found t d
+-- a rank lowers its own flag of a signal that another rank raised
+abbrev pub Lowers : Signal → Sight → Private → (by : ℕ) → (done : Bool) → Sight → Private → Type 0
+Lowers signal s c by done t d = Changes s c (own_core s.seat) (signal_flag s.seat signal by) false done t d
 
--- a receiver lowers its own `sent` of a sender
-abbrev pub LowersSent : Sight → Private → (from : ℕ) → (done : Bool) → Sight → Private → Type 0
-LowersSent s c from done t d = Changes s c (own_core s.seat) (sent_flag s.seat from) false done t d
+-- a rank raises its flag of a signal at another rank
+abbrev pub Raises : Signal → Sight → Private → (at : ℕ) → (done : Bool) → Sight → Private → Type 0
+Raises signal s c at done t d = Changes s c (core_of s.seat at) (signal_flag s.seat signal s.seat.rank) true done t d
 
--- a receiver raises its `ready` at a sender
-abbrev pub RaisesReady : Sight → Private → (from : ℕ) → (done : Bool) → Sight → Private → Type 0
-RaisesReady s c from done t d = Changes s c (core_of s.seat from) (ready_flag s.seat s.seat.rank) true done t d
+-- a rank may lower its own flag of a signal
+abbrev pub MayLower : Signal → Sight → Private → ℕ → Type 0
+MayLower signal s c by = MayChange s c (own_core s.seat) (signal_flag s.seat signal by) false
 
--- a sender raises its `sent` at a receiver
-abbrev pub RaisesSent : Sight → Private → (to : ℕ) → (done : Bool) → Sight → Private → Type 0
-RaisesSent s c to done t d = Changes s c (core_of s.seat to) (sent_flag s.seat s.seat.rank) true done t d
-
--- a sender lowers its own `ready` of a receiver
-abbrev pub LowersReady : Sight → Private → (to : ℕ) → (done : Bool) → Sight → Private → Type 0
-LowersReady s c to done t d = Changes s c (own_core s.seat) (ready_flag s.seat to) false done t d
-
--- a receiver may lower its own `sent` of a sender
-abbrev pub MayLowerSent : Sight → Private → ℕ → Type 0
-MayLowerSent s c from = MayChange s c (own_core s.seat) (sent_flag s.seat from) false
-
--- a receiver may raise its `ready` at a sender
-abbrev pub MayRaiseReady : Sight → Private → ℕ → Type 0
-MayRaiseReady s c from = MayChange s c (core_of s.seat from) (ready_flag s.seat s.seat.rank) true
-
--- a sender may raise its `sent` at a receiver
-abbrev pub MayRaiseSent : Sight → Private → ℕ → Type 0
-MayRaiseSent s c to = MayChange s c (core_of s.seat to) (sent_flag s.seat s.seat.rank) true
-
--- a sender may lower its own `ready` of a receiver
-abbrev pub MayLowerReady : Sight → Private → ℕ → Type 0
-MayLowerReady s c to = MayChange s c (own_core s.seat) (ready_flag s.seat to) false
+-- a rank may raise its flag of a signal at another rank
+abbrev pub MayRaise : Signal → Sight → Private → ℕ → Type 0
+MayRaise signal s c at = MayChange s c (core_of s.seat at) (signal_flag s.seat signal s.seat.rank) true
 
 -- ---- where a turn waits for them
 
--- a receiver waits at its own `sent` of a sender
-abbrev pub sent_spot : Sight → ℕ → Spot
-sent_spot s from = flag_spot (own_core s.seat) (sent_flag s.seat from)
-
--- a sender waits at its own `ready` of a receiver
-abbrev pub ready_spot : Sight → ℕ → Spot
-ready_spot s to = flag_spot (own_core s.seat) (ready_flag s.seat to)
+-- a rank waits at its own flag of a signal
+abbrev pub signal_spot : Signal → Sight → ℕ → Spot
+signal_spot signal s by = flag_spot (own_core s.seat) (signal_flag s.seat signal by)
 
 -- a turn that changes a bit flag of its own core waits at the own core's register
 abbrev pub own_register : Sight → Spot

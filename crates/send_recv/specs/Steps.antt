@@ -2,7 +2,8 @@
 use Rattle.std.specs.Prelude.{◌≡◌, ◌≢◌, ℕ, ◌+◌, ◌==◌, ◌&&◌, Bool, true, false, if◌then◌else◌, nat_lt, List, [], Some, None, slice_index}
 use Rattle.scc_base.specs.Heads.{MessageHead}
 use Rattle.scc_base.specs.Places.{LineAt, FlagPlace, flag_word}
-use Rattle.scc_base.specs.Layouts.{sent_at, ready_at, chunk_size}
+use Rattle.scc_base.specs.Layouts.{signal_at, chunk_size}
+use Rattle.scc_base.specs.declared.signals.Signal.{Signal}
 use Rattle.scc_base.specs.Setups.{host_of}
 use Rattle.scc_base.specs.declared.events.Spot.{Spot}
 use Rattle.scc_base.specs.declared.events.Spot.TheVariants.{Flag}
@@ -32,13 +33,9 @@ own_core seat = host_of seat.setup.hosts seat.rank
 abbrev pub core_of : Seat → ℕ → ℕ
 core_of seat j = host_of seat.setup.hosts j
 
--- the flag that tells a receiver of a chunk, by the sender
-abbrev pub sent_flag : Seat → ℕ → FlagPlace
-sent_flag seat from = sent_at seat.setup.layout from
-
--- the flag that tells a sender that its chunk is taken, by the receiver
-abbrev pub ready_flag : Seat → ℕ → FlagPlace
-ready_flag seat by = ready_at seat.setup.layout by
+-- the flag of a signal, by the rank that raises it
+abbrev pub signal_flag : Seat → Signal → ℕ → FlagPlace
+signal_flag seat signal by = signal_at seat.setup.layout signal by
 
 -- the spot of a flag at a core: its word, and its bit
 abbrev pub flag_spot : ℕ → FlagPlace → Spot

@@ -1,15 +1,14 @@
 //! Looks at flags and changes of them, in both layouts.
 
 ghost use Rattle.std.specs.Prelude.{◌≡◌, ◌<◌, true, false, if◌then◌else◌, None, IfSome, is_none};
-ghost use Rattle.scc_base.specs.declared.events.Spot.TheVariants.{Register};
 ghost use Rattle.put_get.specs.Cores.{MadeSteps};
 ghost use Rattle.send_recv.specs.Flags.{bit_of, Looks, WritesFlag, TriesBit, Changes, MayWriteFlag, MayChangeBit, MayChange};
-ghost use Rattle.send_recv.specs.Steps.{own_core, flag_spot};
+ghost use Rattle.send_recv.specs.Sights.{IsPeer, LooksFor, Lowers, Raises, MayLower, MayRaise, signal_spot, own_register, register_of};
 
-use crate::places::own_core;
+use crate::places::{core_of, layout_of, own_core};
 use line_cache::Evict;
 use put_get::Core;
-use scc_base::{CoreId, FlagAt, Layout, Spot};
+use scc_base::{CoreId, FlagAt, Layout, Rank, Signal, Spot};
 use scc_proto::Port;
 use sync_flags::{is_set_in, look_word, try_change_bit};
 
@@ -100,19 +99,22 @@ fn change<V: Evict, P: Port>(
     }
 }
 
-/// Looks at a flag of the own core, in one turn: None where it is set, and else the spot at which the turn waits.
+/// Looks at the own flag of a signal that this rank raises, in one turn: None where it is set, and else the spot at
+/// which the turn waits.
 #[inline(always)]
-pub(crate) fn look_own<V: Evict, P: Port>(
+pub(crate) fn look_for<V: Evict, P: Port>(
     core: &mut Core<V>,
     port: &mut P,
-    flag: FlagAt,
+    signal: Signal,
+    by: Rank,
 ) -> Option<Spot>
     requires empty { core.old.out ≡ None }
-    ensures looks { Looks (P.sight port.old) core.old (own_core (P.sight port.old).seat) flag (is_none result) (P.sight port.new) core.new }
-    ensures waits { IfSome result (λ spot. spot ≡ flag_spot (own_core (P.sight port.old).seat) flag) }
+    ensures looks { LooksFor signal (P.sight port.old) core.old by (is_none result) (P.sight port.new) core.new }
+    ensures waits { IfSome result (λ spot. spot ≡ signal_spot signal (P.sight port.old) by) }
     ensures steps { MadeSteps P.stepped (P.sight port.old) (P.sight port.new) }
 {
     let own = own_core(port);
+    let flag = layout_of(port).signal(signal, by);
     if look(core, port, own, flag) {
         None
     } else {
@@ -123,21 +125,22 @@ pub(crate) fn look_own<V: Evict, P: Port>(
     }
 }
 
-/// Lowers a flag of the own core, in one turn: None where it did, and else the spot at which the turn waits, which is
-/// the register of the own core.
+/// Lowers the own flag of a signal that this rank raised, in one turn: None where it did, and else the spot at which the
+/// turn waits, which is the register of the own core.
 #[inline(always)]
-pub(crate) fn lower_own<V: Evict, P: Port>(
+pub(crate) fn lower<V: Evict, P: Port>(
     core: &mut Core<V>,
     port: &mut P,
-    flag: FlagAt,
+    signal: Signal,
+    by: Rank,
 ) -> Option<Spot>
-    requires may { MayChange (P.sight port.old) core.old (own_core (P.sight port.old).seat) flag false }
-    ensures changes { Changes (P.sight port.old) core.old (own_core (P.sight port.old).seat) flag false (is_none result)
-        (P.sight port.new) core.new }
-    ensures waits { IfSome result (λ spot. spot ≡ Register (own_core (P.sight port.old).seat)) }
+    requires may { MayLower signal (P.sight port.old) core.old by }
+    ensures changes { Lowers signal (P.sight port.old) core.old by (is_none result) (P.sight port.new) core.new }
+    ensures waits { IfSome result (λ spot. spot ≡ own_register (P.sight port.old)) }
     ensures steps { is_none result ≡ false → MadeSteps P.stepped (P.sight port.old) (P.sight port.new) }
 {
     let own = own_core(port);
+    let flag = layout_of(port).signal(signal, by);
     if change(core, port, own, flag, false) {
         None
     } else {
@@ -145,23 +148,26 @@ pub(crate) fn lower_own<V: Evict, P: Port>(
     }
 }
 
-/// Raises a flag at a core, in one turn: None where it did, and else the spot at which the turn waits, which is the
-/// register of that core.
+/// Raises the flag of a signal at this rank, in one turn: None where it did, and else the spot at which the turn waits,
+/// which is the register of that rank's core.
 #[inline(always)]
-pub(crate) fn raise_at<V: Evict, P: Port>(
+pub(crate) fn raise<V: Evict, P: Port>(
     core: &mut Core<V>,
     port: &mut P,
-    at: CoreId,
-    flag: FlagAt,
+    signal: Signal,
+    at: Rank,
 ) -> Option<Spot>
-    requires may { MayChange (P.sight port.old) core.old at flag true }
-    ensures changes { Changes (P.sight port.old) core.old at flag true (is_none result) (P.sight port.new) core.new }
-    ensures waits { IfSome result (λ spot. spot ≡ Register at) }
+    requires peers { IsPeer (P.sight port.old) at }
+    requires may { MayRaise signal (P.sight port.old) core.old at }
+    ensures changes { Raises signal (P.sight port.old) core.old at (is_none result) (P.sight port.new) core.new }
+    ensures waits { IfSome result (λ spot. spot ≡ register_of (P.sight port.old) at) }
     ensures steps { is_none result ≡ false → MadeSteps P.stepped (P.sight port.old) (P.sight port.new) }
 {
-    if change(core, port, at, flag, true) {
+    let other = core_of(port, at);
+    let flag = layout_of(port).signal(signal, port.rank());
+    if change(core, port, other, flag, true) {
         None
     } else {
-        Some(Spot::Register { core: at })
+        Some(Spot::Register { core: other })
     }
 }

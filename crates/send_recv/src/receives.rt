@@ -2,14 +2,14 @@
 
 use crate::answers::RecvTurn;
 use crate::chunks::{is_last, lines_in, start_of};
-use crate::flags::{look_own, lower_own, raise_at};
+use crate::flags::{look_for, lower, raise};
 use crate::heads::{head_from, is_same};
 use crate::places::{core_of, known, layout_of};
 use crate::slices::put_line;
 use crate::stages::RecvStage;
 use line_cache::Evict;
 use put_get::Core;
-use scc_base::{Head, Line, Rank};
+use scc_base::{Head, Line, Rank, Signal};
 use scc_proto::Port;
 use std::marker::Model;
 
@@ -41,7 +41,8 @@ impl RecvOp {
     ghost use Rattle.send_recv.specs.Chunks.{chunk_lines_of};
     ghost use Rattle.send_recv.specs.Ops.{new_receive};
     ghost use Rattle.send_recv.specs.Receiving.{RecvStands, RecvTurned, recv_waits};
-    ghost use Rattle.send_recv.specs.Sights.{chunk_at, IsPeer, first_byte, header_line, chunk_line, LooksForSent, LowersSent, RaisesReady, MayLowerSent, MayRaiseReady, sent_spot, own_register, register_of};
+    ghost use Rattle.scc_base.specs.declared.signals.Signal.TheVariants.{Sent, Ready};
+    ghost use Rattle.send_recv.specs.Sights.{chunk_at, IsPeer, first_byte, header_line, chunk_line, LooksFor, Lowers, Raises, MayLower, MayRaise, signal_spot, own_register, register_of};
     ghost use Rattle.send_recv.specs.Steps.{cleared, goes_on, recv_or_waits, after_look, after_lower, after_line, after_raise, raise_answer, HeadRead, before_line};
     ghost use Rattle.send_recv.specs.Ranks.{receiving};
     ghost use Rattle.send_recv.specs.Stretches.{ReadLines, is_reading};
@@ -71,13 +72,12 @@ impl RecvOp {
     #[inline]
     fn look_sent<V: Evict, P: Port>(&mut self, core: &mut Core<V>, port: &mut P) -> RecvTurn
         requires empty { core.old.out ≡ None }
-        ensures looks { LooksForSent (P.sight port.old) core.old self.old.from (goes_on result) (P.sight port.new) core.new }
+        ensures looks { LooksFor Sent (P.sight port.old) core.old self.old.from (goes_on result) (P.sight port.new) core.new }
         ensures next { self.new ≡ after_look (goes_on result) self.old }
-        ensures answers { result ≡ recv_or_waits (goes_on result) (sent_spot (P.sight port.old) self.old.from) }
+        ensures answers { result ≡ recv_or_waits (goes_on result) (signal_spot Sent (P.sight port.old) self.old.from) }
         ensures steps { MadeSteps P.stepped (P.sight port.old) (P.sight port.new) }
     {
-        let flag = layout_of(port).sent(self.from);
-        if let Some(spot) = look_own(core, port, flag) {
+        if let Some(spot) = look_for(core, port, Signal::Sent, self.from) {
             return RecvTurn::Waiting(spot);
         }
         if self.chunk == 0 {
@@ -112,14 +112,14 @@ impl RecvOp {
 
     // Lowers the `sent` flag, and so takes the chunk.
     fn lower_sent<V: Evict, P: Port>(&mut self, core: &mut Core<V>, port: &mut P) -> RecvTurn
-        requires may { MayLowerSent (P.sight port.old) core.old self.old.from }
-        ensures changes { LowersSent (P.sight port.old) core.old self.old.from (goes_on result) (P.sight port.new) core.new }
+        requires may { MayLower Sent (P.sight port.old) core.old self.old.from }
+        ensures changes { Lowers Sent (P.sight port.old) core.old self.old.from (goes_on result) (P.sight port.new) core.new }
         ensures next { self.new ≡ after_lower (chunk_at (P.sight port.old)) (goes_on result) self.old }
         ensures answers { result ≡ recv_or_waits (goes_on result) (own_register (P.sight port.old)) }
         ensures steps { goes_on result ≡ false → MadeSteps P.stepped (P.sight port.old) (P.sight port.new) }
     {
         let layout = layout_of(port);
-        if let Some(spot) = lower_own(core, port, layout.sent(self.from)) {
+        if let Some(spot) = lower(core, port, Signal::Sent, self.from) {
             return RecvTurn::Waiting(spot);
         }
         if lines_in(layout, self.head.len(), self.chunk) == 0 {
@@ -170,17 +170,15 @@ impl RecvOp {
     // Raises the `ready` flag at the sender.
     fn raise_ready<V: Evict, P: Port>(&mut self, core: &mut Core<V>, port: &mut P) -> RecvTurn
         requires peers { IsPeer (P.sight port.old) self.old.from }
-        requires may { MayRaiseReady (P.sight port.old) core.old self.old.from }
+        requires may { MayRaise Ready (P.sight port.old) core.old self.old.from }
         requires some_left { self.old.chunk < 255 }
-        ensures changes { RaisesReady (P.sight port.old) core.old self.old.from (goes_on result) (P.sight port.new) core.new }
+        ensures changes { Raises Ready (P.sight port.old) core.old self.old.from (goes_on result) (P.sight port.new) core.new }
         ensures next { self.new ≡ after_raise (chunk_at (P.sight port.old)) (goes_on result) self.old }
         ensures answers { result ≡ raise_answer (chunk_at (P.sight port.old)) (goes_on result) (register_of (P.sight port.old) self.old.from) self.old }
         ensures steps { goes_on result ≡ false → MadeSteps P.stepped (P.sight port.old) (P.sight port.new) }
     {
-        let other = core_of(port, self.from);
         let layout = layout_of(port);
-        let flag = layout.ready(port.rank());
-        if let Some(spot) = raise_at(core, port, other, flag) {
+        if let Some(spot) = raise(core, port, Signal::Ready, self.from) {
             return RecvTurn::Waiting(spot);
         }
         if is_last(layout, self.head.len(), self.chunk) {

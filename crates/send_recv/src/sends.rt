@@ -4,15 +4,15 @@ ghost use Rattle.std.specs.Prelude.{◌≡◌};
 ghost use Rattle.send_recv.specs.Steps.{before_raise};
 
 use crate::chunks::{is_last, lines_in, start_of};
-use crate::flags::{look_own, lower_own, raise_at};
+use crate::flags::{look_for, lower, raise};
 use crate::heads::header_line;
-use crate::places::{core_of, known, layout_of, own_core};
+use crate::places::{known, layout_of, own_core};
 use crate::slices::{known_bytes, line_from};
 use crate::slots::Slot;
 use crate::stages::SendStage;
 use line_cache::Evict;
 use put_get::Core;
-use scc_base::{Head, Layout, Line, PostHead, Rank, Turn};
+use scc_base::{Head, Layout, Line, PostHead, Rank, Signal, Turn};
 use scc_proto::Port;
 use std::marker::Model;
 
@@ -58,7 +58,8 @@ impl SendOp {
     ghost use Rattle.send_recv.specs.Chunks.{chunk_lines_of};
     ghost use Rattle.send_recv.specs.Ops.{new_send};
     ghost use Rattle.send_recv.specs.Sending.{SendStands, SendTurned, header_words};
-    ghost use Rattle.send_recv.specs.Sights.{chunk_at, IsPeer, own_header_line, own_chunk_line, words_of_line, LooksForReady, RaisesSent, LowersReady, MayRaiseSent, MayLowerReady, ready_spot, own_register, register_of};
+    ghost use Rattle.scc_base.specs.declared.signals.Signal.TheVariants.{Sent, Ready};
+    ghost use Rattle.send_recv.specs.Sights.{chunk_at, IsPeer, own_header_line, own_chunk_line, words_of_line, LooksFor, Raises, Lowers, MayRaise, MayLower, signal_spot, own_register, register_of};
     ghost use Rattle.send_recv.specs.Steps.{moves_on, moved_or_waits, after_header, after_written, after_flush, after_sent, sent_answer, slot_sent, after_seen, after_through, through_answer};
     ghost use Rattle.send_recv.specs.Turns.{waits_at};
     ghost use Rattle.send_recv.specs.Ranks.{sending};
@@ -157,16 +158,14 @@ impl SendOp {
         slot: &mut Slot,
     ) -> Turn
         requires peers { IsPeer (P.sight port.old) self.old.to }
-        requires may { MayRaiseSent (P.sight port.old) core.old self.old.to }
-        ensures changes { RaisesSent (P.sight port.old) core.old self.old.to (moves_on result) (P.sight port.new) core.new }
+        requires may { MayRaise Sent (P.sight port.old) core.old self.old.to }
+        ensures changes { Raises Sent (P.sight port.old) core.old self.old.to (moves_on result) (P.sight port.new) core.new }
         ensures next { self.new ≡ after_sent (moves_on result) self.old }
         ensures fills { slot.new ≡ slot_sent (moves_on result) self.old slot.old }
         ensures answers { result ≡ sent_answer (moves_on result) (register_of (P.sight port.old) self.old.to) self.old }
         ensures steps { moves_on result ≡ false → MadeSteps P.stepped (P.sight port.old) (P.sight port.new) }
     {
-        let other = core_of(port, self.to);
-        let flag = layout_of(port).sent(port.rank());
-        if let Some(spot) = raise_at(core, port, other, flag) {
+        if let Some(spot) = raise(core, port, Signal::Sent, self.to) {
             return Turn::Waiting(spot);
         }
         if self.posted {
@@ -182,13 +181,12 @@ impl SendOp {
     #[inline]
     fn look_ready<V: Evict, P: Port>(&mut self, core: &mut Core<V>, port: &mut P) -> Turn
         requires empty { core.old.out ≡ None }
-        ensures looks { LooksForReady (P.sight port.old) core.old self.old.to (moves_on result) (P.sight port.new) core.new }
+        ensures looks { LooksFor Ready (P.sight port.old) core.old self.old.to (moves_on result) (P.sight port.new) core.new }
         ensures next { self.new ≡ after_seen (moves_on result) self.old }
-        ensures answers { result ≡ moved_or_waits (moves_on result) (ready_spot (P.sight port.old) self.old.to) }
+        ensures answers { result ≡ moved_or_waits (moves_on result) (signal_spot Ready (P.sight port.old) self.old.to) }
         ensures steps { MadeSteps P.stepped (P.sight port.old) (P.sight port.new) }
     {
-        let flag = layout_of(port).ready(self.to);
-        if let Some(spot) = look_own(core, port, flag) {
+        if let Some(spot) = look_for(core, port, Signal::Ready, self.to) {
             return Turn::Waiting(spot);
         }
         self.stage = SendStage::Lower;
@@ -197,15 +195,15 @@ impl SendOp {
 
     // Lowers the `ready` flag, after which the next chunk may be written.
     fn lower_ready<V: Evict, P: Port>(&mut self, core: &mut Core<V>, port: &mut P) -> Turn
-        requires may { MayLowerReady (P.sight port.old) core.old self.old.to }
+        requires may { MayLower Ready (P.sight port.old) core.old self.old.to }
         requires some_left { self.old.chunk < 255 }
-        ensures changes { LowersReady (P.sight port.old) core.old self.old.to (moves_on result) (P.sight port.new) core.new }
+        ensures changes { Lowers Ready (P.sight port.old) core.old self.old.to (moves_on result) (P.sight port.new) core.new }
         ensures next { self.new ≡ after_through (chunk_at (P.sight port.old)) (moves_on result) self.old }
         ensures answers { result ≡ through_answer (chunk_at (P.sight port.old)) (moves_on result) (own_register (P.sight port.old)) self.old }
         ensures steps { moves_on result ≡ false → MadeSteps P.stepped (P.sight port.old) (P.sight port.new) }
     {
         let layout = layout_of(port);
-        if let Some(spot) = lower_own(core, port, layout.ready(self.to)) {
+        if let Some(spot) = lower(core, port, Signal::Ready, self.to) {
             return Turn::Waiting(spot);
         }
         if is_last(layout, self.head.len(), self.chunk) {

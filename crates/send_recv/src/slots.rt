@@ -1,10 +1,10 @@
 //! The slot of a posted message.
 
-use crate::flags::{look_own, lower_own};
-use crate::places::{known, layout_of};
+use crate::flags::{look_for, lower};
+use crate::places::known;
 use line_cache::Evict;
 use put_get::Core;
-use scc_base::{Rank, Turn};
+use scc_base::{Rank, Signal, Turn};
 use scc_proto::Port;
 use std::marker::Model;
 
@@ -31,7 +31,8 @@ impl Slot {
     ghost use Rattle.put_get.specs.Cores.{MadeSteps};
     ghost use Rattle.send_recv.specs.Ops.{empty_slot};
     ghost use Rattle.send_recv.specs.Sending.{SlotStands, SlotTurned};
-    ghost use Rattle.send_recv.specs.Sights.{LooksForReady, LowersReady, MayLowerReady, ready_spot, own_register};
+    ghost use Rattle.scc_base.specs.declared.signals.Signal.TheVariants.{Ready};
+    ghost use Rattle.send_recv.specs.Sights.{LooksFor, Lowers, MayLower, signal_spot, own_register};
     ghost use Rattle.send_recv.specs.Steps.{moves_on, moved_or_waits, slot_seen, slot_lowered};
     ghost use Rattle.send_recv.specs.Turns.{HoldsNone, waits_at};
     ghost use Rattle.send_recv.specs.Ranks.{with_slot};
@@ -64,13 +65,12 @@ impl Slot {
     // Looks whether the message was taken.
     fn look_ready<V: Evict, P: Port>(&mut self, core: &mut Core<V>, port: &mut P, to: Rank) -> Turn
         requires empty { core.old.out ≡ None }
-        ensures looks { LooksForReady (P.sight port.old) core.old to (moves_on result) (P.sight port.new) core.new }
+        ensures looks { LooksFor Ready (P.sight port.old) core.old to (moves_on result) (P.sight port.new) core.new }
         ensures next { self.new ≡ slot_seen (moves_on result) self.old }
-        ensures answers { result ≡ moved_or_waits (moves_on result) (ready_spot (P.sight port.old) to) }
+        ensures answers { result ≡ moved_or_waits (moves_on result) (signal_spot Ready (P.sight port.old) to) }
         ensures steps { MadeSteps P.stepped (P.sight port.old) (P.sight port.new) }
     {
-        let flag = layout_of(port).ready(to);
-        if let Some(spot) = look_own(core, port, flag) {
+        if let Some(spot) = look_for(core, port, Signal::Ready, to) {
             return Turn::Waiting(spot);
         }
         self.seen = true;
@@ -79,14 +79,13 @@ impl Slot {
 
     // Lowers the flag by which the message was answered.
     fn lower_ready<V: Evict, P: Port>(&mut self, core: &mut Core<V>, port: &mut P, to: Rank) -> Turn
-        requires may { MayLowerReady (P.sight port.old) core.old to }
-        ensures changes { LowersReady (P.sight port.old) core.old to (moves_on result) (P.sight port.new) core.new }
+        requires may { MayLower Ready (P.sight port.old) core.old to }
+        ensures changes { Lowers Ready (P.sight port.old) core.old to (moves_on result) (P.sight port.new) core.new }
         ensures next { self.new ≡ slot_lowered (moves_on result) self.old }
         ensures answers { result ≡ moved_or_waits (moves_on result) (own_register (P.sight port.old)) }
         ensures steps { moves_on result ≡ false → MadeSteps P.stepped (P.sight port.old) (P.sight port.new) }
     {
-        let flag = layout_of(port).ready(to);
-        if let Some(spot) = lower_own(core, port, flag) {
+        if let Some(spot) = lower(core, port, Signal::Ready, to) {
             return Turn::Waiting(spot);
         }
         self.to = None;

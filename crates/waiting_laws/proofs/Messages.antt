@@ -2,7 +2,8 @@
 use Rattle.std.proofs.Common.{◌≡◌, ◌≢◌, ◌⊎◌, inl, inr, ℕ, ◌==◌, Bool, true, false, if◌then◌else◌, List, Option, Some, None, option_map, refl, sym, ◌∙◌, subst}
 use Rattle.std.specs.Int.{bit_at}
 use Rattle.std.proofs.lemmas.Option.{same_Some}
-use Rattle.scc_base.specs.Layouts.{ready_at, sent_at}
+use Rattle.scc_base.specs.Layouts.{signal_at}
+use Rattle.scc_base.specs.declared.signals.Signal.TheVariants.{Sent, Ready}
 use Rattle.scc_base.specs.Places.{FlagPlace, flag_word}
 use Rattle.scc_base.specs.Setups.{SetupView, host_of}
 use Rattle.scc_base.specs.declared.events.Spot.{Spot}
@@ -45,24 +46,24 @@ unset_by BitFlags memory core flag off is = differ (bit_at (word_of_flag memory 
 
 -- the slot's turn looks at `ready` of its target
 slot_told : (layout : Layout) (memory : Memory) (own : ℕ) (to : Option ℕ) (seen : Bool) (aim : Aim) → aim_at layout (send.slot_spot_by layout own to seen) ≡ Some aim → Tells memory aim
-    → (j : ℕ) × (to ≡ Some j) × Unset layout memory own (ready_at layout j)
+    → (j : ℕ) × (to ≡ Some j) × Unset layout memory own (signal_at layout Ready j)
 slot_told LineFlags memory own None seen aim is tells = absurd (cc (is))
 slot_told BitFlags memory own None seen aim is tells = absurd (cc (is))
 slot_told LineFlags memory own (Some j) false aim is tells =
-    (j, refl, unset_by LineFlags memory own (ready_at LineFlags j) (aimed memory (AtFlag (flag_word own (ready_at LineFlags j)) None true) aim is tells))
+    (j, refl, unset_by LineFlags memory own (signal_at LineFlags Ready j) (aimed memory (AtFlag (flag_word own (signal_at LineFlags Ready j)) None true) aim is tells))
 slot_told BitFlags memory own (Some j) false aim is tells =
-    (j, refl, unset_by BitFlags memory own (ready_at BitFlags j) (aimed memory (AtFlag (flag_word own (ready_at BitFlags j)) (Some (ready_at BitFlags j).bit) true) aim is tells))
+    (j, refl, unset_by BitFlags memory own (signal_at BitFlags Ready j) (aimed memory (AtFlag (flag_word own (signal_at BitFlags Ready j)) (Some (signal_at BitFlags Ready j).bit) true) aim is tells))
 slot_told LineFlags memory own (Some j) true aim is tells = absurd (cc (is))
 slot_told BitFlags memory own (Some j) true aim is tells =
     absurd (aimed memory (AtRegister own) aim is tells)
 
 -- a send that looks, looks at `ready` of its target
 ready_told : (layout : Layout) (memory : Memory) (own other to : ℕ) (slot : Option Spot) (aim : Aim) → aim_at layout (send.send_spot_by layout own other to slot sending.Look) ≡ Some aim → Tells memory aim
-    → Unset layout memory own (ready_at layout to)
+    → Unset layout memory own (signal_at layout Ready to)
 ready_told LineFlags memory own other to slot aim is tells =
-    unset_by LineFlags memory own (ready_at LineFlags to) (aimed memory (AtFlag (flag_word own (ready_at LineFlags to)) None true) aim is tells)
+    unset_by LineFlags memory own (signal_at LineFlags Ready to) (aimed memory (AtFlag (flag_word own (signal_at LineFlags Ready to)) None true) aim is tells)
 ready_told BitFlags memory own other to slot aim is tells =
-    unset_by BitFlags memory own (ready_at BitFlags to) (aimed memory (AtFlag (flag_word own (ready_at BitFlags to)) (Some (ready_at BitFlags to).bit) true) aim is tells)
+    unset_by BitFlags memory own (signal_at BitFlags Ready to) (aimed memory (AtFlag (flag_word own (signal_at BitFlags Ready to)) (Some (signal_at BitFlags Ready to).bit) true) aim is tells)
 
 -- and at no other stage does it wait, where nobody holds a register
 abbrev is_send_look : SendStage → Bool
@@ -86,11 +87,11 @@ no_send BitFlags memory own other to slot sending.Lower aim unlike is tells =
 no_send LineFlags memory own other to slot sending.Finished aim unlike is tells = cc (is)
 no_send BitFlags memory own other to slot sending.Finished aim unlike is tells = cc (is)
 
-sent_told : (layout : Layout) (memory : Memory) (own other from : ℕ) (aim : Aim) → aim_at layout (recv.spot_by layout own other from receive.Look) ≡ Some aim → Tells memory aim → Unset layout memory own (sent_at layout from)
+sent_told : (layout : Layout) (memory : Memory) (own other from : ℕ) (aim : Aim) → aim_at layout (recv.spot_by layout own other from receive.Look) ≡ Some aim → Tells memory aim → Unset layout memory own (signal_at layout Sent from)
 sent_told LineFlags memory own other from aim is tells =
-    unset_by LineFlags memory own (sent_at LineFlags from) (aimed memory (AtFlag (flag_word own (sent_at LineFlags from)) None true) aim is tells)
+    unset_by LineFlags memory own (signal_at LineFlags Sent from) (aimed memory (AtFlag (flag_word own (signal_at LineFlags Sent from)) None true) aim is tells)
 sent_told BitFlags memory own other from aim is tells =
-    unset_by BitFlags memory own (sent_at BitFlags from) (aimed memory (AtFlag (flag_word own (sent_at BitFlags from)) (Some (sent_at BitFlags from).bit) true) aim is tells)
+    unset_by BitFlags memory own (signal_at BitFlags Sent from) (aimed memory (AtFlag (flag_word own (signal_at BitFlags Sent from)) (Some (signal_at BitFlags Sent from).bit) true) aim is tells)
 
 abbrev is_recv_look : RecvStage → Bool
 is_recv_look receive.Look = true

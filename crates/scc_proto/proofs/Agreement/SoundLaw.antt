@@ -1,7 +1,8 @@
 -- Where words and records agree, each rank's record is sound.
 use Rattle.std.proofs.Common.{◌≡◌, ℕ, ◌<◌, Bool, true, false, ◌==◌, if◌then◌else◌, Option, Some, None, option_and_then, refl, sym, ◌∙◌, ap, subst}
 use Rattle.std.specs.Int.{bit_at}
-use Rattle.scc_base.specs.Layouts.{sent_at, ready_at}
+use Rattle.scc_base.specs.Layouts.{signal_at}
+use Rattle.scc_base.specs.declared.signals.Signal.TheVariants.{Sent, Ready}
 use Rattle.scc_base.specs.Setups.{SetupView, host_of}
 use Rattle.scc_base.specs.declared.layouts.Layout.{Layout}
 use Rattle.scc_base.specs.declared.layouts.Layout.TheVariants.{LineFlags, BitFlags}
@@ -23,7 +24,7 @@ use Rattle.scc_proto.proofs.Pairs.OfferFacts.{offers}
 -- ---- a noted word of bit flags is the word
 
 sent_bit : (layout : Layout) (held : Option FlagWords) (memory : Memory) (core b w : ℕ) → NotedFlags layout held (memory.word core 1) → option_and_then (λ (flags : FlagWords). flags.sent) held ≡ Some w
-    → flag_in layout (word_of_flag memory core (sent_at layout b)) (sent_at layout b) ≡ bit_at w b
+    → flag_in layout (word_of_flag memory core (signal_at layout Sent b)) (signal_at layout Sent b) ≡ bit_at w b
 sent_bit LineFlags None memory core b w is noted_is = absurd (cc)
 sent_bit LineFlags (Some flags) memory core b w is noted_is = absurd (cc (is.0, noted_is))
 sent_bit BitFlags None memory core b w is noted_is = absurd (cc)
@@ -34,7 +35,7 @@ sent_bit BitFlags (Some flags) memory core b w is noted_is = of flags.sent is.0 
     of (Some v) n e = let same : v ≡ w = cc (e) in ap (λ x. bit_at x b) (n ∙ same)
 
 ready_bit : (layout : Layout) (held : Option FlagWords) (memory : Memory) (core b w : ℕ) → NotedFlags layout held (memory.word core 1) → option_and_then (λ (flags : FlagWords). flags.ready) held ≡ Some w
-    → flag_in layout (word_of_flag memory core (ready_at layout b)) (ready_at layout b) ≡ bit_at w b
+    → flag_in layout (word_of_flag memory core (signal_at layout Ready b)) (signal_at layout Ready b) ≡ bit_at w b
 ready_bit LineFlags None memory core b w is noted_is = absurd (cc)
 ready_bit LineFlags (Some flags) memory core b w is noted_is = absurd (cc (is.1, noted_is))
 ready_bit BitFlags None memory core b w is noted_is = absurd (cc)

@@ -3,7 +3,8 @@ use Rattle.std.proofs.Common.{◌≡◌, ◌≢◌, ℕ, ◌<◌, Bool, true, fa
 use Rattle.std.specs.Prelude.{IsTrue}
 use Rattle.std.specs.Int.{bit_at}
 use Rattle.scc_base.specs.Places.{WordAt}
-use Rattle.scc_base.specs.Layouts.{sent_at, ready_at}
+use Rattle.scc_base.specs.Layouts.{signal_at}
+use Rattle.scc_base.specs.declared.signals.Signal.TheVariants.{Sent, Ready}
 use Rattle.scc_base.specs.Setups.{SetupView, IsSetup, host_of, place_of}
 use Rattle.scc_base.specs.Events.{IsAccess, IsEvent}
 use Rattle.scc_base.specs.declared.layouts.Layout.{Layout}
@@ -84,12 +85,12 @@ module _ (s : SetupView) (memory : Memory) (rec : Record) (me : ℕ) (below : me
   -- a bit that is not put shows the noted word
   sent_shows_old : (owner old : ℕ) → IsOwn s place owner 1 0 → s.layout ≡ BitFlags → sent_noted rec place.core ≡ Some old → (from : ℕ) → (view_of s memory).sent from owner ≡ bit_at old from
   sent_shows_old owner old own bits is from =
-      ap (λ (layout : Layout). flag_in layout (word_of_flag memory (host_of s.hosts owner) (sent_at layout from)) (sent_at layout from)) bits
+      ap (λ (layout : Layout). flag_in layout (word_of_flag memory (host_of s.hosts owner) (signal_at layout Sent from)) (signal_at layout Sent from)) bits
       ∙ ap (λ (w : ℕ). bit_at w from) (ap (λ (core : ℕ). memory.word core 1 0) (sym own.on) ∙ sent_noted_is s.layout (rec.held place.core) (memory.word place.core 1) old noted is)
 
   ready_shows_old : (owner old : ℕ) → IsOwn s place owner 1 1 → s.layout ≡ BitFlags → ready_noted rec place.core ≡ Some old → (to : ℕ) → (view_of s memory).ready owner to ≡ bit_at old to
   ready_shows_old owner old own bits is to =
-      ap (λ (layout : Layout). flag_in layout (word_of_flag memory (host_of s.hosts owner) (ready_at layout to)) (ready_at layout to)) bits
+      ap (λ (layout : Layout). flag_in layout (word_of_flag memory (host_of s.hosts owner) (signal_at layout Ready to)) (signal_at layout Ready to)) bits
       ∙ ap (λ (w : ℕ). bit_at w to) (ap (λ (core : ℕ). memory.word core 1 1) (sym own.on) ∙ ready_noted_is s.layout (rec.held place.core) (memory.word place.core 1) old noted is)
 
   sent_bits : (owner old new i b : ℕ) → IsOwn s place owner 1 0 → s.layout ≡ BitFlags → sent_noted rec place.core ≡ Some old → bit_at new i ≡ b → ((k : ℕ) → k ≢ i → bit_at new k ≡ bit_at old k)

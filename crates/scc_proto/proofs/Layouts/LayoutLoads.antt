@@ -3,7 +3,8 @@ use Rattle.std.proofs.Common.{◌≡◌, ◌≢◌, ℕ, ◌+◌, ◌*◌, ◌/�
 use Rattle.std.specs.Prelude.{nat_lt}
 use Rattle.std.specs.Int.{bit_at}
 use Rattle.scc_base.specs.Places.{WordAt}
-use Rattle.scc_base.specs.Layouts.{sent_at, ready_at, first_chunk, chunk_lines}
+use Rattle.scc_base.specs.Layouts.{signal_at, first_chunk, chunk_lines}
+use Rattle.scc_base.specs.declared.signals.Signal.TheVariants.{Sent, Ready}
 use Rattle.scc_base.specs.Setups.{SetupView, host_of, setup_key, place_of}
 use Rattle.scc_base.specs.declared.layouts.Layout.{Layout}
 use Rattle.scc_base.specs.declared.layouts.Layout.TheVariants.{LineFlags, BitFlags}
@@ -68,16 +69,16 @@ module _ (s : SetupView) (memory : Memory) (rec : Record) (me : ℕ) (below : me
   word_is owner line word own = ap (word_at memory) (sym (own_is s place owner line word own)) ∙ tells
 
   sent_line_is : (from to : ℕ) → IsOwn s place to (1 + from) 0 → s.layout ≡ LineFlags → (view_of s memory).sent from to ≡ value
-  sent_line_is from to own lines = ap (λ (layout : Layout). flag_in layout (word_of_flag memory (host_of s.hosts to) (sent_at layout from)) (sent_at layout from)) lines ∙ word_is to (1 + from) 0 own
+  sent_line_is from to own lines = ap (λ (layout : Layout). flag_in layout (word_of_flag memory (host_of s.hosts to) (signal_at layout Sent from)) (signal_at layout Sent from)) lines ∙ word_is to (1 + from) 0 own
 
   ready_line_is : (from to : ℕ) → IsOwn s place from (49 + to) 0 → s.layout ≡ LineFlags → (view_of s memory).ready from to ≡ value
-  ready_line_is from to own lines = ap (λ (layout : Layout). flag_in layout (word_of_flag memory (host_of s.hosts from) (ready_at layout to)) (ready_at layout to)) lines ∙ word_is from (49 + to) 0 own
+  ready_line_is from to own lines = ap (λ (layout : Layout). flag_in layout (word_of_flag memory (host_of s.hosts from) (signal_at layout Ready to)) (signal_at layout Ready to)) lines ∙ word_is from (49 + to) 0 own
 
   sent_bit_is : (owner from : ℕ) → IsOwn s place owner 1 0 → s.layout ≡ BitFlags → (view_of s memory).sent from owner ≡ bit_at value from
-  sent_bit_is owner from own bits = ap (λ (layout : Layout). flag_in layout (word_of_flag memory (host_of s.hosts owner) (sent_at layout from)) (sent_at layout from)) bits ∙ ap (λ (w : ℕ). bit_at w from) (word_is owner 1 0 own)
+  sent_bit_is owner from own bits = ap (λ (layout : Layout). flag_in layout (word_of_flag memory (host_of s.hosts owner) (signal_at layout Sent from)) (signal_at layout Sent from)) bits ∙ ap (λ (w : ℕ). bit_at w from) (word_is owner 1 0 own)
 
   ready_bit_is : (owner to : ℕ) → IsOwn s place owner 1 1 → s.layout ≡ BitFlags → (view_of s memory).ready owner to ≡ bit_at value to
-  ready_bit_is owner to own bits = ap (λ (layout : Layout). flag_in layout (word_of_flag memory (host_of s.hosts owner) (ready_at layout to)) (ready_at layout to)) bits ∙ ap (λ (w : ℕ). bit_at w to) (word_is owner 1 1 own)
+  ready_bit_is owner to own bits = ap (λ (layout : Layout). flag_in layout (word_of_flag memory (host_of s.hosts owner) (signal_at layout Ready to)) (signal_at layout Ready to)) bits ∙ ap (λ (w : ℕ). bit_at w to) (word_is owner 1 1 own)
 
   pub loads_as : (role : Role) → Stands s place role → LoadsAs s me (view_of s memory) rec (load_by s me value role)
   loads_as (HeaderWord owner k) st = record { own = tt; told = word_is owner 0 k st; permitted = refl; shows = refl }

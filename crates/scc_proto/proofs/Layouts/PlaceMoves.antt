@@ -3,7 +3,8 @@
 use Rattle.std.proofs.Common.{◌≡◌, ◌≢◌, ℕ, ◌+◌, ◌*◌, ◌^◌, ◌<◌, ◌≤◌, Bool, true, false, not, ◌&&◌, ◌==◌, Option, Some, None, is_some, is_none, refl, sym, ◌∙◌, ap, subst}
 use Rattle.std.specs.Int.{bit_at}
 use Rattle.scc_base.specs.Places.{first_heap, WordAt, flag_word}
-use Rattle.scc_base.specs.Layouts.{sent_at, ready_at, gather_at, release_at, first_chunk, chunk_lines}
+use Rattle.scc_base.specs.Layouts.{signal_at, gather_at, release_at, first_chunk, chunk_lines}
+use Rattle.scc_base.specs.declared.signals.Signal.TheVariants.{Sent, Ready}
 use Rattle.scc_base.specs.Setups.{IsSetup, host_of, place_of}
 use Rattle.scc_base.specs.Events.{load_of, store_of, take_of, free_of}
 use Rattle.scc_base.specs.declared.layouts.Layout.{Layout}
@@ -147,43 +148,43 @@ module _ (seat : Seat) (rec : Record) (valid : IsSetup seat.setup) where
 -- ---- line flags
 
 module _ (seat : Seat) (rec : Record) (valid : IsSetup seat.setup) (lines : seat.setup.layout ≡ LineFlags) where
-  sent_is : (from to : ℕ) → are_peers seat.setup from to ≡ true → role_of seat.setup (flag_word (host_of seat.setup.hosts to) (sent_at LineFlags from)) ≡ SentFlag from to
-  sent_is from to peers = subst (λ (layout : Layout). role_of seat.setup (flag_word (host_of seat.setup.hosts to) (sent_at layout from)) ≡ sent_role layout from to) lines (role_sent seat.setup valid from to peers)
+  sent_is : (from to : ℕ) → are_peers seat.setup from to ≡ true → role_of seat.setup (flag_word (host_of seat.setup.hosts to) (signal_at LineFlags Sent from)) ≡ SentFlag from to
+  sent_is from to peers = subst (λ (layout : Layout). role_of seat.setup (flag_word (host_of seat.setup.hosts to) (signal_at layout Sent from)) ≡ sent_role layout from to) lines (role_sent seat.setup valid from to peers)
 
-  ready_is : (from to : ℕ) → are_peers seat.setup from to ≡ true → role_of seat.setup (flag_word (host_of seat.setup.hosts from) (ready_at LineFlags to)) ≡ ReadyFlag from to
-  ready_is from to peers = subst (λ (layout : Layout). role_of seat.setup (flag_word (host_of seat.setup.hosts from) (ready_at layout to)) ≡ ready_role layout from to) lines (role_ready seat.setup valid from to peers)
+  ready_is : (from to : ℕ) → are_peers seat.setup from to ≡ true → role_of seat.setup (flag_word (host_of seat.setup.hosts from) (signal_at LineFlags Ready to)) ≡ ReadyFlag from to
+  ready_is from to peers = subst (λ (layout : Layout). role_of seat.setup (flag_word (host_of seat.setup.hosts from) (signal_at layout Ready to)) ≡ ready_role layout from to) lines (role_ready seat.setup valid from to peers)
 
   -- the flag of the messages from rank j, at the own core
   pub sent_loaded : (j value : ℕ) → are_peers seat.setup seat.rank j ≡ true
-      → Makes seat rec (load_of (flag_word (host_of seat.setup.hosts seat.rank) (sent_at LineFlags j)) value) (after (chunk_of seat.setup) (LookSent (look_at j value)) rec)
+      → Makes seat rec (load_of (flag_word (host_of seat.setup.hosts seat.rank) (signal_at LineFlags Sent j)) value) (after (chunk_of seat.setup) (LookSent (look_at j value)) rec)
   sent_loaded j value peers = load_moves seat rec _ value (SentFlag j seat.rank) (LookSent (look_at j value)) (sent_is j seat.rank (peers_swap seat.setup seat.rank j peers))
       (ap (λ (m : Move). Moving m) (if_yes (seat.rank == seat.rank) (LookSent (look_at j value)) NoMove (eqb_same seat.rank)))
 
   pub ready_loaded : (j value : ℕ) → are_peers seat.setup seat.rank j ≡ true
-      → Makes seat rec (load_of (flag_word (host_of seat.setup.hosts seat.rank) (ready_at LineFlags j)) value) (after (chunk_of seat.setup) (LookReady (look_at j value)) rec)
+      → Makes seat rec (load_of (flag_word (host_of seat.setup.hosts seat.rank) (signal_at LineFlags Ready j)) value) (after (chunk_of seat.setup) (LookReady (look_at j value)) rec)
   ready_loaded j value peers = load_moves seat rec _ value (ReadyFlag seat.rank j) (LookReady (look_at j value)) (ready_is seat.rank j peers)
       (ap (λ (m : Move). Moving m) (if_yes (seat.rank == seat.rank) (LookReady (look_at j value)) NoMove (eqb_same seat.rank)))
 
   -- at the core of the receiver
   pub sent_raised : (to : ℕ) → are_peers seat.setup seat.rank to ≡ true → permits (chunk_of seat.setup) (RaiseSent to) rec ≡ true
-      → Makes seat rec (store_of (flag_word (host_of seat.setup.hosts to) (sent_at LineFlags seat.rank)) 1) (after (chunk_of seat.setup) (RaiseSent to) rec)
+      → Makes seat rec (store_of (flag_word (host_of seat.setup.hosts to) (signal_at LineFlags Sent seat.rank)) 1) (after (chunk_of seat.setup) (RaiseSent to) rec)
   sent_raised to peers = store_moves seat rec _ 1 (SentFlag seat.rank to) (RaiseSent to) (sent_is seat.rank to peers)
       (ap (λ (m : Move). Moving m) (if_yes ((seat.rank == seat.rank) && true) (RaiseSent to) _ (λ i. eqb_same seat.rank i && true)))
 
   pub sent_lowered : (from : ℕ) → are_peers seat.setup seat.rank from ≡ true → permits (chunk_of seat.setup) (LowerSent from) rec ≡ true
-      → Makes seat rec (store_of (flag_word (host_of seat.setup.hosts seat.rank) (sent_at LineFlags from)) 0) (after (chunk_of seat.setup) (LowerSent from) rec)
+      → Makes seat rec (store_of (flag_word (host_of seat.setup.hosts seat.rank) (signal_at LineFlags Sent from)) 0) (after (chunk_of seat.setup) (LowerSent from) rec)
   sent_lowered from peers = let p = peers_are seat.setup seat.rank from peers in
       store_moves seat rec _ 0 (SentFlag from seat.rank) (LowerSent from) (sent_is from seat.rank (peers_swap seat.setup seat.rank from peers))
       (ap (λ (m : Move). Moving m) (if_no ((from == seat.rank) && false) (RaiseSent seat.rank) _ (and_false (from == seat.rank))
       ∙ if_yes ((seat.rank == seat.rank) && true) (LowerSent from) Misplaced (λ i. eqb_same seat.rank i && true)))
 
   pub ready_raised : (to : ℕ) → are_peers seat.setup seat.rank to ≡ true → permits (chunk_of seat.setup) (RaiseReady to) rec ≡ true
-      → Makes seat rec (store_of (flag_word (host_of seat.setup.hosts to) (ready_at LineFlags seat.rank)) 1) (after (chunk_of seat.setup) (RaiseReady to) rec)
+      → Makes seat rec (store_of (flag_word (host_of seat.setup.hosts to) (signal_at LineFlags Ready seat.rank)) 1) (after (chunk_of seat.setup) (RaiseReady to) rec)
   ready_raised to peers = store_moves seat rec _ 1 (ReadyFlag to seat.rank) (RaiseReady to) (ready_is to seat.rank (peers_swap seat.setup seat.rank to peers))
       (ap (λ (m : Move). Moving m) (if_yes ((seat.rank == seat.rank) && true) (RaiseReady to) _ (λ i. eqb_same seat.rank i && true)))
 
   pub ready_lowered : (by : ℕ) → are_peers seat.setup seat.rank by ≡ true → permits (chunk_of seat.setup) (LowerReady by) rec ≡ true
-      → Makes seat rec (store_of (flag_word (host_of seat.setup.hosts seat.rank) (ready_at LineFlags by)) 0) (after (chunk_of seat.setup) (LowerReady by) rec)
+      → Makes seat rec (store_of (flag_word (host_of seat.setup.hosts seat.rank) (signal_at LineFlags Ready by)) 0) (after (chunk_of seat.setup) (LowerReady by) rec)
   ready_lowered by peers = store_moves seat rec _ 0 (ReadyFlag seat.rank by) (LowerReady by) (ready_is seat.rank by peers)
       (ap (λ (m : Move). Moving m) (if_no ((by == seat.rank) && false) (RaiseReady seat.rank) _ (and_false (by == seat.rank))
       ∙ if_yes ((seat.rank == seat.rank) && true) (LowerReady by) Misplaced (λ i. eqb_same seat.rank i && true)))

@@ -3,7 +3,8 @@ use Rattle.std.proofs.Common.{◌≡◌, ◌≢◌, ℕ, zero, suc, ◌+◌, ◌
 use Rattle.std.specs.Prelude.{nat_lt, nat_le}
 use Rattle.std.proofs.lemmas.Bool.Decides.{nat_tests}
 use Rattle.scc_base.specs.Places.{first_heap, WordAt, flag_word}
-use Rattle.scc_base.specs.Layouts.{sent_at, ready_at, gather_at, release_at, first_gather, first_release, first_chunk, chunk_lines}
+use Rattle.scc_base.specs.Layouts.{signal_at, gather_at, release_at, first_gather, first_release, first_chunk, chunk_lines}
+use Rattle.scc_base.specs.declared.signals.Signal.TheVariants.{Sent, Ready}
 use Rattle.scc_base.specs.Setups.{SetupView, IsSetup, AreApart, host_of}
 use Rattle.scc_base.specs.declared.layouts.Layout.{Layout}
 use Rattle.scc_base.specs.declared.layouts.Layout.TheVariants.{LineFlags, BitFlags}
@@ -225,13 +226,13 @@ ready_line s from to peers = let back : 49 + to - 49 ≡ to = omega arith in
     ∙ ap (λ (r : ℕ). if_peers s from r (ReadyFlag from r)) back ∙ if_yes (are_peers s from to) (ReadyFlag from to) IdleWord peers
 
 -- the flag `sent` of the messages from one rank to another, at the core of the other one
-pub role_sent : (s : SetupView) → IsSetup s → (from to : ℕ) → are_peers s from to ≡ true → role_of s (flag_word (host_of s.hosts to) (sent_at s.layout from)) ≡ sent_role s.layout from to
+pub role_sent : (s : SetupView) → IsSetup s → (from to : ℕ) → are_peers s from to ≡ true → role_of s (flag_word (host_of s.hosts to) (signal_at s.layout Sent from)) ≡ sent_role s.layout from to
 role_sent s valid from to peers = by s.layout refl
   where
     p : ArePeers s from to
     p = peers_are s from to peers
 
-    by : (layout : Layout) → s.layout ≡ layout → role_of s (flag_word (host_of s.hosts to) (sent_at layout from)) ≡ sent_role layout from to
+    by : (layout : Layout) → s.layout ≡ layout → role_of s (flag_word (host_of s.hosts to) (signal_at layout Sent from)) ≡ sent_role layout from to
     by LineFlags e = let w = valid.ranks_within in let below = p.one in let g : first_gather s.layout ≡ 97 = ap first_gather e in
         role_on s valid to (1 + from) 0 p.other ∙ role_at-low s to (1 + from) 0 (omega arith) (omega (arith, w, below, g))
         ∙ ap (λ (layout : Layout). flag_role layout s to (1 + from) 0) e ∙ sent_line s valid from to peers
@@ -239,13 +240,13 @@ role_sent s valid from to peers = by s.layout refl
         role_on s valid to 1 0 p.other ∙ role_at-low s to 1 0 (omega arith) (omega (arith, a)) ∙ ap (λ (layout : Layout). flag_role layout s to 1 0) e
 
 -- the flag `ready` of the same messages, at the core of the first one
-pub role_ready : (s : SetupView) → IsSetup s → (from to : ℕ) → are_peers s from to ≡ true → role_of s (flag_word (host_of s.hosts from) (ready_at s.layout to)) ≡ ready_role s.layout from to
+pub role_ready : (s : SetupView) → IsSetup s → (from to : ℕ) → are_peers s from to ≡ true → role_of s (flag_word (host_of s.hosts from) (signal_at s.layout Ready to)) ≡ ready_role s.layout from to
 role_ready s valid from to peers = by s.layout refl
   where
     p : ArePeers s from to
     p = peers_are s from to peers
 
-    by : (layout : Layout) → s.layout ≡ layout → role_of s (flag_word (host_of s.hosts from) (ready_at layout to)) ≡ ready_role layout from to
+    by : (layout : Layout) → s.layout ≡ layout → role_of s (flag_word (host_of s.hosts from) (signal_at layout Ready to)) ≡ ready_role layout from to
     by LineFlags e = let w = valid.ranks_within in let below = p.other in let g : first_gather s.layout ≡ 97 = ap first_gather e in
         role_on s valid from (49 + to) 0 p.one ∙ role_at-low s from (49 + to) 0 (omega arith) (omega (arith, w, below, g))
         ∙ ap (λ (layout : Layout). flag_role layout s from (49 + to) 0) e ∙ ready_line s from to peers

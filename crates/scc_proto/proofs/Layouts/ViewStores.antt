@@ -3,7 +3,8 @@ use Rattle.std.proofs.Common.{◌≡◌, ◌≢◌, ℕ, ◌+◌, ◌*◌, ◌/�
 use Rattle.std.specs.Prelude.{nat_lt}
 use Rattle.std.specs.Int.{bit_at}
 use Rattle.scc_base.specs.Places.{WordAt, flag_word}
-use Rattle.scc_base.specs.Layouts.{sent_at, ready_at, gather_at, release_at, first_gather, first_release, first_chunk, chunk_lines}
+use Rattle.scc_base.specs.Layouts.{signal_at, gather_at, release_at, first_gather, first_release, first_chunk, chunk_lines}
+use Rattle.scc_base.specs.declared.signals.Signal.TheVariants.{Sent, Ready}
 use Rattle.scc_base.specs.Setups.{SetupView, IsSetup, host_of}
 use Rattle.scc_base.specs.declared.layouts.Layout.{Layout}
 use Rattle.scc_base.specs.declared.layouts.Layout.TheVariants.{LineFlags, BitFlags}
@@ -62,20 +63,20 @@ module _ (s : SetupView) (valid : IsSetup s) (place : WordAt) (value : ℕ) (mem
 
   -- ---- another word is stored: each use keeps the words of the others
 
-  sent_left : (role : Role) → Stands s place role → (from to : ℕ) → place ≢ flag_word (host_of s.hosts to) (sent_at s.layout from)
+  sent_left : (role : Role) → Stands s place role → (from to : ℕ) → place ≢ flag_word (host_of s.hosts to) (signal_at s.layout Sent from)
       → (view_stored role value (view_of s memory)).sent from to ≡ (view_of s memory).sent from to
   sent_left (SentFlag a b) st from to ne = two_left (view_of s memory).sent a b value from to
-      (λ e f. ne (own_is s place b (1 + a) 0 st.0 ∙ (λ i. own_word s (sym f i) (1 + sym e i) 0) ∙ ap (λ (layout : Layout). flag_word (host_of s.hosts to) (sent_at layout from)) (sym st.2)))
+      (λ e f. ne (own_is s place b (1 + a) 0 st.0 ∙ (λ i. own_word s (sym f i) (1 + sym e i) 0) ∙ ap (λ (layout : Layout). flag_word (host_of s.hosts to) (signal_at layout Sent from)) (sym st.2)))
   sent_left (SentFlags owner) st from to ne = if_no (to == owner) _ _
-      (eqb_other to owner (λ e. ne (own_is s place owner 1 0 st.0 ∙ (λ i. own_word s (sym e i) 1 0) ∙ ap (λ (layout : Layout). flag_word (host_of s.hosts to) (sent_at layout from)) (sym st.1))))
+      (eqb_other to owner (λ e. ne (own_is s place owner 1 0 st.0 ∙ (λ i. own_word s (sym e i) 1 0) ∙ ap (λ (layout : Layout). flag_word (host_of s.hosts to) (signal_at layout Sent from)) (sym st.1))))
   sent_left role st from to ne = refl
 
-  ready_left : (role : Role) → Stands s place role → (from to : ℕ) → place ≢ flag_word (host_of s.hosts from) (ready_at s.layout to)
+  ready_left : (role : Role) → Stands s place role → (from to : ℕ) → place ≢ flag_word (host_of s.hosts from) (signal_at s.layout Ready to)
       → (view_stored role value (view_of s memory)).ready from to ≡ (view_of s memory).ready from to
   ready_left (ReadyFlag a b) st from to ne = two_left (view_of s memory).ready a b value from to
-      (λ e f. ne (own_is s place a (49 + b) 0 st.0 ∙ (λ i. own_word s (sym e i) (49 + sym f i) 0) ∙ ap (λ (layout : Layout). flag_word (host_of s.hosts from) (ready_at layout to)) (sym st.2)))
+      (λ e f. ne (own_is s place a (49 + b) 0 st.0 ∙ (λ i. own_word s (sym e i) (49 + sym f i) 0) ∙ ap (λ (layout : Layout). flag_word (host_of s.hosts from) (signal_at layout Ready to)) (sym st.2)))
   ready_left (ReadyFlags owner) st from to ne = if_no (from == owner) _ _
-      (eqb_other from owner (λ e. ne (own_is s place owner 1 1 st.0 ∙ (λ i. own_word s (sym e i) 1 1) ∙ ap (λ (layout : Layout). flag_word (host_of s.hosts from) (ready_at layout to)) (sym st.1))))
+      (eqb_other from owner (λ e. ne (own_is s place owner 1 1 st.0 ∙ (λ i. own_word s (sym e i) 1 1) ∙ ap (λ (layout : Layout). flag_word (host_of s.hosts from) (signal_at layout Ready to)) (sym st.1))))
   ready_left role st from to ne = refl
 
   header_left : (role : Role) → Stands s place role → (r k : ℕ) → place ≢ own_word s r 0 k
@@ -104,11 +105,11 @@ module _ (s : SetupView) (valid : IsSetup s) (place : WordAt) (value : ℕ) (mem
 
   -- ---- the word itself is stored
 
-  sent_here : (layout : Layout) (from to : ℕ) → (view_stored (sent_role layout from to) value (view_of s memory)).sent from to ≡ flag_in layout value (sent_at layout from)
+  sent_here : (layout : Layout) (from to : ℕ) → (view_stored (sent_role layout from to) value (view_of s memory)).sent from to ≡ flag_in layout value (signal_at layout Sent from)
   sent_here LineFlags from to = put_two_here (view_of s memory).sent from to value
   sent_here BitFlags from to = if_yes (to == to) (bit_at value from) ((view_of s memory).sent from to) (eqb_same to)
 
-  ready_here : (layout : Layout) (from to : ℕ) → (view_stored (ready_role layout from to) value (view_of s memory)).ready from to ≡ flag_in layout value (ready_at layout to)
+  ready_here : (layout : Layout) (from to : ℕ) → (view_stored (ready_role layout from to) value (view_of s memory)).ready from to ≡ flag_in layout value (signal_at layout Ready to)
   ready_here LineFlags from to = put_two_here (view_of s memory).ready from to value
   ready_here BitFlags from to = if_yes (from == from) (bit_at value to) ((view_of s memory).ready from to) (eqb_same from)
 
@@ -116,19 +117,19 @@ module _ (s : SetupView) (valid : IsSetup s) (place : WordAt) (value : ℕ) (mem
 
   sent_shows : Stands s place (role_of s place) → (from to : ℕ) → are_peers s from to ≡ true → (view_stored (role_of s place) value (view_of s memory)).sent from to ≡ (view_of s late).sent from to
   sent_shows st from to peers =
-      let q = flag_word (host_of s.hosts to) (sent_at s.layout from) in
+      let q = flag_word (host_of s.hosts to) (signal_at s.layout Sent from) in
       same_word ((view_stored (role_of s place) value (view_of s memory)).sent from to ≡ (view_of s late).sent from to) place q
       (λ e. ap (λ (role : Role). (view_stored role value (view_of s memory)).sent from to) (ap (role_of s) e ∙ role_sent s valid from to peers) ∙ sent_here s.layout from to
-      ∙ ap (λ (word : ℕ). flag_in s.layout word (sent_at s.layout from)) (sym (stored_here place value memory q e)))
-      (λ ne. sent_left (role_of s place) st from to ne ∙ ap (λ (word : ℕ). flag_in s.layout word (sent_at s.layout from)) (sym (stored_there place value memory q ne)))
+      ∙ ap (λ (word : ℕ). flag_in s.layout word (signal_at s.layout Sent from)) (sym (stored_here place value memory q e)))
+      (λ ne. sent_left (role_of s place) st from to ne ∙ ap (λ (word : ℕ). flag_in s.layout word (signal_at s.layout Sent from)) (sym (stored_there place value memory q ne)))
 
   ready_shows : Stands s place (role_of s place) → (from to : ℕ) → are_peers s from to ≡ true → (view_stored (role_of s place) value (view_of s memory)).ready from to ≡ (view_of s late).ready from to
   ready_shows st from to peers =
-      let q = flag_word (host_of s.hosts from) (ready_at s.layout to) in
+      let q = flag_word (host_of s.hosts from) (signal_at s.layout Ready to) in
       same_word ((view_stored (role_of s place) value (view_of s memory)).ready from to ≡ (view_of s late).ready from to) place q
       (λ e. ap (λ (role : Role). (view_stored role value (view_of s memory)).ready from to) (ap (role_of s) e ∙ role_ready s valid from to peers) ∙ ready_here s.layout from to
-      ∙ ap (λ (word : ℕ). flag_in s.layout word (ready_at s.layout to)) (sym (stored_here place value memory q e)))
-      (λ ne. ready_left (role_of s place) st from to ne ∙ ap (λ (word : ℕ). flag_in s.layout word (ready_at s.layout to)) (sym (stored_there place value memory q ne)))
+      ∙ ap (λ (word : ℕ). flag_in s.layout word (signal_at s.layout Ready to)) (sym (stored_here place value memory q e)))
+      (λ ne. ready_left (role_of s place) st from to ne ∙ ap (λ (word : ℕ). flag_in s.layout word (signal_at s.layout Ready to)) (sym (stored_there place value memory q ne)))
 
   header_shows : Stands s place (role_of s place) → (r k : ℕ) → r < s.nue → (view_stored (role_of s place) value (view_of s memory)).header r k ≡ (view_of s late).header r k
   header_shows st r k lt =

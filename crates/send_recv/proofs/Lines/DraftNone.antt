@@ -7,6 +7,7 @@ use Rattle.scc_base.specs.Events.{store_of, take_of}
 use Rattle.scc_base.specs.declared.events.Event.{Event}
 use Rattle.scc_base.specs.declared.layouts.Layout.{Layout}
 use Rattle.scc_base.specs.declared.layouts.Layout.TheVariants.{LineFlags, BitFlags}
+use Rattle.scc_base.specs.declared.signals.Signal.TheVariants.{Sent, Ready}
 use Rattle.scc_proto.specs.Words.{role_of, are_peers}
 use Rattle.scc_proto.specs.Ports.{Seat, Sight, Did}
 use Rattle.scc_proto.proofs.Layouts.Roles.{sent_role, ready_role, role_sent, role_ready}
@@ -16,7 +17,7 @@ use Rattle.put_get.specs.Cores.{Private}
 use Rattle.put_get.proofs.StepLemmas.{events_once}
 use Rattle.sync_flags.specs.Writes.{change_events}
 use Rattle.send_recv.specs.Flags.{ChangesBy, Missed, Changed}
-use Rattle.send_recv.specs.Steps.{core_of, sent_flag, ready_flag}
+use Rattle.send_recv.specs.Steps.{core_of, signal_flag}
 use Rattle.scc_proto.specs.Drafts.{is_message_word}
 use Rattle.send_recv.specs.Turns.{is_no_draft}
 
@@ -32,10 +33,10 @@ ready_no_message : (layout : Layout) (from to : ℕ) → is_message_word (ready_
 ready_no_message LineFlags from to = refl
 ready_no_message BitFlags from to = refl
 
-pub sent_is_flag : (seat : Seat) → IsSetup seat.setup → (from to : ℕ) → are_peers seat.setup from to ≡ true → IsFlagWord seat.setup (core_of seat to) (sent_flag seat from)
+pub sent_is_flag : (seat : Seat) → IsSetup seat.setup → (from to : ℕ) → are_peers seat.setup from to ≡ true → IsFlagWord seat.setup (core_of seat to) (signal_flag seat Sent from)
 sent_is_flag seat valid from to peers = ap is_message_word (role_sent seat.setup valid from to peers) ∙ sent_no_message seat.setup.layout from to
 
-pub ready_is_flag : (seat : Seat) → IsSetup seat.setup → (from to : ℕ) → are_peers seat.setup from to ≡ true → IsFlagWord seat.setup (core_of seat from) (ready_flag seat to)
+pub ready_is_flag : (seat : Seat) → IsSetup seat.setup → (from to : ℕ) → are_peers seat.setup from to ≡ true → IsFlagWord seat.setup (core_of seat from) (signal_flag seat Ready to)
 ready_is_flag seat valid from to peers = ap is_message_word (role_ready seat.setup valid from to peers) ∙ ready_no_message seat.setup.layout from to
 
 pub look_drafts_none : (setup : SetupView) (line : LineAt) (words : List ℕ) → list_all (is_no_draft setup) (loads_of line words) ≡ true

@@ -15,7 +15,8 @@ use Rattle.put_get.proofs.StepLemmas.{events_once}
 use Rattle.put_get.proofs.WorkLemmas.{spends_line, stands_once}
 use Rattle.sync_flags.specs.Tries.{Aim, AtFlag, AtWord, AtRegister, is_at, tries_from, tries_at, changing_after}
 use Rattle.sync_flags.proofs.RowLemmas.{tries-append, changing-append}
-use Rattle.scc_base.specs.Layouts.{sent_at, first_chunk}
+use Rattle.scc_base.specs.Layouts.{signal_at, first_chunk}
+use Rattle.scc_base.specs.declared.signals.Signal.TheVariants.{Sent}
 use Rattle.scc_base.specs.declared.events.Spot.{Spot}
 use Rattle.scc_base.specs.declared.layouts.Layout.{Layout}
 use Rattle.scc_base.specs.declared.layouts.Layout.TheVariants.{LineFlags, BitFlags}
@@ -156,16 +157,16 @@ reads_whole s t c d line words r =
     }
 
 -- the flags at which a receive looks lie on other lines than the header and the chunks
-sent_apart : (layout : Layout) (from line : ℕ) → from < 48 → (line ≡ 0) ⊎ (first_chunk layout ≤ line) → (line == (sent_at layout from).line) ≡ false
-sent_apart LineFlags from line low (inl zero_is) = let ne : line ≢ (sent_at LineFlags from).line = omega (arith, zero_is) in eqb_other line _ ne
-sent_apart LineFlags from line low (inr chunk) = let ne : line ≢ (sent_at LineFlags from).line = omega (arith, low, chunk) in eqb_other line _ ne
-sent_apart BitFlags from line low (inl zero_is) = let ne : line ≢ (sent_at BitFlags from).line = omega (arith, zero_is) in eqb_other line _ ne
-sent_apart BitFlags from line low (inr chunk) = let ne : line ≢ (sent_at BitFlags from).line = omega (arith, chunk) in eqb_other line _ ne
+sent_apart : (layout : Layout) (from line : ℕ) → from < 48 → (line ≡ 0) ⊎ (first_chunk layout ≤ line) → (line == (signal_at layout Sent from).line) ≡ false
+sent_apart LineFlags from line low (inl zero_is) = let ne : line ≢ (signal_at LineFlags Sent from).line = omega (arith, zero_is) in eqb_other line _ ne
+sent_apart LineFlags from line low (inr chunk) = let ne : line ≢ (signal_at LineFlags Sent from).line = omega (arith, low, chunk) in eqb_other line _ ne
+sent_apart BitFlags from line low (inl zero_is) = let ne : line ≢ (signal_at BitFlags Sent from).line = omega (arith, zero_is) in eqb_other line _ ne
+sent_apart BitFlags from line low (inr chunk) = let ne : line ≢ (signal_at BitFlags Sent from).line = omega (arith, chunk) in eqb_other line _ ne
 
 -- a line of a message is read without a try
 pub read_elsewhere : (seat : Seat) (op : RecvAt) (line : LineAt) (es : List Event) (at : Spot) → op.from < 48 → (line.line ≡ 0) ⊎ (first_chunk seat.setup.layout ≤ line.line) → NoTries line es
     → IsRecvSpot seat op at → tries_at (aim_of seat.setup.layout at) es ≡ 0
 read_elsewhere seat op line es at low apart tries spot =
     spot_cases (λ (x : Spot). tries_at (aim_of seat.setup.layout x) es ≡ 0) seat.setup.layout (own_core seat) (core_of seat op.from) op.from spot.0 at spot.1
-    (tries.none (aim_of seat.setup.layout (flag_spot (own_core seat) (sent_at seat.setup.layout op.from))) (sent_apart seat.setup.layout op.from line.line low apart) 0)
+    (tries.none (aim_of seat.setup.layout (flag_spot (own_core seat) (signal_at seat.setup.layout Sent op.from))) (sent_apart seat.setup.layout op.from line.line low apart) 0)
     (λ core. tries.none (AtRegister core) tt 0)

@@ -2,7 +2,8 @@
 use Rattle.std.proofs.Common.{◌≡◌, ℕ, ◌<◌, Bool, true, false, if◌then◌else◌, List, [], ◌∷◌, ◌++◌, Option, Some, None, refl, sym, ◌∙◌, ap, subst, arith, slice_index}
 use Rattle.std.specs.Int.{bit_at}
 use Rattle.scc_base.specs.Places.{FlagPlace, flag_word, line_of_word}
-use Rattle.scc_base.specs.Layouts.{sent_at, ready_at}
+use Rattle.scc_base.specs.Layouts.{signal_at}
+use Rattle.scc_base.specs.declared.signals.Signal.TheVariants.{Sent, Ready}
 use Rattle.scc_base.specs.Setups.{IsSetup}
 use Rattle.scc_base.specs.Events.{store_of, take_of, free_of}
 use Rattle.scc_base.specs.declared.events.Event.{Event}
@@ -120,7 +121,7 @@ flag_moved s t c d r flag set move valid hands empty moves changes = flag_moved_
 -- a receiver lowers `sent` at its own core
 pub sent_lowers : (layout : Layout) (s : Sight) (from : ℕ) (header : Notes) → s.seat.setup.layout ≡ layout → IsSetup s.seat.setup → are_peers s.seat.setup s.seat.rank from ≡ true
     → (record_in s).notes from ≡ Some header → permits (chunk_of s.seat.setup) (LowerSent from) (record_in s) ≡ true
-    → MovesFlag layout s.seat (record_in s) s.seat.rank (sent_at layout from) false (LowerSent from)
+    → MovesFlag layout s.seat (record_in s) s.seat.rank (signal_at layout Sent from) false (LowerSent from)
 sent_lowers LineFlags s from header lines valid peers seen may = (omega arith, sent_lowered s.seat (record_in s) valid lines from peers may)
 sent_lowers BitFlags s from header bits valid peers seen may =
     let p = peers_are s.seat.setup s.seat.rank from peers in
@@ -138,7 +139,7 @@ sent_lowers BitFlags s from header bits valid peers seen may =
 -- a sender lowers `ready` at its own core, by a send or by the slot
 pub ready_lowers : (layout : Layout) (s : Sight) (by : ℕ) → s.seat.setup.layout ≡ layout → IsSetup s.seat.setup → are_peers s.seat.setup s.seat.rank by ≡ true
     → is_answered by (record_in s).stage (record_in s).post ≡ true → permits (chunk_of s.seat.setup) (LowerReady by) (record_in s) ≡ true
-    → MovesFlag layout s.seat (record_in s) s.seat.rank (ready_at layout by) false (LowerReady by)
+    → MovesFlag layout s.seat (record_in s) s.seat.rank (signal_at layout Ready by) false (LowerReady by)
 ready_lowers LineFlags s by lines valid peers seen may = (omega arith, ready_lowered s.seat (record_in s) valid lines by peers may)
 ready_lowers BitFlags s by bits valid peers seen may =
     let p = peers_are s.seat.setup s.seat.rank by peers in
@@ -156,7 +157,7 @@ ready_lowers BitFlags s by bits valid peers seen may =
 -- a receiver raises `ready` at the core of the sender
 pub ready_raises : (layout : Layout) (s : Sight) (to : ℕ) → s.seat.setup.layout ≡ layout → IsSetup s.seat.setup → are_peers s.seat.setup s.seat.rank to ≡ true
     → is_taking to (record_in s).stage ≡ true → permits (chunk_of s.seat.setup) (RaiseReady to) (record_in s) ≡ true
-    → MovesFlag layout s.seat (record_in s) to (ready_at layout s.seat.rank) true (RaiseReady to)
+    → MovesFlag layout s.seat (record_in s) to (signal_at layout Ready s.seat.rank) true (RaiseReady to)
 ready_raises LineFlags s to lines valid peers taking may = (omega arith, ready_raised s.seat (record_in s) valid lines to peers may)
 ready_raises BitFlags s to bits valid peers taking may =
     let p = peers_are s.seat.setup s.seat.rank to peers in
@@ -169,7 +170,7 @@ ready_raises BitFlags s to bits valid peers taking may =
       turns = λ words sound. sound.ready_clear to (slice_index words 1) (ready_is_noted (record_in s) core (slice_index words 0) (slice_index words 1)) taking;
       stored = λ words clear.
           let rec : Record = noted_under s.seat (record_in s) to words in
-          subst (λ v. Makes s.seat rec (store_of (flag_word core (ready_at BitFlags s.seat.rank)) v) (change_held forget_ready core (after (chunk_of s.seat.setup) (RaiseReady to) rec)))
+          subst (λ v. Makes s.seat rec (store_of (flag_word core (signal_at BitFlags Ready s.seat.rank)) v) (change_held forget_ready core (after (chunk_of s.seat.setup) (RaiseReady to) rec)))
           (sym (bit_given (slice_index words 1) s.seat.rank clear))
           (ready_bit_raised s.seat rec valid bits to (slice_index words 1) peers (ready_is_noted (record_in s) core (slice_index words 0) (slice_index words 1)) clear may);
     }
@@ -177,7 +178,7 @@ ready_raises BitFlags s to bits valid peers taking may =
 -- a sender raises `sent` at the core of the receiver, with bit flags; with line flags it stores first what waits
 pub sent_raises : (s : Sight) (to : ℕ) → s.seat.setup.layout ≡ BitFlags → IsSetup s.seat.setup → are_peers s.seat.setup s.seat.rank to ≡ true
     → is_drafting (record_in s).stage (record_in s).post ≡ true → permits (chunk_of s.seat.setup) (RaiseSent to) (record_in s) ≡ true
-    → MovesFlag BitFlags s.seat (record_in s) to (sent_at BitFlags s.seat.rank) true (RaiseSent to)
+    → MovesFlag BitFlags s.seat (record_in s) to (signal_at BitFlags Sent s.seat.rank) true (RaiseSent to)
 sent_raises s to bits valid peers drafting may =
     let p = peers_are s.seat.setup s.seat.rank to peers in
     let core = core_of s.seat to in
@@ -189,7 +190,7 @@ sent_raises s to bits valid peers drafting may =
       turns = λ words sound. sound.sent_clear to (slice_index words 0) peers (sent_is_noted (record_in s) core (slice_index words 0) (slice_index words 1)) drafting;
       stored = λ words clear.
           let rec : Record = noted_under s.seat (record_in s) to words in
-          subst (λ v. Makes s.seat rec (store_of (flag_word core (sent_at BitFlags s.seat.rank)) v) (change_held forget_sent core (after (chunk_of s.seat.setup) (RaiseSent to) rec)))
+          subst (λ v. Makes s.seat rec (store_of (flag_word core (signal_at BitFlags Sent s.seat.rank)) v) (change_held forget_sent core (after (chunk_of s.seat.setup) (RaiseSent to) rec)))
           (sym (bit_given (slice_index words 0) s.seat.rank clear))
           (sent_bit_raised s.seat rec valid bits to (slice_index words 0) peers (sent_is_noted (record_in s) core (slice_index words 0) (slice_index words 1)) clear may);
     }

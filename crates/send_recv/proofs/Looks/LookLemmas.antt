@@ -1,7 +1,9 @@
 -- What a look at a flag of the own core is to the record and to the cache, in both layouts.
 use Rattle.std.proofs.Common.{◌≡◌, ◌≢◌, ℕ, ◌+◌, ◌<◌, ◌≤◌, Bool, true, false, ◌==◌, ◌&&◌, List, [], ◌∷◌, Option, Some, None, option_map, refl, sym, ◌∙◌, ap, subst, arith, slice_index}
 use Rattle.scc_base.specs.Places.{line_of_word, flag_word}
-use Rattle.scc_base.specs.Layouts.{sent_at, ready_at, first_gather}
+use Rattle.scc_base.specs.Layouts.{signal_at, first_signal, signal_word, first_gather}
+use Rattle.scc_base.specs.declared.signals.Signal.{Signal}
+use Rattle.scc_base.specs.declared.signals.Signal.TheVariants.{Sent, Ready}
 use Rattle.scc_base.specs.Setups.{IsSetup}
 use Rattle.scc_base.specs.Events.{load_of}
 use Rattle.scc_base.specs.declared.events.Event.{Event}
@@ -30,15 +32,21 @@ on_four seat a b c d last e0 e1 e2 e3 p q r t =
     ∙ ap (λ (x : Record). record_next seat (record_next seat x e2) e3) q
     ∙ ap (λ (x : Record). record_next seat x e3) r ∙ t
 
--- a record was looked with: some `sent` flags were seen, and some `ready` flags
+-- a record was looked with: of each signal some flags were seen
 pub record IsLooked (size : ℕ) (rec new : Record) : Type 0 where
-  pub sent : ℕ → Bool
-  pub ready : ℕ → Bool
-  pub is : new ≡ after size (LookReady ready) (after size (LookSent sent) rec)
+  pub seen : Signal → ℕ → Bool
+  pub is : new ≡ after size (LookReady (seen Ready)) (after size (LookSent (seen Sent)) rec)
 
 -- no flag was seen
 abbrev pub none_set : ℕ → Bool
 none_set = λ j. false
+
+-- flags of one signal were seen, and none of the other
+abbrev seen_alone : Signal → (ℕ → Bool) → Signal → ℕ → Bool
+seen_alone Sent p Sent = p
+seen_alone Sent p Ready = none_set
+seen_alone Ready p Sent = none_set
+seen_alone Ready p Ready = p
 
 seen_none : (stage : Stage) → look_ready none_set stage ≡ stage
 seen_none Idle = refl
@@ -54,7 +62,7 @@ answered_none : (post : Option OnItsWay) → option_map (post_answered none_set)
 answered_none None = refl
 answered_none (Some post) = refl
 
--- a look at `sent` flags alone, and one at `ready` flags alone
+-- a look at `sent` flags alone
 looked_sent_alone : (size : ℕ) (rec : Record) (p : ℕ → Bool) → after size (LookSent p) rec ≡ after size (LookReady none_set) (after size (LookSent p) rec)
 looked_sent_alone size rec p = λ i. record (after size (LookSent p) rec) { stage = sym (seen_none rec.stage) i; post = sym (answered_none rec.post) i }
 
@@ -70,21 +78,28 @@ four_of_line seat rec last line words valid lines below low high first =
     = λ word other. (idle_loaded seat last (own_word seat.setup seat.rank line word) (slice_index words word) (role_spare_line seat.setup valid lines seat.rank line word below low high2 other)).becomes in
     on_four seat rec last last last last _ _ _ _ first (idle 1 (omega arith)) (idle 2 (omega arith)) (idle 3 (omega arith))
 
-sent_lines : (seat : Seat) (rec : Record) (j : ℕ) (words : List ℕ) → IsSetup seat.setup → seat.setup.layout ≡ LineFlags → are_peers seat.setup seat.rank j ≡ true
-    → record_on seat rec (loads_of (line_at seat seat.rank (1 + j)) words) ≡ after (chunk_of seat.setup) (LookSent (look_at j (slice_index words 0))) rec
-sent_lines seat rec j words valid lines peers =
-    let p = peers_are seat.setup seat.rank j peers in
-    let within = valid.ranks_within in
-    let other = p.other in
-    four_of_line seat rec _ (1 + j) words valid lines p.one (omega arith) (omega (arith, within, other)) (sent_loaded seat rec valid lines j (slice_index words 0) peers).becomes
+signal_loaded : (signal : Signal) (seat : Seat) (rec : Record) (j : ℕ) (words : List ℕ) → IsSetup seat.setup → seat.setup.layout ≡ LineFlags → are_peers seat.setup seat.rank j ≡ true
+    → record_next seat rec (load_of (own_word seat.setup seat.rank (first_signal signal + j) 0) (slice_index words 0))
+    ≡ after (chunk_of seat.setup) (LookReady (seen_alone signal (look_at j (slice_index words 0)) Ready)) (after (chunk_of seat.setup) (LookSent (seen_alone signal (look_at j (slice_index words 0)) Sent)) rec)
+signal_loaded Sent seat rec j words valid lines peers =
+    (sent_loaded seat rec valid lines j (slice_index words 0) peers).becomes ∙ looked_sent_alone (chunk_of seat.setup) rec (look_at j (slice_index words 0))
+signal_loaded Ready seat rec j words valid lines peers = (ready_loaded seat rec valid lines j (slice_index words 0) peers).becomes
 
-ready_lines : (seat : Seat) (rec : Record) (j : ℕ) (words : List ℕ) → IsSetup seat.setup → seat.setup.layout ≡ LineFlags → are_peers seat.setup seat.rank j ≡ true
-    → record_on seat rec (loads_of (line_at seat seat.rank (49 + j)) words) ≡ after (chunk_of seat.setup) (LookReady (look_at j (slice_index words 0))) rec
-ready_lines seat rec j words valid lines peers =
+lines_end : (signal : Signal) (j n : ℕ) → j < n → n ≤ 48 → first_signal signal + j < 97
+lines_end Sent j n low most = omega (arith, low, most)
+lines_end Ready j n low most = omega (arith, low, most)
+
+lines_begin : (signal : Signal) (j : ℕ) → 1 ≤ first_signal signal + j
+lines_begin Sent j = omega arith
+lines_begin Ready j = omega arith
+
+signal_line : (signal : Signal) (seat : Seat) (rec : Record) (j : ℕ) (words : List ℕ) → IsSetup seat.setup → seat.setup.layout ≡ LineFlags → are_peers seat.setup seat.rank j ≡ true
+    → record_on seat rec (loads_of (line_at seat seat.rank (first_signal signal + j)) words)
+    ≡ after (chunk_of seat.setup) (LookReady (seen_alone signal (look_at j (slice_index words 0)) Ready)) (after (chunk_of seat.setup) (LookSent (seen_alone signal (look_at j (slice_index words 0)) Sent)) rec)
+signal_line signal seat rec j words valid lines peers =
     let p = peers_are seat.setup seat.rank j peers in
-    let within = valid.ranks_within in
-    let other = p.other in
-    four_of_line seat rec _ (49 + j) words valid lines p.one (omega arith) (omega (arith, within, other)) (ready_loaded seat rec valid lines j (slice_index words 0) peers).becomes
+    four_of_line seat rec _ (first_signal signal + j) words valid lines p.one (lines_begin signal j) (lines_end signal j seat.setup.nue p.other valid.ranks_within)
+    (signal_loaded signal seat rec j words valid lines peers)
 
 -- ---- bit flags: the line has the flags of all ranks
 
@@ -103,68 +118,36 @@ bits_line seat rec words valid bits below free =
 -- ---- in both layouts
 
 -- the look tells of rank j what was found
-pub record LooksAtSent (s t : Sight) (j : ℕ) (found : Bool) : Type 0 where
+pub record LooksAt (s t : Sight) (signal : Signal) (j : ℕ) (found : Bool) : Type 0 where
   pub looked : IsLooked (chunk_of s.seat.setup) (record_in s) (record_in t)
-  pub tells : looked.sent j ≡ found
+  pub tells : looked.seen signal j ≡ found
 
-pub record LooksAtReady (s t : Sight) (j : ℕ) (found : Bool) : Type 0 where
-  pub looked : IsLooked (chunk_of s.seat.setup) (record_in s) (record_in t)
-  pub tells : looked.ready j ≡ found
+at_itself : (signal : Signal) (j value : ℕ) → seen_alone signal (look_at j value) signal j ≡ (value == 1)
+at_itself Sent j value = ap (λ b. b && (value == 1)) (eqb_same j)
+at_itself Ready j value = ap (λ b. b && (value == 1)) (eqb_same j)
 
-at_itself : (j value : ℕ) → look_at j value j ≡ (value == 1)
-at_itself j value = ap (λ b. b && (value == 1)) (eqb_same j)
-
-sent_by : (layout : Layout) (s t : Sight) (j : ℕ) (words : List ℕ) → s.seat.setup.layout ≡ layout → IsSetup s.seat.setup → are_peers s.seat.setup s.seat.rank j ≡ true
-    → HoldsNoneBy layout (record_in s).held → Did s (loads_of (line_of_word (flag_word (own_core s.seat) (sent_at layout j))) words) t
-    → LooksAtSent s t j (is_set layout (sent_at layout j) (slice_index words (sent_at layout j).word))
-sent_by LineFlags s t j words lines valid peers hands did = record {
+looks_by : (layout : Layout) (signal : Signal) (s t : Sight) (j : ℕ) (words : List ℕ) → s.seat.setup.layout ≡ layout → IsSetup s.seat.setup → are_peers s.seat.setup s.seat.rank j ≡ true
+    → HoldsNoneBy layout (record_in s).held → Did s (loads_of (line_of_word (flag_word (own_core s.seat) (signal_at layout signal j))) words) t
+    → LooksAt s t signal j (is_set layout (signal_at layout signal j) (slice_index words (signal_at layout signal j).word))
+looks_by LineFlags signal s t j words lines valid peers hands did = record {
   looked = record {
-    sent = look_at j (slice_index words 0);
-    ready = none_set;
-    is = record_did s _ t did ∙ sent_lines s.seat (record_in s) j words valid lines peers ∙ looked_sent_alone (chunk_of s.seat.setup) (record_in s) (look_at j (slice_index words 0));
+    seen = seen_alone signal (look_at j (slice_index words 0));
+    is = record_did s _ t did ∙ signal_line signal s.seat (record_in s) j words valid lines peers;
   };
-  tells = at_itself j (slice_index words 0);
+  tells = at_itself signal j (slice_index words 0);
 }
-sent_by BitFlags s t j words bits valid peers hands did =
+looks_by BitFlags signal s t j words bits valid peers hands did =
     let p = peers_are s.seat.setup s.seat.rank j peers in
     record {
       looked = record {
-        sent = look_at_bits s.seat.setup s.seat.rank (slice_index words 0);
-        ready = look_at_bits s.seat.setup s.seat.rank (slice_index words 1);
+        seen = λ at. look_at_bits s.seat.setup s.seat.rank (slice_index words (signal_word at));
         is = record_did s _ t did ∙ bits_line s.seat (record_in s) words valid bits p.one (hands (own_core s.seat));
       };
-      tells = ap (λ b. b && (is_set BitFlags (sent_at BitFlags j) (slice_index words 0))) peers;
+      tells = ap (λ b. b && (is_set BitFlags (signal_at BitFlags signal j) (slice_index words (signal_word signal)))) peers;
     }
 
-ready_by : (layout : Layout) (s t : Sight) (j : ℕ) (words : List ℕ) → s.seat.setup.layout ≡ layout → IsSetup s.seat.setup → are_peers s.seat.setup s.seat.rank j ≡ true
-    → HoldsNoneBy layout (record_in s).held → Did s (loads_of (line_of_word (flag_word (own_core s.seat) (ready_at layout j))) words) t
-    → LooksAtReady s t j (is_set layout (ready_at layout j) (slice_index words (ready_at layout j).word))
-ready_by LineFlags s t j words lines valid peers hands did = record {
-  looked = record {
-    sent = none_set;
-    ready = look_at j (slice_index words 0);
-    is = record_did s _ t did ∙ ready_lines s.seat (record_in s) j words valid lines peers;
-  };
-  tells = at_itself j (slice_index words 0);
-}
-ready_by BitFlags s t j words bits valid peers hands did =
-    let p = peers_are s.seat.setup s.seat.rank j peers in
-    record {
-      looked = record {
-        sent = look_at_bits s.seat.setup s.seat.rank (slice_index words 0);
-        ready = look_at_bits s.seat.setup s.seat.rank (slice_index words 1);
-        is = record_did s _ t did ∙ bits_line s.seat (record_in s) words valid bits p.one (hands (own_core s.seat));
-      };
-      tells = ap (λ b. b && (is_set BitFlags (ready_at BitFlags j) (slice_index words 1))) peers;
-    }
-
--- a look at the `sent` flag of the messages from rank j
-pub looks_at_sent : (s t : Sight) (c d : Private) (j : ℕ) (found : Bool) → IsSetup s.seat.setup → are_peers s.seat.setup s.seat.rank j ≡ true → HoldsNone s.seat.setup.layout (record_in s)
-    → Looks s c (own_core s.seat) (sent_at s.seat.setup.layout j) found t d → LooksAtSent s t j found
-looks_at_sent s t c d j found valid peers hands looks =
-    subst (λ b. LooksAtSent s t j b) (sym looks.is) (sent_by s.seat.setup.layout s t j looks.words refl valid peers hands looks.looks.did)
-
-pub looks_at_ready : (s t : Sight) (c d : Private) (j : ℕ) (found : Bool) → IsSetup s.seat.setup → are_peers s.seat.setup s.seat.rank j ≡ true → HoldsNone s.seat.setup.layout (record_in s)
-    → Looks s c (own_core s.seat) (ready_at s.seat.setup.layout j) found t d → LooksAtReady s t j found
-looks_at_ready s t c d j found valid peers hands looks =
-    subst (λ b. LooksAtReady s t j b) (sym looks.is) (ready_by s.seat.setup.layout s t j looks.words refl valid peers hands looks.looks.did)
+-- a look at the flag of a signal that rank j raises
+pub looks_at : (signal : Signal) (s t : Sight) (c d : Private) (j : ℕ) (found : Bool) → IsSetup s.seat.setup → are_peers s.seat.setup s.seat.rank j ≡ true → HoldsNone s.seat.setup.layout (record_in s)
+    → Looks s c (own_core s.seat) (signal_at s.seat.setup.layout signal j) found t d → LooksAt s t signal j found
+looks_at signal s t c d j found valid peers hands looks =
+    subst (λ b. LooksAt s t signal j b) (sym looks.is) (looks_by s.seat.setup.layout signal s t j looks.words refl valid peers hands looks.looks.did)

@@ -1,7 +1,9 @@
 -- The tries in the loads of a flag's line, and what a line that came in leaves of the cache.
 use Rattle.std.proofs.Common.{◌≡◌, ◌≢◌, ℕ, ◌<◌, ◌≤◌, Bool, true, false, not, if◌then◌else◌, List, [], Option, Some, None, unwrap_or, refl, sym, ◌∙◌, ap, subst, arith, slice_index}
 use Rattle.scc_base.specs.Places.{LineAt, FlagPlace, flag_word, line_of_word}
-use Rattle.scc_base.specs.Layouts.{sent_at, ready_at}
+use Rattle.scc_base.specs.Layouts.{signal_at}
+use Rattle.scc_base.specs.declared.signals.Signal.{Signal}
+use Rattle.scc_base.specs.declared.signals.Signal.TheVariants.{Sent, Ready}
 use Rattle.scc_base.specs.declared.events.Spot.{Spot}
 use Rattle.scc_base.specs.declared.events.Spot.TheVariants.{Register}
 use Rattle.scc_base.specs.declared.layouts.Layout.{Layout}
@@ -17,7 +19,7 @@ use Rattle.send_recv.specs.declared.stages.RecvStage.TheVariants.{Look, Header, 
 use Rattle.send_recv.specs.Flags.{bit_of, is_set}
 use Rattle.send_recv.specs.Ops.{RecvAt}
 use Rattle.send_recv.specs.Receiving.{spot_by, recv_spot, IsRecvSpot}
-use Rattle.send_recv.specs.Steps.{own_core, core_of, sent_flag, flag_spot}
+use Rattle.send_recv.specs.Steps.{own_core, core_of, signal_flag, flag_spot}
 use Rattle.send_recv.specs.Tries.{aim_of, aim_at}
 use Rattle.send_recv.specs.Turns.{LastHeld, Last}
 
@@ -36,24 +38,21 @@ look_tried layout core flag words found spot below tells at same = by found tell
     by true t = Fruitful (aim_of layout (flag_spot core flag)) (ap (λ (o : Option Spot). aim_at layout o) at) tried.0 (tried.1 ∙ ap (λ (x : Bool). not x) (sym t)) refl
     by false t = Vain (aim_of layout (flag_spot core flag)) (ap (λ (o : Option Spot). aim_at layout o) at) tried.0 (tried.1 ∙ ap (λ (x : Bool). not x) (sym t)) (ap (λ (x : Spot). Some x) same)
 
-pub sent_spot : (layout : Layout) (core j : ℕ) → flag_spot core (sent_at layout j) ≡ spot_of (aim_of layout (flag_spot core (sent_at layout j)))
-sent_spot LineFlags core j = refl
-sent_spot BitFlags core j = refl
-
-pub ready_spot : (layout : Layout) (core j : ℕ) → flag_spot core (ready_at layout j) ≡ spot_of (aim_of layout (flag_spot core (ready_at layout j)))
-ready_spot LineFlags core j = refl
-ready_spot BitFlags core j = refl
+-- the spot of a signal's flag is that of the try at it
+pub signal_aimed : (layout : Layout) (signal : Signal) (core j : ℕ) → flag_spot core (signal_at layout signal j) ≡ spot_of (aim_of layout (flag_spot core (signal_at layout signal j)))
+signal_aimed LineFlags signal core j = refl
+signal_aimed BitFlags signal core j = refl
 
 -- a spot of a receive is the flag that it looks at, or a register
 pub spot_cases : (P : Spot → Type 0) (layout : Layout) (own other from : ℕ) (stage : RecvStage) (at : Spot) → spot_by layout own other from stage ≡ Some at
-    → P (flag_spot own (sent_at layout from)) → ((core : ℕ) → P (Register core)) → P at
-spot_cases P LineFlags own other from Look at e flag register = subst P (ap (λ (o : Option Spot). unwrap_or o (flag_spot own (sent_at LineFlags from))) e) flag
+    → P (flag_spot own (signal_at layout Sent from)) → ((core : ℕ) → P (Register core)) → P at
+spot_cases P LineFlags own other from Look at e flag register = subst P (ap (λ (o : Option Spot). unwrap_or o (flag_spot own (signal_at LineFlags Sent from))) e) flag
 spot_cases P LineFlags own other from Header at e flag register = absurd (cc)
 spot_cases P LineFlags own other from Lower at e flag register = absurd (cc)
 spot_cases P LineFlags own other from (Lines i) at e flag register = absurd (cc)
 spot_cases P LineFlags own other from Raise at e flag register = absurd (cc)
 spot_cases P LineFlags own other from Finished at e flag register = absurd (cc)
-spot_cases P BitFlags own other from Look at e flag register = subst P (ap (λ (o : Option Spot). unwrap_or o (flag_spot own (sent_at BitFlags from))) e) flag
+spot_cases P BitFlags own other from Look at e flag register = subst P (ap (λ (o : Option Spot). unwrap_or o (flag_spot own (signal_at BitFlags Sent from))) e) flag
 spot_cases P BitFlags own other from Header at e flag register = absurd (cc)
 spot_cases P BitFlags own other from Lower at e flag register = subst P (ap (λ (o : Option Spot). unwrap_or o (Register own)) e) (register own)
 spot_cases P BitFlags own other from (Lines i) at e flag register = absurd (cc)
@@ -61,23 +60,20 @@ spot_cases P BitFlags own other from Raise at e flag register = subst P (ap (λ 
 spot_cases P BitFlags own other from Finished at e flag register = absurd (cc)
 
 -- a look at `sent` is no try at another spot of the receive
-pub look_elsewhere : (seat : Seat) (op : RecvAt) (core : ℕ) (words : List ℕ) (at : Spot) → recv_spot seat op ≡ Some (flag_spot (own_core seat) (sent_flag seat op.from))
+pub look_elsewhere : (seat : Seat) (op : RecvAt) (core : ℕ) (words : List ℕ) (at : Spot) → recv_spot seat op ≡ Some (flag_spot (own_core seat) (signal_flag seat Sent op.from))
     → IsRecvSpot seat op at → recv_spot seat op ≢ Some at
-    → tries_at (aim_of seat.setup.layout at) (loads_of (line_of_word (flag_word core (sent_flag seat op.from))) words) ≡ 0
+    → tries_at (aim_of seat.setup.layout at) (loads_of (line_of_word (flag_word core (signal_flag seat Sent op.from))) words) ≡ 0
 look_elsewhere seat op core words at is spot ne =
-    spot_cases (λ (x : Spot). recv_spot seat op ≢ Some x → tries_at (aim_of seat.setup.layout x) (loads_of (line_of_word (flag_word core (sent_flag seat op.from))) words) ≡ 0)
+    spot_cases (λ (x : Spot). recv_spot seat op ≢ Some x → tries_at (aim_of seat.setup.layout x) (loads_of (line_of_word (flag_word core (signal_flag seat Sent op.from))) words) ≡ 0)
     seat.setup.layout (own_core seat) (core_of seat op.from) op.from spot.0 at spot.1 (λ other. absurd (other is)) (λ register other. refl) ne
 
 pub le_self : (n : ℕ) → n ≤ n
 le_self n = omega arith
 
-pub sent_word : (layout : Layout) (j : ℕ) → (sent_at layout j).word < 4
-sent_word LineFlags j = omega arith
-sent_word BitFlags j = omega arith
-
-pub ready_word : (layout : Layout) (j : ℕ) → (ready_at layout j).word < 4
-ready_word LineFlags j = omega arith
-ready_word BitFlags j = omega arith
+pub signal_low : (layout : Layout) (signal : Signal) (j : ℕ) → (signal_at layout signal j).word < 4
+signal_low LineFlags signal j = omega arith
+signal_low BitFlags Sent j = omega arith
+signal_low BitFlags Ready j = omega arith
 
 -- ---- the cache after a look
 

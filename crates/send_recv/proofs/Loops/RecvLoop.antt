@@ -3,7 +3,8 @@ use Rattle.std.proofs.Common.{◌≡◌, ◌≢◌, ℕ, zero, suc, ◌+◌, ◌
 use Rattle.std.specs.List.{list_all}
 use Rattle.scc_base.specs.Calls.{Recv}
 use Rattle.scc_base.specs.Heads.{MessageHead}
-use Rattle.scc_base.specs.Layouts.{sent_at}
+use Rattle.scc_base.specs.Layouts.{signal_at}
+use Rattle.scc_base.specs.declared.signals.Signal.TheVariants.{Sent}
 use Rattle.scc_base.specs.declared.events.Access.{Access}
 use Rattle.scc_base.specs.declared.events.Access.TheVariants.{Load, Store, Take, Free}
 use Rattle.scc_base.specs.declared.events.Event.{Event}
@@ -36,7 +37,7 @@ use Rattle.send_recv.specs.Ranks.{receiving, with_bytes}
 use Rattle.send_recv.proofs.Receiving.LookTurn.{at_look}
 use Rattle.send_recv.proofs.Receiving.LinesTurn.{take_agree}
 use Rattle.send_recv.proofs.Receiving.HeadTurn.{post_itself}
-use Rattle.send_recv.proofs.Looks.TryLemmas.{spot_cases, sent_spot, le_self}
+use Rattle.send_recv.proofs.Looks.TryLemmas.{spot_cases, signal_aimed, le_self}
 
 -- ---- what stays
 
@@ -211,7 +212,7 @@ work_on {s} {m} {t} {c} {b} {d} {op} {cur} {now} {bytes} {mid} {after} {vain} {a
     let looked = look_counted (is_look cur.stage) s.seat cur v.events (recv_waits answer) refl says.tried in
     let few : extra_line cur.stage answer ≤ tries_at (sent_aim s.seat op) v.events
     = subst (λ (n : ℕ). n ≤ tries_at (sent_aim s.seat op) v.events) (sym extra)
-    (subst (λ (f : ℕ). (if is_look cur.stage then 1 else 0) ≤ tries_at (aim_of s.seat.setup.layout (flag_spot (own_core s.seat) (sent_at s.seat.setup.layout f))) v.events) u.from looked) in
+    (subst (λ (f : ℕ). (if is_look cur.stage then 1 else 0) ≤ tries_at (aim_of s.seat.setup.layout (flag_spot (own_core s.seat) (signal_at s.seat.setup.layout Sent f))) v.events) u.from looked) in
     let sum = tally (load_count u.row.events) (load_count v.events) c.evictions b.evictions d.evictions
     (lines_left s.seat.setup.layout (chunk_of s.seat.setup) cur) (lines_left s.seat.setup.layout (chunk_of s.seat.setup) now) (lines_left s.seat.setup.layout (chunk_of s.seat.setup) op)
     (extra_line cur.stage answer) (tries_at (sent_aim s.seat op) u.row.events) (tries_at (sent_aim s.seat op) v.events) u.work says.work few says.fewer in
@@ -302,7 +303,7 @@ underway_ends {s} {m} {t} {c} {b} {d} {op} {cur} {now} {bytes} {mid} {after} pol
 spot_told : (seat : Seat) (op : RecvAt) (at : Spot) → recv_spot seat op ≡ Some at → at ≡ spot_of (aim_of seat.setup.layout at)
 spot_told seat op at is =
     spot_cases (λ (x : Spot). x ≡ spot_of (aim_of seat.setup.layout x)) seat.setup.layout (own_core seat) (core_of seat op.from) op.from op.stage at is
-    (sent_spot seat.setup.layout (own_core seat) op.from) (λ core. refl)
+    (signal_aimed seat.setup.layout Sent (own_core seat) op.from) (λ core. refl)
 
 pub underway_stalls : {s m t : Sight} {c b d : Private} {op cur now : RecvAt} {bytes mid after : List ℕ} {vain : ℕ} {spot : Spot} → Underway s c op bytes vain m b cur mid
     → RecvStands t d now after → RecvTurned (receiving m b cur mid) (receiving t d now after) (turn.Waiting spot) → (polls : ℕ) → polls ≤ vain + 1 → RecvStalled (receiving s c op bytes) polls (receiving t d now after) spot

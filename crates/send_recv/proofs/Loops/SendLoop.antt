@@ -7,7 +7,8 @@ use Rattle.scc_base.specs.declared.events.Spot.TheVariants.{Register}
 use Rattle.scc_base.specs.declared.events.Turn.TheVariants as turn
 use Rattle.scc_base.specs.declared.layouts.Layout.{Layout}
 use Rattle.scc_base.specs.declared.layouts.Layout.TheVariants.{LineFlags, BitFlags}
-use Rattle.scc_base.specs.Layouts.{ready_at}
+use Rattle.scc_base.specs.Layouts.{signal_at}
+use Rattle.scc_base.specs.declared.signals.Signal.TheVariants.{Ready}
 use Rattle.scc_proto.specs.Records.{chunk_of}
 use Rattle.scc_proto.specs.Ports.{Seat, Sight, record_in}
 use Rattle.scc_proto.proofs.PortLaws.{did_both, seat_kept}
@@ -24,7 +25,7 @@ use Rattle.send_recv.specs.Steps.{own_core, core_of, flag_spot}
 use Rattle.send_recv.specs.Tries.{aim_of, aim_at}
 use Rattle.send_recv.specs.Turns.{KeepsAllButMessages, IsAtRest}
 use Rattle.send_recv.specs.Ranks.{sending, with_slot}
-use Rattle.send_recv.proofs.Looks.TryLemmas.{ready_spot}
+use Rattle.send_recv.proofs.Looks.TryLemmas.{signal_aimed}
 use Rattle.send_recv.proofs.Loops.RecvLoop.{rest_both, rest_itself, resting_quiet, aimed, row_on}
 
 pub record SendWay (s : Sight) (op : SendAt) (bytes : List ℕ) (vain : ℕ) (t : Sight) (d : Private) (now : SendAt) (after : SlotAt) : Type 0 where
@@ -115,10 +116,10 @@ some_at a b e = cc
 -- a spot of a send is a flag that tells that a chunk is taken, or a register
 slot_told : (layout : Layout) (own : ℕ) (to : Option ℕ) (seen : Bool) (at : Spot) → slot_spot_by layout own to seen ≡ Some at → at ≡ spot_of (aim_of layout at)
 slot_told LineFlags own None seen at e = absurd (cc)
-slot_told LineFlags own (Some to) false at e = subst (λ (x : Spot). x ≡ spot_of (aim_of LineFlags x)) (some_at (flag_spot own (ready_at LineFlags to)) at e) (ready_spot LineFlags own to)
+slot_told LineFlags own (Some to) false at e = subst (λ (x : Spot). x ≡ spot_of (aim_of LineFlags x)) (some_at (flag_spot own (signal_at LineFlags Ready to)) at e) (signal_aimed LineFlags Ready own to)
 slot_told LineFlags own (Some to) true at e = absurd (cc)
 slot_told BitFlags own None seen at e = absurd (cc)
-slot_told BitFlags own (Some to) false at e = subst (λ (x : Spot). x ≡ spot_of (aim_of BitFlags x)) (some_at (flag_spot own (ready_at BitFlags to)) at e) (ready_spot BitFlags own to)
+slot_told BitFlags own (Some to) false at e = subst (λ (x : Spot). x ≡ spot_of (aim_of BitFlags x)) (some_at (flag_spot own (signal_at BitFlags Ready to)) at e) (signal_aimed BitFlags Ready own to)
 slot_told BitFlags own (Some to) true at e = subst (λ (x : Spot). x ≡ spot_of (aim_of BitFlags x)) (some_at (Register own) at e) refl
 
 send_told : (layout : Layout) (own other to : ℕ) (slot : Option Spot) (stage : SendStage) (at : Spot) → (slot ≡ Some at → at ≡ spot_of (aim_of layout at)) → send_spot_by layout own other to slot stage ≡ Some at → at ≡ spot_of (aim_of layout at)
@@ -126,14 +127,14 @@ send_told LineFlags own other to slot Header at told e = told e
 send_told LineFlags own other to slot (Lines i) at told e = absurd (cc)
 send_told LineFlags own other to slot Flush at told e = absurd (cc)
 send_told LineFlags own other to slot Raise at told e = absurd (cc)
-send_told LineFlags own other to slot Look at told e = subst (λ (x : Spot). x ≡ spot_of (aim_of LineFlags x)) (some_at (flag_spot own (ready_at LineFlags to)) at e) (ready_spot LineFlags own to)
+send_told LineFlags own other to slot Look at told e = subst (λ (x : Spot). x ≡ spot_of (aim_of LineFlags x)) (some_at (flag_spot own (signal_at LineFlags Ready to)) at e) (signal_aimed LineFlags Ready own to)
 send_told LineFlags own other to slot Lower at told e = absurd (cc)
 send_told LineFlags own other to slot Finished at told e = absurd (cc)
 send_told BitFlags own other to slot Header at told e = told e
 send_told BitFlags own other to slot (Lines i) at told e = absurd (cc)
 send_told BitFlags own other to slot Flush at told e = absurd (cc)
 send_told BitFlags own other to slot Raise at told e = subst (λ (x : Spot). x ≡ spot_of (aim_of BitFlags x)) (some_at (Register other) at e) refl
-send_told BitFlags own other to slot Look at told e = subst (λ (x : Spot). x ≡ spot_of (aim_of BitFlags x)) (some_at (flag_spot own (ready_at BitFlags to)) at e) (ready_spot BitFlags own to)
+send_told BitFlags own other to slot Look at told e = subst (λ (x : Spot). x ≡ spot_of (aim_of BitFlags x)) (some_at (flag_spot own (signal_at BitFlags Ready to)) at e) (signal_aimed BitFlags Ready own to)
 send_told BitFlags own other to slot Lower at told e = subst (λ (x : Spot). x ≡ spot_of (aim_of BitFlags x)) (some_at (Register own) at e) refl
 send_told BitFlags own other to slot Finished at told e = absurd (cc)
 

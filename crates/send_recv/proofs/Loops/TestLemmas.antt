@@ -18,7 +18,8 @@ use Rattle.send_recv.specs.declared.calls.RecvStop.TheVariants.{Stalled, Mismatc
 use Rattle.send_recv.specs.Ops.{RecvAt, new_receive}
 use Rattle.send_recv.specs.Receiving.{RecvStands, RecvTurned, IsRecvSpot, recv_spot, recv_waits, lines_left, filled_to}
 use Rattle.send_recv.specs.Calling.{sent_aim, HasNotStalled, Received, RecvStalled, RecvDiffers, RecvStops, FoundFirst, TestEnds}
-use Rattle.scc_base.specs.Layouts.{sent_at}
+use Rattle.scc_base.specs.Layouts.{signal_at}
+use Rattle.scc_base.specs.declared.signals.Signal.TheVariants.{Sent}
 use Rattle.send_recv.specs.Steps.{own_core, flag_spot}
 use Rattle.send_recv.specs.Tries.{aim_of, aim_at}
 use Rattle.send_recv.specs.Ranks.{receiving, with_bytes}
@@ -72,7 +73,7 @@ then_received {s} {m} {t} {c} {b} {d} {op} {cur} {bytes} {mid} {after} {polls} g
     }
   where
     aim_from : (seat : Seat) (x y : RecvAt) → x.from ≡ y.from → sent_aim seat x ≡ sent_aim seat y
-    aim_from seat x y e = ap (λ (f : ℕ). aim_of seat.setup.layout (flag_spot (own_core seat) (sent_at seat.setup.layout f))) e
+    aim_from seat x y e = ap (λ (f : ℕ). aim_of seat.setup.layout (flag_spot (own_core seat) (signal_at seat.setup.layout Sent f))) e
 
 pub then_stalled : {s m t : Sight} {c b d : Private} {op cur now : RecvAt} {bytes mid after : List ℕ} {polls : ℕ} {spot : Spot} → Begun s c op bytes m b cur mid
     → RecvStalled (receiving m b cur mid) polls (receiving t d now after) spot → RecvStalled (receiving s c op bytes) polls (receiving t d now after) spot

@@ -2,7 +2,8 @@
 use Rattle.std.proofs.Common.{◌≡◌, inl, inr, ℕ, Bool, true, false, ◌==◌, ◌&&◌, if◌then◌else◌, List, [], Option, Some, None, IfSome, option_map, refl, sym, ◌∙◌, ap, subst, arith}
 use Rattle.scc_base.specs.Calls.{DataCall}
 use Rattle.scc_base.specs.Places.{WordAt, flag_word, line_of_word}
-use Rattle.scc_base.specs.Layouts.{ready_at}
+use Rattle.scc_base.specs.Layouts.{signal_at}
+use Rattle.scc_base.specs.declared.signals.Signal.TheVariants.{Ready}
 use Rattle.scc_base.specs.Setups.{IsSetup}
 use Rattle.scc_base.specs.declared.events.Event.{Event}
 use Rattle.scc_base.specs.declared.events.Spot.{Spot}
@@ -28,7 +29,7 @@ use Rattle.put_get.specs.Transfers.{load_count}
 use Rattle.send_recv.specs.Flags.{Looks, Changes, MayChange}
 use Rattle.send_recv.specs.Ops.{SlotAt, slot_left, slot_left_by}
 use Rattle.send_recv.specs.Sending.{SlotStands, SlotTurned, SlotMeans, SlotDoes, SlotDoesBy, slot_spot, slot_spot_by, was_answered}
-use Rattle.send_recv.specs.Steps.{moves_on, own_core, ready_flag, flag_spot, slot_seen, slot_lowered, moved_or_waits}
+use Rattle.send_recv.specs.Steps.{moves_on, own_core, signal_flag, flag_spot, slot_seen, slot_lowered, moved_or_waits}
 use Rattle.sync_flags.specs.Tries.{Aim, Tried, NoTry}
 use Rattle.send_recv.specs.Tries.{aim_at}
 use Rattle.send_recv.specs.Turns.{HoldsNone, OnlyTries, NoLoad, waits_at}
@@ -36,10 +37,10 @@ use Rattle.send_recv.specs.Ranks.{SlotHolder, with_slot}
 use Rattle.send_recv.proofs.Posts.SlotApart.{is_apart, apart_in}
 use Rattle.send_recv.proofs.Lines.DraftNone.{ready_is_flag, look_drafts_none, change_drafts_none}
 use Rattle.send_recv.proofs.Looks.FlagMoves.{MovesFlag, may_change, flag_moved, ready_lowers}
-use Rattle.send_recv.proofs.Looks.LookLemmas.{looks_at_ready}
+use Rattle.send_recv.proofs.Looks.LookLemmas.{looks_at}
 use Rattle.send_recv.proofs.Receiving.LookTurn.{looked_post, looked_rest, looked_calls}
 use Rattle.send_recv.proofs.Receiving.HeadTurn.{post_kept, post_itself}
-use Rattle.send_recv.proofs.Looks.TryLemmas.{look_tried, ready_spot, ready_word, look_held}
+use Rattle.send_recv.proofs.Looks.TryLemmas.{look_tried, signal_aimed, signal_low, look_held}
 use Rattle.put_get.proofs.FillLemmas.{fills_out, fills_evictions}
 use Rattle.send_recv.proofs.Looks.ChangeFacts.{change_facts}
 use Rattle.send_recv.proofs.Receiving.FlagTurns.{went_on}
@@ -155,7 +156,7 @@ nothing_turn s c slot none empty =
 
 -- ---- the look
 
-spot_unseen : (layout : Layout) (own to : ℕ) → slot_spot_by layout own (Some to) false ≡ Some (flag_spot own (ready_at layout to))
+spot_unseen : (layout : Layout) (own to : ℕ) → slot_spot_by layout own (Some to) false ≡ Some (flag_spot own (signal_at layout Ready to))
 spot_unseen LineFlags own to = refl
 spot_unseen BitFlags own to = refl
 
@@ -194,22 +195,22 @@ look_only true layout place bit words = tt
 look_only false layout place bit words = (words, refl)
 
 pub slot_look_turn : (found : Bool) (s t : Sight) (c d : Private) (slot : SlotAt) (to : ℕ) → IsSetup s.seat.setup → SlotStands s.seat (record_in s) slot → c.out ≡ None → HoldsNone s.seat.setup.layout (record_in s)
-    → slot.to ≡ Some to → slot.seen ≡ false → Looks s c (own_core s.seat) (ready_flag s.seat to) found t d
-    → SlotTurns s c slot t d (slot_seen found slot) (moved_or_waits found (flag_spot (own_core s.seat) (ready_flag s.seat to)))
+    → slot.to ≡ Some to → slot.seen ≡ false → Looks s c (own_core s.seat) (signal_flag s.seat Ready to) found t d
+    → SlotTurns s c slot t d (slot_seen found slot) (moved_or_waits found (flag_spot (own_core s.seat) (signal_flag s.seat Ready to)))
 slot_look_turn found s t c d slot to valid h empty hands full unseen looks =
     let layout = s.seat.setup.layout in
     let own = own_core s.seat in
-    let flag = ready_flag s.seat to in
+    let flag = signal_flag s.seat Ready to in
     let f = is_full s slot to h full in
     let peers : are_peers s.seat.setup s.seat.rank to ≡ true = subst (λ (o : Option ℕ). IfSome o (λ j. are_peers s.seat.setup s.seat.rank j ≡ true)) full h.peers in
-    let l = looks_at_ready s t c d to found valid peers hands looks in
-    let post : (record_in t).post ≡ option_map (post_answered l.looked.ready) (record_in s).post = ap (λ (r : Record). r.post) l.looked.is in
+    let l = looks_at Ready s t c d to found valid peers hands looks in
+    let post : (record_in t).post ≡ option_map (post_answered (l.looked.seen Ready)) (record_in s).post = ap (λ (r : Record). r.post) l.looked.is in
     let now = slot_seen found slot in
     let spot : slot_spot s.seat slot ≡ Some (flag_spot own flag) = ap (λ (o : Option ℕ). slot_spot_by layout own o slot.seen) full ∙ ap (λ b. slot_spot_by layout own (Some to) b) unseen ∙ spot_unseen layout own to in
     record {
       stands = subst (λ (x : Seat). SlotStands x (record_in t) now) (sym (seat_kept s _ t looks.looks.did)) (record {
-        to = looked_to found slot ∙ h.to ∙ sym (same_to l.looked.ready (record_in s).post) ∙ ap (λ (o : Option OnItsWay). option_map (λ (p : OnItsWay). p.to) o) (sym post);
-        seen = looked_seen found slot l.looked.ready (record_in s).post (record_in t).post f.post to unseen post f.is f.to_is l.tells;
+        to = looked_to found slot ∙ h.to ∙ sym (same_to (l.looked.seen Ready) (record_in s).post) ∙ ap (λ (o : Option OnItsWay). option_map (λ (p : OnItsWay). p.to) o) (sym post);
+        seen = looked_seen found slot (l.looked.seen Ready) (record_in s).post (record_in t).post f.post to unseen post f.is f.to_is l.tells;
         peers = subst (λ (o : Option ℕ). IfSome o (λ j. are_peers s.seat.setup s.seat.rank j ≡ true)) (sym (looked_to found slot)) h.peers;
       });
       turned = record {
@@ -217,13 +218,13 @@ slot_look_turn found s t c d slot to valid h empty hands full unseen looks =
         did = looks.looks.did;
         does = slot_does (with_slot s c slot) (Some to) false (moves_on (moved_or_waits found (flag_spot own flag))) found t d full unseen (moved_is found (flag_spot own flag)) looks;
         tried = tried_by found (flag_spot own flag) (aim_at layout (slot_spot s.seat slot)) _
-            (look_tried layout own flag looks.words found (slot_spot s.seat slot) (ready_word layout to) looks.is spot (ready_spot layout own to));
+            (look_tried layout own flag looks.words found (slot_spot s.seat slot) (signal_low layout Ready to) looks.is spot (signal_aimed layout Ready own to));
         freed = refl;
         rests = λ spot e. refl;
         only = look_only found layout (flag_word own flag) flag.bit looks.words;
         nothing = λ e. never_done found (flag_spot own flag) e;
         means = look_means found slot (flag_spot own flag) to full unseen;
-        stage = ap (λ (r : Record). r.stage) l.looked.is ∙ looked_free l.looked.ready (record_in s).stage f.free;
+        stage = ap (λ (r : Record). r.stage) l.looked.is ∙ looked_free (l.looked.seen Ready) (record_in s).stage f.free;
         calls = looked_calls (chunk_of s.seat.setup) (record_in s) (record_in t) l.looked;
         post = λ same. looked_post (chunk_of s.seat.setup) (record_in s) (record_in t) l.looked;
         rest = looked_rest (chunk_of s.seat.setup) (record_in s) (record_in t) l.looked;
@@ -245,7 +246,7 @@ answered_is s slot to h full seen =
 
 -- lowering the flag is this move
 lowers_ready : (s : Sight) (slot : SlotAt) (to : ℕ) → IsSetup s.seat.setup → SlotStands s.seat (record_in s) slot → slot.to ≡ Some to → slot.seen ≡ true
-    → MovesFlag s.seat.setup.layout s.seat (record_in s) s.seat.rank (ready_flag s.seat to) false (LowerReady to)
+    → MovesFlag s.seat.setup.layout s.seat (record_in s) s.seat.rank (signal_flag s.seat Ready to) false (LowerReady to)
 lowers_ready s slot to valid h full seen =
     let f = is_full s slot to h full in
     let peers : are_peers s.seat.setup s.seat.rank to ≡ true = subst (λ (o : Option ℕ). IfSome o (λ j. are_peers s.seat.setup s.seat.rank j ≡ true)) full h.peers in
@@ -253,8 +254,8 @@ lowers_ready s slot to valid h full seen =
     ready_lowers s.seat.setup.layout s to refl valid peers may.1 may.0
 
 pub may_lower_slot : (s : Sight) (c : Private) (slot : SlotAt) (to : ℕ) → IsSetup s.seat.setup → SlotStands s.seat (record_in s) slot → c.out ≡ None → HoldsNone s.seat.setup.layout (record_in s)
-    → slot.to ≡ Some to → slot.seen ≡ true → MayChange s c (own_core s.seat) (ready_flag s.seat to) false
-may_lower_slot s c slot to valid h empty hands full seen = may_change s c s.seat.rank (ready_flag s.seat to) false (LowerReady to) valid hands empty (lowers_ready s slot to valid h full seen)
+    → slot.to ≡ Some to → slot.seen ≡ true → MayChange s c (own_core s.seat) (signal_flag s.seat Ready to) false
+may_lower_slot s c slot to valid h empty hands full seen = may_change s c s.seat.rank (signal_flag s.seat Ready to) false (LowerReady to) valid hands empty (lowers_ready s slot to valid h full seen)
 
 spot_lines : (layout : Layout) (own to : ℕ) → layout ≡ LineFlags → slot_spot_by layout own (Some to) true ≡ None
 spot_lines LineFlags own to e = refl
@@ -268,7 +269,7 @@ spot_seen : (seat : Seat) (slot : SlotAt) (to : ℕ) → slot.to ≡ Some to →
 spot_seen seat slot to full seen = ap (λ (o : Option ℕ). slot_spot_by seat.setup.layout (own_core seat) o slot.seen) full ∙ ap (λ b. slot_spot_by seat.setup.layout (own_core seat) (Some to) b) seen
 
 lower_goes : (s t : Sight) (c d : Private) (slot : SlotAt) (to : ℕ) → IsSetup s.seat.setup → SlotStands s.seat (record_in s) slot → c.out ≡ None → HoldsNone s.seat.setup.layout (record_in s)
-    → slot.to ≡ Some to → slot.seen ≡ true → Changes s c (own_core s.seat) (ready_flag s.seat to) false true t d
+    → slot.to ≡ Some to → slot.seen ≡ true → Changes s c (own_core s.seat) (signal_flag s.seat Ready to) false true t d
     → SlotTurns s c slot t d (record { to = None; seen = false }) Moved
 lower_goes s t c d slot to valid h empty hands full seen changes =
     let layout = s.seat.setup.layout in
@@ -276,8 +277,8 @@ lower_goes s t c d slot to valid h empty hands full seen changes =
     let own = own_core s.seat in
     let f = is_full s slot to h full in
     let peers : are_peers s.seat.setup s.seat.rank to ≡ true = subst (λ (o : Option ℕ). IfSome o (λ j. are_peers s.seat.setup s.seat.rank j ≡ true)) full h.peers in
-    let is = flag_moved s t c d s.seat.rank (ready_flag s.seat to) false (LowerReady to) valid hands empty (lowers_ready s slot to valid h full seen) changes in
-    let facts = change_facts layout s t c d own (ready_flag s.seat to) false true empty changes in
+    let is = flag_moved s t c d s.seat.rank (signal_flag s.seat Ready to) false (LowerReady to) valid hands empty (lowers_ready s slot to valid h full seen) changes in
+    let facts = change_facts layout s t c d own (signal_flag s.seat Ready to) false true empty changes in
     let before : slot_left slot ≡ 1 = ap (λ (o : Option ℕ). slot_left_by o slot.seen) full ∙ ap (λ b. if b then 1 else 2) seen in
     record {
       stands = record { to = sym (ap (λ (r : Record). option_map (λ (p : OnItsWay). p.to) r.post) is); seen = λ e. absurd (cc); peers = tt };
@@ -295,7 +296,7 @@ lower_goes s t c d slot to valid h empty hands full seen changes =
         calls = ap (λ (r : Record). r.calls) is ∙ calls_free size (record_in s).stage (record_in s).calls f.free;
         post = λ same. absurd (cc (same ∙ full));
         rest = record { flips = ap (λ (x : Record). x.flips) is; hold = ap (λ (x : Record). x.held) is; heap = ap (λ (x : Record). x.heap) is };
-        no_drafts = change_drafts_none s t c d own (ready_flag s.seat to) false true empty (ready_is_flag s.seat valid s.seat.rank to peers) changes facts.events facts.did;
+        no_drafts = change_drafts_none s t c d own (signal_flag s.seat Ready to) false true empty (ready_is_flag s.seat valid s.seat.rank to peers) changes facts.events facts.did;
         held = facts.held;
         work = change_work layout true (load_count facts.events) c.evictions d.evictions (slot_spot s.seat slot) (Register own) (λ e. spot_seen s.seat slot to full seen ∙ spot_bits layout own to e) facts.work;
         buffer = facts.out;
@@ -303,14 +304,14 @@ lower_goes s t c d slot to valid h empty hands full seen changes =
     }
 
 lower_waits : (s t : Sight) (c d : Private) (slot : SlotAt) (to : ℕ) → IsSetup s.seat.setup → SlotStands s.seat (record_in s) slot → c.out ≡ None → HoldsNone s.seat.setup.layout (record_in s)
-    → slot.to ≡ Some to → slot.seen ≡ true → Changes s c (own_core s.seat) (ready_flag s.seat to) false false t d
+    → slot.to ≡ Some to → slot.seen ≡ true → Changes s c (own_core s.seat) (signal_flag s.seat Ready to) false false t d
     → SlotTurns s c slot t d slot (Waiting (Register (own_core s.seat)))
 lower_waits s t c d slot to valid h empty hands full seen changes =
     let layout = s.seat.setup.layout in
     let own = own_core s.seat in
     let peers : are_peers s.seat.setup s.seat.rank to ≡ true = subst (λ (o : Option ℕ). IfSome o (λ j. are_peers s.seat.setup s.seat.rank j ≡ true)) full h.peers in
-    let m = missed_by layout s t c d own (ready_flag s.seat to) false valid hands changes in
-    let facts = change_facts layout s t c d own (ready_flag s.seat to) false false empty changes in
+    let m = missed_by layout s t c d own (signal_flag s.seat Ready to) false valid hands changes in
+    let facts = change_facts layout s t c d own (signal_flag s.seat Ready to) false false empty changes in
     record {
       stands = subst (λ (x : Seat). SlotStands x (record_in t) slot) (sym (seat_kept s facts.events t facts.did)) (subst (λ (x : Record). SlotStands s.seat x slot) (sym m.same) h);
       turned = record {
@@ -327,7 +328,7 @@ lower_waits s t c d slot to valid h empty hands full seen changes =
         calls = ap (λ (r : Record). r.calls) m.same;
         post = λ same. post_kept (record_in s).post (record_in t).post (ap (λ (x : Record). x.post) m.same);
         rest = record { flips = ap (λ (x : Record). x.flips) m.same; hold = ap (λ (x : Record). x.held) m.same; heap = ap (λ (x : Record). x.heap) m.same };
-        no_drafts = change_drafts_none s t c d own (ready_flag s.seat to) false false empty (ready_is_flag s.seat valid s.seat.rank to peers) changes facts.events facts.did;
+        no_drafts = change_drafts_none s t c d own (signal_flag s.seat Ready to) false false empty (ready_is_flag s.seat valid s.seat.rank to peers) changes facts.events facts.did;
         held = facts.held;
         work = change_work layout false (load_count facts.events) c.evictions d.evictions (slot_spot s.seat slot) (Register own) (λ e. spot_seen s.seat slot to full seen ∙ spot_bits layout own to e) facts.work;
         buffer = facts.out;
@@ -335,7 +336,7 @@ lower_waits s t c d slot to valid h empty hands full seen changes =
     }
 
 pub slot_lower_turn : (gone : Bool) (s t : Sight) (c d : Private) (slot : SlotAt) (to : ℕ) → IsSetup s.seat.setup → SlotStands s.seat (record_in s) slot → c.out ≡ None → HoldsNone s.seat.setup.layout (record_in s)
-    → slot.to ≡ Some to → slot.seen ≡ true → Changes s c (own_core s.seat) (ready_flag s.seat to) false gone t d
+    → slot.to ≡ Some to → slot.seen ≡ true → Changes s c (own_core s.seat) (signal_flag s.seat Ready to) false gone t d
     → SlotTurns s c slot t d (slot_lowered gone slot) (moved_or_waits gone (Register (own_core s.seat)))
 slot_lower_turn true s t c d slot to valid h empty hands full seen changes = lower_goes s t c d slot to valid h empty hands full seen changes
 slot_lower_turn false s t c d slot to valid h empty hands full seen changes = lower_waits s t c d slot to valid h empty hands full seen changes

@@ -6,6 +6,7 @@ use Rattle.scc_base.specs.declared.events.Spot.{Spot}
 use Rattle.scc_base.specs.declared.events.Spot.TheVariants.{Register}
 use Rattle.scc_base.specs.declared.layouts.Layout.{Layout}
 use Rattle.scc_base.specs.declared.layouts.Layout.TheVariants.{LineFlags, BitFlags}
+use Rattle.scc_base.specs.declared.signals.Signal.TheVariants.{Sent}
 use Rattle.scc_proto.specs.Messages.{Notes, head_of, has_all}
 use Rattle.scc_proto.specs.Stages.{Stage, Idle, Between, Taking, Record}
 use Rattle.scc_proto.specs.Moves.{LowerSent, lower_sent, after}
@@ -24,7 +25,7 @@ use Rattle.send_recv.specs.Chunks.{chunk_count, chunk_start, chunk_len, lines_fr
 use Rattle.send_recv.specs.Flags.{Changes, MayChange}
 use Rattle.send_recv.specs.Ops.{RecvAt, is_received}
 use Rattle.send_recv.specs.Receiving.{IsAtStage, IsReceiving, RecvStands, IsRead, SaysHead, between, progress_at, lines_now, spot_by, recv_spot, recv_left, recv_left_by, lines_left, lines_left_by, flag_lines, is_look, filled_to, filled_by}
-use Rattle.send_recv.specs.Steps.{own_core, core_of, sent_flag}
+use Rattle.send_recv.specs.Steps.{own_core, core_of, signal_flag}
 use Rattle.sync_flags.specs.Tries.{AtRegister, tries_at, all_vain, Tried, NoTry, Fruitful}
 use Rattle.send_recv.specs.Tries.{aim_of, aim_at}
 use Rattle.send_recv.specs.Turns.{KeepsAllButMessages}
@@ -65,14 +66,14 @@ lower_permitted size rec op bytes l =
 
 -- lowering the flag is this move
 lowers_sent : (s : Sight) (c : Private) (op : RecvAt) (bytes : List ℕ) → IsSetup s.seat.setup → RecvStands s c op bytes → op.stage ≡ Lower
-    → MovesFlag s.seat.setup.layout s.seat (record_in s) s.seat.rank (sent_flag s.seat op.from) false (LowerSent op.from)
+    → MovesFlag s.seat.setup.layout s.seat (record_in s) s.seat.rank (signal_flag s.seat Sent op.from) false (LowerSent op.from)
 lowers_sent s c op bytes valid r lower =
     let l = is_lowering s.seat (record_in s) c op bytes r lower in
     sent_lowers s.seat.setup.layout s op.from l.header refl valid r.peers l.seen (lower_permitted (chunk_of s.seat.setup) (record_in s) op bytes l)
 
 -- the flag may be lowered
-pub may_lower_turn : (s : Sight) (c : Private) (op : RecvAt) (bytes : List ℕ) → IsSetup s.seat.setup → RecvStands s c op bytes → op.stage ≡ Lower → MayChange s c (own_core s.seat) (sent_flag s.seat op.from) false
-may_lower_turn s c op bytes valid r lower = may_change s c s.seat.rank (sent_flag s.seat op.from) false (LowerSent op.from) valid r.hands r.empty (lowers_sent s c op bytes valid r lower)
+pub may_lower_turn : (s : Sight) (c : Private) (op : RecvAt) (bytes : List ℕ) → IsSetup s.seat.setup → RecvStands s c op bytes → op.stage ≡ Lower → MayChange s c (own_core s.seat) (signal_flag s.seat Sent op.from) false
+may_lower_turn s c op bytes valid r lower = may_change s c s.seat.rank (signal_flag s.seat Sent op.from) false (LowerSent op.from) valid r.hands r.empty (lowers_sent s c op bytes valid r lower)
 
 -- the stage after the lowering
 begins : (size : ℕ) (op : RecvAt) (bytes : List ℕ) (header : Notes) (b : Bool) → (op.chunk == 0) ≡ b → (op.chunk ≡ 0 → SaysHead header op.head)
@@ -179,14 +180,14 @@ pub at_lower : (seat : Seat) (op : RecvAt) → op.stage ≡ Lower → seat.setup
 at_lower seat op lower e = ap (λ (st : RecvStage). spot_by seat.setup.layout (own_core seat) (core_of seat op.from) op.from st) lower ∙ spot_lower_bits seat.setup.layout (own_core seat) (core_of seat op.from) op.from e
 
 pub lower_goes : (b : Bool) (s t : Sight) (c d : Private) (op : RecvAt) (bytes : List ℕ) → (lines_now (chunk_of s.seat.setup) op == 0) ≡ b → IsSetup s.seat.setup → RecvStands s c op bytes → op.stage ≡ Lower
-    → Changes s c (own_core s.seat) (sent_flag s.seat op.from) false true t d → Turns s c op bytes t d (record op { stage = taken_stage b }) bytes Moved
+    → Changes s c (own_core s.seat) (signal_flag s.seat Sent op.from) false true t d → Turns s c op bytes t d (record op { stage = taken_stage b }) bytes Moved
 lower_goes b s t c d op bytes lines valid r lower changes =
     let size = chunk_of s.seat.setup in
     let layout = s.seat.setup.layout in
     let now : RecvAt = record op { stage = taken_stage b } in
     let l = is_lowering s.seat (record_in s) c op bytes r lower in
-    let is = flag_moved s t c d s.seat.rank (sent_flag s.seat op.from) false (LowerSent op.from) valid r.hands r.empty (lowers_sent s c op bytes valid r lower) changes in
-    let facts = change_facts layout s t c d (own_core s.seat) (sent_flag s.seat op.from) false true r.empty changes in
+    let is = flag_moved s t c d s.seat.rank (signal_flag s.seat Sent op.from) false (LowerSent op.from) valid r.hands r.empty (lowers_sent s c op bytes valid r lower) changes in
+    let facts = change_facts layout s t c d (own_core s.seat) (signal_flag s.seat Sent op.from) false true r.empty changes in
     let rest : KeepsAllButMessages (record_in s) (record_in t) = record {
       flips = ap (λ (x : Record). x.flips) is;
       hold = ap (λ (x : Record). x.held) is;
@@ -209,7 +210,7 @@ lower_goes b s t c d op bytes lines valid r lower changes =
         fewer = taken_fewer b layout size op lower;
         rests = λ spot w. absurd (cc);
         only = tt;
-        no_drafts = change_drafts_none s t c d (own_core s.seat) (sent_flag s.seat op.from) false true r.empty (sent_is_flag s.seat valid op.from s.seat.rank (peers_swap s.seat.setup s.seat.rank op.from r.peers)) changes facts.events facts.did;
+        no_drafts = change_drafts_none s t c d (own_core s.seat) (signal_flag s.seat Sent op.from) false true r.empty (sent_is_flag s.seat valid op.from s.seat.rank (peers_swap s.seat.setup s.seat.rank op.from r.peers)) changes facts.events facts.did;
         same = (refl, refl);
         means = (taken_left b size op lines lower r.in_hand, ap (λ (x : Record). x.calls) is, ap is_received lower, open_taken b);
         rest = rest;

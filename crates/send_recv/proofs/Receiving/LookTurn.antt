@@ -2,7 +2,8 @@
 use Rattle.std.proofs.Common.{◌≡◌, ℕ, ◌+◌, ◌-◌, ◌*◌, ◌<◌, ◌≤◌, Bool, true, false, ◌==◌, if◌then◌else◌, List, [], Option, Some, None, option_map, refl, sym, ◌∙◌, ap, subst, arith}
 use Rattle.std.proofs.lemmas.Bool.Decides.{nat_tests}
 use Rattle.scc_base.specs.Places.{flag_word, line_of_word}
-use Rattle.scc_base.specs.Layouts.{sent_at}
+use Rattle.scc_base.specs.Layouts.{signal_at}
+use Rattle.scc_base.specs.declared.signals.Signal.TheVariants.{Sent, Ready}
 use Rattle.scc_base.specs.Heads.{MessageHead, IsHead}
 use Rattle.scc_base.specs.Setups.{IsSetup}
 use Rattle.scc_base.specs.declared.layouts.Layout.{Layout}
@@ -25,11 +26,11 @@ use Rattle.send_recv.specs.Chunks.{chunk_count, chunk_start, chunk_len, lines_fr
 use Rattle.send_recv.specs.Flags.{Looks}
 use Rattle.send_recv.specs.Ops.{RecvAt, is_received}
 use Rattle.send_recv.specs.Receiving.{IsAtStage, IsReceiving, RecvStands, RecvDoes, RecvTurned, between, progress_at, spot_by, recv_spot, recv_left, recv_left_by, lines_now, lines_left, lines_left_by, flag_lines, is_look, filled_to, filled_by}
-use Rattle.send_recv.specs.Steps.{own_core, core_of, sent_flag, flag_spot, after_look, recv_or_waits}
+use Rattle.send_recv.specs.Steps.{own_core, core_of, signal_flag, flag_spot, after_look, recv_or_waits}
 use Rattle.send_recv.specs.Turns.{HoldsNone, IsSamePost, KeepsAllButMessages}
 use Rattle.send_recv.specs.Ranks.{Receiver, receiving}
-use Rattle.send_recv.proofs.Looks.LookLemmas.{IsLooked, looks_at_sent}
-use Rattle.send_recv.proofs.Looks.TryLemmas.{look_tried, sent_spot, look_elsewhere, le_self, sent_word, look_held}
+use Rattle.send_recv.proofs.Looks.LookLemmas.{IsLooked, looks_at}
+use Rattle.send_recv.proofs.Looks.TryLemmas.{look_tried, signal_aimed, look_elsewhere, le_self, signal_low, look_held}
 use Rattle.put_get.proofs.FillLemmas.{fills_out, fills_evictions}
 
 -- a turn of a receive, and where it stands afterwards
@@ -48,7 +49,7 @@ same_post q None = refl
 same_post q (Some post) = (if q post.to then true else post.is_answered, refl, answered_stays (q post.to) post.is_answered)
 
 pub looked_post : (size : ℕ) (rec new : Record) → IsLooked size rec new → IsSamePost rec.post new.post
-looked_post size rec new l = subst (λ (p : Option OnItsWay). IsSamePost rec.post p) (sym (ap (λ (r : Record). r.post) l.is)) (same_post l.ready rec.post)
+looked_post size rec new l = subst (λ (p : Option OnItsWay). IsSamePost rec.post p) (sym (ap (λ (r : Record). r.post) l.is)) (same_post (l.seen Ready) rec.post)
 
 pub looked_rest : (size : ℕ) (rec new : Record) → IsLooked size rec new → KeepsAllButMessages rec new
 looked_rest size rec new l = record {
@@ -65,26 +66,26 @@ between_stays q true from rest h = refl
 between_stays q false from rest h = h
 
 pub looked_stage : (size : ℕ) (rec new : Record) (op : RecvAt) (bytes : List ℕ) → IsLooked size rec new → rec.stage ≡ between size op bytes → new.stage ≡ between size op bytes
-looked_stage size rec new op bytes l is = ap (λ (r : Record). r.stage) l.is ∙ ap (λ (st : Stage). look_ready l.ready st) is
-    ∙ between_stays l.ready (op.chunk == 0) op.from (Between op.from (progress_at size op.head op.chunk bytes)) refl
+looked_stage size rec new op bytes l is = ap (λ (r : Record). r.stage) l.is ∙ ap (λ (st : Stage). look_ready (l.seen Ready) st) is
+    ∙ between_stays (l.seen Ready) (op.chunk == 0) op.from (Between op.from (progress_at size op.head op.chunk bytes)) refl
 
 seen_notes : (b : Bool) (rest : Option Notes) → b ≡ true → (if b then Some [] else rest) ≡ Some []
 seen_notes true rest h = refl
 seen_notes false rest h = absurd (cc)
 
-looked_notes : (size : ℕ) (rec new : Record) (j : ℕ) (l : IsLooked size rec new) → l.sent j ≡ true → new.notes j ≡ Some []
-looked_notes size rec new j l set = ap (λ (r : Record). r.notes j) l.is ∙ seen_notes (l.sent j) (rec.notes j) set
+looked_notes : (size : ℕ) (rec new : Record) (j : ℕ) (l : IsLooked size rec new) → l.seen Sent j ≡ true → new.notes j ≡ Some []
+looked_notes size rec new j l set = ap (λ (r : Record). r.notes j) l.is ∙ seen_notes (l.seen Sent j) (rec.notes j) set
 
 pub holds_kept : (layout : Layout) (rec new : Record) → new.held ≡ rec.held → HoldsNone layout rec → HoldsNone layout new
 holds_kept LineFlags rec new same h = tt
 holds_kept BitFlags rec new same h = λ core. ap (λ (f : ℕ → Option FlagWords). f core) same ∙ h core
 
-spot_look : (layout : Layout) (own other from : ℕ) → spot_by layout own other from Look ≡ Some (flag_spot own (sent_at layout from))
+spot_look : (layout : Layout) (own other from : ℕ) → spot_by layout own other from Look ≡ Some (flag_spot own (signal_at layout Sent from))
 spot_look LineFlags own other from = refl
 spot_look BitFlags own other from = refl
 
 -- the spot of a look
-pub at_look : (seat : Seat) (op : RecvAt) → op.stage ≡ Look → recv_spot seat op ≡ Some (flag_spot (own_core seat) (sent_flag seat op.from))
+pub at_look : (seat : Seat) (op : RecvAt) → op.stage ≡ Look → recv_spot seat op ≡ Some (flag_spot (own_core seat) (signal_flag seat Sent op.from))
 at_look seat op look =
     ap (λ (st : RecvStage). spot_by seat.setup.layout (own_core seat) (core_of seat op.from) op.from st) look ∙ spot_look seat.setup.layout (own_core seat) (core_of seat op.from) op.from
 
@@ -113,11 +114,11 @@ look_work events a b x false four look le = absurd (cc)
 
 -- the look found nothing
 look_waits : (s t : Sight) (c d : Private) (op : RecvAt) (bytes : List ℕ) → IsSetup s.seat.setup → RecvStands s c op bytes → op.stage ≡ Look
-    → Looks s c (own_core s.seat) (sent_flag s.seat op.from) false t d
-    → Turns s c op bytes t d op bytes (Waiting (flag_spot (own_core s.seat) (sent_flag s.seat op.from)))
+    → Looks s c (own_core s.seat) (signal_flag s.seat Sent op.from) false t d
+    → Turns s c op bytes t d op bytes (Waiting (flag_spot (own_core s.seat) (signal_flag s.seat Sent op.from)))
 look_waits s t c d op bytes valid r look looks =
     let size = chunk_of s.seat.setup in
-    let l = looks_at_sent s t c d op.from false valid r.peers r.hands looks in
+    let l = looks_at Sent s t c d op.from false valid r.peers r.hands looks in
     let at : (record_in s).stage ≡ between size op bytes = subst (λ (st : RecvStage). IsAtStage s.seat (record_in s) c op bytes st) look r.at in
     let stage : (record_in t).stage ≡ between size op bytes = looked_stage size (record_in s) (record_in t) op bytes l.looked at in
     let rest = looked_rest size (record_in s) (record_in t) l.looked in
@@ -128,11 +129,11 @@ look_waits s t c d op bytes valid r look looks =
           (stands_after s.seat (record_in s) (record_in t) c d op op bytes r refl refl refl (fills_out looks.looks.fills ∙ r.empty) rest.hold
           (subst (λ (st : RecvStage). IsAtStage s.seat (record_in t) d op bytes st) (sym look) stage));
       turned = record {
-        events = loads_of (line_of_word (flag_word (own_core s.seat) (sent_flag s.seat op.from))) looks.words;
+        events = loads_of (line_of_word (flag_word (own_core s.seat) (signal_flag s.seat Sent op.from))) looks.words;
         did = looks.looks.did;
         does = recv_does (receiving s c op bytes) Look false t d look looks;
-        tried = look_tried s.seat.setup.layout (own_core s.seat) (sent_flag s.seat op.from) looks.words false (recv_spot s.seat op) (sent_word s.seat.setup.layout op.from) looks.is
-            (at_look s.seat op look) (sent_spot s.seat.setup.layout (own_core s.seat) op.from);
+        tried = look_tried s.seat.setup.layout (own_core s.seat) (signal_flag s.seat Sent op.from) looks.words false (recv_spot s.seat op) (signal_low s.seat.setup.layout Sent op.from) looks.is
+            (at_look s.seat op look) (signal_aimed s.seat.setup.layout Sent (own_core s.seat) op.from);
         freed = refl;
         elsewhere = λ at other ne. look_elsewhere s.seat op (own_core s.seat) looks.words at (at_look s.seat op look) other ne;
         fuller = le_self _;
@@ -147,7 +148,7 @@ look_waits s t c d op bytes valid r look looks =
         before = λ k low. refl;
         behind = λ k high. refl;
         held = look_held c d _ looks.words looks.looks.fills;
-        work = look_work (load_count (loads_of (line_of_word (flag_word (own_core s.seat) (sent_flag s.seat op.from))) looks.words)) c.evictions d.evictions _ (is_look op.stage)
+        work = look_work (load_count (loads_of (line_of_word (flag_word (own_core s.seat) (signal_flag s.seat Sent op.from))) looks.words)) c.evictions d.evictions _ (is_look op.stage)
             refl (ap is_look look) (fills_evictions looks.looks.fills);
       };
     }
@@ -194,12 +195,12 @@ seen_open true = refl
 seen_open false = refl
 
 look_finds : (s t : Sight) (c d : Private) (op : RecvAt) (bytes : List ℕ) (b : Bool) → (op.chunk == 0) ≡ b → IsSetup s.seat.setup → RecvStands s c op bytes → op.stage ≡ Look
-    → Looks s c (own_core s.seat) (sent_flag s.seat op.from) true t d
+    → Looks s c (own_core s.seat) (signal_flag s.seat Sent op.from) true t d
     → Turns s c op bytes t d (record op { stage = if b then Header else Lower }) bytes Moved
 look_finds s t c d op bytes b first valid r look looks =
     let size = chunk_of s.seat.setup in
     let now : RecvAt = record op { stage = if b then Header else Lower } in
-    let l = looks_at_sent s t c d op.from true valid r.peers r.hands looks in
+    let l = looks_at Sent s t c d op.from true valid r.peers r.hands looks in
     let at : (record_in s).stage ≡ between size op bytes = subst (λ (st : RecvStage). IsAtStage s.seat (record_in s) c op bytes st) look r.at in
     let stage : (record_in t).stage ≡ between size op bytes = looked_stage size (record_in s) (record_in t) op bytes l.looked at in
     let rest = looked_rest size (record_in s) (record_in t) l.looked in
@@ -211,11 +212,11 @@ look_finds s t c d op bytes b first valid r look looks =
           (stands_after s.seat (record_in s) (record_in t) c d op now bytes r refl refl refl (fills_out looks.looks.fills ∙ r.empty) rest.hold
           (seen_at s.seat (record_in t) d op bytes b first stage notes));
       turned = record {
-        events = loads_of (line_of_word (flag_word (own_core s.seat) (sent_flag s.seat op.from))) looks.words;
+        events = loads_of (line_of_word (flag_word (own_core s.seat) (signal_flag s.seat Sent op.from))) looks.words;
         did = looks.looks.did;
         does = recv_does (receiving s c op bytes) Look true t d look looks;
-        tried = look_tried s.seat.setup.layout (own_core s.seat) (sent_flag s.seat op.from) looks.words true (recv_spot s.seat op) (sent_word s.seat.setup.layout op.from) looks.is
-            (at_look s.seat op look) (sent_spot s.seat.setup.layout (own_core s.seat) op.from);
+        tried = look_tried s.seat.setup.layout (own_core s.seat) (signal_flag s.seat Sent op.from) looks.words true (recv_spot s.seat op) (signal_low s.seat.setup.layout Sent op.from) looks.is
+            (at_look s.seat op look) (signal_aimed s.seat.setup.layout Sent (own_core s.seat) op.from);
         freed = refl;
         elsewhere = λ at other ne. look_elsewhere s.seat op (own_core s.seat) looks.words at (at_look s.seat op look) other ne;
         fuller = seen_fuller size op b look;
@@ -230,14 +231,14 @@ look_finds s t c d op bytes b first valid r look looks =
         before = λ k low. refl;
         behind = λ k high. refl;
         held = look_held c d _ looks.words looks.looks.fills;
-        work = look_work (load_count (loads_of (line_of_word (flag_word (own_core s.seat) (sent_flag s.seat op.from))) looks.words)) c.evictions d.evictions _ (is_look op.stage)
+        work = look_work (load_count (loads_of (line_of_word (flag_word (own_core s.seat) (signal_flag s.seat Sent op.from))) looks.words)) c.evictions d.evictions _ (is_look op.stage)
             refl (ap is_look look) (fills_evictions looks.looks.fills);
       };
     }
 
 -- the turn that looks, by what the look found
 pub look_turn : (found : Bool) (s t : Sight) (c d : Private) (op : RecvAt) (bytes : List ℕ) → IsSetup s.seat.setup → RecvStands s c op bytes → op.stage ≡ Look
-    → Looks s c (own_core s.seat) (sent_flag s.seat op.from) found t d
-    → Turns s c op bytes t d (after_look found op) bytes (recv_or_waits found (flag_spot (own_core s.seat) (sent_flag s.seat op.from)))
+    → Looks s c (own_core s.seat) (signal_flag s.seat Sent op.from) found t d
+    → Turns s c op bytes t d (after_look found op) bytes (recv_or_waits found (flag_spot (own_core s.seat) (signal_flag s.seat Sent op.from)))
 look_turn true s t c d op bytes valid r look looks = look_finds s t c d op bytes (op.chunk == 0) refl valid r look looks
 look_turn false s t c d op bytes valid r look looks = look_waits s t c d op bytes valid r look looks

@@ -9,6 +9,7 @@ use Rattle.scc_base.specs.Layouts.{chunk_size}
 use Rattle.scc_base.specs.Setups.{IsSetup}
 use Rattle.scc_base.specs.declared.layouts.Layout.{Layout}
 use Rattle.scc_base.specs.declared.layouts.Layout.TheVariants.{LineFlags, BitFlags}
+use Rattle.scc_base.specs.declared.signals.Signal.TheVariants.{Ready}
 use Rattle.scc_proto.specs.Messages.{Notes, byte_at, bytes_from, is_last, with_chunk}
 use Rattle.scc_proto.specs.Stages.{Stage, Idle, Between, Record}
 use Rattle.scc_proto.specs.Moves.{RaiseReady, raise_ready, calls_received, finished_if, after}
@@ -25,7 +26,7 @@ use Rattle.send_recv.specs.Chunks.{chunk_count, chunk_start, chunk_len, chunk_li
 use Rattle.send_recv.specs.Flags.{Changes, MayChange}
 use Rattle.send_recv.specs.Ops.{RecvAt}
 use Rattle.send_recv.specs.Receiving.{IsAtStage, IsReceiving, RecvStands, IsRead, IsTakingLines, between, progress_at, lines_now, flag_lines}
-use Rattle.send_recv.specs.Steps.{core_of, ready_flag}
+use Rattle.send_recv.specs.Steps.{core_of, signal_flag}
 use Rattle.send_recv.proofs.Looks.FlagMoves.{MovesFlag, may_change, flag_moved, ready_raises}
 
 -- what a receive that is to raise `ready` has of the record
@@ -46,21 +47,21 @@ raise_takes size rec op bytes r = ap (λ (st : Stage). is_taking op.from st) r.t
 
 -- raising the flag is this move
 raises_ready : (s : Sight) (c : Private) (op : RecvAt) (bytes : List ℕ) → IsSetup s.seat.setup → RecvStands s c op bytes → op.stage ≡ Raise
-    → MovesFlag s.seat.setup.layout s.seat (record_in s) op.from (ready_flag s.seat s.seat.rank) true (RaiseReady op.from)
+    → MovesFlag s.seat.setup.layout s.seat (record_in s) op.from (signal_flag s.seat Ready s.seat.rank) true (RaiseReady op.from)
 raises_ready s c op bytes valid r raise =
     let l = is_raising s.seat (record_in s) c op bytes r raise in
     ready_raises s.seat.setup.layout s op.from refl valid r.peers (raise_takes (chunk_of s.seat.setup) (record_in s) op bytes l) (raise_permitted (chunk_of s.seat.setup) (record_in s) op bytes l)
 
 -- the flag may be raised
 pub may_raise_turn : (s : Sight) (c : Private) (op : RecvAt) (bytes : List ℕ) → IsSetup s.seat.setup → RecvStands s c op bytes → op.stage ≡ Raise
-    → MayChange s c (core_of s.seat op.from) (ready_flag s.seat s.seat.rank) true
-may_raise_turn s c op bytes valid r raise = may_change s c op.from (ready_flag s.seat s.seat.rank) true (RaiseReady op.from) valid r.hands r.empty (raises_ready s c op bytes valid r raise)
+    → MayChange s c (core_of s.seat op.from) (signal_flag s.seat Ready s.seat.rank) true
+may_raise_turn s c op bytes valid r raise = may_change s c op.from (signal_flag s.seat Ready s.seat.rank) true (RaiseReady op.from) valid r.hands r.empty (raises_ready s c op bytes valid r raise)
 
 -- and then the record is
 pub ready_is_raised : (s t : Sight) (c d : Private) (op : RecvAt) (bytes : List ℕ) → IsSetup s.seat.setup → RecvStands s c op bytes → op.stage ≡ Raise
-    → Changes s c (core_of s.seat op.from) (ready_flag s.seat s.seat.rank) true true t d → record_in t ≡ after (chunk_of s.seat.setup) (RaiseReady op.from) (record_in s)
+    → Changes s c (core_of s.seat op.from) (signal_flag s.seat Ready s.seat.rank) true true t d → record_in t ≡ after (chunk_of s.seat.setup) (RaiseReady op.from) (record_in s)
 ready_is_raised s t c d op bytes valid r raise changes =
-    flag_moved s t c d op.from (ready_flag s.seat s.seat.rank) true (RaiseReady op.from) valid r.hands r.empty (raises_ready s c op bytes valid r raise) changes
+    flag_moved s t c d op.from (signal_flag s.seat Ready s.seat.rank) true (RaiseReady op.from) valid r.hands r.empty (raises_ready s c op bytes valid r raise) changes
 
 -- ---- the bytes of the chunk
 

@@ -10,6 +10,7 @@ use Rattle.scc_base.specs.declared.events.Spot.{Spot}
 use Rattle.scc_base.specs.declared.events.Spot.TheVariants.{Register}
 use Rattle.scc_base.specs.declared.layouts.Layout.{Layout}
 use Rattle.scc_base.specs.declared.layouts.Layout.TheVariants.{LineFlags, BitFlags}
+use Rattle.scc_base.specs.declared.signals.Signal.TheVariants.{Sent, Ready}
 use Rattle.scc_proto.specs.Stages.{Record}
 use Rattle.scc_proto.specs.Records.{chunk_of}
 use Rattle.scc_proto.specs.Ports.{Seat, Sight, record_in}
@@ -26,7 +27,7 @@ use Rattle.send_recv.specs.Chunks.{chunk_count, chunk_start, chunk_len, lines_fr
 use Rattle.send_recv.specs.Flags.{Changes, ChangesBy, Missed, Changed}
 use Rattle.send_recv.specs.Ops.{RecvAt, is_received}
 use Rattle.send_recv.specs.Receiving.{IsReceiving, RecvStands, RecvDoes, lines_now, spot_by, recv_spot, recv_left, recv_left_by, lines_left, lines_left_by, flag_lines, is_look, filled_to, filled_by}
-use Rattle.send_recv.specs.Steps.{own_core, core_of, sent_flag, ready_flag, after_lower, after_raise, recv_or_waits, raise_answer}
+use Rattle.send_recv.specs.Steps.{own_core, core_of, signal_flag, after_lower, after_raise, recv_or_waits, raise_answer}
 use Rattle.sync_flags.specs.Tries.{AtRegister, tries_at, all_vain, Tried, Vain}
 use Rattle.send_recv.specs.Tries.{aim_at}
 use Rattle.send_recv.specs.Turns.{HoldsNoneBy, KeepsAllButMessages}
@@ -102,10 +103,10 @@ register_waits s t c d op bytes core flag set valid r plain spot changes does =
 -- ---- lowering `sent`
 
 pub lower_turn : (gone : Bool) (s t : Sight) (c d : Private) (op : RecvAt) (bytes : List ℕ) → IsSetup s.seat.setup → RecvStands s c op bytes → op.stage ≡ Lower
-    → Changes s c (own_core s.seat) (sent_flag s.seat op.from) false gone t d
+    → Changes s c (own_core s.seat) (signal_flag s.seat Sent op.from) false gone t d
     → Turns s c op bytes t d (after_lower (chunk_of s.seat.setup) gone op) bytes (recv_or_waits gone (Register (own_core s.seat)))
 lower_turn true s t c d op bytes valid r lower changes = lower_goes (lines_now (chunk_of s.seat.setup) op == 0) s t c d op bytes refl valid r lower changes
-lower_turn false s t c d op bytes valid r lower changes = register_waits s t c d op bytes (own_core s.seat) (sent_flag s.seat op.from) false valid r
+lower_turn false s t c d op bytes valid r lower changes = register_waits s t c d op bytes (own_core s.seat) (signal_flag s.seat Sent op.from) false valid r
     (sent_is_flag s.seat valid op.from s.seat.rank (peers_swap s.seat.setup s.seat.rank op.from r.peers))
     (at_lower s.seat op lower) changes (recv_does (receiving s c op bytes) Lower false t d lower changes)
 
@@ -163,14 +164,14 @@ next_fewer layout op raise more =
     (next_few layout op.head.len op.chunk more))
 
 raise_last : (s t : Sight) (c d : Private) (op : RecvAt) (bytes : List ℕ) → is_last_chunk (chunk_of s.seat.setup) op.head.len op.chunk ≡ true → IsSetup s.seat.setup → RecvStands s c op bytes → op.stage ≡ Raise
-    → Changes s c (core_of s.seat op.from) (ready_flag s.seat s.seat.rank) true true t d → Turns s c op bytes t d (record op { stage = Finished }) bytes Done
+    → Changes s c (core_of s.seat op.from) (signal_flag s.seat Ready s.seat.rank) true true t d → Turns s c op bytes t d (record op { stage = Finished }) bytes Done
 raise_last s t c d op bytes last valid r raise changes =
     let size = chunk_of s.seat.setup in
     let layout = s.seat.setup.layout in
     let now : RecvAt = record op { stage = Finished } in
     let l = is_raising s.seat (record_in s) c op bytes r raise in
     let is = ready_is_raised s t c d op bytes valid r raise changes in
-    let facts = change_facts layout s t c d (core_of s.seat op.from) (ready_flag s.seat s.seat.rank) true true r.empty changes in
+    let facts = change_facts layout s t c d (core_of s.seat op.from) (signal_flag s.seat Ready s.seat.rank) true true r.empty changes in
     let ends = raised_calls layout (record_in s) (record_in t) op bytes l r.long r.in_hand last is in
     let below = r.in_hand in
     let rest : KeepsAllButMessages (record_in s) (record_in t) = record {
@@ -194,7 +195,7 @@ raise_last s t c d op bytes last valid r raise changes =
         fewer = no_lines (lines_left layout size op);
         rests = λ spot w. absurd (cc);
         only = tt;
-        no_drafts = change_drafts_none s t c d (core_of s.seat op.from) (ready_flag s.seat s.seat.rank) true true r.empty
+        no_drafts = change_drafts_none s t c d (core_of s.seat op.from) (signal_flag s.seat Ready s.seat.rank) true true r.empty
             (ready_is_flag s.seat valid op.from s.seat.rank (peers_swap s.seat.setup s.seat.rank op.from r.peers)) changes facts.events facts.did;
         same = (refl, refl);
         means = (refl, refl, ends.1 ∙ ap (λ st. (record_in s).calls ++ (if is_received st then [] else Recv op.from op.head bytes ∷ [])) (sym raise));
@@ -210,14 +211,14 @@ raise_last s t c d op bytes last valid r raise changes =
     }
 
 raise_next : (s t : Sight) (c d : Private) (op : RecvAt) (bytes : List ℕ) → is_last_chunk (chunk_of s.seat.setup) op.head.len op.chunk ≡ false → IsSetup s.seat.setup → RecvStands s c op bytes → op.stage ≡ Raise
-    → Changes s c (core_of s.seat op.from) (ready_flag s.seat s.seat.rank) true true t d → Turns s c op bytes t d (record op { chunk = op.chunk + 1; stage = Look }) bytes Moved
+    → Changes s c (core_of s.seat op.from) (signal_flag s.seat Ready s.seat.rank) true true t d → Turns s c op bytes t d (record op { chunk = op.chunk + 1; stage = Look }) bytes Moved
 raise_next s t c d op bytes more valid r raise changes =
     let size = chunk_of s.seat.setup in
     let layout = s.seat.setup.layout in
     let now : RecvAt = record op { chunk = op.chunk + 1; stage = Look } in
     let l = is_raising s.seat (record_in s) c op bytes r raise in
     let is = ready_is_raised s t c d op bytes valid r raise changes in
-    let facts = change_facts layout s t c d (core_of s.seat op.from) (ready_flag s.seat s.seat.rank) true true r.empty changes in
+    let facts = change_facts layout s t c d (core_of s.seat op.from) (signal_flag s.seat Ready s.seat.rank) true true r.empty changes in
     let goes = raised_stage layout (record_in s) (record_in t) op bytes l r.long r.in_hand more is in
     let low = le_not op.head.len (size * (op.chunk + 1)) more in
     let rest : KeepsAllButMessages (record_in s) (record_in t) = record {
@@ -249,7 +250,7 @@ raise_next s t c d op bytes more valid r raise changes =
         fewer = next_fewer layout op raise low;
         rests = λ spot w. absurd (cc);
         only = tt;
-        no_drafts = change_drafts_none s t c d (core_of s.seat op.from) (ready_flag s.seat s.seat.rank) true true r.empty
+        no_drafts = change_drafts_none s t c d (core_of s.seat op.from) (signal_flag s.seat Ready s.seat.rank) true true r.empty
             (ready_is_flag s.seat valid op.from s.seat.rank (peers_swap s.seat.setup s.seat.rank op.from r.peers)) changes facts.events facts.did;
         same = (refl, refl);
         means = (
@@ -276,15 +277,15 @@ raise_next s t c d op bytes more valid r raise changes =
     }
 
 raise_by : (b : Bool) (s t : Sight) (c d : Private) (op : RecvAt) (bytes : List ℕ) → is_last_chunk (chunk_of s.seat.setup) op.head.len op.chunk ≡ b → IsSetup s.seat.setup → RecvStands s c op bytes → op.stage ≡ Raise
-    → Changes s c (core_of s.seat op.from) (ready_flag s.seat s.seat.rank) true true t d
+    → Changes s c (core_of s.seat op.from) (signal_flag s.seat Ready s.seat.rank) true true t d
     → Turns s c op bytes t d (if b then record op { stage = Finished } else record op { chunk = op.chunk + 1; stage = Look }) bytes (if b then Done else Moved)
 raise_by true s t c d op bytes last valid r raise changes = raise_last s t c d op bytes last valid r raise changes
 raise_by false s t c d op bytes more valid r raise changes = raise_next s t c d op bytes more valid r raise changes
 
 pub raise_turn : (gone : Bool) (s t : Sight) (c d : Private) (op : RecvAt) (bytes : List ℕ) → IsSetup s.seat.setup → RecvStands s c op bytes → op.stage ≡ Raise
-    → Changes s c (core_of s.seat op.from) (ready_flag s.seat s.seat.rank) true gone t d
+    → Changes s c (core_of s.seat op.from) (signal_flag s.seat Ready s.seat.rank) true gone t d
     → Turns s c op bytes t d (after_raise (chunk_of s.seat.setup) gone op) bytes (raise_answer (chunk_of s.seat.setup) gone (Register (core_of s.seat op.from)) op)
 raise_turn true s t c d op bytes valid r raise changes = raise_by (is_last_chunk (chunk_of s.seat.setup) op.head.len op.chunk) s t c d op bytes refl valid r raise changes
-raise_turn false s t c d op bytes valid r raise changes = register_waits s t c d op bytes (core_of s.seat op.from) (ready_flag s.seat s.seat.rank) true valid r
+raise_turn false s t c d op bytes valid r raise changes = register_waits s t c d op bytes (core_of s.seat op.from) (signal_flag s.seat Ready s.seat.rank) true valid r
     (ready_is_flag s.seat valid op.from s.seat.rank (peers_swap s.seat.setup s.seat.rank op.from r.peers))
     (at_raise s.seat op raise) changes (recv_does (receiving s c op bytes) Raise false t d raise changes)

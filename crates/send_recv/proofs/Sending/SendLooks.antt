@@ -1,7 +1,8 @@
 -- The turn of a send that looks whether the chunk was taken.
 use Rattle.std.proofs.Common.{◌≡◌, ◌⊎◌, inl, inr, ℕ, ◌+◌, ◌-◌, ◌*◌, ◌<◌, Bool, true, false, List, Option, Some, None, option_map, refl, sym, ◌∙◌, ap, subst, arith}
 use Rattle.scc_base.specs.Places.{flag_word, line_of_word}
-use Rattle.scc_base.specs.Layouts.{ready_at}
+use Rattle.scc_base.specs.Layouts.{signal_at}
+use Rattle.scc_base.specs.declared.signals.Signal.TheVariants.{Ready}
 use Rattle.scc_base.specs.Setups.{IsSetup}
 use Rattle.scc_base.specs.declared.events.Spot.{Spot}
 use Rattle.scc_base.specs.declared.layouts.Layout.{Layout}
@@ -25,12 +26,12 @@ use Rattle.send_recv.specs.Ops.{SendAt, SlotAt, is_sent}
 use Rattle.send_recv.specs.Receiving.{progress_at}
 use Rattle.send_recv.specs.Sending.{SlotStands, IsAtSendStage, IsSending, SendStands, SendMeans, lines_in_hand, of_chunk, send_spot, send_spot_by, slot_spot}
 use Rattle.send_recv.specs.Ranks.{sending}
-use Rattle.send_recv.specs.Steps.{moves_on, own_core, core_of, ready_flag, flag_spot, after_seen, moved_or_waits}
+use Rattle.send_recv.specs.Steps.{moves_on, own_core, core_of, signal_flag, flag_spot, after_seen, moved_or_waits}
 use Rattle.send_recv.specs.Tries.{aim_at}
 use Rattle.send_recv.specs.Turns.{IsAtRest}
-use Rattle.send_recv.proofs.Looks.LookLemmas.{looks_at_ready}
+use Rattle.send_recv.proofs.Looks.LookLemmas.{looks_at}
 use Rattle.send_recv.proofs.Receiving.LookTurn.{holds_kept, looked_post, looked_rest, looked_calls}
-use Rattle.send_recv.proofs.Looks.TryLemmas.{look_tried, ready_spot, ready_word, look_held}
+use Rattle.send_recv.proofs.Looks.TryLemmas.{look_tried, signal_aimed, signal_low, look_held}
 use Rattle.put_get.proofs.FillLemmas.{fills_out, fills_evictions}
 use Rattle.send_recv.proofs.Lines.DraftNone.{look_drafts_none}
 use Rattle.send_recv.proofs.Posts.SlotTurns.{moved_is, tried_by, never_done, look_only}
@@ -52,7 +53,7 @@ look_part false q to message chunk part set (inl raised) =
     ap (λ (x : Part). look_ready q (Sending to x message chunk)) raised ∙ if_no (q to) (Sending to Answered message chunk) (Sending to Raised message chunk) set ∙ ap (λ (x : Part). Sending to x message chunk) (sym raised)
 look_part false q to message chunk part set (inr answered) = ap (λ (x : Part). look_ready q (Sending to x message chunk)) answered ∙ ap (λ (x : Part). Sending to x message chunk) (sym answered)
 
-spot_look : (layout : Layout) (own other to : ℕ) (slot : Option Spot) → send_spot_by layout own other to slot Look ≡ Some (flag_spot own (ready_at layout to))
+spot_look : (layout : Layout) (own other to : ℕ) (slot : Option Spot) → send_spot_by layout own other to slot Look ≡ Some (flag_spot own (signal_at layout Ready to))
 spot_look LineFlags own other to slot = refl
 spot_look BitFlags own other to slot = refl
 
@@ -101,20 +102,20 @@ same_op true op = (refl, refl, refl)
 same_op false op = (refl, refl, refl)
 
 pub look_turn : (found : Bool) (s t : Sight) (c d : Private) (op : SendAt) (slot : SlotAt) (bytes : List ℕ) → IsSetup s.seat.setup → SendStands s c op slot bytes → op.stage ≡ Look
-    → Looks s c (own_core s.seat) (ready_flag s.seat op.to) found t d
-    → SendTurns s c op slot bytes t d (after_seen found op) slot (moved_or_waits found (flag_spot (own_core s.seat) (ready_flag s.seat op.to)))
+    → Looks s c (own_core s.seat) (signal_flag s.seat Ready op.to) found t d
+    → SendTurns s c op slot bytes t d (after_seen found op) slot (moved_or_waits found (flag_spot (own_core s.seat) (signal_flag s.seat Ready op.to)))
 look_turn found s t c d op slot bytes valid r look looks =
     let size = chunk_of s.seat.setup in
     let layout = s.seat.setup.layout in
     let own = own_core s.seat in
-    let flag = ready_flag s.seat op.to in
+    let flag = signal_flag s.seat Ready op.to in
     let at = at_stage s.seat (record_in s) c op slot bytes Look r look in
     let up = at.5 in
-    let l = looks_at_ready s t c d op.to found valid r.peers r.hands looks in
+    let l = looks_at Ready s t c d op.to found valid r.peers r.hands looks in
     let message = progress_at size op.head op.chunk bytes in
     let stage : (record_in t).stage ≡ Sending op.to (part_seen found at.3) message up.chunk = ap (λ (x : Record). x.stage) l.looked.is
-    ∙ ap (λ (st : Stage). look_ready l.looked.ready st) up.stage_is ∙ look_part found l.looked.ready op.to message up.chunk at.3 l.tells at.4 in
-    let same : (record_in t).post ≡ (record_in s).post = ap (λ (x : Record). x.post) l.looked.is ∙ ap (λ (o : Option OnItsWay). option_map (post_answered l.looked.ready) o) at.1 ∙ sym at.1 in
+    ∙ ap (λ (st : Stage). look_ready (l.looked.seen Ready) st) up.stage_is ∙ look_part found (l.looked.seen Ready) op.to message up.chunk at.3 l.tells at.4 in
+    let same : (record_in t).post ≡ (record_in s).post = ap (λ (x : Record). x.post) l.looked.is ∙ ap (λ (o : Option OnItsWay). option_map (post_answered (l.looked.seen Ready)) o) at.1 ∙ sym at.1 in
     let rest = looked_rest size (record_in s) (record_in t) l.looked in
     let calls = looked_calls size (record_in s) (record_in t) l.looked in
     let post = looked_post size (record_in s) (record_in t) l.looked in
@@ -128,7 +129,7 @@ look_turn found s t c d op slot bytes valid r look looks =
         did = looks.looks.did;
         does = send_does (sending s c op slot bytes) Look (moves_on (moved_or_waits found (flag_spot own flag))) found t d look (moved_is found (flag_spot own flag)) looks;
         tried = tried_by found (flag_spot own flag) (aim_at layout (send_spot s.seat op slot)) _
-            (look_tried layout own flag looks.words found (send_spot s.seat op slot) (ready_word layout op.to) looks.is spot (ready_spot layout own op.to));
+            (look_tried layout own flag looks.words found (send_spot s.seat op slot) (signal_low layout Ready op.to) looks.is spot (signal_aimed layout Ready own op.to));
         freed = refl;
         ends = λ e. never_done found (flag_spot own flag) e;
         rests = λ spot e. refl;

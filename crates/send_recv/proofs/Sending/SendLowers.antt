@@ -8,6 +8,7 @@ use Rattle.scc_base.specs.declared.events.Spot.TheVariants.{Register}
 use Rattle.scc_base.specs.declared.events.Turn.TheVariants.{Waiting}
 use Rattle.scc_base.specs.declared.layouts.Layout.{Layout}
 use Rattle.scc_base.specs.declared.layouts.Layout.TheVariants.{LineFlags, BitFlags}
+use Rattle.scc_base.specs.declared.signals.Signal.TheVariants.{Ready}
 use Rattle.scc_proto.specs.Messages.{bytes_from, is_last, with_chunk}
 use Rattle.scc_proto.specs.Stages.{Filling, Answered, Stage, Idle, Sending, OnItsWay, Record}
 use Rattle.scc_proto.specs.Moves.{LowerReady, lower_ready, calls_sent, finished_if, after}
@@ -29,7 +30,7 @@ use Rattle.send_recv.specs.Ops.{SendAt, SlotAt, is_sent}
 use Rattle.send_recv.specs.Receiving.{progress_at}
 use Rattle.send_recv.specs.Sending.{IsSending, SendStands, SendMeans, HasDrafted, Later, HasNoLines, IsUp, header_words, lines_in_hand, own_line, of_chunk, send_spot, send_spot_by, slot_spot}
 use Rattle.send_recv.specs.Ranks.{sending}
-use Rattle.send_recv.specs.Steps.{moves_on, own_core, core_of, ready_flag, after_through, through_answer}
+use Rattle.send_recv.specs.Steps.{moves_on, own_core, core_of, signal_flag, after_through, through_answer}
 use Rattle.sync_flags.specs.Tries.{Tried}
 use Rattle.send_recv.specs.Tries.{aim_at}
 use Rattle.send_recv.specs.Turns.{OnlyTries}
@@ -49,15 +50,15 @@ use Rattle.send_recv.proofs.Sending.SendWaits.{no_stores, register_waits, next_a
 
 -- lowering the flag is this move
 lowers_ready : (s : Sight) (op : SendAt) (bytes : List ℕ) → IsSetup s.seat.setup → are_peers s.seat.setup s.seat.rank op.to ≡ true → IsUp (chunk_of s.seat.setup) (record_in s).stage op bytes Answered
-    → MovesFlag s.seat.setup.layout s.seat (record_in s) s.seat.rank (ready_flag s.seat op.to) false (LowerReady op.to)
+    → MovesFlag s.seat.setup.layout s.seat (record_in s) s.seat.rank (signal_flag s.seat Ready op.to) false (LowerReady op.to)
 lowers_ready s op bytes valid peers up =
     ready_lowers s.seat.setup.layout s op.to refl valid peers (ap (λ (st : Stage). is_answered op.to st (record_in s).post) up.stage_is ∙ eqb_same op.to)
     (ap (λ (st : Stage). may_go_on op.to st (record_in s).post) up.stage_is ∙ eqb_same op.to)
 
-pub may_lower_turn : (s : Sight) (c : Private) (op : SendAt) (slot : SlotAt) (bytes : List ℕ) → IsSetup s.seat.setup → SendStands s c op slot bytes → op.stage ≡ Lower → MayChange s c (own_core s.seat) (ready_flag s.seat op.to) false
+pub may_lower_turn : (s : Sight) (c : Private) (op : SendAt) (slot : SlotAt) (bytes : List ℕ) → IsSetup s.seat.setup → SendStands s c op slot bytes → op.stage ≡ Lower → MayChange s c (own_core s.seat) (signal_flag s.seat Ready op.to) false
 may_lower_turn s c op slot bytes valid r lower =
     let at = at_stage s.seat (record_in s) c op slot bytes Lower r lower in
-    may_change s c s.seat.rank (ready_flag s.seat op.to) false (LowerReady op.to) valid r.hands at.2 (lowers_ready s op bytes valid r.peers at.3)
+    may_change s c s.seat.rank (signal_flag s.seat Ready op.to) false (LowerReady op.to) valid r.hands at.2 (lowers_ready s op bytes valid r.peers at.3)
 
 -- ---- the record after it
 
@@ -179,13 +180,13 @@ same_op true op = (refl, refl, refl)
 same_op false op = (refl, refl, refl)
 
 lower_goes : (b : Bool) (s t : Sight) (c d : Private) (op : SendAt) (slot : SlotAt) (bytes : List ℕ) → is_last_chunk (chunk_of s.seat.setup) op.head.len op.chunk ≡ b → IsSetup s.seat.setup → AreBytes bytes → SendStands s c op slot bytes → op.stage ≡ Lower
-    → Changes s c (own_core s.seat) (ready_flag s.seat op.to) false true t d → SendTurns s c op slot bytes t d (next_op b op) slot (next_answer b)
+    → Changes s c (own_core s.seat) (signal_flag s.seat Ready op.to) false true t d → SendTurns s c op slot bytes t d (next_op b op) slot (next_answer b)
 lower_goes b s t c d op slot bytes last valid small r lower changes =
     let layout = s.seat.setup.layout in
     let own = own_core s.seat in
     let at = at_stage s.seat (record_in s) c op slot bytes Lower r lower in
-    let is = flag_moved s t c d s.seat.rank (ready_flag s.seat op.to) false (LowerReady op.to) valid r.hands at.2 (lowers_ready s op bytes valid r.peers at.3) changes in
-    let facts = change_facts layout s t c d own (ready_flag s.seat op.to) false true at.2 changes in
+    let is = flag_moved s t c d s.seat.rank (signal_flag s.seat Ready op.to) false (LowerReady op.to) valid r.hands at.2 (lowers_ready s op bytes valid r.peers at.3) changes in
+    let facts = change_facts layout s t c d own (signal_flag s.seat Ready op.to) false true at.2 changes in
     record {
       stands = subst (λ (x : Seat). IsSending x (record_in t) d (next_op b op) slot bytes) (sym (seat_kept s facts.events t facts.did))
           (lower_stands b s.seat (record_in s) (record_in t) c d op slot bytes small last r lower is facts.out);
@@ -205,7 +206,7 @@ lower_goes b s t c d op slot bytes last valid small r lower changes =
         means = lower_means b s t c d op slot bytes small last at.3 r.long r.in_hand lower at.0
             (r.slot_stands.to ∙ ap (λ (o : Option OnItsWay). option_map (λ (p : OnItsWay). p.to) o) at.1) is;
         rest = record { flips = ap (λ (x : Record). x.flips) is; hold = ap (λ (x : Record). x.held) is; heap = ap (λ (x : Record). x.heap) is };
-        drafts = no_stores s.seat.setup c facts.events (change_drafts_none s t c d own (ready_flag s.seat op.to) false true at.2 (ready_is_flag s.seat valid s.seat.rank op.to r.peers) changes facts.events facts.did);
+        drafts = no_stores s.seat.setup c facts.events (change_drafts_none s t c d own (signal_flag s.seat Ready op.to) false true at.2 (ready_is_flag s.seat valid s.seat.rank op.to r.peers) changes facts.events facts.did);
         held = facts.held;
         work = change_work layout true (load_count facts.events) c.evictions d.evictions (send_spot s.seat op slot) (Register own)
             (λ e. spot_at s.seat op slot Lower lower ∙ spot_bits layout own (core_of s.seat op.to) op.to (slot_spot s.seat slot) e) facts.work;
@@ -213,16 +214,16 @@ lower_goes b s t c d op slot bytes last valid small r lower changes =
     }
 
 lower_by : (gone b : Bool) (s t : Sight) (c d : Private) (op : SendAt) (slot : SlotAt) (bytes : List ℕ) → is_last_chunk (chunk_of s.seat.setup) op.head.len op.chunk ≡ b → IsSetup s.seat.setup → AreBytes bytes → SendStands s c op slot bytes → op.stage ≡ Lower
-    → Changes s c (own_core s.seat) (ready_flag s.seat op.to) false gone t d
+    → Changes s c (own_core s.seat) (signal_flag s.seat Ready op.to) false gone t d
     → SendTurns s c op slot bytes t d (if gone then next_op b op else op) slot (if gone then next_answer b else Waiting (Register (own_core s.seat)))
 lower_by true b s t c d op slot bytes last valid small r lower changes = lower_goes b s t c d op slot bytes last valid small r lower changes
 lower_by false b s t c d op slot bytes last valid small r lower changes =
     let at = at_stage s.seat (record_in s) c op slot bytes Lower r lower in
-    register_waits s t c d op slot bytes (own_core s.seat) (ready_flag s.seat op.to) false valid r at.2 (ready_is_flag s.seat valid s.seat.rank op.to r.peers)
+    register_waits s t c d op slot bytes (own_core s.seat) (signal_flag s.seat Ready op.to) false valid r at.2 (ready_is_flag s.seat valid s.seat.rank op.to r.peers)
     (λ e. spot_at s.seat op slot Lower lower ∙ spot_bits s.seat.setup.layout (own_core s.seat) (core_of s.seat op.to) op.to (slot_spot s.seat slot) e) changes
     (send_does (sending s c op slot bytes) Lower false false t d lower refl changes)
 
 pub lower_turn : (gone : Bool) (s t : Sight) (c d : Private) (op : SendAt) (slot : SlotAt) (bytes : List ℕ) → IsSetup s.seat.setup → AreBytes bytes → SendStands s c op slot bytes → op.stage ≡ Lower
-    → Changes s c (own_core s.seat) (ready_flag s.seat op.to) false gone t d
+    → Changes s c (own_core s.seat) (signal_flag s.seat Ready op.to) false gone t d
     → SendTurns s c op slot bytes t d (after_through (chunk_of s.seat.setup) gone op) slot (through_answer (chunk_of s.seat.setup) gone (Register (own_core s.seat)) op)
 lower_turn gone s t c d op slot bytes valid small r lower changes = lower_by gone (is_last_chunk (chunk_of s.seat.setup) op.head.len op.chunk) s t c d op slot bytes refl valid small r lower changes

@@ -3,7 +3,8 @@
 use Rattle.std.proofs.Common.{◌≡◌, ◌≢◌, ℕ, zero, suc, ◌+◌, ◌*◌, ◌<◌, Bool, true, false, ◌==◌, ◌&&◌, if◌then◌else◌, List, [], ◌∷◌, ◌++◌, Option, Some, None, is_none, refl, sym, ◌∙◌, ap, subst, arith}
 use Rattle.scc_base.specs.Heads.{MessageHead}
 use Rattle.scc_base.specs.Places.{LineAt, flag_word, line_of_word, same_line}
-use Rattle.scc_base.specs.Layouts.{sent_at, first_chunk}
+use Rattle.scc_base.specs.Layouts.{signal_at, first_chunk}
+use Rattle.scc_base.specs.declared.signals.Signal.TheVariants.{Sent}
 use Rattle.scc_base.specs.Setups.{IsSetup}
 use Rattle.scc_base.specs.Events.{store_of}
 use Rattle.scc_base.specs.declared.layouts.Layout.{Layout}
@@ -29,7 +30,7 @@ use Rattle.send_recv.specs.Chunks.{chunk_start}
 use Rattle.send_recv.specs.Flags.{Changes, ChangesBy, MayChange, MayChangeBy}
 use Rattle.send_recv.specs.Ops.{SendAt, SlotAt}
 use Rattle.send_recv.specs.Sending.{HasDrafted, First, Later, IsBeforeRaise, IsSending, SendStands, lines_in_hand, own_line, header_words, waiting}
-use Rattle.send_recv.specs.Steps.{own_core, core_of, sent_flag}
+use Rattle.send_recv.specs.Steps.{own_core, core_of, signal_flag}
 use Rattle.send_recv.specs.Turns.{HoldsNoneBy}
 use Rattle.send_recv.proofs.Looks.FlagMoves.{MovesFlag, may_change_by, flag_moved_by, sent_raises}
 use Rattle.send_recv.proofs.Lines.DraftWhole.{AreBytes, drafted_is, head_drafted, header_whole, begun_is}
@@ -72,9 +73,9 @@ none_or true o line h = h
 none_or false o line h = refl
 
 flag_other : (seat : Seat) (op : SendAt) (bytes : List ℕ) (core i : ℕ) → seat.setup.layout ≡ LineFlags → seat.rank < 48
-    → handed_out (waiting seat op bytes i) (line_of_word (flag_word core (sent_at LineFlags seat.rank))) ≡ waiting seat op bytes i
+    → handed_out (waiting seat op bytes i) (line_of_word (flag_word core (signal_at LineFlags Sent seat.rank))) ≡ waiting seat op bytes i
 flag_other seat op bytes core zero lines below =
-    none_or (op.chunk == 0) (whole_line (own_line seat 0) (header_words op.head op.posted)) (line_of_word (flag_word core (sent_at LineFlags seat.rank)))
+    none_or (op.chunk == 0) (whole_line (own_line seat 0) (header_words op.head op.posted)) (line_of_word (flag_word core (signal_at LineFlags Sent seat.rank)))
     (other_flag core (own_core seat) 0 (1 + seat.rank) (whole_line (own_line seat 0) (header_words op.head op.posted)) (λ e. absurd (omega (arith, e))) refl)
 flag_other seat op bytes core (suc i) lines below =
     let first : first_chunk seat.setup.layout ≡ 113 = ap first_chunk lines in
@@ -85,20 +86,20 @@ flag_other seat op bytes core (suc i) lines below =
 
 -- with bit flags all lines are drafted before the raise, which is one move
 raises_bit : (s : Sight) (c : Private) (op : SendAt) (slot : SlotAt) (bytes : List ℕ) → s.seat.setup.layout ≡ BitFlags → IsSetup s.seat.setup → AreBytes bytes → SendStands s c op slot bytes → (record_in s).post ≡ None
-    → HasDrafted (chunk_of s.seat.setup) (record_in s).stage op bytes (lines_in_hand (chunk_of s.seat.setup) op) → MovesFlag BitFlags s.seat (record_in s) op.to (sent_at BitFlags s.seat.rank) true (RaiseSent op.to)
+    → HasDrafted (chunk_of s.seat.setup) (record_in s).stage op bytes (lines_in_hand (chunk_of s.seat.setup) op) → MovesFlag BitFlags s.seat (record_in s) op.to (signal_at BitFlags Sent s.seat.rank) true (RaiseSent op.to)
 raises_bit s c op slot bytes bits valid small r none drafted =
     let drafting : is_drafting (record_in s).stage (record_in s).post ≡ true = ap (λ (o : Option OnItsWay). is_drafting (record_in s).stage o) none
     ∙ drafting_by (chunk_of s.seat.setup) (record_in s).stage op bytes (lines_in_hand (chunk_of s.seat.setup) op) drafted in
     sent_raises s op.to bits valid r.peers drafting (permitted_by s.seat (record_in s) c (record_in s).stage op slot bytes small r none drafted)
 
 may_by : (layout : Layout) (s : Sight) (c : Private) (op : SendAt) (slot : SlotAt) (bytes : List ℕ) → s.seat.setup.layout ≡ layout → IsSetup s.seat.setup → AreBytes bytes → SendStands s c op slot bytes
-    → HoldsNoneBy layout (record_in s).held → (record_in s).post ≡ None → IsBeforeRaise layout s.seat (record_in s).stage c op bytes → MayChangeBy layout s c (core_of s.seat op.to) (sent_at layout s.seat.rank) true
+    → HoldsNoneBy layout (record_in s).held → (record_in s).post ≡ None → IsBeforeRaise layout s.seat (record_in s).stage c op bytes → MayChangeBy layout s c (core_of s.seat op.to) (signal_at layout Sent s.seat.rank) true
 may_by LineFlags s c op slot bytes layout valid small r hands none before =
     let p = peers_are s.seat.setup s.seat.rank op.to r.peers in
     let size = chunk_of s.seat.setup in
     let lines = lines_in_hand size op in
     let out : c.out ≡ waiting s.seat op bytes lines = before.0 in
-    let store = store_of (flag_word (core_of s.seat op.to) (sent_at LineFlags s.seat.rank)) 1 in
+    let store = store_of (flag_word (core_of s.seat op.to) (signal_at LineFlags Sent s.seat.rank)) 1 in
     let within = valid.ranks_within in
     let one = p.one in
     let l = waiting_out s.seat (record_in s) op bytes lines valid p.one none (omega arith) before.1 in
@@ -106,17 +107,17 @@ may_by LineFlags s c op slot bytes layout valid small r hands none before =
     let raised = sent_raised s.seat (record (record_in s) { stage = l.new }) valid layout op.to r.peers may in
     record {
       word_below = omega arith;
-      other = subst (λ (o : Option Out). handed_out o (line_of_word (flag_word (core_of s.seat op.to) (sent_at LineFlags s.seat.rank))) ≡ o) (sym out)
+      other = subst (λ (o : Option Out). handed_out o (line_of_word (flag_word (core_of s.seat op.to) (signal_at LineFlags Sent s.seat.rank))) ≡ o) (sym out)
           (flag_other s.seat op bytes (core_of s.seat op.to) lines layout (omega (arith, within, one)));
       permitted = subst (λ (o : Option Out). MayMakeAll s.seat (record_in s) (stores_of o ++ store ∷ [])) (sym out)
           (may-append s.seat (record_in s) (stores_of (waiting s.seat op bytes lines)) (store ∷ []) l.may
           (subst (λ (x : Record). MayMakeAll s.seat x (store ∷ [])) (sym l.becomes) (raised.may, tt)));
     }
 may_by BitFlags s c op slot bytes bits valid small r hands none before =
-    may_change_by BitFlags s c op.to (sent_at BitFlags s.seat.rank) true (RaiseSent op.to) bits valid hands before.0 (raises_bit s c op slot bytes bits valid small r none before.1)
+    may_change_by BitFlags s c op.to (signal_at BitFlags Sent s.seat.rank) true (RaiseSent op.to) bits valid hands before.0 (raises_bit s c op slot bytes bits valid small r none before.1)
 
 pub may_raise_sent : (s : Sight) (c : Private) (op : SendAt) (slot : SlotAt) (bytes : List ℕ) → IsSetup s.seat.setup → AreBytes bytes → SendStands s c op slot bytes → op.stage ≡ Raise
-    → MayChange s c (core_of s.seat op.to) (sent_flag s.seat s.seat.rank) true
+    → MayChange s c (core_of s.seat op.to) (signal_flag s.seat Sent s.seat.rank) true
 may_raise_sent s c op slot bytes valid small r raise =
     let at = at_stage s.seat (record_in s) c op slot bytes Raise r raise in
     may_by s.seat.setup.layout s c op slot bytes refl valid small r r.hands at.0 at.1
@@ -131,12 +132,12 @@ pub record SentRaised (s t : Sight) (op : SendAt) (bytes : List ℕ) : Type 0 wh
 
 raised_by : (layout : Layout) (s t : Sight) (c d : Private) (op : SendAt) (slot : SlotAt) (bytes : List ℕ) → s.seat.setup.layout ≡ layout → IsSetup s.seat.setup → AreBytes bytes → SendStands s c op slot bytes
     → HoldsNoneBy layout (record_in s).held → (record_in s).post ≡ None → IsBeforeRaise layout s.seat (record_in s).stage c op bytes
-    → ChangesBy layout s c (core_of s.seat op.to) (sent_at layout s.seat.rank) true true t d → SentRaised s t op bytes
+    → ChangesBy layout s c (core_of s.seat op.to) (signal_at layout Sent s.seat.rank) true true t d → SentRaised s t op bytes
 raised_by LineFlags s t c d op slot bytes layout valid small r hands none before (done, writes) =
     let p = peers_are s.seat.setup s.seat.rank op.to r.peers in
     let lines = lines_in_hand (chunk_of s.seat.setup) op in
     let out : c.out ≡ waiting s.seat op bytes lines = before.0 in
-    let store = store_of (flag_word (core_of s.seat op.to) (sent_at LineFlags s.seat.rank)) 1 in
+    let store = store_of (flag_word (core_of s.seat op.to) (signal_at LineFlags Sent s.seat.rank)) 1 in
     let l = waiting_out s.seat (record_in s) op bytes lines valid p.one none (omega arith) before.1 in
     let may = permitted_by s.seat (record_in s) c l.new op slot bytes small r none l.drafted in
     record {
@@ -150,11 +151,11 @@ raised_by LineFlags s t c d op slot bytes layout valid small r hands none before
 raised_by BitFlags s t c d op slot bytes bits valid small r hands none before tries = record {
   new = (record_in s).stage;
   drafted = before.1;
-  is = flag_moved_by BitFlags s t c d op.to (sent_at BitFlags s.seat.rank) true (RaiseSent op.to) bits valid hands before.0 (raises_bit s c op slot bytes bits valid small r none before.1) tries;
+  is = flag_moved_by BitFlags s t c d op.to (signal_at BitFlags Sent s.seat.rank) true (RaiseSent op.to) bits valid hands before.0 (raises_bit s c op slot bytes bits valid small r none before.1) tries;
 }
 
 pub sent_is_raised : (s t : Sight) (c d : Private) (op : SendAt) (slot : SlotAt) (bytes : List ℕ) → IsSetup s.seat.setup → AreBytes bytes → SendStands s c op slot bytes → op.stage ≡ Raise
-    → Changes s c (core_of s.seat op.to) (sent_flag s.seat s.seat.rank) true true t d → SentRaised s t op bytes
+    → Changes s c (core_of s.seat op.to) (signal_flag s.seat Sent s.seat.rank) true true t d → SentRaised s t op bytes
 sent_is_raised s t c d op slot bytes valid small r raise changes =
     let at = at_stage s.seat (record_in s) c op slot bytes Raise r raise in
     raised_by s.seat.setup.layout s t c d op slot bytes refl valid small r r.hands at.0 at.1 changes

@@ -10,6 +10,7 @@ use Rattle.scc_base.specs.declared.events.Spot.TheVariants.{Register}
 use Rattle.scc_base.specs.declared.events.Turn.TheVariants.{Waiting}
 use Rattle.scc_base.specs.declared.layouts.Layout.{Layout}
 use Rattle.scc_base.specs.declared.layouts.Layout.TheVariants.{LineFlags, BitFlags}
+use Rattle.scc_base.specs.declared.signals.Signal.TheVariants.{Sent}
 use Rattle.scc_proto.specs.Stages.{Raised, Record}
 use Rattle.scc_proto.specs.Records.{chunk_of}
 use Rattle.scc_proto.specs.Ports.{Seat, Sight, Did, record_in}
@@ -26,7 +27,7 @@ use Rattle.send_recv.specs.Ops.{SendAt, SlotAt, is_sent}
 use Rattle.send_recv.specs.Receiving.{flag_lines}
 use Rattle.send_recv.specs.Sending.{SlotStands, IsBeforeRaise, IsAtSendStage, IsSending, SendStands, SendMeans, own_line, header_words, lines_in_hand, waiting, of_chunk, from_raise, send_spot, send_spot_by, slot_spot}
 use Rattle.send_recv.specs.Ranks.{sending}
-use Rattle.send_recv.specs.Steps.{moves_on, own_core, core_of, sent_flag, after_sent, sent_answer, slot_sent}
+use Rattle.send_recv.specs.Steps.{moves_on, own_core, core_of, signal_flag, after_sent, sent_answer, slot_sent}
 use Rattle.sync_flags.specs.Tries.{Aim, AtFlag, AtWord, AtRegister, tries_at, all_vain, changing_after, vain_from, Tried}
 use Rattle.sync_flags.proofs.VainLemmas.{vain-append}
 use Rattle.sync_flags.proofs.RowLemmas.{changing-append}
@@ -177,13 +178,13 @@ spot_bits LineFlags own other to slot e = absurd (cc)
 spot_bits BitFlags own other to slot e = refl
 
 raise_goes : (b : Bool) (s t : Sight) (c d : Private) (op : SendAt) (slot : SlotAt) (bytes : List ℕ) → op.posted ≡ b → IsSetup s.seat.setup → AreBytes bytes → SendStands s c op slot bytes → op.stage ≡ Raise
-    → Changes s c (core_of s.seat op.to) (sent_flag s.seat s.seat.rank) true true t d → SendTurns s c op slot bytes t d (next_op b op) (next_slot b op slot) (next_answer b)
+    → Changes s c (core_of s.seat op.to) (signal_flag s.seat Sent s.seat.rank) true true t d → SendTurns s c op slot bytes t d (next_op b op) (next_slot b op slot) (next_answer b)
 raise_goes b s t c d op slot bytes posts valid small r raise changes =
     let layout = s.seat.setup.layout in
     let core = core_of s.seat op.to in
     let at = at_stage s.seat (record_in s) c op slot bytes Raise r raise in
     let up = sent_is_raised s t c d op slot bytes valid small r raise changes in
-    let facts = facts_by layout s t c d op bytes core (sent_flag s.seat s.seat.rank) (sent_is_flag s.seat valid s.seat.rank op.to r.peers) at.1 changes in
+    let facts = facts_by layout s t c d op bytes core (signal_flag s.seat Sent s.seat.rank) (sent_is_flag s.seat valid s.seat.rank op.to r.peers) at.1 changes in
     let a = after_raise b s t c d op slot bytes posts small r raise up facts.out in
     record {
       stands = subst (λ (x : Seat). IsSending x (record_in t) d (next_op b op) (next_slot b op slot) bytes) (sym (seat_kept s facts.events t facts.did))
@@ -216,19 +217,19 @@ empty_by LineFlags s t c d op bytes core flag before (done, writes) = absurd (cc
 empty_by BitFlags s t c d op bytes core flag before changes = before.0
 
 raise_by : (gone b : Bool) (s t : Sight) (c d : Private) (op : SendAt) (slot : SlotAt) (bytes : List ℕ) → op.posted ≡ b → IsSetup s.seat.setup → AreBytes bytes → SendStands s c op slot bytes → op.stage ≡ Raise
-    → Changes s c (core_of s.seat op.to) (sent_flag s.seat s.seat.rank) true gone t d
+    → Changes s c (core_of s.seat op.to) (signal_flag s.seat Sent s.seat.rank) true gone t d
     → SendTurns s c op slot bytes t d (if gone then next_op b op else op) (if gone then next_slot b op slot else slot) (if gone then next_answer b else Waiting (Register (core_of s.seat op.to)))
 raise_by true b s t c d op slot bytes posts valid small r raise changes = raise_goes b s t c d op slot bytes posts valid small r raise changes
 raise_by false b s t c d op slot bytes posts valid small r raise changes =
     let at = at_stage s.seat (record_in s) c op slot bytes Raise r raise in
     let layout = s.seat.setup.layout in
     let core = core_of s.seat op.to in
-    register_waits s t c d op slot bytes core (sent_flag s.seat s.seat.rank) true valid r (empty_by layout s t c d op bytes core (sent_flag s.seat s.seat.rank) at.1 changes)
+    register_waits s t c d op slot bytes core (signal_flag s.seat Sent s.seat.rank) true valid r (empty_by layout s t c d op bytes core (signal_flag s.seat Sent s.seat.rank) at.1 changes)
     (sent_is_flag s.seat valid s.seat.rank op.to r.peers)
     (λ e. spot_at s.seat op slot Raise raise ∙ spot_bits layout (own_core s.seat) core op.to (slot_spot s.seat slot) e) changes
     (send_does (sending s c op slot bytes) Raise false false t d raise refl changes)
 
 pub raise_turn : (gone : Bool) (s t : Sight) (c d : Private) (op : SendAt) (slot : SlotAt) (bytes : List ℕ) → IsSetup s.seat.setup → AreBytes bytes → SendStands s c op slot bytes → op.stage ≡ Raise
-    → Changes s c (core_of s.seat op.to) (sent_flag s.seat s.seat.rank) true gone t d
+    → Changes s c (core_of s.seat op.to) (signal_flag s.seat Sent s.seat.rank) true gone t d
     → SendTurns s c op slot bytes t d (after_sent gone op) (slot_sent gone op slot) (sent_answer gone (Register (core_of s.seat op.to)) op)
 raise_turn gone s t c d op slot bytes valid small r raise changes = raise_by gone op.posted s t c d op slot bytes refl valid small r raise changes
