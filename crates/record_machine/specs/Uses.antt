@@ -5,18 +5,19 @@ use Rattle.scc_base.specs.Setups.{SetupView}
 use Rattle.scc_base.specs.declared.communicators.CommRule.TheVariants.{Absent}
 use Rattle.record_machine.specs.declared.uses.Use.{Use}
 use Rattle.record_machine.specs.declared.uses.Use.TheVariants as word_use
+use Rattle.scc_base.specs.declared.signals.Signal.TheVariants.{Sent, Ready}
 use Rattle.scc_proto.specs.Records.{forget_ready, forget_sent, note_ready, note_sent}
 use Rattle.scc_proto.specs.Stages.{FlagWords}
-use Rattle.scc_proto.specs.Words.{Role, HeaderWord, ChunkWord, SentFlag, ReadyFlag, SentFlags, ReadyFlags, GatherFlag, ReleaseFlag, HeapWord, IdleWord}
+use Rattle.scc_proto.specs.Words.{Role, HeaderWord, ChunkWord, SignalFlag, SignalFlags, GatherFlag, ReleaseFlag, HeapWord, IdleWord}
 
 -- the role that is meant
 abbrev pub role_meant : Use → Role
 role_meant (word_use.Header owner word) = HeaderWord owner word
 role_meant (word_use.Chunk owner word) = ChunkWord owner word
-role_meant (word_use.Sent from to) = SentFlag from to
-role_meant (word_use.Ready from to) = ReadyFlag from to
-role_meant (word_use.SentBits owner) = SentFlags owner
-role_meant (word_use.ReadyBits owner) = ReadyFlags owner
+role_meant (word_use.Sent from to) = SignalFlag Sent from to
+role_meant (word_use.Ready from to) = SignalFlag Ready from to
+role_meant (word_use.SentBits owner) = SignalFlags Sent owner
+role_meant (word_use.ReadyBits owner) = SignalFlags Ready owner
 role_meant (word_use.Gather comm owner) = GatherFlag comm owner
 role_meant (word_use.Release comm owner) = ReleaseFlag comm owner
 role_meant word_use.Heap = HeapWord

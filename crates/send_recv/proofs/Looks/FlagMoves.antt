@@ -11,7 +11,7 @@ use Rattle.scc_base.specs.declared.layouts.Layout.{Layout}
 use Rattle.scc_base.specs.declared.layouts.Layout.TheVariants.{LineFlags, BitFlags}
 use Rattle.scc_proto.specs.Messages.{Notes}
 use Rattle.scc_proto.specs.Stages.{FlagWords, Record}
-use Rattle.scc_proto.specs.Moves.{Move, RaiseSent, LowerSent, RaiseReady, LowerReady, after}
+use Rattle.scc_proto.specs.Moves.{Move, RaiseSignal, LowerSignal, after}
 use Rattle.scc_proto.specs.Permission.{permits}
 use Rattle.scc_proto.specs.Soundness.{IsSound, is_drafting, is_taking, is_answered}
 use Rattle.scc_proto.specs.Words.{are_peers}
@@ -120,8 +120,8 @@ flag_moved s t c d r flag set move valid hands empty moves changes = flag_moved_
 
 -- a receiver lowers `sent` at its own core
 pub sent_lowers : (layout : Layout) (s : Sight) (from : ℕ) (header : Notes) → s.seat.setup.layout ≡ layout → IsSetup s.seat.setup → are_peers s.seat.setup s.seat.rank from ≡ true
-    → (record_in s).notes from ≡ Some header → permits (chunk_of s.seat.setup) (LowerSent from) (record_in s) ≡ true
-    → MovesFlag layout s.seat (record_in s) s.seat.rank (signal_at layout Sent from) false (LowerSent from)
+    → (record_in s).notes from ≡ Some header → permits (chunk_of s.seat.setup) (LowerSignal Sent from) (record_in s) ≡ true
+    → MovesFlag layout s.seat (record_in s) s.seat.rank (signal_at layout Sent from) false (LowerSignal Sent from)
 sent_lowers LineFlags s from header lines valid peers seen may = (omega arith, sent_lowered s.seat (record_in s) valid lines from peers may)
 sent_lowers BitFlags s from header bits valid peers seen may =
     let p = peers_are s.seat.setup s.seat.rank from peers in
@@ -138,8 +138,8 @@ sent_lowers BitFlags s from header bits valid peers seen may =
 
 -- a sender lowers `ready` at its own core, by a send or by the slot
 pub ready_lowers : (layout : Layout) (s : Sight) (by : ℕ) → s.seat.setup.layout ≡ layout → IsSetup s.seat.setup → are_peers s.seat.setup s.seat.rank by ≡ true
-    → is_answered by (record_in s).stage (record_in s).post ≡ true → permits (chunk_of s.seat.setup) (LowerReady by) (record_in s) ≡ true
-    → MovesFlag layout s.seat (record_in s) s.seat.rank (signal_at layout Ready by) false (LowerReady by)
+    → is_answered by (record_in s).stage (record_in s).post ≡ true → permits (chunk_of s.seat.setup) (LowerSignal Ready by) (record_in s) ≡ true
+    → MovesFlag layout s.seat (record_in s) s.seat.rank (signal_at layout Ready by) false (LowerSignal Ready by)
 ready_lowers LineFlags s by lines valid peers seen may = (omega arith, ready_lowered s.seat (record_in s) valid lines by peers may)
 ready_lowers BitFlags s by bits valid peers seen may =
     let p = peers_are s.seat.setup s.seat.rank by peers in
@@ -156,8 +156,8 @@ ready_lowers BitFlags s by bits valid peers seen may =
 
 -- a receiver raises `ready` at the core of the sender
 pub ready_raises : (layout : Layout) (s : Sight) (to : ℕ) → s.seat.setup.layout ≡ layout → IsSetup s.seat.setup → are_peers s.seat.setup s.seat.rank to ≡ true
-    → is_taking to (record_in s).stage ≡ true → permits (chunk_of s.seat.setup) (RaiseReady to) (record_in s) ≡ true
-    → MovesFlag layout s.seat (record_in s) to (signal_at layout Ready s.seat.rank) true (RaiseReady to)
+    → is_taking to (record_in s).stage ≡ true → permits (chunk_of s.seat.setup) (RaiseSignal Ready to) (record_in s) ≡ true
+    → MovesFlag layout s.seat (record_in s) to (signal_at layout Ready s.seat.rank) true (RaiseSignal Ready to)
 ready_raises LineFlags s to lines valid peers taking may = (omega arith, ready_raised s.seat (record_in s) valid lines to peers may)
 ready_raises BitFlags s to bits valid peers taking may =
     let p = peers_are s.seat.setup s.seat.rank to peers in
@@ -170,15 +170,15 @@ ready_raises BitFlags s to bits valid peers taking may =
       turns = λ words sound. sound.ready_clear to (slice_index words 1) (ready_is_noted (record_in s) core (slice_index words 0) (slice_index words 1)) taking;
       stored = λ words clear.
           let rec : Record = noted_under s.seat (record_in s) to words in
-          subst (λ v. Makes s.seat rec (store_of (flag_word core (signal_at BitFlags Ready s.seat.rank)) v) (change_held forget_ready core (after (chunk_of s.seat.setup) (RaiseReady to) rec)))
+          subst (λ v. Makes s.seat rec (store_of (flag_word core (signal_at BitFlags Ready s.seat.rank)) v) (change_held forget_ready core (after (chunk_of s.seat.setup) (RaiseSignal Ready to) rec)))
           (sym (bit_given (slice_index words 1) s.seat.rank clear))
           (ready_bit_raised s.seat rec valid bits to (slice_index words 1) peers (ready_is_noted (record_in s) core (slice_index words 0) (slice_index words 1)) clear may);
     }
 
 -- a sender raises `sent` at the core of the receiver, with bit flags; with line flags it stores first what waits
 pub sent_raises : (s : Sight) (to : ℕ) → s.seat.setup.layout ≡ BitFlags → IsSetup s.seat.setup → are_peers s.seat.setup s.seat.rank to ≡ true
-    → is_drafting (record_in s).stage (record_in s).post ≡ true → permits (chunk_of s.seat.setup) (RaiseSent to) (record_in s) ≡ true
-    → MovesFlag BitFlags s.seat (record_in s) to (signal_at BitFlags Sent s.seat.rank) true (RaiseSent to)
+    → is_drafting (record_in s).stage (record_in s).post ≡ true → permits (chunk_of s.seat.setup) (RaiseSignal Sent to) (record_in s) ≡ true
+    → MovesFlag BitFlags s.seat (record_in s) to (signal_at BitFlags Sent s.seat.rank) true (RaiseSignal Sent to)
 sent_raises s to bits valid peers drafting may =
     let p = peers_are s.seat.setup s.seat.rank to peers in
     let core = core_of s.seat to in
@@ -190,7 +190,7 @@ sent_raises s to bits valid peers drafting may =
       turns = λ words sound. sound.sent_clear to (slice_index words 0) peers (sent_is_noted (record_in s) core (slice_index words 0) (slice_index words 1)) drafting;
       stored = λ words clear.
           let rec : Record = noted_under s.seat (record_in s) to words in
-          subst (λ v. Makes s.seat rec (store_of (flag_word core (signal_at BitFlags Sent s.seat.rank)) v) (change_held forget_sent core (after (chunk_of s.seat.setup) (RaiseSent to) rec)))
+          subst (λ v. Makes s.seat rec (store_of (flag_word core (signal_at BitFlags Sent s.seat.rank)) v) (change_held forget_sent core (after (chunk_of s.seat.setup) (RaiseSignal Sent to) rec)))
           (sym (bit_given (slice_index words 0) s.seat.rank clear))
           (sent_bit_raised s.seat rec valid bits to (slice_index words 0) peers (sent_is_noted (record_in s) core (slice_index words 0) (slice_index words 1)) clear may);
     }

@@ -10,7 +10,7 @@ use Rattle.scc_base.specs.declared.events.Event.{Event}
 use Rattle.scc_base.specs.declared.layouts.Layout.{Layout}
 use Rattle.scc_base.specs.declared.layouts.Layout.TheVariants.{LineFlags, BitFlags}
 use Rattle.scc_proto.specs.Stages.{Filling, Raised, Answered, Stage, Idle, Drafting, Sending, Between, Taking, Barrier, OnItsWay, Record}
-use Rattle.scc_proto.specs.Moves.{LookSent, LookReady, look_ready, post_answered, after}
+use Rattle.scc_proto.specs.Moves.{LookSignal, look_ready, post_answered, after}
 use Rattle.scc_proto.specs.Words.{are_peers}
 use Rattle.scc_proto.specs.Records.{look_at, look_at_bits, chunk_of}
 use Rattle.scc_proto.specs.Ports.{Seat, Sight, Did, record_in, record_next, record_on}
@@ -35,7 +35,7 @@ on_four seat a b c d last e0 e1 e2 e3 p q r t =
 -- a record was looked with: of each signal some flags were seen
 pub record IsLooked (size : ℕ) (rec new : Record) : Type 0 where
   pub seen : Signal → ℕ → Bool
-  pub is : new ≡ after size (LookReady (seen Ready)) (after size (LookSent (seen Sent)) rec)
+  pub is : new ≡ after size (LookSignal Ready (seen Ready)) (after size (LookSignal Sent (seen Sent)) rec)
 
 -- no flag was seen
 abbrev pub none_set : ℕ → Bool
@@ -63,8 +63,8 @@ answered_none None = refl
 answered_none (Some post) = refl
 
 -- a look at `sent` flags alone
-looked_sent_alone : (size : ℕ) (rec : Record) (p : ℕ → Bool) → after size (LookSent p) rec ≡ after size (LookReady none_set) (after size (LookSent p) rec)
-looked_sent_alone size rec p = λ i. record (after size (LookSent p) rec) { stage = sym (seen_none rec.stage) i; post = sym (answered_none rec.post) i }
+looked_sent_alone : (size : ℕ) (rec : Record) (p : ℕ → Bool) → after size (LookSignal Sent p) rec ≡ after size (LookSignal Ready none_set) (after size (LookSignal Sent p) rec)
+looked_sent_alone size rec p = λ i. record (after size (LookSignal Sent p) rec) { stage = sym (seen_none rec.stage) i; post = sym (answered_none rec.post) i }
 
 -- ---- line flags
 
@@ -80,7 +80,7 @@ four_of_line seat rec last line words valid lines below low high first =
 
 signal_loaded : (signal : Signal) (seat : Seat) (rec : Record) (j : ℕ) (words : List ℕ) → IsSetup seat.setup → seat.setup.layout ≡ LineFlags → are_peers seat.setup seat.rank j ≡ true
     → record_next seat rec (load_of (own_word seat.setup seat.rank (first_signal signal + j) 0) (slice_index words 0))
-    ≡ after (chunk_of seat.setup) (LookReady (seen_alone signal (look_at j (slice_index words 0)) Ready)) (after (chunk_of seat.setup) (LookSent (seen_alone signal (look_at j (slice_index words 0)) Sent)) rec)
+    ≡ after (chunk_of seat.setup) (LookSignal Ready (seen_alone signal (look_at j (slice_index words 0)) Ready)) (after (chunk_of seat.setup) (LookSignal Sent (seen_alone signal (look_at j (slice_index words 0)) Sent)) rec)
 signal_loaded Sent seat rec j words valid lines peers =
     (sent_loaded seat rec valid lines j (slice_index words 0) peers).becomes ∙ looked_sent_alone (chunk_of seat.setup) rec (look_at j (slice_index words 0))
 signal_loaded Ready seat rec j words valid lines peers = (ready_loaded seat rec valid lines j (slice_index words 0) peers).becomes
@@ -95,7 +95,7 @@ lines_begin Ready j = omega arith
 
 signal_line : (signal : Signal) (seat : Seat) (rec : Record) (j : ℕ) (words : List ℕ) → IsSetup seat.setup → seat.setup.layout ≡ LineFlags → are_peers seat.setup seat.rank j ≡ true
     → record_on seat rec (loads_of (line_at seat seat.rank (first_signal signal + j)) words)
-    ≡ after (chunk_of seat.setup) (LookReady (seen_alone signal (look_at j (slice_index words 0)) Ready)) (after (chunk_of seat.setup) (LookSent (seen_alone signal (look_at j (slice_index words 0)) Sent)) rec)
+    ≡ after (chunk_of seat.setup) (LookSignal Ready (seen_alone signal (look_at j (slice_index words 0)) Ready)) (after (chunk_of seat.setup) (LookSignal Sent (seen_alone signal (look_at j (slice_index words 0)) Sent)) rec)
 signal_line signal seat rec j words valid lines peers =
     let p = peers_are seat.setup seat.rank j peers in
     four_of_line seat rec _ (first_signal signal + j) words valid lines p.one (lines_begin signal j) (lines_end signal j seat.setup.nue p.other valid.ranks_within)
@@ -105,10 +105,10 @@ signal_line signal seat rec j words valid lines peers =
 
 bits_line : (seat : Seat) (rec : Record) (words : List ℕ) → IsSetup seat.setup → seat.setup.layout ≡ BitFlags → seat.rank < seat.setup.nue → rec.held (own_core seat) ≡ None
     → record_on seat rec (loads_of (line_at seat seat.rank 1) words)
-    ≡ after (chunk_of seat.setup) (LookReady (look_at_bits seat.setup seat.rank (slice_index words 1))) (after (chunk_of seat.setup) (LookSent (look_at_bits seat.setup seat.rank (slice_index words 0))) rec)
+    ≡ after (chunk_of seat.setup) (LookSignal Ready (look_at_bits seat.setup seat.rank (slice_index words 1))) (after (chunk_of seat.setup) (LookSignal Sent (look_at_bits seat.setup seat.rank (slice_index words 0))) rec)
 bits_line seat rec words valid bits below free =
-    let a : Record = after (chunk_of seat.setup) (LookSent (look_at_bits seat.setup seat.rank (slice_index words 0))) rec in
-    let b : Record = after (chunk_of seat.setup) (LookReady (look_at_bits seat.setup seat.rank (slice_index words 1))) a in
+    let a : Record = after (chunk_of seat.setup) (LookSignal Sent (look_at_bits seat.setup seat.rank (slice_index words 0))) rec in
+    let b : Record = after (chunk_of seat.setup) (LookSignal Ready (look_at_bits seat.setup seat.rank (slice_index words 1))) a in
     on_four seat rec a b b b _ _ _ _
     (sent_bits_loaded seat rec valid bits (slice_index words 0) below free).becomes
     (ready_bits_loaded seat a valid bits (slice_index words 1) below free).becomes
