@@ -9,7 +9,7 @@ use Rattle.scc_base.specs.declared.signals.Signal.TheVariants.{Sent, Ready}
 use Rattle.scc_proto.specs.Messages.{Note, Notes, Progress, begun, head_of, is_whole}
 use Rattle.scc_proto.specs.Moves.{Move, DraftHeader, DraftChunk, RaiseSignal, LookSignal, ReadHeader, ReadChunk, LowerSignal, FlipGather, LookGather, WriteRelease, LookRelease, StoreHeap, NoMove, Misplaced}
 use Rattle.scc_proto.specs.Permission.{is_drafted, is_whole_header, may_take, permits}
-use Rattle.scc_proto.specs.Records.{change_at, chunk_of, is_permitted, permits_act, ready_noted, sent_noted, store_act}
+use Rattle.scc_proto.specs.Records.{change_at, chunk_of, is_permitted, permits_act, flags_noted, store_act}
 use Rattle.scc_proto.specs.Singles.{is_free}
 use Rattle.scc_proto.specs.Stages.{FlagWords, HeapStore, Filling, Raised, Answered, Stage, Idle, Drafting, Sending, Between, Taking, Barrier, OnItsWay, Record}
 use Rattle.scc_proto.specs.Words.{Role, HeaderWord, ChunkWord, SignalFlag, SignalFlags, GatherFlag, ReleaseFlag, HeapWord, IdleWord, role_of}
@@ -284,8 +284,8 @@ flags_first s me value other rec place is t = by (role_of s place) is t
     unnoted lower raise owner (Some old) e f = absurd (cc)
 
     no_word : (role : Role) → lacks_flags rec place.core role ≡ true → permits_act (chunk_of s) (store_act s me rec place other role) rec ≡ true → ⊥
-    no_word (SignalFlags Sent owner) e f = absurd (unnoted (LowerSignal Sent) (RaiseSignal Sent) owner (sent_noted rec place.core) e f)
-    no_word (SignalFlags Ready owner) e f = absurd (unnoted (LowerSignal Ready) (RaiseSignal Ready) owner (ready_noted rec place.core) e f)
+    no_word (SignalFlags Sent owner) e f = absurd (unnoted (LowerSignal Sent) (RaiseSignal Sent) owner (flags_noted Sent rec place.core) e f)
+    no_word (SignalFlags Ready owner) e f = absurd (unnoted (LowerSignal Ready) (RaiseSignal Ready) owner (flags_noted Ready rec place.core) e f)
     no_word role e f = absurd (cc)
 
     by : (role : Role) → (if lacks_flags rec place.core role then next.LoadFlags else stores_allowed s rec) ≡ next.LoadFlags

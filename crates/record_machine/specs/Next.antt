@@ -9,7 +9,7 @@ use Rattle.scc_base.specs.declared.signals.Signal.TheVariants.{Sent, Ready}
 use Rattle.scc_proto.specs.Messages.{Notes, begun, head_of, is_whole}
 use Rattle.scc_proto.specs.Moves.{Move, DraftHeader, DraftChunk, RaiseSignal, LookSignal, ReadHeader, ReadChunk, LowerSignal, FlipGather, LookGather, WriteRelease, LookRelease, StoreHeap, NoMove, Misplaced}
 use Rattle.scc_proto.specs.Permission.{is_drafted, is_empty, is_whole_header}
-use Rattle.scc_proto.specs.Records.{chunk_of, ready_noted, sent_noted}
+use Rattle.scc_proto.specs.Records.{chunk_of, flags_noted}
 use Rattle.scc_proto.specs.Stages.{Filling, Raised, Answered, Stage, Idle, Drafting, Sending, Between, Taking, Barrier, OnItsWay, Record}
 use Rattle.scc_proto.specs.Words.{Role, HeaderWord, ChunkWord, SignalFlag, SignalFlags, GatherFlag, ReleaseFlag, HeapWord, IdleWord, role_of}
 use Rattle.record_machine.specs.declared.next.NextEvent.{NextEvent}
@@ -45,9 +45,9 @@ abbrev pub lacks_flags : Record → ℕ → Role → Bool
 lacks_flags rec core (HeaderWord owner k) = false
 lacks_flags rec core (ChunkWord owner k) = false
 lacks_flags rec core (SignalFlag Sent from to) = false
-lacks_flags rec core (SignalFlag Ready from to) = false
-lacks_flags rec core (SignalFlags Sent owner) = is_none (sent_noted rec core)
-lacks_flags rec core (SignalFlags Ready owner) = is_none (ready_noted rec core)
+lacks_flags rec core (SignalFlag Ready to from) = false
+lacks_flags rec core (SignalFlags Sent owner) = is_none (flags_noted Sent rec core)
+lacks_flags rec core (SignalFlags Ready owner) = is_none (flags_noted Ready rec core)
 lacks_flags rec core (GatherFlag comm owner) = false
 lacks_flags rec core (ReleaseFlag comm owner) = false
 lacks_flags rec core HeapWord = false

@@ -10,7 +10,7 @@ use Rattle.scc_proto.specs.Stages.{Part, Filling, Raised, Answered, Stage, Idle,
 use Rattle.scc_proto.specs.Moves.{Move, DraftHeader, DraftChunk, RaiseSignal, LowerSignal, FlipGather, WriteRelease, Misplaced}
 use Rattle.scc_proto.specs.Permission.{drafts_header, drafts_chunk, is_whole_header, says_head, is_drafted, may_raise, may_take, has_taken, is_answered_by, may_go_on, is_idle, may_release, leaves_heap, permits}
 use Rattle.scc_proto.specs.Words.{Role, HeapWord, IdleWord, SignalFlags, role_of}
-use Rattle.scc_proto.specs.Records.{chunk_of, lowered_below, raises_bit, move_at, change_at, sent_noted, ready_noted, store_act, permits_act, is_permitted}
+use Rattle.scc_proto.specs.Records.{chunk_of, lowered_below, raises_bit, move_at, change_at, flags_noted, store_act, permits_act, is_permitted}
 use Rattle.scc_proto.proofs.Tests.{both_first, both_second, eqb_same, same_by_eqb, eqb_other}
 
 both : (a b : Bool) → a ≡ true → b ≡ true → (a && b) ≡ true
@@ -105,17 +105,17 @@ module _ (lower raise : ℕ → Move) (s : SetupView) (me owner new : ℕ) (rec 
           ∙ ap (λ (b : Bool). permits (chunk_of s) (if b then raise owner else Misplaced) rec) x.1 ∙ x.2
 
 pub sent_bits_where : (s : SetupView) (me owner value : ℕ) (rec : Record) (place : WordAt) → role_of s place ≡ SignalFlags Sent owner
-    → (is_permitted s me rec (store_of place value) ≡ true) ↔ (ChangesWhere (LowerSignal Sent) (RaiseSignal Sent) s me owner value rec (sent_noted rec place.core))
+    → (is_permitted s me rec (store_of place value) ≡ true) ↔ (ChangesWhere (LowerSignal Sent) (RaiseSignal Sent) s me owner value rec (flags_noted Sent rec place.core))
 sent_bits_where s me owner value rec place is = let e = stored_by s me rec place value (SignalFlags Sent owner) is in (
-  λ t. changes (LowerSignal Sent) (RaiseSignal Sent) s me owner value rec (sent_noted rec place.core) (sym e ∙ t),
-  λ w. e ∙ may_change (LowerSignal Sent) (RaiseSignal Sent) s me owner value rec (sent_noted rec place.core) w,
+  λ t. changes (LowerSignal Sent) (RaiseSignal Sent) s me owner value rec (flags_noted Sent rec place.core) (sym e ∙ t),
+  λ w. e ∙ may_change (LowerSignal Sent) (RaiseSignal Sent) s me owner value rec (flags_noted Sent rec place.core) w,
 )
 
 pub ready_bits_where : (s : SetupView) (me owner value : ℕ) (rec : Record) (place : WordAt) → role_of s place ≡ SignalFlags Ready owner
-    → (is_permitted s me rec (store_of place value) ≡ true) ↔ (ChangesWhere (LowerSignal Ready) (RaiseSignal Ready) s me owner value rec (ready_noted rec place.core))
+    → (is_permitted s me rec (store_of place value) ≡ true) ↔ (ChangesWhere (LowerSignal Ready) (RaiseSignal Ready) s me owner value rec (flags_noted Ready rec place.core))
 ready_bits_where s me owner value rec place is = let e = stored_by s me rec place value (SignalFlags Ready owner) is in (
-  λ t. changes (LowerSignal Ready) (RaiseSignal Ready) s me owner value rec (ready_noted rec place.core) (sym e ∙ t),
-  λ w. e ∙ may_change (LowerSignal Ready) (RaiseSignal Ready) s me owner value rec (ready_noted rec place.core) w,
+  λ t. changes (LowerSignal Ready) (RaiseSignal Ready) s me owner value rec (flags_noted Ready rec place.core) (sym e ∙ t),
+  λ w. e ∙ may_change (LowerSignal Ready) (RaiseSignal Ready) s me owner value rec (flags_noted Ready rec place.core) w,
 )
 
 -- ---- drafts

@@ -11,7 +11,7 @@ ghost use Rattle.scc_proto.specs.Moves.{DraftHeader, DraftChunk, RaiseSignal, Lo
 ghost use Rattle.scc_proto.specs.Permission.{is_whole_header, says_head, is_drafted, permits};
 ghost use Rattle.scc_proto.specs.Messages.{is_whole};
 ghost use Rattle.scc_proto.specs.Words.{HeapWord, IdleWord, SignalFlags, role_of};
-ghost use Rattle.scc_proto.specs.Records.{IsPermitted, chunk_of, lowered_below, raises_bit, sent_noted, ready_noted};
+ghost use Rattle.scc_proto.specs.Records.{IsPermitted, chunk_of, lowered_below, raises_bit, flags_noted};
 
 /// A heap word is stored exactly where nothing is drafted, no chunk is being taken and no barrier is open.
 pub fn heap_store_law()
@@ -39,11 +39,11 @@ pub fn register_law()
 /// permitted.
 pub fn bits_law()
     ensures sent { (s : SetupView) (me owner value : ℕ) (rec : Record) (place : WordAt) → role_of s place ≡ SignalFlags Sent owner
-        → (IsPermitted s me rec (store_of place value)) ↔ ((old : ℕ) × (sent_noted rec place.core ≡ Some old)
+        → (IsPermitted s me rec (store_of place value)) ↔ ((old : ℕ) × (flags_noted Sent rec place.core ≡ Some old)
         × (((owner ≡ me) × (from : ℕ) × (lowered_below me old value s.nue ≡ Some from) × (permits (chunk_of s) (LowerSignal Sent from) rec ≡ true))
         ⊎ ((owner ≢ me) × (raises_bit me old value ≡ true) × (permits (chunk_of s) (RaiseSignal Sent owner) rec ≡ true)))) }
     ensures ready { (s : SetupView) (me owner value : ℕ) (rec : Record) (place : WordAt) → role_of s place ≡ SignalFlags Ready owner
-        → (IsPermitted s me rec (store_of place value)) ↔ ((old : ℕ) × (ready_noted rec place.core ≡ Some old)
+        → (IsPermitted s me rec (store_of place value)) ↔ ((old : ℕ) × (flags_noted Ready rec place.core ≡ Some old)
         × (((owner ≡ me) × (by : ℕ) × (lowered_below me old value s.nue ≡ Some by) × (permits (chunk_of s) (LowerSignal Ready by) rec ≡ true))
         ⊎ ((owner ≢ me) × (raises_bit me old value ≡ true) × (permits (chunk_of s) (RaiseSignal Ready owner) rec ≡ true)))) }
 {}

@@ -34,7 +34,7 @@ module _ (seat : Seat) (rec : Record) (place : WordAt) (value : ℕ) (idle : rec
   by_role (HeaderWord owner k) = idle
   by_role (ChunkWord owner k) = ap (λ (st : Stage). read_chunk owner k value st) idle
   by_role (SignalFlag Sent from to) = either (chunk_of seat.setup) rec (to == seat.rank) (LookSignal Sent (look_at from value)) NoMove idle idle
-  by_role (SignalFlag Ready from to) = either (chunk_of seat.setup) rec (from == seat.rank) (LookSignal Ready (look_at to value)) NoMove (ap (λ (st : Stage). look_ready (look_at to value) st) idle) idle
+  by_role (SignalFlag Ready to from) = either (chunk_of seat.setup) rec (from == seat.rank) (LookSignal Ready (look_at to value)) NoMove (ap (λ (st : Stage). look_ready (look_at to value) st) idle) idle
   by_role (SignalFlags Sent owner) = either_act (chunk_of seat.setup) rec (is_some (rec.held place.core)) (NotingSignal Sent place.core value) (Moving (load_by seat.setup seat.rank value (SignalFlags Sent owner))) idle
       (either (chunk_of seat.setup) rec (owner == seat.rank) (LookSignal Sent (look_at_bits seat.setup seat.rank value)) NoMove idle idle)
   by_role (SignalFlags Ready owner) = either_act (chunk_of seat.setup) rec (is_some (rec.held place.core)) (NotingSignal Ready place.core value) (Moving (load_by seat.setup seat.rank value (SignalFlags Ready owner))) idle

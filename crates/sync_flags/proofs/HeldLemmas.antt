@@ -7,7 +7,7 @@ use Rattle.scc_base.specs.declared.signals.Signal.TheVariants.{Sent, Ready}
 use Rattle.scc_proto.specs.Tables.{put}
 use Rattle.scc_proto.specs.Stages.{FlagWords, Record}
 use Rattle.scc_proto.specs.Words.{Role, HeaderWord, ChunkWord, SignalFlag, SignalFlags, GatherFlag, ReleaseFlag, HeapWord, IdleWord, role_of}
-use Rattle.scc_proto.specs.Records.{Act, Moving, NotingSignal, ChangingSignal, Holding, Freeing, act_of, load_act, store_act, after_act, permits_act, chunk_of, note_sent, note_ready, forget_sent, forget_ready}
+use Rattle.scc_proto.specs.Records.{Act, Moving, NotingSignal, ChangingSignal, Holding, Freeing, act_of, load_act, store_act, after_act, permits_act, chunk_of, note_flags, forget_flags}
 use Rattle.scc_proto.specs.Ports.{Seat, record_next}
 use Rattle.scc_proto.proofs.Tests.{same_by_eqb}
 use Rattle.tas_lock.specs.Holds.{IsHolding}
@@ -41,10 +41,10 @@ changed_some change held core k h =
 holds_after : (size : ℕ) (a : Act) (rec : Record) (k : ℕ) → is_freeing a ≡ false → IsHolding rec k → IsHolding (after_act size a rec) k
 unfolding is_freeing
 holds_after size (Moving move) rec k quiet h = h
-holds_after size (NotingSignal Sent core value) rec k quiet h = changed_some (note_sent value) rec.held core k h
-holds_after size (NotingSignal Ready core value) rec k quiet h = changed_some (note_ready value) rec.held core k h
-holds_after size (ChangingSignal Sent core move) rec k quiet h = changed_some forget_sent rec.held core k h
-holds_after size (ChangingSignal Ready core move) rec k quiet h = changed_some forget_ready rec.held core k h
+holds_after size (NotingSignal Sent core value) rec k quiet h = changed_some (note_flags Sent value) rec.held core k h
+holds_after size (NotingSignal Ready core value) rec k quiet h = changed_some (note_flags Ready value) rec.held core k h
+holds_after size (ChangingSignal Sent core move) rec k quiet h = changed_some (forget_flags Sent) rec.held core k h
+holds_after size (ChangingSignal Ready core move) rec k quiet h = changed_some (forget_flags Ready) rec.held core k h
 holds_after size (Holding core) rec k quiet h = put_some rec.held core k (Some (record { sent = None; ready = None })) (λ e. refl) h
 holds_after size (Freeing core) rec k quiet h = absurd (cc)
 
@@ -59,7 +59,7 @@ load_quiet s me rec place value (SignalFlags Ready owner) = either_quiet (is_som
 load_quiet s me rec place value (HeaderWord owner k) = refl
 load_quiet s me rec place value (ChunkWord owner k) = refl
 load_quiet s me rec place value (SignalFlag Sent from to) = refl
-load_quiet s me rec place value (SignalFlag Ready from to) = refl
+load_quiet s me rec place value (SignalFlag Ready to from) = refl
 load_quiet s me rec place value (GatherFlag comm owner) = refl
 load_quiet s me rec place value (ReleaseFlag comm owner) = refl
 load_quiet s me rec place value HeapWord = refl
@@ -72,7 +72,7 @@ store_quiet s me rec place value (SignalFlags Ready owner) = refl
 store_quiet s me rec place value (HeaderWord owner k) = refl
 store_quiet s me rec place value (ChunkWord owner k) = refl
 store_quiet s me rec place value (SignalFlag Sent from to) = refl
-store_quiet s me rec place value (SignalFlag Ready from to) = refl
+store_quiet s me rec place value (SignalFlag Ready to from) = refl
 store_quiet s me rec place value (GatherFlag comm owner) = refl
 store_quiet s me rec place value (ReleaseFlag comm owner) = refl
 store_quiet s me rec place value HeapWord = refl

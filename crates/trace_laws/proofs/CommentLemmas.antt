@@ -22,7 +22,7 @@ abbrev pub IsLowRole : Role → Type 0
 IsLowRole (HeaderWord owner k) = owner < 48
 IsLowRole (ChunkWord owner k) = (owner < 48) × (k < 10000)
 IsLowRole (SignalFlag Sent from to) = (from < 1000) × (to < 1000)
-IsLowRole (SignalFlag Ready from to) = (from < 1000) × (to < 1000)
+IsLowRole (SignalFlag Ready to from) = (from < 1000) × (to < 1000)
 IsLowRole (SignalFlags Sent owner) = owner < 48
 IsLowRole (SignalFlags Ready owner) = owner < 48
 IsLowRole (GatherFlag comm owner) = (comm < 1000) × (owner < 48)
@@ -36,10 +36,10 @@ either false x y one other = other
 
 flag_low : (l : Layout) (s : SetupView) (owner line word : ℕ) → owner < 48 → line < 256 → IsLowRole (flag_role l s owner line word)
 flag_low LineFlags s owner line word low below =
-    either (word == 0) (if nat_le line 48 then if_peers s (line - 1) owner (SignalFlag Sent (line - 1) owner) else if_peers s owner (line - 49) (SignalFlag Ready owner (line - 49))) IdleWord
-    (either (nat_le line 48) (if_peers s (line - 1) owner (SignalFlag Sent (line - 1) owner)) (if_peers s owner (line - 49) (SignalFlag Ready owner (line - 49)))
+    either (word == 0) (if nat_le line 48 then if_peers s (line - 1) owner (SignalFlag Sent (line - 1) owner) else if_peers s owner (line - 49) (SignalFlag Ready (line - 49) owner)) IdleWord
+    (either (nat_le line 48) (if_peers s (line - 1) owner (SignalFlag Sent (line - 1) owner)) (if_peers s owner (line - 49) (SignalFlag Ready (line - 49) owner))
     (either (are_peers s (line - 1) owner) (SignalFlag Sent (line - 1) owner) IdleWord (omega (arith, below), omega (arith, low)) tt)
-    (either (are_peers s owner (line - 49)) (SignalFlag Ready owner (line - 49)) IdleWord (omega (arith, low), omega (arith, below)) tt))
+    (either (are_peers s owner (line - 49)) (SignalFlag Ready (line - 49) owner) IdleWord (omega (arith, low), omega (arith, below)) tt))
     tt
 flag_low BitFlags s owner line word low below = either (word == 0) (SignalFlags Sent owner) (if word == 1 then SignalFlags Ready owner else IdleWord) low (either (word == 1) (SignalFlags Ready owner) IdleWord low tt)
 
@@ -148,7 +148,7 @@ role_comment (SignalFlag Sent from to) (low, few) =
     let a = three from low in
     let b = three to few in
     four_texts (codes "sent of ") (decimal from) (codes " to ") (decimal to) 8 4 refl refl (omega (arith, a, b)) refl (number_is from (omega (arith, low))) refl (number_is to (omega (arith, few)))
-role_comment (SignalFlag Ready from to) (low, few) =
+role_comment (SignalFlag Ready to from) (low, few) =
     let a = three from low in
     let b = three to few in
     four_texts (codes "ready of ") (decimal to) (codes " to ") (decimal from) 9 4 refl refl (omega (arith, a, b)) refl (number_is to (omega (arith, few))) refl (number_is from (omega (arith, low)))

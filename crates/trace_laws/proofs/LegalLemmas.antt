@@ -12,7 +12,7 @@ use Rattle.scc_base.specs.declared.layouts.Layout.TheVariants.{LineFlags, BitFla
 use Rattle.scc_base.specs.declared.signals.Signal.TheVariants.{Sent, Ready}
 use Rattle.scc_proto.specs.Histories.{IsPermittedRun, records_from}
 use Rattle.scc_proto.specs.Moves.{Move, LowerSignal, RaiseSignal}
-use Rattle.scc_proto.specs.Records.{Act, ChangingSignal, act_by, act_of, after_act, change_at, chunk_of, load_act, permits_by, permits_act, ready_noted, record_after, sent_noted, store_act}
+use Rattle.scc_proto.specs.Records.{Act, ChangingSignal, act_by, act_of, after_act, change_at, chunk_of, load_act, permits_by, permits_act, flags_noted, record_after, store_act}
 use Rattle.scc_proto.specs.Stages.{Record}
 use Rattle.scc_proto.specs.Tables.{put}
 use Rattle.scc_proto.specs.Words.{RankEvent, Role, HeaderWord, ChunkWord, SignalFlag, SignalFlags, GatherFlag, ReleaseFlag, HeapWord, IdleWord, barrier_role, flag_role, rank_below, rank_on, role_at, role_of, role_where}
@@ -56,7 +56,7 @@ load_same : (s : SetupView) (hosts : List ℕ) (me : ℕ) (rec : Record) (p : Wo
 load_same s hosts me rec p v (HeaderWord owner k) = refl
 load_same s hosts me rec p v (ChunkWord owner k) = refl
 load_same s hosts me rec p v (SignalFlag Sent from to) = refl
-load_same s hosts me rec p v (SignalFlag Ready from to) = refl
+load_same s hosts me rec p v (SignalFlag Ready to from) = refl
 load_same s hosts me rec p v (SignalFlags Sent owner) = refl
 load_same s hosts me rec p v (SignalFlags Ready owner) = refl
 load_same s hosts me rec p v (GatherFlag comm owner) = refl
@@ -72,9 +72,9 @@ store_same : (s : SetupView) (hosts : List ℕ) (me : ℕ) (rec : Record) (p : W
 store_same s hosts me rec p v (HeaderWord owner k) = refl
 store_same s hosts me rec p v (ChunkWord owner k) = refl
 store_same s hosts me rec p v (SignalFlag Sent from to) = refl
-store_same s hosts me rec p v (SignalFlag Ready from to) = refl
-store_same s hosts me rec p v (SignalFlags Sent owner) = ap (ChangingSignal Sent p.core) (change_same (LowerSignal Sent) (RaiseSignal Sent) s hosts me owner v (sent_noted rec p.core))
-store_same s hosts me rec p v (SignalFlags Ready owner) = ap (ChangingSignal Ready p.core) (change_same (LowerSignal Ready) (RaiseSignal Ready) s hosts me owner v (ready_noted rec p.core))
+store_same s hosts me rec p v (SignalFlag Ready to from) = refl
+store_same s hosts me rec p v (SignalFlags Sent owner) = ap (ChangingSignal Sent p.core) (change_same (LowerSignal Sent) (RaiseSignal Sent) s hosts me owner v (flags_noted Sent rec p.core))
+store_same s hosts me rec p v (SignalFlags Ready owner) = ap (ChangingSignal Ready p.core) (change_same (LowerSignal Ready) (RaiseSignal Ready) s hosts me owner v (flags_noted Ready rec p.core))
 store_same s hosts me rec p v (GatherFlag comm owner) = refl
 store_same s hosts me rec p v (ReleaseFlag comm owner) = refl
 store_same s hosts me rec p v HeapWord = refl

@@ -38,7 +38,7 @@ abbrev pub role_words : Role → List (List ℕ)
 role_words (HeaderWord owner word) = codes "header of " ∷ decimal owner ∷ codes ": " ∷ header_word_name word ∷ []
 role_words (ChunkWord owner word) = codes "chunk word " ∷ decimal word ∷ codes " of " ∷ decimal owner ∷ []
 role_words (SignalFlag Sent from to) = codes "sent of " ∷ decimal from ∷ codes " to " ∷ decimal to ∷ []
-role_words (SignalFlag Ready from to) = codes "ready of " ∷ decimal to ∷ codes " to " ∷ decimal from ∷ []
+role_words (SignalFlag Ready to from) = codes "ready of " ∷ decimal to ∷ codes " to " ∷ decimal from ∷ []
 role_words (SignalFlags Sent owner) = codes "sent flags of " ∷ decimal owner ∷ []
 role_words (SignalFlags Ready owner) = codes "ready flags of " ∷ decimal owner ∷ []
 role_words (GatherFlag comm owner) = codes "gather of " ∷ decimal owner ∷ codes " in comm " ∷ decimal comm ∷ []

@@ -23,7 +23,7 @@ word_at_start : (s : SetupView) (place : WordAt) (role : Role) → WordAgrees s 
 word_at_start s place (HeaderWord owner k) = tt
 word_at_start s place (ChunkWord owner k) = tt
 word_at_start s place (SignalFlag Sent from to) = tt
-word_at_start s place (SignalFlag Ready from to) = tt
+word_at_start s place (SignalFlag Ready to from) = tt
 word_at_start s place (SignalFlags Sent owner) = λ b idle. bit_at-zero b
 word_at_start s place (SignalFlags Ready owner) = λ b idle. bit_at-zero b
 word_at_start s place (GatherFlag comm owner) = tt

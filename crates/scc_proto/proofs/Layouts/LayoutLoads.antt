@@ -98,7 +98,7 @@ module _ (s : SetupView) (memory : Memory) (rec : Record) (me : ℕ) (below : me
         shows = refl;
       })
       (λ f. no_move)
-  loads_as (SignalFlag Ready from to) st = either (LoadsAs s me (view_of s memory) rec) (from == me) (LookSignal Ready (look_at to value)) NoMove
+  loads_as (SignalFlag Ready to from) st = either (LoadsAs s me (view_of s memory) rec) (from == me) (LookSignal Ready (look_at to value)) NoMove
       (λ t. let own = eq_is from me t in record {
         own = λ j u. let same = eq_is j to (both_first (j == to) (value == 1) u) in
             subst (λ (x : ℕ). are_peers s me x ≡ true) (sym same) (subst (λ (x : ℕ). are_peers s x to ≡ true) own st.1);

@@ -15,7 +15,7 @@ use Rattle.scc_proto.specs.Stages.{Record}
 use Rattle.scc_proto.specs.Moves.{Move, DraftHeader, DraftChunk, RaiseSignal, LookSignal, ReadHeader, ReadChunk, LowerSignal, FlipGather, LookGather, WriteRelease, LookRelease, StoreHeap, NoMove, Misplaced, after}
 use Rattle.scc_proto.specs.Permission.{permits}
 use Rattle.scc_proto.specs.Words.{Role, HeaderWord, ChunkWord, SignalFlag, SignalFlags, GatherFlag, ReleaseFlag, HeapWord, IdleWord, role_of, are_peers, is_present}
-use Rattle.scc_proto.specs.Records.{Act, Moving, NotingSignal, act_of, load_act, store_act, store_by, look_at, look_at_bits, last_of, leads, move_at, change_at, raises_bit, chunk_of, sent_noted, ready_noted, note_sent, note_ready, forget_sent, forget_ready, change_held, after_act, permits_act}
+use Rattle.scc_proto.specs.Records.{Act, Moving, NotingSignal, act_of, load_act, store_act, store_by, look_at, look_at_bits, last_of, leads, move_at, change_at, raises_bit, chunk_of, flags_noted, note_flags, forget_flags, change_held, after_act, permits_act}
 use Rattle.scc_proto.specs.Ports.{Seat, record_next, MayMake}
 use Rattle.scc_proto.proofs.Tests.{eqb_same, eqb_other, peers_are, peers_swap}
 use Rattle.scc_proto.proofs.Words.FlagBits.{raises_from, lowers_from, lowered_below-from}
@@ -151,7 +151,7 @@ module _ (seat : Seat) (rec : Record) (valid : IsSetup seat.setup) (lines : seat
   sent_is : (from to : ℕ) → are_peers seat.setup from to ≡ true → role_of seat.setup (flag_word (host_of seat.setup.hosts to) (signal_at LineFlags Sent from)) ≡ SignalFlag Sent from to
   sent_is from to peers = subst (λ (layout : Layout). role_of seat.setup (flag_word (host_of seat.setup.hosts to) (signal_at layout Sent from)) ≡ sent_role layout from to) lines (role_sent seat.setup valid from to peers)
 
-  ready_is : (from to : ℕ) → are_peers seat.setup from to ≡ true → role_of seat.setup (flag_word (host_of seat.setup.hosts from) (signal_at LineFlags Ready to)) ≡ SignalFlag Ready from to
+  ready_is : (from to : ℕ) → are_peers seat.setup from to ≡ true → role_of seat.setup (flag_word (host_of seat.setup.hosts from) (signal_at LineFlags Ready to)) ≡ SignalFlag Ready to from
   ready_is from to peers = subst (λ (layout : Layout). role_of seat.setup (flag_word (host_of seat.setup.hosts from) (signal_at layout Ready to)) ≡ ready_role layout from to) lines (role_ready seat.setup valid from to peers)
 
   -- the flag of the messages from rank j, at the own core
@@ -162,7 +162,7 @@ module _ (seat : Seat) (rec : Record) (valid : IsSetup seat.setup) (lines : seat
 
   pub ready_loaded : (j value : ℕ) → are_peers seat.setup seat.rank j ≡ true
       → Makes seat rec (load_of (flag_word (host_of seat.setup.hosts seat.rank) (signal_at LineFlags Ready j)) value) (after (chunk_of seat.setup) (LookSignal Ready (look_at j value)) rec)
-  ready_loaded j value peers = load_moves seat rec _ value (SignalFlag Ready seat.rank j) (LookSignal Ready (look_at j value)) (ready_is seat.rank j peers)
+  ready_loaded j value peers = load_moves seat rec _ value (SignalFlag Ready j seat.rank) (LookSignal Ready (look_at j value)) (ready_is seat.rank j peers)
       (ap (λ (m : Move). Moving m) (if_yes (seat.rank == seat.rank) (LookSignal Ready (look_at j value)) NoMove (eqb_same seat.rank)))
 
   -- at the core of the receiver
@@ -180,12 +180,12 @@ module _ (seat : Seat) (rec : Record) (valid : IsSetup seat.setup) (lines : seat
 
   pub ready_raised : (to : ℕ) → are_peers seat.setup seat.rank to ≡ true → permits (chunk_of seat.setup) (RaiseSignal Ready to) rec ≡ true
       → Makes seat rec (store_of (flag_word (host_of seat.setup.hosts to) (signal_at LineFlags Ready seat.rank)) 1) (after (chunk_of seat.setup) (RaiseSignal Ready to) rec)
-  ready_raised to peers = store_moves seat rec _ 1 (SignalFlag Ready to seat.rank) (RaiseSignal Ready to) (ready_is to seat.rank (peers_swap seat.setup seat.rank to peers))
+  ready_raised to peers = store_moves seat rec _ 1 (SignalFlag Ready seat.rank to) (RaiseSignal Ready to) (ready_is to seat.rank (peers_swap seat.setup seat.rank to peers))
       (ap (λ (m : Move). Moving m) (if_yes ((seat.rank == seat.rank) && true) (RaiseSignal Ready to) _ (λ i. eqb_same seat.rank i && true)))
 
   pub ready_lowered : (by : ℕ) → are_peers seat.setup seat.rank by ≡ true → permits (chunk_of seat.setup) (LowerSignal Ready by) rec ≡ true
       → Makes seat rec (store_of (flag_word (host_of seat.setup.hosts seat.rank) (signal_at LineFlags Ready by)) 0) (after (chunk_of seat.setup) (LowerSignal Ready by) rec)
-  ready_lowered by peers = store_moves seat rec _ 0 (SignalFlag Ready seat.rank by) (LowerSignal Ready by) (ready_is seat.rank by peers)
+  ready_lowered by peers = store_moves seat rec _ 0 (SignalFlag Ready by seat.rank) (LowerSignal Ready by) (ready_is seat.rank by peers)
       (ap (λ (m : Move). Moving m) (if_no ((by == seat.rank) && false) (RaiseSignal Ready seat.rank) _ (and_false (by == seat.rank))
       ∙ if_yes ((seat.rank == seat.rank) && true) (LowerSignal Ready by) Misplaced (λ i. eqb_same seat.rank i && true)))
 
@@ -207,13 +207,13 @@ module _ (seat : Seat) (rec : Record) (valid : IsSetup seat.setup) (bits : seat.
 
   -- a load under the register of the word's core
   pub sent_bits_noted : (r value : ℕ) → r < seat.setup.nue → is_some (rec.held (host_of seat.setup.hosts r)) ≡ true
-      → Makes seat rec (load_of (own_word seat.setup r 1 0) value) (change_held (note_sent value) (host_of seat.setup.hosts r) rec)
+      → Makes seat rec (load_of (own_word seat.setup r 1 0) value) (change_held (note_flags Sent value) (host_of seat.setup.hosts r) rec)
   sent_bits_noted r value lt held = let act = if_yes (is_some (rec.held (host_of seat.setup.hosts r))) (NotingSignal Sent (host_of seat.setup.hosts r) value) _ held in
       subst (λ (a : Act). Makes seat rec (load_of (own_word seat.setup r 1 0) value) (after_act (chunk_of seat.setup) a rec)) act
       (load_makes seat rec (own_word seat.setup r 1 0) value (SignalFlags Sent r) (role_sent_bits seat.setup valid bits r lt))
 
   pub ready_bits_noted : (r value : ℕ) → r < seat.setup.nue → is_some (rec.held (host_of seat.setup.hosts r)) ≡ true
-      → Makes seat rec (load_of (own_word seat.setup r 1 1) value) (change_held (note_ready value) (host_of seat.setup.hosts r) rec)
+      → Makes seat rec (load_of (own_word seat.setup r 1 1) value) (change_held (note_flags Ready value) (host_of seat.setup.hosts r) rec)
   ready_bits_noted r value lt held = let act = if_yes (is_some (rec.held (host_of seat.setup.hosts r))) (NotingSignal Ready (host_of seat.setup.hosts r) value) _ held in
       subst (λ (a : Act). Makes seat rec (load_of (own_word seat.setup r 1 1) value) (after_act (chunk_of seat.setup) a rec)) act
       (load_makes seat rec (own_word seat.setup r 1 1) value (SignalFlags Ready r) (role_ready_bits seat.setup valid bits r lt))
@@ -221,16 +221,16 @@ module _ (seat : Seat) (rec : Record) (valid : IsSetup seat.setup) (bits : seat.
   -- a store of a flag word that is this move
   sent_changed : (r value : ℕ) (move : Move) → r < seat.setup.nue → store_by seat.setup seat.rank rec (own_word seat.setup r 1 0) value (SignalFlags Sent r) ≡ move
       → permits (chunk_of seat.setup) move rec ≡ true
-      → Makes seat rec (store_of (own_word seat.setup r 1 0) value) (change_held forget_sent (host_of seat.setup.hosts r) (after (chunk_of seat.setup) move rec))
+      → Makes seat rec (store_of (own_word seat.setup r 1 0) value) (change_held (forget_flags Sent) (host_of seat.setup.hosts r) (after (chunk_of seat.setup) move rec))
   sent_changed r value move lt is may =
-      subst (λ (m : Move). Makes seat rec (store_of (own_word seat.setup r 1 0) value) (change_held forget_sent (host_of seat.setup.hosts r) (after (chunk_of seat.setup) m rec))) is
+      subst (λ (m : Move). Makes seat rec (store_of (own_word seat.setup r 1 0) value) (change_held (forget_flags Sent) (host_of seat.setup.hosts r) (after (chunk_of seat.setup) m rec))) is
       (store_makes seat rec (own_word seat.setup r 1 0) value (SignalFlags Sent r) (role_sent_bits seat.setup valid bits r lt) (ap (λ (m : Move). permits (chunk_of seat.setup) m rec) is ∙ may))
 
   ready_changed : (r value : ℕ) (move : Move) → r < seat.setup.nue → store_by seat.setup seat.rank rec (own_word seat.setup r 1 1) value (SignalFlags Ready r) ≡ move
       → permits (chunk_of seat.setup) move rec ≡ true
-      → Makes seat rec (store_of (own_word seat.setup r 1 1) value) (change_held forget_ready (host_of seat.setup.hosts r) (after (chunk_of seat.setup) move rec))
+      → Makes seat rec (store_of (own_word seat.setup r 1 1) value) (change_held (forget_flags Ready) (host_of seat.setup.hosts r) (after (chunk_of seat.setup) move rec))
   ready_changed r value move lt is may =
-      subst (λ (m : Move). Makes seat rec (store_of (own_word seat.setup r 1 1) value) (change_held forget_ready (host_of seat.setup.hosts r) (after (chunk_of seat.setup) m rec))) is
+      subst (λ (m : Move). Makes seat rec (store_of (own_word seat.setup r 1 1) value) (change_held (forget_flags Ready) (host_of seat.setup.hosts r) (after (chunk_of seat.setup) m rec))) is
       (store_makes seat rec (own_word seat.setup r 1 1) value (SignalFlags Ready r) (role_ready_bits seat.setup valid bits r lt) (ap (λ (m : Move). permits (chunk_of seat.setup) m rec) is ∙ may))
 
   raised_is : (lower raise : ℕ → Move) (r old : ℕ) (o : Option ℕ) → o ≡ Some old → seat.rank ≢ r → bit_at old seat.rank ≡ 0 → change_at lower raise seat.setup seat.rank r (old + 2 ^ seat.rank) o ≡ raise r
@@ -245,27 +245,27 @@ module _ (seat : Seat) (rec : Record) (valid : IsSetup seat.setup) (bits : seat.
       ∙ ap (λ (x : Option ℕ). move_at lower x) (lowered_below-from seat.rank old new seat.setup.nue j p.other (λ e. p.apart (sym e)) (lowers_from j old new set sum))
 
   -- the own bit is raised in the noted word of another core
-  pub sent_bit_raised : (to old : ℕ) → are_peers seat.setup seat.rank to ≡ true → sent_noted rec (host_of seat.setup.hosts to) ≡ Some old → bit_at old seat.rank ≡ 0
+  pub sent_bit_raised : (to old : ℕ) → are_peers seat.setup seat.rank to ≡ true → flags_noted Sent rec (host_of seat.setup.hosts to) ≡ Some old → bit_at old seat.rank ≡ 0
       → permits (chunk_of seat.setup) (RaiseSignal Sent to) rec ≡ true
-      → Makes seat rec (store_of (own_word seat.setup to 1 0) (old + 2 ^ seat.rank)) (change_held forget_sent (host_of seat.setup.hosts to) (after (chunk_of seat.setup) (RaiseSignal Sent to) rec))
+      → Makes seat rec (store_of (own_word seat.setup to 1 0) (old + 2 ^ seat.rank)) (change_held (forget_flags Sent) (host_of seat.setup.hosts to) (after (chunk_of seat.setup) (RaiseSignal Sent to) rec))
   sent_bit_raised to old peers is clear = let p = peers_are seat.setup seat.rank to peers in
-      sent_changed to (old + 2 ^ seat.rank) (RaiseSignal Sent to) p.other (raised_is (LowerSignal Sent) (RaiseSignal Sent) to old (sent_noted rec (host_of seat.setup.hosts to)) is p.apart clear)
+      sent_changed to (old + 2 ^ seat.rank) (RaiseSignal Sent to) p.other (raised_is (LowerSignal Sent) (RaiseSignal Sent) to old (flags_noted Sent rec (host_of seat.setup.hosts to)) is p.apart clear)
 
-  pub ready_bit_raised : (to old : ℕ) → are_peers seat.setup seat.rank to ≡ true → ready_noted rec (host_of seat.setup.hosts to) ≡ Some old → bit_at old seat.rank ≡ 0
+  pub ready_bit_raised : (to old : ℕ) → are_peers seat.setup seat.rank to ≡ true → flags_noted Ready rec (host_of seat.setup.hosts to) ≡ Some old → bit_at old seat.rank ≡ 0
       → permits (chunk_of seat.setup) (RaiseSignal Ready to) rec ≡ true
-      → Makes seat rec (store_of (own_word seat.setup to 1 1) (old + 2 ^ seat.rank)) (change_held forget_ready (host_of seat.setup.hosts to) (after (chunk_of seat.setup) (RaiseSignal Ready to) rec))
+      → Makes seat rec (store_of (own_word seat.setup to 1 1) (old + 2 ^ seat.rank)) (change_held (forget_flags Ready) (host_of seat.setup.hosts to) (after (chunk_of seat.setup) (RaiseSignal Ready to) rec))
   ready_bit_raised to old peers is clear = let p = peers_are seat.setup seat.rank to peers in
-      ready_changed to (old + 2 ^ seat.rank) (RaiseSignal Ready to) p.other (raised_is (LowerSignal Ready) (RaiseSignal Ready) to old (ready_noted rec (host_of seat.setup.hosts to)) is p.apart clear)
+      ready_changed to (old + 2 ^ seat.rank) (RaiseSignal Ready to) p.other (raised_is (LowerSignal Ready) (RaiseSignal Ready) to old (flags_noted Ready rec (host_of seat.setup.hosts to)) is p.apart clear)
 
   -- the bit of another rank is lowered in the noted word of the own core
-  pub sent_bit_lowered : (from old new : ℕ) → are_peers seat.setup seat.rank from ≡ true → sent_noted rec (host_of seat.setup.hosts seat.rank) ≡ Some old → bit_at old from ≡ 1 → old ≡ new + 2 ^ from
+  pub sent_bit_lowered : (from old new : ℕ) → are_peers seat.setup seat.rank from ≡ true → flags_noted Sent rec (host_of seat.setup.hosts seat.rank) ≡ Some old → bit_at old from ≡ 1 → old ≡ new + 2 ^ from
       → permits (chunk_of seat.setup) (LowerSignal Sent from) rec ≡ true
-      → Makes seat rec (store_of (own_word seat.setup seat.rank 1 0) new) (change_held forget_sent (host_of seat.setup.hosts seat.rank) (after (chunk_of seat.setup) (LowerSignal Sent from) rec))
+      → Makes seat rec (store_of (own_word seat.setup seat.rank 1 0) new) (change_held (forget_flags Sent) (host_of seat.setup.hosts seat.rank) (after (chunk_of seat.setup) (LowerSignal Sent from) rec))
   sent_bit_lowered from old new peers is set sum = let p = peers_are seat.setup seat.rank from peers in
-      sent_changed seat.rank new (LowerSignal Sent from) p.one (lowered_is (LowerSignal Sent) (RaiseSignal Sent) from old new (sent_noted rec (host_of seat.setup.hosts seat.rank)) is peers set sum)
+      sent_changed seat.rank new (LowerSignal Sent from) p.one (lowered_is (LowerSignal Sent) (RaiseSignal Sent) from old new (flags_noted Sent rec (host_of seat.setup.hosts seat.rank)) is peers set sum)
 
-  pub ready_bit_lowered : (by old new : ℕ) → are_peers seat.setup seat.rank by ≡ true → ready_noted rec (host_of seat.setup.hosts seat.rank) ≡ Some old → bit_at old by ≡ 1 → old ≡ new + 2 ^ by
+  pub ready_bit_lowered : (by old new : ℕ) → are_peers seat.setup seat.rank by ≡ true → flags_noted Ready rec (host_of seat.setup.hosts seat.rank) ≡ Some old → bit_at old by ≡ 1 → old ≡ new + 2 ^ by
       → permits (chunk_of seat.setup) (LowerSignal Ready by) rec ≡ true
-      → Makes seat rec (store_of (own_word seat.setup seat.rank 1 1) new) (change_held forget_ready (host_of seat.setup.hosts seat.rank) (after (chunk_of seat.setup) (LowerSignal Ready by) rec))
+      → Makes seat rec (store_of (own_word seat.setup seat.rank 1 1) new) (change_held (forget_flags Ready) (host_of seat.setup.hosts seat.rank) (after (chunk_of seat.setup) (LowerSignal Ready by) rec))
   ready_bit_lowered by old new peers is set sum = let p = peers_are seat.setup seat.rank by peers in
-      ready_changed seat.rank new (LowerSignal Ready by) p.one (lowered_is (LowerSignal Ready) (RaiseSignal Ready) by old new (ready_noted rec (host_of seat.setup.hosts seat.rank)) is peers set sum)
+      ready_changed seat.rank new (LowerSignal Ready by) p.one (lowered_is (LowerSignal Ready) (RaiseSignal Ready) by old new (flags_noted Ready rec (host_of seat.setup.hosts seat.rank)) is peers set sum)

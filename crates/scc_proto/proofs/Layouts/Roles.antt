@@ -121,7 +121,7 @@ abbrev pub Stands : SetupView → WordAt → Role → Type 0
 Stands s place (HeaderWord owner k) = IsOwn s place owner 0 k
 Stands s place (ChunkWord owner k) = IsOwn s place owner (first_chunk s.layout + k / 4) (k % 4) × (k < 4 * chunk_lines s.layout)
 Stands s place (SignalFlag Sent from to) = IsOwn s place to (1 + from) 0 × (are_peers s from to ≡ true) × (s.layout ≡ LineFlags)
-Stands s place (SignalFlag Ready from to) = IsOwn s place from (49 + to) 0 × (are_peers s from to ≡ true) × (s.layout ≡ LineFlags)
+Stands s place (SignalFlag Ready to from) = IsOwn s place from (49 + to) 0 × (are_peers s from to ≡ true) × (s.layout ≡ LineFlags)
 Stands s place (SignalFlags Sent owner) = IsOwn s place owner 1 0 × (s.layout ≡ BitFlags)
 Stands s place (SignalFlags Ready owner) = IsOwn s place owner 1 1 × (s.layout ≡ BitFlags)
 Stands s place (GatherFlag comm owner) = IsOwn s place owner (first_gather s.layout + comm % 8) (comm / 8) × (is_present s comm ≡ true)
@@ -142,7 +142,7 @@ module _ (s : SetupView) (place : WordAt) (owner : ℕ) (below : owner < s.nue) 
       (λ t. if_stands s place (nat_le place.line 48) _ _
       (λ le. if_stands s place (are_peers s (place.line - 1) owner) (SignalFlag Sent (place.line - 1) owner) IdleWord
       (λ peers. (own (1 + (place.line - 1)) 0 (omega (arith, some)) (eq_is place.word 0 t), peers, is)) (λ f. tt))
-      (λ le. let high = le_not place.line 48 le in if_stands s place (are_peers s owner (place.line - 49)) (SignalFlag Ready owner (place.line - 49)) IdleWord
+      (λ le. let high = le_not place.line 48 le in if_stands s place (are_peers s owner (place.line - 49)) (SignalFlag Ready (place.line - 49) owner) IdleWord
       (λ peers. (own (49 + (place.line - 49)) 0 (omega (arith, high)) (eq_is place.word 0 t), peers, is)) (λ f. tt)))
       (λ f. tt)
   flag_stands BitFlags is some low = if_stands s place (place.word == 0) (SignalFlags Sent owner) _
@@ -200,7 +200,7 @@ sent_role LineFlags from to = SignalFlag Sent from to
 sent_role BitFlags from to = SignalFlags Sent to
 
 abbrev pub ready_role : Layout → ℕ → ℕ → Role
-ready_role LineFlags from to = SignalFlag Ready from to
+ready_role LineFlags from to = SignalFlag Ready to from
 ready_role BitFlags from to = SignalFlags Ready from
 
 role_at-low : (s : SetupView) (owner line word : ℕ) → line ≢ 0 → line < first_gather s.layout → role_at s owner line word ≡ flag_role s.layout s owner line word
@@ -220,10 +220,10 @@ sent_line s valid from to peers = let p = peers_are s from to peers in let w = v
     if_yes (nat_le (1 + from) 48) (if_peers s (1 + from - 1) to (SignalFlag Sent (1 + from - 1) to)) _ (le_yes (1 + from) 48 (omega (arith, p.one, w)))
     ∙ ap (λ (r : ℕ). if_peers s r to (SignalFlag Sent r to)) back ∙ if_yes (are_peers s from to) (SignalFlag Sent from to) IdleWord peers
 
-ready_line : (s : SetupView) (from to : ℕ) → are_peers s from to ≡ true → flag_role LineFlags s from (49 + to) 0 ≡ SignalFlag Ready from to
+ready_line : (s : SetupView) (from to : ℕ) → are_peers s from to ≡ true → flag_role LineFlags s from (49 + to) 0 ≡ SignalFlag Ready to from
 ready_line s from to peers = let back : 49 + to - 49 ≡ to = omega arith in
-    if_no (nat_le (49 + to) 48) _ (if_peers s from (49 + to - 49) (SignalFlag Ready from (49 + to - 49))) (le_no (49 + to) 48 (omega arith))
-    ∙ ap (λ (r : ℕ). if_peers s from r (SignalFlag Ready from r)) back ∙ if_yes (are_peers s from to) (SignalFlag Ready from to) IdleWord peers
+    if_no (nat_le (49 + to) 48) _ (if_peers s from (49 + to - 49) (SignalFlag Ready (49 + to - 49) from)) (le_no (49 + to) 48 (omega arith))
+    ∙ ap (λ (r : ℕ). if_peers s from r (SignalFlag Ready r from)) back ∙ if_yes (are_peers s from to) (SignalFlag Ready to from) IdleWord peers
 
 -- the flag `sent` of the messages from one rank to another, at the core of the other one
 pub role_sent : (s : SetupView) → IsSetup s → (from to : ℕ) → are_peers s from to ≡ true → role_of s (flag_word (host_of s.hosts to) (signal_at s.layout Sent from)) ≡ sent_role s.layout from to

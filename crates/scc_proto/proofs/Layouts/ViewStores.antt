@@ -21,7 +21,7 @@ abbrev pub view_stored : Role → ℕ → View → View
 view_stored (HeaderWord owner k) v view = record view { header = put_two view.header owner k v }
 view_stored (ChunkWord owner k) v view = record view { chunk = put_two view.chunk owner k v }
 view_stored (SignalFlag Sent from to) v view = record view { sent = put_two view.sent from to v }
-view_stored (SignalFlag Ready from to) v view = record view { ready = put_two view.ready from to v }
+view_stored (SignalFlag Ready to from) v view = record view { ready = put_two view.ready from to v }
 view_stored (SignalFlags Sent owner) v view = record view { sent = λ from to. if to == owner then bit_at v from else view.sent from to }
 view_stored (SignalFlags Ready owner) v view = record view { ready = λ from to. if from == owner then bit_at v to else view.ready from to }
 view_stored (GatherFlag comm owner) v view = record view { gather = put_two view.gather comm owner v }
@@ -73,7 +73,7 @@ module _ (s : SetupView) (valid : IsSetup s) (place : WordAt) (value : ℕ) (mem
 
   ready_left : (role : Role) → Stands s place role → (from to : ℕ) → place ≢ flag_word (host_of s.hosts from) (signal_at s.layout Ready to)
       → (view_stored role value (view_of s memory)).ready from to ≡ (view_of s memory).ready from to
-  ready_left (SignalFlag Ready a b) st from to ne = two_left (view_of s memory).ready a b value from to
+  ready_left (SignalFlag Ready b a) st from to ne = two_left (view_of s memory).ready a b value from to
       (λ e f. ne (own_is s place a (49 + b) 0 st.0 ∙ (λ i. own_word s (sym e i) (49 + sym f i) 0) ∙ ap (λ (layout : Layout). flag_word (host_of s.hosts from) (signal_at layout Ready to)) (sym st.2)))
   ready_left (SignalFlags Ready owner) st from to ne = if_no (from == owner) _ _
       (eqb_other from owner (λ e. ne (own_is s place owner 1 1 st.0 ∙ (λ i. own_word s (sym e i) 1 1) ∙ ap (λ (layout : Layout). flag_word (host_of s.hosts from) (signal_at layout Ready to)) (sym st.1))))

@@ -21,7 +21,7 @@ use Rattle.scc_proto.specs.Stages.{Drafting, Taking, Record, blank}
 use Rattle.scc_proto.specs.Moves.{DraftChunk, RaiseSignal, ReadChunk, after}
 use Rattle.scc_proto.specs.Permission.{permits}
 use Rattle.scc_proto.specs.Words.{Memory, memory_after, RankEvent, IsRun, ChunkWord}
-use Rattle.scc_proto.specs.Records.{act_of, record_after, forget_sent, forget_ready, change_held}
+use Rattle.scc_proto.specs.Records.{act_of, record_after, forget_flags, change_held}
 use Rattle.scc_proto.specs.Histories.{events_of, memory_from, IsPermittedRun}
 use Rattle.scc_proto.specs.Ports.{Seat, MayMakeAll, record_next, record_on}
 use Rattle.scc_proto.specs.Examples.{two_ranks_by, for_each, drafts_head, begins_first, raises_ready, goes_second, bytes_of}
@@ -232,7 +232,7 @@ abbrev noted_there : Notes → Record
 noted_there chunk = record_on (seat_of BitFlags 0) (drafting BitFlags chunk) (notes_flags 1 0 0)
 
 abbrev bit_raised : Notes → Record
-bit_raised chunk = change_held forget_sent 1 (after 6624 (RaiseSignal Sent 1) (noted_there chunk))
+bit_raised chunk = change_held (forget_flags Sent) 1 (after 6624 (RaiseSignal Sent 1) (noted_there chunk))
 
 -- the first chunk is raised
 abbrev pub offering : Layout → Notes → Record
@@ -329,7 +329,7 @@ abbrev noted_here : Notes → Record
 noted_here chunk = record_on (seat_of BitFlags 1) (taking BitFlags chunk) (notes_flags 0 0 0)
 
 abbrev bit_answered : Notes → Record
-bit_answered chunk = change_held forget_ready 0 (after 6624 (RaiseSignal Ready 0) (noted_here chunk))
+bit_answered chunk = change_held (forget_flags Ready) 0 (after 6624 (RaiseSignal Ready 0) (noted_here chunk))
 
 -- the first chunk is answered
 abbrev pub between : Layout → Notes → Record

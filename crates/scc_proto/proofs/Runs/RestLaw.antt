@@ -127,7 +127,7 @@ load_looks : (s : SetupView) (me value : ℕ) (role : Role) → is_look (load_by
 load_looks s me value (HeaderWord owner k) = refl
 load_looks s me value (ChunkWord owner k) = refl
 load_looks s me value (SignalFlag Sent from to) = if_looks (to == me) (LookSignal Sent (look_at from value)) NoMove refl refl
-load_looks s me value (SignalFlag Ready from to) = if_looks (from == me) (LookSignal Ready (look_at to value)) NoMove refl refl
+load_looks s me value (SignalFlag Ready to from) = if_looks (from == me) (LookSignal Ready (look_at to value)) NoMove refl refl
 load_looks s me value (SignalFlags Sent owner) = if_looks (owner == me) (LookSignal Sent (look_at_bits s me value)) NoMove refl refl
 load_looks s me value (SignalFlags Ready owner) = if_looks (owner == me) (LookSignal Ready (look_at_bits s me value)) NoMove refl refl
 load_looks s me value (GatherFlag comm owner) = if_looks (leads s comm me owner) (LookGather comm owner (place_of s comm owner) value) NoMove refl refl
@@ -171,7 +171,7 @@ module _ (s : SetupView) (me : ℕ) where
   load_comes rec place value (HeaderWord owner k) = look_comes (load_by s me value (HeaderWord owner k)) refl rec
   load_comes rec place value (ChunkWord owner k) = look_comes (load_by s me value (ChunkWord owner k)) refl rec
   load_comes rec place value (SignalFlag Sent from to) = look_comes (load_by s me value (SignalFlag Sent from to)) (load_looks s me value (SignalFlag Sent from to)) rec
-  load_comes rec place value (SignalFlag Ready from to) = look_comes (load_by s me value (SignalFlag Ready from to)) (load_looks s me value (SignalFlag Ready from to)) rec
+  load_comes rec place value (SignalFlag Ready to from) = look_comes (load_by s me value (SignalFlag Ready to from)) (load_looks s me value (SignalFlag Ready to from)) rec
   load_comes rec place value (SignalFlags Sent owner) =
       if_comes (is_some (rec.held place.core)) (NotingSignal Sent place.core value) (Moving (load_by s me value (SignalFlags Sent owner))) rec
       (inl (record { stage = refl; post = refl; flips = λ comm. refl; calls = refl }))

@@ -11,7 +11,7 @@ use Rattle.scc_base.specs.declared.signals.Signal.TheVariants.{Sent, Ready}
 use Rattle.scc_proto.specs.Stages.{HeapStore, Record, blank}
 use Rattle.scc_proto.specs.Moves.{Move, DraftHeader, DraftChunk, RaiseSignal, LookSignal, LowerSignal, FlipGather, LookGather, WriteRelease, LookRelease, NoMove, Misplaced, heap_after}
 use Rattle.scc_proto.specs.Words.{Memory, IsStep, Role, HeaderWord, ChunkWord, SignalFlag, SignalFlags, GatherFlag, ReleaseFlag, HeapWord, IdleWord, role_of}
-use Rattle.scc_proto.specs.Records.{chunk_of, last_of, leads, look_at, look_at_bits, load_by, lowered_below, raises_bit, move_at, change_at, sent_noted, ready_noted, store_by, Act, Moving, NotingSignal, Holding, load_act, store_act, act_by, act_of, after_act, is_permitted, record_after, record_from, record_of}
+use Rattle.scc_proto.specs.Records.{chunk_of, last_of, leads, look_at, look_at_bits, load_by, lowered_below, raises_bit, move_at, change_at, flags_noted, store_by, Act, Moving, NotingSignal, Holding, load_act, store_act, act_by, act_of, after_act, is_permitted, record_after, record_from, record_of}
 use Rattle.scc_proto.specs.Agreement.{WordAgrees, WasStored, Agrees}
 
 -- a move that stores nothing in the heap
@@ -27,7 +27,7 @@ module _ (s : SetupView) (me : ℕ) where
   load_quiet value (HeaderWord owner k) = λ heap. refl
   load_quiet value (ChunkWord owner k) = λ heap. refl
   load_quiet value (SignalFlag Sent from to) = quiet_if (to == me) (LookSignal Sent (look_at from value)) NoMove (λ heap. refl) (λ heap. refl)
-  load_quiet value (SignalFlag Ready from to) = quiet_if (from == me) (LookSignal Ready (look_at to value)) NoMove (λ heap. refl) (λ heap. refl)
+  load_quiet value (SignalFlag Ready to from) = quiet_if (from == me) (LookSignal Ready (look_at to value)) NoMove (λ heap. refl) (λ heap. refl)
   load_quiet value (SignalFlags Sent owner) = quiet_if (owner == me) (LookSignal Sent (look_at_bits s me value)) NoMove (λ heap. refl) (λ heap. refl)
   load_quiet value (SignalFlags Ready owner) = quiet_if (owner == me) (LookSignal Ready (look_at_bits s me value)) NoMove (λ heap. refl) (λ heap. refl)
   load_quiet value (GatherFlag comm owner) = quiet_if (leads s comm me owner) (LookGather comm owner (place_of s comm owner) value) NoMove (λ heap. refl) (λ heap. refl)
@@ -60,9 +60,9 @@ module _ (s : SetupView) (me : ℕ) where
       by (HeaderWord owner k) has = same _ (quiet_if (owner == me) (DraftHeader k value) Misplaced (λ h. refl) (λ h. refl)) has
       by (ChunkWord owner k) has = same _ (quiet_if (owner == me) (DraftChunk k value) Misplaced (λ h. refl) (λ h. refl)) has
       by (SignalFlag Sent from to) has = same _ (quiet_if ((from == me) && (value == 1)) (RaiseSignal Sent to) _ (λ h. refl) (quiet_if ((to == me) && (value == 0)) (LowerSignal Sent from) Misplaced (λ h. refl) (λ h. refl))) has
-      by (SignalFlag Ready from to) has = same _ (quiet_if ((to == me) && (value == 1)) (RaiseSignal Ready from) _ (λ h. refl) (quiet_if ((from == me) && (value == 0)) (LowerSignal Ready to) Misplaced (λ h. refl) (λ h. refl))) has
-      by (SignalFlags Sent owner) has = same _ (change_quiet (LowerSignal Sent) (RaiseSignal Sent) owner value (sent_noted rec place.core) (λ j h. refl) (λ j h. refl)) has
-      by (SignalFlags Ready owner) has = same _ (change_quiet (LowerSignal Ready) (RaiseSignal Ready) owner value (ready_noted rec place.core) (λ j h. refl) (λ j h. refl)) has
+      by (SignalFlag Ready to from) has = same _ (quiet_if ((to == me) && (value == 1)) (RaiseSignal Ready from) _ (λ h. refl) (quiet_if ((from == me) && (value == 0)) (LowerSignal Ready to) Misplaced (λ h. refl) (λ h. refl))) has
+      by (SignalFlags Sent owner) has = same _ (change_quiet (LowerSignal Sent) (RaiseSignal Sent) owner value (flags_noted Sent rec place.core) (λ j h. refl) (λ j h. refl)) has
+      by (SignalFlags Ready owner) has = same _ (change_quiet (LowerSignal Ready) (RaiseSignal Ready) owner value (flags_noted Ready rec place.core) (λ j h. refl) (λ j h. refl)) has
       by (GatherFlag comm owner) has = same _ (quiet_if (owner == me) (FlipGather comm value (last_of s comm me)) Misplaced (λ h. refl) (λ h. refl)) has
       by (ReleaseFlag comm owner) has = same _ (quiet_if (leads s comm me owner) (WriteRelease comm owner (place_of s comm owner) value (last_of s comm me)) Misplaced (λ h. refl) (λ h. refl)) has
       by HeapWord has = ⊎_elim (λ (c : Contains heap x). inl c) (λ (c : Contains (record { place = place; value = value } ∷ []) x). inr (one c)) (Contains-append_cases heap (record { place = place; value = value } ∷ []) x has)
@@ -82,7 +82,7 @@ module _ (s : SetupView) (me : ℕ) where
       by (HeaderWord owner k) has = has
       by (ChunkWord owner k) has = has
       by (SignalFlag Sent from to) has = moving (load_by s me value (SignalFlag Sent from to)) (load_quiet value (SignalFlag Sent from to)) has
-      by (SignalFlag Ready from to) has = moving (load_by s me value (SignalFlag Ready from to)) (load_quiet value (SignalFlag Ready from to)) has
+      by (SignalFlag Ready to from) has = moving (load_by s me value (SignalFlag Ready to from)) (load_quiet value (SignalFlag Ready to from)) has
       by (SignalFlags Sent owner) has = subst (λ (h : List HeapStore). Contains h x)
           (noting (is_some (rec.held place.core)) (NotingSignal Sent place.core value) (Moving (load_by s me value (SignalFlags Sent owner))) refl (load_quiet value (SignalFlags Sent owner) rec.heap)) has
       by (SignalFlags Ready owner) has = subst (λ (h : List HeapStore). Contains h x)
@@ -96,7 +96,7 @@ module _ (s : SetupView) (me : ℕ) where
   store_act_heap rec place value (HeaderWord owner k) = refl
   store_act_heap rec place value (ChunkWord owner k) = refl
   store_act_heap rec place value (SignalFlag Sent from to) = refl
-  store_act_heap rec place value (SignalFlag Ready from to) = refl
+  store_act_heap rec place value (SignalFlag Ready to from) = refl
   store_act_heap rec place value (SignalFlags Sent owner) = refl
   store_act_heap rec place value (SignalFlags Ready owner) = refl
   store_act_heap rec place value (GatherFlag comm owner) = refl

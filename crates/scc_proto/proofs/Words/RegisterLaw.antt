@@ -15,7 +15,7 @@ use Rattle.scc_proto.specs.Stages.{FlagWords, Record}
 use Rattle.scc_proto.specs.Moves.{Move, LowerSignal, RaiseSignal, NoMove}
 use Rattle.scc_proto.specs.Permission.{permits}
 use Rattle.scc_proto.specs.Words.{Memory, word_at, IsStep, IsStepBy, memory_by, memory_after, Role, HeaderWord, ChunkWord, SignalFlag, SignalFlags, GatherFlag, ReleaseFlag, HeapWord, IdleWord, role_of}
-use Rattle.scc_proto.specs.Records.{Moving, Holding, NotingSignal, act_of, load_act, store_act, change_at, note_sent, note_ready, forget_sent, forget_ready, chunk_of, after_act, permits_act, permits_by, IsPermitted, record_after}
+use Rattle.scc_proto.specs.Records.{Moving, Holding, NotingSignal, act_of, load_act, store_act, change_at, note_flags, forget_flags, chunk_of, after_act, permits_act, permits_by, IsPermitted, record_after}
 use Rattle.scc_proto.specs.Registers.{Holder, Nobody, HeldBy, IsNotedWord, NotedFlags, RegisterAgrees}
 use Rattle.scc_proto.specs.Agreement.{RegistersAgree}
 use Rattle.scc_proto.proofs.Tests.{same_or_other, put_here, put_there, true_not_false}
@@ -105,12 +105,12 @@ same_quiet s memory held noted = record { register = λ core. refl; keeps = λ c
 
 -- ---- a load notes a word of flags under a register
 
-noting_sent : (layout : Layout) → layout ≡ BitFlags → (o : Option FlagWords) (words : ℕ → ℕ) (value : ℕ) → words 0 ≡ value → NotedFlags layout o words → NotedFlags layout (option_map (note_sent value) o) words
+noting_sent : (layout : Layout) → layout ≡ BitFlags → (o : Option FlagWords) (words : ℕ → ℕ) (value : ℕ) → words 0 ≡ value → NotedFlags layout o words → NotedFlags layout (option_map (note_flags Sent value) o) words
 noting_sent layout e None words value is noted = tt
 noting_sent LineFlags e (Some flags) words value is noted = absurd (cc)
 noting_sent BitFlags e (Some flags) words value is noted = (is, noted.1)
 
-noting_ready : (layout : Layout) → layout ≡ BitFlags → (o : Option FlagWords) (words : ℕ → ℕ) (value : ℕ) → words 1 ≡ value → NotedFlags layout o words → NotedFlags layout (option_map (note_ready value) o) words
+noting_ready : (layout : Layout) → layout ≡ BitFlags → (o : Option FlagWords) (words : ℕ → ℕ) (value : ℕ) → words 1 ≡ value → NotedFlags layout o words → NotedFlags layout (option_map (note_flags Ready value) o) words
 noting_ready layout e None words value is noted = tt
 noting_ready LineFlags e (Some flags) words value is noted = absurd (cc)
 noting_ready BitFlags e (Some flags) words value is noted = (noted.0, is)
@@ -135,11 +135,11 @@ module _ (s : SetupView) (memory : Memory) (rec : Record) (me : ℕ) (place : Wo
   }
 
   load_sent : (b : Bool) (move : Move) (owner : ℕ) → Stands s place (SignalFlags Sent owner) → IsQuiet s memory memory rec.held (after_act (chunk_of s) (if b then NotingSignal Sent place.core value else Moving move) rec).held
-  load_sent true move owner st = notes_quiet (note_sent value) (noting_sent s.layout st.1 (rec.held place.core) (memory.word place.core 1) value (word_read owner 0 st.0) (noted place.core))
+  load_sent true move owner st = notes_quiet (note_flags Sent value) (noting_sent s.layout st.1 (rec.held place.core) (memory.word place.core 1) value (word_read owner 0 st.0) (noted place.core))
   load_sent false move owner st = same_quiet s memory rec.held noted
 
   load_ready : (b : Bool) (move : Move) (owner : ℕ) → Stands s place (SignalFlags Ready owner) → IsQuiet s memory memory rec.held (after_act (chunk_of s) (if b then NotingSignal Ready place.core value else Moving move) rec).held
-  load_ready true move owner st = notes_quiet (note_ready value) (noting_ready s.layout st.1 (rec.held place.core) (memory.word place.core 1) value (word_read owner 1 st.0) (noted place.core))
+  load_ready true move owner st = notes_quiet (note_flags Ready value) (noting_ready s.layout st.1 (rec.held place.core) (memory.word place.core 1) value (word_read owner 1 st.0) (noted place.core))
   load_ready false move owner st = same_quiet s memory rec.held noted
 
   load_quiet : (role : Role) → Stands s place role → IsQuiet s memory memory rec.held (after_act (chunk_of s) (load_act s me rec place value role) rec).held
@@ -149,12 +149,12 @@ module _ (s : SetupView) (memory : Memory) (rec : Record) (me : ℕ) (place : Wo
 
 -- ---- a store of a word of flags forgets what was noted of it
 
-forgetting_sent : (layout : Layout) → layout ≡ BitFlags → (o : Option FlagWords) (words late : ℕ → ℕ) → late 1 ≡ words 1 → NotedFlags layout o words → NotedFlags layout (option_map forget_sent o) late
+forgetting_sent : (layout : Layout) → layout ≡ BitFlags → (o : Option FlagWords) (words late : ℕ → ℕ) → late 1 ≡ words 1 → NotedFlags layout o words → NotedFlags layout (option_map (forget_flags Sent) o) late
 forgetting_sent layout e None words late b noted = tt
 forgetting_sent LineFlags e (Some flags) words late b noted = absurd (cc)
 forgetting_sent BitFlags e (Some flags) words late b noted = (tt, word_same flags.ready b noted.1)
 
-forgetting_ready : (layout : Layout) → layout ≡ BitFlags → (o : Option FlagWords) (words late : ℕ → ℕ) → late 0 ≡ words 0 → NotedFlags layout o words → NotedFlags layout (option_map forget_ready o) late
+forgetting_ready : (layout : Layout) → layout ≡ BitFlags → (o : Option FlagWords) (words late : ℕ → ℕ) → late 0 ≡ words 0 → NotedFlags layout o words → NotedFlags layout (option_map (forget_flags Ready) o) late
 forgetting_ready layout e None words late b noted = tt
 forgetting_ready LineFlags e (Some flags) words late b noted = absurd (cc)
 forgetting_ready BitFlags e (Some flags) words late b noted = (word_same flags.sent b noted.0, tt)
@@ -205,12 +205,12 @@ module _ (s : SetupView) (memory : Memory) (rec : Record) (me : ℕ) (place : Wo
   store_quiet (HeaderWord owner k) st may = let line = st.at_line in plain_quiet (inr (λ e. absurd (omega (arith, line, e))))
   store_quiet (ChunkWord owner k) st may = let a = first_chunk-is s.layout in let b = first_gather-above s.layout in plain_quiet (inr (apart_line _ st.0.at_line (omega (arith, a, b))))
   store_quiet (SignalFlag Sent from to) st may = plain_quiet (inl st.2)
-  store_quiet (SignalFlag Ready from to) st may = plain_quiet (inl st.2)
+  store_quiet (SignalFlag Ready to from) st may = plain_quiet (inl st.2)
   store_quiet (SignalFlags Sent owner) st may =
-      flag_quiet forget_sent (sent_held owner (rec.held place.core) may)
+      flag_quiet (forget_flags Sent) (sent_held owner (rec.held place.core) may)
       (forgetting_sent s.layout st.1 (rec.held place.core) (memory.word place.core 1) (stored.word place.core 1) (left place.core 1 (λ a b c. absurd (omega (arith, c, st.0.at_word)))) (noted place.core))
   store_quiet (SignalFlags Ready owner) st may =
-      flag_quiet forget_ready (ready_held owner (rec.held place.core) may)
+      flag_quiet (forget_flags Ready) (ready_held owner (rec.held place.core) may)
       (forgetting_ready s.layout st.1 (rec.held place.core) (memory.word place.core 1) (stored.word place.core 1) (left place.core 0 (λ a b c. absurd (omega (arith, c, st.0.at_word)))) (noted place.core))
   store_quiet (GatherFlag comm owner) st may = let b = first_gather-above s.layout in plain_quiet (inr (apart_line _ st.0.at_line (omega (arith, b))))
   store_quiet (ReleaseFlag comm owner) st may = let a = first_release-is s.layout in let b = first_gather-above s.layout in plain_quiet (inr (apart_line _ st.0.at_line (omega (arith, a, b))))

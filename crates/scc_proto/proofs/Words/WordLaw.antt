@@ -15,7 +15,7 @@ use Rattle.scc_proto.specs.Stages.{HeapStore, Record}
 use Rattle.scc_proto.specs.Moves.{Move, LowerSignal, RaiseSignal, StoreHeap, Misplaced, heap_after, after}
 use Rattle.scc_proto.specs.Permission.{permits}
 use Rattle.scc_proto.specs.Words.{Memory, word_at, IsStep, IsStepBy, memory_by, memory_after, Role, SignalFlags, HeapWord, IdleWord, role_of, are_peers}
-use Rattle.scc_proto.specs.Records.{act_of, store_act, raises_bit, lowered_below, move_at, change_at, sent_noted, ready_noted, chunk_of, after_act, permits_act, permits_by, IsPermitted, record_after}
+use Rattle.scc_proto.specs.Records.{act_of, store_act, raises_bit, lowered_below, move_at, change_at, flags_noted, chunk_of, after_act, permits_act, permits_by, IsPermitted, record_after}
 use Rattle.scc_proto.specs.Registers.{NotedFlags}
 use Rattle.scc_proto.specs.Agreement.{WasStored, WordAgrees, WordsAgree, RegistersAgree}
 use Rattle.scc_proto.proofs.Tests.{same_or_other, put_here, put_there, peers_from, true_not_false}
@@ -99,11 +99,11 @@ module _ (s : SetupView) (memory : Memory) (records : ℕ → Record) (me : ℕ)
   })
   stored_agrees IdleWord st may agrees = absurd (cc)
   stored_agrees (SignalFlags Sent owner) st may agrees =
-      let c = change_is s (records me) me below value (LowerSignal Sent) (RaiseSignal Sent) owner (sent_noted (records me) place.core) st.0.below may in
+      let c = change_is s (records me) me below value (LowerSignal Sent) (RaiseSignal Sent) owner (flags_noted Sent (records me) place.core) st.0.below may in
       let word : word_at memory place ≡ c.old = (λ i. memory.word place.core (st.0.at_line i) (st.0.at_word i)) ∙ sent_noted_is s.layout ((records me).held place.core) (memory.word place.core 1) c.old noted c.noted in
       λ b f. c.same b f ∙ ap (λ (w : ℕ). bit_at w b) (sym word) ∙ agrees b f
   stored_agrees (SignalFlags Ready owner) st may agrees =
-      let c = change_is s (records me) me below value (LowerSignal Ready) (RaiseSignal Ready) owner (ready_noted (records me) place.core) st.0.below may in
+      let c = change_is s (records me) me below value (LowerSignal Ready) (RaiseSignal Ready) owner (flags_noted Ready (records me) place.core) st.0.below may in
       let word : word_at memory place ≡ c.old = (λ i. memory.word place.core (st.0.at_line i) (st.0.at_word i)) ∙ ready_noted_is s.layout ((records me).held place.core) (memory.word place.core 1) c.old noted c.noted in
       λ b f. c.same b f ∙ ap (λ (w : ℕ). bit_at w b) (sym word) ∙ agrees b f
   stored_agrees role st may agrees = tt

@@ -15,7 +15,7 @@ use Rattle.scc_proto.specs.Moves.{Move, RaiseSignal, LowerSignal, after}
 use Rattle.scc_proto.specs.Permission.{permits}
 use Rattle.scc_proto.specs.Soundness.{IsSound, is_drafting, is_taking, is_answered}
 use Rattle.scc_proto.specs.Words.{are_peers}
-use Rattle.scc_proto.specs.Records.{chunk_of, change_held, forget_sent, forget_ready}
+use Rattle.scc_proto.specs.Records.{chunk_of, change_held, forget_flags}
 use Rattle.scc_proto.specs.Ports.{Seat, Sight, Did, MayMake, MayMakeAll, IsSoundPort, record_in, record_on}
 use Rattle.scc_proto.proofs.Tests.{peers_are}
 use Rattle.scc_proto.proofs.PortLaws.{record_did, record_did_one, record_on-append, seat_kept}
@@ -128,7 +128,7 @@ sent_lowers BitFlags s from header bits valid peers seen may =
     record {
       below = p.one;
       on_line = refl;
-      forget = forget_sent;
+      forget = forget_flags Sent;
       apart = λ flags. refl;
       turns = λ words sound. sound.sent_set from (slice_index words 0) header (sent_is_noted (record_in s) (own_core s.seat) (slice_index words 0) (slice_index words 1)) seen;
       stored = λ words set.
@@ -146,7 +146,7 @@ ready_lowers BitFlags s by bits valid peers seen may =
     record {
       below = p.one;
       on_line = refl;
-      forget = forget_ready;
+      forget = forget_flags Ready;
       apart = λ flags. refl;
       turns = λ words sound. sound.ready_set by (slice_index words 1) (ready_is_noted (record_in s) (own_core s.seat) (slice_index words 0) (slice_index words 1)) seen;
       stored = λ words set.
@@ -165,12 +165,12 @@ ready_raises BitFlags s to bits valid peers taking may =
     record {
       below = p.other;
       on_line = refl;
-      forget = forget_ready;
+      forget = forget_flags Ready;
       apart = λ flags. refl;
       turns = λ words sound. sound.ready_clear to (slice_index words 1) (ready_is_noted (record_in s) core (slice_index words 0) (slice_index words 1)) taking;
       stored = λ words clear.
           let rec : Record = noted_under s.seat (record_in s) to words in
-          subst (λ v. Makes s.seat rec (store_of (flag_word core (signal_at BitFlags Ready s.seat.rank)) v) (change_held forget_ready core (after (chunk_of s.seat.setup) (RaiseSignal Ready to) rec)))
+          subst (λ v. Makes s.seat rec (store_of (flag_word core (signal_at BitFlags Ready s.seat.rank)) v) (change_held (forget_flags Ready) core (after (chunk_of s.seat.setup) (RaiseSignal Ready to) rec)))
           (sym (bit_given (slice_index words 1) s.seat.rank clear))
           (ready_bit_raised s.seat rec valid bits to (slice_index words 1) peers (ready_is_noted (record_in s) core (slice_index words 0) (slice_index words 1)) clear may);
     }
@@ -185,12 +185,12 @@ sent_raises s to bits valid peers drafting may =
     record {
       below = p.other;
       on_line = refl;
-      forget = forget_sent;
+      forget = forget_flags Sent;
       apart = λ flags. refl;
       turns = λ words sound. sound.sent_clear to (slice_index words 0) peers (sent_is_noted (record_in s) core (slice_index words 0) (slice_index words 1)) drafting;
       stored = λ words clear.
           let rec : Record = noted_under s.seat (record_in s) to words in
-          subst (λ v. Makes s.seat rec (store_of (flag_word core (signal_at BitFlags Sent s.seat.rank)) v) (change_held forget_sent core (after (chunk_of s.seat.setup) (RaiseSignal Sent to) rec)))
+          subst (λ v. Makes s.seat rec (store_of (flag_word core (signal_at BitFlags Sent s.seat.rank)) v) (change_held (forget_flags Sent) core (after (chunk_of s.seat.setup) (RaiseSignal Sent to) rec)))
           (sym (bit_given (slice_index words 0) s.seat.rank clear))
           (sent_bit_raised s.seat rec valid bits to (slice_index words 0) peers (sent_is_noted (record_in s) core (slice_index words 0) (slice_index words 1)) clear may);
     }

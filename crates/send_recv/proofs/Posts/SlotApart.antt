@@ -157,7 +157,7 @@ load_permitted : (s : SetupView) (me size : ℕ) (rec : Record) (value : ℕ) (r
 load_permitted s me size rec value (HeaderWord owner k) = refl
 load_permitted s me size rec value (ChunkWord owner k) = refl
 load_permitted s me size rec value (SignalFlag Sent from to) = permitted_if size rec (to == me) (LookSignal Sent (look_at from value)) NoMove refl refl
-load_permitted s me size rec value (SignalFlag Ready from to) = permitted_if size rec (from == me) (LookSignal Ready (look_at to value)) NoMove refl refl
+load_permitted s me size rec value (SignalFlag Ready to from) = permitted_if size rec (from == me) (LookSignal Ready (look_at to value)) NoMove refl refl
 load_permitted s me size rec value (SignalFlags Sent owner) = permitted_if size rec (owner == me) (LookSignal Sent (look_at_bits s me value)) NoMove refl refl
 load_permitted s me size rec value (SignalFlags Ready owner) = permitted_if size rec (owner == me) (LookSignal Ready (look_at_bits s me value)) NoMove refl refl
 load_permitted s me size rec value (GatherFlag comm owner) = permitted_if size rec (leads s comm me owner) (LookGather comm owner (place_of s comm owner) value) NoMove refl refl
@@ -173,7 +173,7 @@ load_act_permitted : (s : SetupView) (me size : ℕ) (rec : Record) (place : Wor
 load_act_permitted s me size rec place value (HeaderWord owner k) = refl
 load_act_permitted s me size rec place value (ChunkWord owner k) = refl
 load_act_permitted s me size rec place value (SignalFlag Sent from to) = load_permitted s me size rec value (SignalFlag Sent from to)
-load_act_permitted s me size rec place value (SignalFlag Ready from to) = load_permitted s me size rec value (SignalFlag Ready from to)
+load_act_permitted s me size rec place value (SignalFlag Ready to from) = load_permitted s me size rec value (SignalFlag Ready to from)
 load_act_permitted s me size rec place value (SignalFlags Sent owner) = act_if size rec (is_some (rec.held place.core)) (NotingSignal Sent place.core value) _ refl (load_permitted s me size rec value (SignalFlags Sent owner))
 load_act_permitted s me size rec place value (SignalFlags Ready owner) = act_if size rec (is_some (rec.held place.core)) (NotingSignal Ready place.core value) _ refl (load_permitted s me size rec value (SignalFlags Ready owner))
 load_act_permitted s me size rec place value (GatherFlag comm owner) = load_permitted s me size rec value (GatherFlag comm owner)
