@@ -223,12 +223,11 @@ move_have : (size : ℕ) (move : Move) (rec : Record) → OpenBytes rec.stage �
 move_have size (DraftHeader k v) rec are all = all
 move_have size (DraftChunk k v) rec are all = all
 move_have size (RaiseSignal Sent to) rec are all = calls_raised_have size to rec.stage rec.calls are all
-move_have size (LookSignal Sent is_set) rec are all = all
+move_have size (LookSignal signal is_set) rec are all = all
 move_have size (ReadHeader from k v) rec are all = all
 move_have size (ReadChunk from k v) rec are all = all
 move_have size (LowerSignal Sent from) rec are all = all
 move_have size (RaiseSignal Ready to) rec are all = calls_received_have size rec.stage rec.calls are all
-move_have size (LookSignal Ready is_set) rec are all = all
 move_have size (LowerSignal Ready by) rec are all = calls_sent_have size rec.stage rec.calls are all
 move_have size (FlipGather comm value last) rec are all = if_finished (last == 0) (Bar comm) rec.calls none_bytes all
 move_have size (LookGather comm from place value) rec are all = all
@@ -249,10 +248,8 @@ after_move size move rec is = record { open_bytes = move_open size move rec is.o
 
 after_any : (size : ℕ) (act : Act) (rec : Record) → Bytes rec → Bytes (after_act size act rec)
 after_any size (Moving move) rec is = after_move size move rec is
-after_any size (NotingSignal Sent core value) rec is = record { open_bytes = is.open_bytes; have = is.have }
-after_any size (NotingSignal Ready core value) rec is = record { open_bytes = is.open_bytes; have = is.have }
-after_any size (ChangingSignal Sent core move) rec is = let moved = after_move size move rec is in record { open_bytes = moved.open_bytes; have = moved.have }
-after_any size (ChangingSignal Ready core move) rec is = let moved = after_move size move rec is in record { open_bytes = moved.open_bytes; have = moved.have }
+after_any size (NotingSignal signal core value) rec is = record { open_bytes = is.open_bytes; have = is.have }
+after_any size (ChangingSignal signal core move) rec is = let moved = after_move size move rec is in record { open_bytes = moved.open_bytes; have = moved.have }
 after_any size (Holding core) rec is = record { open_bytes = is.open_bytes; have = is.have }
 after_any size (Freeing core) rec is = record { open_bytes = is.open_bytes; have = is.have }
 

@@ -15,10 +15,8 @@ use Rattle.tas_lock.specs.Holds.{IsHolding}
 is_freeing : Act → Bool
 is_freeing (Freeing core) = true
 is_freeing (Moving move) = false
-is_freeing (NotingSignal Sent core value) = false
-is_freeing (NotingSignal Ready core value) = false
-is_freeing (ChangingSignal Sent core move) = false
-is_freeing (ChangingSignal Ready core move) = false
+is_freeing (NotingSignal signal core value) = false
+is_freeing (ChangingSignal signal core move) = false
 is_freeing (Holding core) = false
 
 some_mapped : (change : FlagWords → FlagWords) (o : Option FlagWords) → is_some o ≡ true → is_some (option_map change o) ≡ true
@@ -41,10 +39,8 @@ changed_some change held core k h =
 holds_after : (size : ℕ) (a : Act) (rec : Record) (k : ℕ) → is_freeing a ≡ false → IsHolding rec k → IsHolding (after_act size a rec) k
 unfolding is_freeing
 holds_after size (Moving move) rec k quiet h = h
-holds_after size (NotingSignal Sent core value) rec k quiet h = changed_some (note_flags Sent value) rec.held core k h
-holds_after size (NotingSignal Ready core value) rec k quiet h = changed_some (note_flags Ready value) rec.held core k h
-holds_after size (ChangingSignal Sent core move) rec k quiet h = changed_some (forget_flags Sent) rec.held core k h
-holds_after size (ChangingSignal Ready core move) rec k quiet h = changed_some (forget_flags Ready) rec.held core k h
+holds_after size (NotingSignal signal core value) rec k quiet h = changed_some (note_flags signal value) rec.held core k h
+holds_after size (ChangingSignal signal core move) rec k quiet h = changed_some (forget_flags signal) rec.held core k h
 holds_after size (Holding core) rec k quiet h = put_some rec.held core k (Some (record { sent = None; ready = None })) (λ e. refl) h
 holds_after size (Freeing core) rec k quiet h = absurd (cc)
 
@@ -54,12 +50,10 @@ either_quiet false x y p q = q
 
 load_quiet : (s : SetupView) (me : ℕ) (rec : Record) (place : WordAt) (value : ℕ) (role : Role) → is_freeing (load_act s me rec place value role) ≡ false
 unfolding is_freeing
-load_quiet s me rec place value (SignalFlags Sent owner) = either_quiet (is_some (rec.held place.core)) _ _ refl refl
-load_quiet s me rec place value (SignalFlags Ready owner) = either_quiet (is_some (rec.held place.core)) _ _ refl refl
+load_quiet s me rec place value (SignalFlags signal at) = either_quiet (is_some (rec.held place.core)) _ _ refl refl
 load_quiet s me rec place value (HeaderWord owner k) = refl
 load_quiet s me rec place value (ChunkWord owner k) = refl
-load_quiet s me rec place value (SignalFlag Sent from to) = refl
-load_quiet s me rec place value (SignalFlag Ready to from) = refl
+load_quiet s me rec place value (SignalFlag signal by at) = refl
 load_quiet s me rec place value (GatherFlag comm owner) = refl
 load_quiet s me rec place value (ReleaseFlag comm owner) = refl
 load_quiet s me rec place value HeapWord = refl
@@ -67,12 +61,10 @@ load_quiet s me rec place value IdleWord = refl
 
 store_quiet : (s : SetupView) (me : ℕ) (rec : Record) (place : WordAt) (value : ℕ) (role : Role) → is_freeing (store_act s me rec place value role) ≡ false
 unfolding is_freeing
-store_quiet s me rec place value (SignalFlags Sent owner) = refl
-store_quiet s me rec place value (SignalFlags Ready owner) = refl
+store_quiet s me rec place value (SignalFlags signal at) = refl
 store_quiet s me rec place value (HeaderWord owner k) = refl
 store_quiet s me rec place value (ChunkWord owner k) = refl
-store_quiet s me rec place value (SignalFlag Sent from to) = refl
-store_quiet s me rec place value (SignalFlag Ready to from) = refl
+store_quiet s me rec place value (SignalFlag signal by at) = refl
 store_quiet s me rec place value (GatherFlag comm owner) = refl
 store_quiet s me rec place value (ReleaseFlag comm owner) = refl
 store_quiet s me rec place value HeapWord = refl

@@ -55,10 +55,8 @@ role_same s hosts p same =
 load_same : (s : SetupView) (hosts : List ℕ) (me : ℕ) (rec : Record) (p : WordAt) (v : ℕ) (role : Role) → load_act (on_hosts s hosts) me rec p v role ≡ load_act s me rec p v role
 load_same s hosts me rec p v (HeaderWord owner k) = refl
 load_same s hosts me rec p v (ChunkWord owner k) = refl
-load_same s hosts me rec p v (SignalFlag Sent from to) = refl
-load_same s hosts me rec p v (SignalFlag Ready to from) = refl
-load_same s hosts me rec p v (SignalFlags Sent owner) = refl
-load_same s hosts me rec p v (SignalFlags Ready owner) = refl
+load_same s hosts me rec p v (SignalFlag signal by at) = refl
+load_same s hosts me rec p v (SignalFlags signal at) = refl
 load_same s hosts me rec p v (GatherFlag comm owner) = refl
 load_same s hosts me rec p v (ReleaseFlag comm owner) = refl
 load_same s hosts me rec p v HeapWord = refl
@@ -71,10 +69,8 @@ change_same lower raise s hosts me owner new (Some old) = refl
 store_same : (s : SetupView) (hosts : List ℕ) (me : ℕ) (rec : Record) (p : WordAt) (v : ℕ) (role : Role) → store_act (on_hosts s hosts) me rec p v role ≡ store_act s me rec p v role
 store_same s hosts me rec p v (HeaderWord owner k) = refl
 store_same s hosts me rec p v (ChunkWord owner k) = refl
-store_same s hosts me rec p v (SignalFlag Sent from to) = refl
-store_same s hosts me rec p v (SignalFlag Ready to from) = refl
-store_same s hosts me rec p v (SignalFlags Sent owner) = ap (ChangingSignal Sent p.core) (change_same (LowerSignal Sent) (RaiseSignal Sent) s hosts me owner v (flags_noted Sent rec p.core))
-store_same s hosts me rec p v (SignalFlags Ready owner) = ap (ChangingSignal Ready p.core) (change_same (LowerSignal Ready) (RaiseSignal Ready) s hosts me owner v (flags_noted Ready rec p.core))
+store_same s hosts me rec p v (SignalFlag signal by at) = refl
+store_same s hosts me rec p v (SignalFlags signal at) = ap (ChangingSignal signal p.core) (change_same (LowerSignal signal) (RaiseSignal signal) s hosts me at v (flags_noted signal rec p.core))
 store_same s hosts me rec p v (GatherFlag comm owner) = refl
 store_same s hosts me rec p v (ReleaseFlag comm owner) = refl
 store_same s hosts me rec p v HeapWord = refl

@@ -156,10 +156,8 @@ permitted_if size rec false one other a c = c
 load_permitted : (s : SetupView) (me size : ℕ) (rec : Record) (value : ℕ) (role : Role) → permits size (load_by s me value role) rec ≡ true
 load_permitted s me size rec value (HeaderWord owner k) = refl
 load_permitted s me size rec value (ChunkWord owner k) = refl
-load_permitted s me size rec value (SignalFlag Sent from to) = permitted_if size rec (to == me) (LookSignal Sent (look_at from value)) NoMove refl refl
-load_permitted s me size rec value (SignalFlag Ready to from) = permitted_if size rec (from == me) (LookSignal Ready (look_at to value)) NoMove refl refl
-load_permitted s me size rec value (SignalFlags Sent owner) = permitted_if size rec (owner == me) (LookSignal Sent (look_at_bits s me value)) NoMove refl refl
-load_permitted s me size rec value (SignalFlags Ready owner) = permitted_if size rec (owner == me) (LookSignal Ready (look_at_bits s me value)) NoMove refl refl
+load_permitted s me size rec value (SignalFlag signal by at) = permitted_if size rec (at == me) (LookSignal signal (look_at by value)) NoMove refl refl
+load_permitted s me size rec value (SignalFlags signal at) = permitted_if size rec (at == me) (LookSignal signal (look_at_bits s me value)) NoMove refl refl
 load_permitted s me size rec value (GatherFlag comm owner) = permitted_if size rec (leads s comm me owner) (LookGather comm owner (place_of s comm owner) value) NoMove refl refl
 load_permitted s me size rec value (ReleaseFlag comm owner) = permitted_if size rec ((owner == me) && not (leads s comm me me)) (LookRelease comm value) NoMove refl refl
 load_permitted s me size rec value HeapWord = refl
@@ -172,10 +170,8 @@ act_if size rec false one other a c = c
 load_act_permitted : (s : SetupView) (me size : ℕ) (rec : Record) (place : WordAt) (value : ℕ) (role : Role) → permits_act size (load_act s me rec place value role) rec ≡ true
 load_act_permitted s me size rec place value (HeaderWord owner k) = refl
 load_act_permitted s me size rec place value (ChunkWord owner k) = refl
-load_act_permitted s me size rec place value (SignalFlag Sent from to) = load_permitted s me size rec value (SignalFlag Sent from to)
-load_act_permitted s me size rec place value (SignalFlag Ready to from) = load_permitted s me size rec value (SignalFlag Ready to from)
-load_act_permitted s me size rec place value (SignalFlags Sent owner) = act_if size rec (is_some (rec.held place.core)) (NotingSignal Sent place.core value) _ refl (load_permitted s me size rec value (SignalFlags Sent owner))
-load_act_permitted s me size rec place value (SignalFlags Ready owner) = act_if size rec (is_some (rec.held place.core)) (NotingSignal Ready place.core value) _ refl (load_permitted s me size rec value (SignalFlags Ready owner))
+load_act_permitted s me size rec place value (SignalFlag signal by at) = load_permitted s me size rec value (SignalFlag signal by at)
+load_act_permitted s me size rec place value (SignalFlags signal at) = act_if size rec (is_some (rec.held place.core)) (NotingSignal signal place.core value) _ refl (load_permitted s me size rec value (SignalFlags signal at))
 load_act_permitted s me size rec place value (GatherFlag comm owner) = load_permitted s me size rec value (GatherFlag comm owner)
 load_act_permitted s me size rec place value (ReleaseFlag comm owner) = load_permitted s me size rec value (ReleaseFlag comm owner)
 load_act_permitted s me size rec place value HeapWord = refl
@@ -183,10 +179,8 @@ load_act_permitted s me size rec place value IdleWord = refl
 
 act_apart : (size : ℕ) (act : Act) (rec : Record) → permits_act size act rec ≡ true → IsApart rec → IsApart (after_act size act rec)
 act_apart size (Moving move) rec may h = move_apart size move rec may h
-act_apart size (NotingSignal Sent core value) rec may h = h
-act_apart size (NotingSignal Ready core value) rec may h = h
-act_apart size (ChangingSignal Sent core move) rec may h = move_apart size move rec may h
-act_apart size (ChangingSignal Ready core move) rec may h = move_apart size move rec may h
+act_apart size (NotingSignal signal core value) rec may h = h
+act_apart size (ChangingSignal signal core move) rec may h = move_apart size move rec may h
 act_apart size (Holding core) rec may h = h
 act_apart size (Freeing core) rec may h = h
 
