@@ -284,8 +284,7 @@ flags_first s me value other rec place is t = by (role_of s place) is t
     unnoted lower raise owner (Some old) e f = absurd (cc)
 
     no_word : (role : Role) → lacks_flags rec place.core role ≡ true → permits_act (chunk_of s) (store_act s me rec place other role) rec ≡ true → ⊥
-    no_word (SignalFlags Sent owner) e f = absurd (unnoted (LowerSignal Sent) (RaiseSignal Sent) owner (flags_noted Sent rec place.core) e f)
-    no_word (SignalFlags Ready owner) e f = absurd (unnoted (LowerSignal Ready) (RaiseSignal Ready) owner (flags_noted Ready rec place.core) e f)
+    no_word (SignalFlags signal at) e f = absurd (unnoted (LowerSignal signal) (RaiseSignal signal) at (flags_noted signal rec place.core) e f)
     no_word role e f = absurd (cc)
 
     by : (role : Role) → (if lacks_flags rec place.core role then next.LoadFlags else stores_allowed s rec) ≡ next.LoadFlags

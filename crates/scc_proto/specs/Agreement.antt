@@ -51,8 +51,7 @@ pub record WasStored (nue : ℕ) (records : ℕ → Record) (place : WordAt) (va
 abbrev pub WordAgrees : SetupView → WordAt → ℕ → (ℕ → Record) → Role → Type 0
 WordAgrees s place word records HeapWord = (word ≡ 0) ⊎ WasStored s.nue records place word
 WordAgrees s place word records IdleWord = word ≡ 0
-WordAgrees s place word records (SignalFlags Sent owner) = (b : ℕ) → are_peers s owner b ≡ false → bit_at word b ≡ 0
-WordAgrees s place word records (SignalFlags Ready owner) = (b : ℕ) → are_peers s owner b ≡ false → bit_at word b ≡ 0
+WordAgrees s place word records (SignalFlags signal at) = (b : ℕ) → are_peers s at b ≡ false → bit_at word b ≡ 0
 WordAgrees s place word records role = Unit {0}
 
 -- each word of the chip agrees with the records, by its role

@@ -60,10 +60,8 @@ module _ (s : SetupView) (memory : Memory) (records : ℕ → Record) (agrees : 
   word_is : (role : Role) → Stands s place role → noted_by (load_by s me 0 role) (records me) ≡ Some v → word_at memory place ≡ v
   word_is (HeaderWord owner k) stands is = here owner 0 k stands ∙ header_word_is owner k ((records me).notes owner) refl is
   word_is (ChunkWord owner k) stands is = here owner _ _ stands.0 ∙ chunk_word_is owner k (records me).stage refl stands.1 is
-  word_is (SignalFlag Sent from to) stands is = no_read (to == me) (LookSignal Sent (look_at from 0)) (records me) v refl is
-  word_is (SignalFlag Ready to from) stands is = no_read (from == me) (LookSignal Ready (look_at to 0)) (records me) v refl is
-  word_is (SignalFlags Sent owner) stands is = no_read (owner == me) (LookSignal Sent (look_at_bits s me 0)) (records me) v refl is
-  word_is (SignalFlags Ready owner) stands is = no_read (owner == me) (LookSignal Ready (look_at_bits s me 0)) (records me) v refl is
+  word_is (SignalFlag signal by at) stands is = no_read (at == me) (LookSignal signal (look_at by 0)) (records me) v refl is
+  word_is (SignalFlags signal at) stands is = no_read (at == me) (LookSignal signal (look_at_bits s me 0)) (records me) v refl is
   word_is (GatherFlag comm owner) stands is = no_read (leads s comm me owner) (LookGather comm owner (place_of s comm owner) 0) (records me) v refl is
   word_is (ReleaseFlag comm owner) stands is = no_read ((owner == me) && not (leads s comm me me)) (LookRelease comm 0) (records me) v refl is
   word_is HeapWord stands is = absurd (cc (is))

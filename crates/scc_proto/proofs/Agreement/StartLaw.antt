@@ -22,10 +22,8 @@ clear_flag BitFlags flag = bit_at-zero flag.bit
 word_at_start : (s : SetupView) (place : WordAt) (role : Role) → WordAgrees s place 0 (λ r. blank) role
 word_at_start s place (HeaderWord owner k) = tt
 word_at_start s place (ChunkWord owner k) = tt
-word_at_start s place (SignalFlag Sent from to) = tt
-word_at_start s place (SignalFlag Ready to from) = tt
-word_at_start s place (SignalFlags Sent owner) = λ b idle. bit_at-zero b
-word_at_start s place (SignalFlags Ready owner) = λ b idle. bit_at-zero b
+word_at_start s place (SignalFlag signal by at) = tt
+word_at_start s place (SignalFlags signal at) = λ b idle. bit_at-zero b
 word_at_start s place (GatherFlag comm owner) = tt
 word_at_start s place (ReleaseFlag comm owner) = tt
 word_at_start s place HeapWord = inl refl

@@ -246,13 +246,11 @@ module _ (s : SetupView) (me : ℕ) (view : View) (records : ℕ → Record) (lo
   kept : (move : Move) → IsViewStep s me view (records me) move → (comm r : ℕ) → r < s.nue → Stood comm r → Kept move comm r
   kept (DraftHeader k v) step comm r low_r at = unchanged comm r _ _ _ _ refl (bar_kept comm (chunk_of s) (DraftHeader k v) (records me) refl) at
   kept (DraftChunk k v) step comm r low_r at = unchanged comm r _ _ _ _ refl (bar_kept comm (chunk_of s) (DraftChunk k v) (records me) refl) at
-  kept (RaiseSignal Sent to) step comm r low_r at = unchanged comm r _ _ _ _ refl (bar_kept comm (chunk_of s) (RaiseSignal Sent to) (records me) refl) at
-  kept (LookSignal Sent is_set) step comm r low_r at = unchanged comm r _ _ _ _ refl (bar_kept comm (chunk_of s) (LookSignal Sent is_set) (records me) refl) at
+  kept (RaiseSignal signal to) step comm r low_r at = unchanged comm r _ _ _ _ refl (bar_kept comm (chunk_of s) (RaiseSignal signal to) (records me) refl) at
+  kept (LookSignal signal is_set) step comm r low_r at = unchanged comm r _ _ _ _ refl (bar_kept comm (chunk_of s) (LookSignal signal is_set) (records me) refl) at
   kept (ReadHeader from k v) step comm r low_r at = unchanged comm r _ _ _ _ refl (bar_kept comm (chunk_of s) (ReadHeader from k v) (records me) refl) at
   kept (ReadChunk from k v) step comm r low_r at = unchanged comm r _ _ _ _ refl (bar_kept comm (chunk_of s) (ReadChunk from k v) (records me) refl) at
   kept (LowerSignal Sent from) step comm r low_r at = unchanged comm r _ _ _ _ refl (bar_kept comm (chunk_of s) (LowerSignal Sent from) (records me) refl) at
-  kept (RaiseSignal Ready to) step comm r low_r at = unchanged comm r _ _ _ _ refl (bar_kept comm (chunk_of s) (RaiseSignal Ready to) (records me) refl) at
-  kept (LookSignal Ready is_set) step comm r low_r at = unchanged comm r _ _ _ _ refl (bar_kept comm (chunk_of s) (LookSignal Ready is_set) (records me) refl) at
   kept (LowerSignal Ready by) step comm r low_r at = unchanged comm r _ _ _ _ refl (bar_kept comm (chunk_of s) (LowerSignal Ready by) (records me) refl) at
   kept (FlipGather c value last) step comm r low_r at = flip_kept c value last step comm r low_r at
   kept (LookGather c from place value) step comm r low_r at = look_gather_kept c from place value step comm r low_r step.own.present at

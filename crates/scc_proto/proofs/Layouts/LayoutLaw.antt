@@ -243,13 +243,11 @@ module _ (s : SetupView) (valid : IsSetup s) (memory : Memory) (rec : Record) (m
 
   -- a store of this act
   store_becomes : (role : Role) → (held : ℕ → Option FlagWords) × (after_act (chunk_of s) (store_act s me rec place value role) rec ≡ record (after (chunk_of s) (store_by s me rec place value role) rec) { held = held })
-  store_becomes (SignalFlags Sent owner) = (put rec.held place.core (option_map (forget_flags Sent) (rec.held place.core)), refl)
-  store_becomes (SignalFlags Ready owner) = (put rec.held place.core (option_map (forget_flags Ready) (rec.held place.core)), refl)
+  store_becomes (SignalFlags signal at) = (put rec.held place.core (option_map (forget_flags signal) (rec.held place.core)), refl)
   store_becomes role = (rec.held, refl)
 
   store_permits : (role : Role) → permits_act (chunk_of s) (store_act s me rec place value role) rec ≡ true → permits (chunk_of s) (store_by s me rec place value role) rec ≡ true
-  store_permits (SignalFlags Sent owner) may = may
-  store_permits (SignalFlags Ready owner) may = may
+  store_permits (SignalFlags signal at) may = may
   store_permits role may = may
 
   store_made : place.word < 4 → NotedFlags s.layout (rec.held place.core) (memory.word place.core 1) → permits_act (chunk_of s) (store_act s me rec place value (role_of s place)) rec ≡ true → IsMade s memory rec me (made Store)

@@ -20,11 +20,9 @@ pub record IsMember (s : SetupView) (me comm r place : ℕ) : Type 0 where
 
 -- the move is one that a place of the layout gives to rank `me`
 abbrev pub IsMoveOf : SetupView → ℕ → Move → Type 0
-IsMoveOf s me (RaiseSignal Sent to) = are_peers s me to ≡ true
-IsMoveOf s me (LookSignal Sent is_set) = (j : ℕ) → is_set j ≡ true → are_peers s me j ≡ true
+IsMoveOf s me (RaiseSignal signal to) = are_peers s me to ≡ true
+IsMoveOf s me (LookSignal signal is_set) = (j : ℕ) → is_set j ≡ true → are_peers s me j ≡ true
 IsMoveOf s me (LowerSignal Sent from) = are_peers s me from ≡ true
-IsMoveOf s me (RaiseSignal Ready to) = are_peers s me to ≡ true
-IsMoveOf s me (LookSignal Ready is_set) = (j : ℕ) → is_set j ≡ true → are_peers s me j ≡ true
 IsMoveOf s me (LowerSignal Ready by) = are_peers s me by ≡ true
 IsMoveOf s me (FlipGather comm value last) = (is_present s comm ≡ true) × (last ≡ last_of s comm me)
 IsMoveOf s me (LookGather comm from place value) = IsMember s me comm from place

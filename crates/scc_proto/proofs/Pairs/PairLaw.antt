@@ -124,12 +124,11 @@ pub sent_left : (me from to : ℕ) (view : View) (move : Move) → from ≢ me �
 sent_left me from to view (DraftHeader k v) a b = refl
 sent_left me from to view (DraftChunk k v) a b = refl
 sent_left me from to view (RaiseSignal Sent j) a b = put_two_first view.sent me j 1 from to a
-sent_left me from to view (LookSignal Sent is_set) a b = refl
+sent_left me from to view (LookSignal signal is_set) a b = refl
 sent_left me from to view (ReadHeader j k v) a b = refl
 sent_left me from to view (ReadChunk j k v) a b = refl
 sent_left me from to view (LowerSignal Sent j) a b = put_two_second view.sent j me 0 from to b
 sent_left me from to view (RaiseSignal Ready j) a b = refl
-sent_left me from to view (LookSignal Ready is_set) a b = refl
 sent_left me from to view (LowerSignal Ready by) a b = refl
 sent_left me from to view (FlipGather comm value last) a b = refl
 sent_left me from to view (LookGather comm j place value) a b = refl
@@ -143,12 +142,11 @@ pub ready_left : (me from to : ℕ) (view : View) (move : Move) → from ≢ me 
 ready_left me from to view (DraftHeader k v) a b = refl
 ready_left me from to view (DraftChunk k v) a b = refl
 ready_left me from to view (RaiseSignal Sent j) a b = refl
-ready_left me from to view (LookSignal Sent is_set) a b = refl
+ready_left me from to view (LookSignal signal is_set) a b = refl
 ready_left me from to view (ReadHeader j k v) a b = refl
 ready_left me from to view (ReadChunk j k v) a b = refl
 ready_left me from to view (LowerSignal Sent j) a b = refl
 ready_left me from to view (RaiseSignal Ready j) a b = put_two_second view.ready j me 1 from to b
-ready_left me from to view (LookSignal Ready is_set) a b = refl
 ready_left me from to view (LowerSignal Ready by) a b = put_two_first view.ready me by 0 from to a
 ready_left me from to view (FlipGather comm value last) a b = refl
 ready_left me from to view (LookGather comm j place value) a b = refl

@@ -110,10 +110,9 @@ answered_like is_set (Some post) = refl
 
 -- the moves that loads are
 abbrev is_look : Move → Bool
-is_look (LookSignal Sent is_set) = true
+is_look (LookSignal signal is_set) = true
 is_look (ReadHeader from k v) = true
 is_look (ReadChunk from k v) = true
-is_look (LookSignal Ready is_set) = true
 is_look (LookGather comm from place value) = true
 is_look (LookRelease comm value) = true
 is_look NoMove = true
@@ -126,10 +125,8 @@ if_looks false one other a b = b
 load_looks : (s : SetupView) (me value : ℕ) (role : Role) → is_look (load_by s me value role) ≡ true
 load_looks s me value (HeaderWord owner k) = refl
 load_looks s me value (ChunkWord owner k) = refl
-load_looks s me value (SignalFlag Sent from to) = if_looks (to == me) (LookSignal Sent (look_at from value)) NoMove refl refl
-load_looks s me value (SignalFlag Ready to from) = if_looks (from == me) (LookSignal Ready (look_at to value)) NoMove refl refl
-load_looks s me value (SignalFlags Sent owner) = if_looks (owner == me) (LookSignal Sent (look_at_bits s me value)) NoMove refl refl
-load_looks s me value (SignalFlags Ready owner) = if_looks (owner == me) (LookSignal Ready (look_at_bits s me value)) NoMove refl refl
+load_looks s me value (SignalFlag signal by at) = if_looks (at == me) (LookSignal signal (look_at by value)) NoMove refl refl
+load_looks s me value (SignalFlags signal at) = if_looks (at == me) (LookSignal signal (look_at_bits s me value)) NoMove refl refl
 load_looks s me value (GatherFlag comm owner) = if_looks (leads s comm me owner) (LookGather comm owner (place_of s comm owner) value) NoMove refl refl
 load_looks s me value (ReleaseFlag comm owner) = if_looks ((owner == me) && not (leads s comm me me)) (LookRelease comm value) NoMove refl refl
 load_looks s me value HeapWord = refl
@@ -170,8 +167,7 @@ module _ (s : SetupView) (me : ℕ) where
   load_comes : (rec : Record) (place : WordAt) (value : ℕ) (role : Role) → Comes rec (after_act (chunk_of s) (load_act s me rec place value role) rec)
   load_comes rec place value (HeaderWord owner k) = look_comes (load_by s me value (HeaderWord owner k)) refl rec
   load_comes rec place value (ChunkWord owner k) = look_comes (load_by s me value (ChunkWord owner k)) refl rec
-  load_comes rec place value (SignalFlag Sent from to) = look_comes (load_by s me value (SignalFlag Sent from to)) (load_looks s me value (SignalFlag Sent from to)) rec
-  load_comes rec place value (SignalFlag Ready to from) = look_comes (load_by s me value (SignalFlag Ready to from)) (load_looks s me value (SignalFlag Ready to from)) rec
+  load_comes rec place value (SignalFlag signal by at) = look_comes (load_by s me value (SignalFlag signal by at)) (load_looks s me value (SignalFlag signal by at)) rec
   load_comes rec place value (SignalFlags Sent owner) =
       if_comes (is_some (rec.held place.core)) (NotingSignal Sent place.core value) (Moving (load_by s me value (SignalFlags Sent owner))) rec
       (inl (record { stage = refl; post = refl; flips = λ comm. refl; calls = refl }))

@@ -26,10 +26,8 @@ module _ (s : SetupView) (me : ℕ) where
   load_quiet : (value : ℕ) (role : Role) → Quiet (load_by s me value role)
   load_quiet value (HeaderWord owner k) = λ heap. refl
   load_quiet value (ChunkWord owner k) = λ heap. refl
-  load_quiet value (SignalFlag Sent from to) = quiet_if (to == me) (LookSignal Sent (look_at from value)) NoMove (λ heap. refl) (λ heap. refl)
-  load_quiet value (SignalFlag Ready to from) = quiet_if (from == me) (LookSignal Ready (look_at to value)) NoMove (λ heap. refl) (λ heap. refl)
-  load_quiet value (SignalFlags Sent owner) = quiet_if (owner == me) (LookSignal Sent (look_at_bits s me value)) NoMove (λ heap. refl) (λ heap. refl)
-  load_quiet value (SignalFlags Ready owner) = quiet_if (owner == me) (LookSignal Ready (look_at_bits s me value)) NoMove (λ heap. refl) (λ heap. refl)
+  load_quiet value (SignalFlag signal by at) = quiet_if (at == me) (LookSignal signal (look_at by value)) NoMove (λ heap. refl) (λ heap. refl)
+  load_quiet value (SignalFlags signal at) = quiet_if (at == me) (LookSignal signal (look_at_bits s me value)) NoMove (λ heap. refl) (λ heap. refl)
   load_quiet value (GatherFlag comm owner) = quiet_if (leads s comm me owner) (LookGather comm owner (place_of s comm owner) value) NoMove (λ heap. refl) (λ heap. refl)
   load_quiet value (ReleaseFlag comm owner) = quiet_if ((owner == me) && not (leads s comm me me)) (LookRelease comm value) NoMove (λ heap. refl) (λ heap. refl)
   load_quiet value HeapWord = λ heap. refl
@@ -61,8 +59,7 @@ module _ (s : SetupView) (me : ℕ) where
       by (ChunkWord owner k) has = same _ (quiet_if (owner == me) (DraftChunk k value) Misplaced (λ h. refl) (λ h. refl)) has
       by (SignalFlag Sent from to) has = same _ (quiet_if ((from == me) && (value == 1)) (RaiseSignal Sent to) _ (λ h. refl) (quiet_if ((to == me) && (value == 0)) (LowerSignal Sent from) Misplaced (λ h. refl) (λ h. refl))) has
       by (SignalFlag Ready to from) has = same _ (quiet_if ((to == me) && (value == 1)) (RaiseSignal Ready from) _ (λ h. refl) (quiet_if ((from == me) && (value == 0)) (LowerSignal Ready to) Misplaced (λ h. refl) (λ h. refl))) has
-      by (SignalFlags Sent owner) has = same _ (change_quiet (LowerSignal Sent) (RaiseSignal Sent) owner value (flags_noted Sent rec place.core) (λ j h. refl) (λ j h. refl)) has
-      by (SignalFlags Ready owner) has = same _ (change_quiet (LowerSignal Ready) (RaiseSignal Ready) owner value (flags_noted Ready rec place.core) (λ j h. refl) (λ j h. refl)) has
+      by (SignalFlags signal at) has = same _ (change_quiet (LowerSignal signal) (RaiseSignal signal) at value (flags_noted signal rec place.core) (λ j h. refl) (λ j h. refl)) has
       by (GatherFlag comm owner) has = same _ (quiet_if (owner == me) (FlipGather comm value (last_of s comm me)) Misplaced (λ h. refl) (λ h. refl)) has
       by (ReleaseFlag comm owner) has = same _ (quiet_if (leads s comm me owner) (WriteRelease comm owner (place_of s comm owner) value (last_of s comm me)) Misplaced (λ h. refl) (λ h. refl)) has
       by HeapWord has = ⊎_elim (λ (c : Contains heap x). inl c) (λ (c : Contains (record { place = place; value = value } ∷ []) x). inr (one c)) (Contains-append_cases heap (record { place = place; value = value } ∷ []) x has)
@@ -95,10 +92,8 @@ module _ (s : SetupView) (me : ℕ) where
   store_act_heap : (rec : Record) (place : WordAt) (value : ℕ) (role : Role) → (after_act (chunk_of s) (store_act s me rec place value role) rec).heap ≡ heap_after (store_by s me rec place value role) rec.heap
   store_act_heap rec place value (HeaderWord owner k) = refl
   store_act_heap rec place value (ChunkWord owner k) = refl
-  store_act_heap rec place value (SignalFlag Sent from to) = refl
-  store_act_heap rec place value (SignalFlag Ready to from) = refl
-  store_act_heap rec place value (SignalFlags Sent owner) = refl
-  store_act_heap rec place value (SignalFlags Ready owner) = refl
+  store_act_heap rec place value (SignalFlag signal by at) = refl
+  store_act_heap rec place value (SignalFlags signal at) = refl
   store_act_heap rec place value (GatherFlag comm owner) = refl
   store_act_heap rec place value (ReleaseFlag comm owner) = refl
   store_act_heap rec place value HeapWord = refl

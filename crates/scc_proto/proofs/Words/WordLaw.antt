@@ -44,8 +44,7 @@ module _ (s : SetupView) (records : ℕ → Record) (me : ℕ) (new : Record) (g
   word_stays : (role : Role) (place : WordAt) (word : ℕ) → WordAgrees s place word records role → WordAgrees s place word (put records me new) role
   word_stays HeapWord place word agrees = ⊎_elim (λ (zero : word ≡ 0). inl zero) (λ (was : WasStored s.nue records place word). inr (stored_stays place word was)) agrees
   word_stays IdleWord place word agrees = agrees
-  word_stays (SignalFlags Sent owner) place word agrees = agrees
-  word_stays (SignalFlags Ready owner) place word agrees = agrees
+  word_stays (SignalFlags signal at) place word agrees = agrees
   word_stays role place word agrees = tt
 
   -- the same words
