@@ -3,13 +3,14 @@ use Rattle.std.proofs.Common.{◌≡◌, ◌≢◌, ℕ, zero, suc, ◌+◌, ◌
 use Rattle.std.specs.Prelude.{nat_lt, nat_le}
 use Rattle.std.proofs.lemmas.Bool.Decides.{nat_tests}
 use Rattle.scc_base.specs.Places.{WordAt, flag_word}
-use Rattle.scc_base.specs.Layouts.{signal_at, gather_at, release_at, first_gather, first_release, first_chunk, first_heap, chunk_lines}
+use Rattle.scc_base.specs.Layouts.{signal_at, signal_word, gather_at, release_at, first_gather, first_release, first_chunk, first_heap, chunk_lines}
+use Rattle.scc_base.specs.declared.signals.Signal.{Signal}
 use Rattle.scc_base.specs.declared.signals.Signal.TheVariants.{Sent, Ready}
 use Rattle.scc_base.specs.Setups.{SetupView, IsSetup, AreApart, host_of}
 use Rattle.scc_base.specs.declared.layouts.Layout.{Layout}
 use Rattle.scc_base.specs.declared.layouts.Layout.TheVariants.{LineFlags, BitFlags}
 use Rattle.scc_proto.specs.Words.{Role, HeaderWord, ChunkWord, SignalFlag, SignalFlags, GatherFlag, ReleaseFlag, HeapWord, IdleWord, rank_below, rank_on, are_peers, if_peers, is_present, if_present, barrier_comm, barrier_role, flag_role, role_at, role_where, role_of}
-use Rattle.scc_proto.proofs.Tests.{same_or_other, both_first, both_second, eqb_other, ArePeers, peers_are}
+use Rattle.scc_proto.proofs.Tests.{same_or_other, both_first, both_second, eqb_other, ArePeers, peers_are, peers_swap}
 
 -- ---- tests
 
@@ -195,13 +196,9 @@ pub role_header : (s : SetupView) → IsSetup s → (owner k : ℕ) → owner < 
 role_header s valid owner k lt = role_on s valid owner 0 k lt
 
 -- with line flags a flag has a word, and with bit flags all flags at a core share one
-abbrev pub sent_role : Layout → ℕ → ℕ → Role
-sent_role LineFlags from to = SignalFlag Sent from to
-sent_role BitFlags from to = SignalFlags Sent to
-
-abbrev pub ready_role : Layout → ℕ → ℕ → Role
-ready_role LineFlags from to = SignalFlag Ready to from
-ready_role BitFlags from to = SignalFlags Ready from
+abbrev pub signal_role : Layout → Signal → (by at : ℕ) → Role
+signal_role LineFlags signal by at = SignalFlag signal by at
+signal_role BitFlags signal by at = SignalFlags signal at
 
 role_at-low : (s : SetupView) (owner line word : ℕ) → line ≢ 0 → line < first_gather s.layout → role_at s owner line word ≡ flag_role s.layout s owner line word
 role_at-low s owner line word some low = if_no (line == 0) (HeaderWord owner word) _ (eqb_other line 0 some) ∙ if_yes (nat_lt line (first_gather s.layout)) (flag_role s.layout s owner line word) _ (lt_yes _ _ low)
@@ -226,13 +223,13 @@ ready_line s from to peers = let back : 49 + to - 49 ≡ to = omega arith in
     ∙ ap (λ (r : ℕ). if_peers s from r (SignalFlag Ready r from)) back ∙ if_yes (are_peers s from to) (SignalFlag Ready to from) IdleWord peers
 
 -- the flag `sent` of the messages from one rank to another, at the core of the other one
-pub role_sent : (s : SetupView) → IsSetup s → (from to : ℕ) → are_peers s from to ≡ true → role_of s (flag_word (host_of s.hosts to) (signal_at s.layout Sent from)) ≡ sent_role s.layout from to
+pub role_sent : (s : SetupView) → IsSetup s → (from to : ℕ) → are_peers s from to ≡ true → role_of s (flag_word (host_of s.hosts to) (signal_at s.layout Sent from)) ≡ signal_role s.layout Sent from to
 role_sent s valid from to peers = by s.layout refl
   where
     p : ArePeers s from to
     p = peers_are s from to peers
 
-    by : (layout : Layout) → s.layout ≡ layout → role_of s (flag_word (host_of s.hosts to) (signal_at layout Sent from)) ≡ sent_role layout from to
+    by : (layout : Layout) → s.layout ≡ layout → role_of s (flag_word (host_of s.hosts to) (signal_at layout Sent from)) ≡ signal_role layout Sent from to
     by LineFlags e = let w = valid.ranks_within in let below = p.one in let g : first_gather s.layout ≡ 97 = ap first_gather e in
         role_on s valid to (1 + from) 0 p.other ∙ role_at-low s to (1 + from) 0 (omega arith) (omega (arith, w, below, g))
         ∙ ap (λ (layout : Layout). flag_role layout s to (1 + from) 0) e ∙ sent_line s valid from to peers
@@ -240,13 +237,13 @@ role_sent s valid from to peers = by s.layout refl
         role_on s valid to 1 0 p.other ∙ role_at-low s to 1 0 (omega arith) (omega (arith, a)) ∙ ap (λ (layout : Layout). flag_role layout s to 1 0) e
 
 -- the flag `ready` of the same messages, at the core of the first one
-pub role_ready : (s : SetupView) → IsSetup s → (from to : ℕ) → are_peers s from to ≡ true → role_of s (flag_word (host_of s.hosts from) (signal_at s.layout Ready to)) ≡ ready_role s.layout from to
+pub role_ready : (s : SetupView) → IsSetup s → (from to : ℕ) → are_peers s from to ≡ true → role_of s (flag_word (host_of s.hosts from) (signal_at s.layout Ready to)) ≡ signal_role s.layout Ready to from
 role_ready s valid from to peers = by s.layout refl
   where
     p : ArePeers s from to
     p = peers_are s from to peers
 
-    by : (layout : Layout) → s.layout ≡ layout → role_of s (flag_word (host_of s.hosts from) (signal_at layout Ready to)) ≡ ready_role layout from to
+    by : (layout : Layout) → s.layout ≡ layout → role_of s (flag_word (host_of s.hosts from) (signal_at layout Ready to)) ≡ signal_role layout Ready to from
     by LineFlags e = let w = valid.ranks_within in let below = p.other in let g : first_gather s.layout ≡ 97 = ap first_gather e in
         role_on s valid from (49 + to) 0 p.one ∙ role_at-low s from (49 + to) 0 (omega arith) (omega (arith, w, below, g))
         ∙ ap (λ (layout : Layout). flag_role layout s from (49 + to) 0) e ∙ ready_line s from to peers
@@ -261,6 +258,15 @@ role_sent_bits s valid e owner lt = let a = first_gather-above s.layout in
 pub role_ready_bits : (s : SetupView) → IsSetup s → s.layout ≡ BitFlags → (owner : ℕ) → owner < s.nue → role_of s (own_word s owner 1 1) ≡ SignalFlags Ready owner
 role_ready_bits s valid e owner lt = let a = first_gather-above s.layout in
     role_on s valid owner 1 1 lt ∙ role_at-low s owner 1 1 (omega arith) (omega (arith, a)) ∙ ap (λ (layout : Layout). flag_role layout s owner 1 1) e
+
+-- the flag of a signal that one rank raises, at the core of the other
+pub role_signal : (s : SetupView) → IsSetup s → (signal : Signal) (by at : ℕ) → are_peers s by at ≡ true → role_of s (flag_word (host_of s.hosts at) (signal_at s.layout signal by)) ≡ signal_role s.layout signal by at
+role_signal s valid Sent by at peers = role_sent s valid by at peers
+role_signal s valid Ready by at peers = role_ready s valid at by (peers_swap s by at peers)
+
+pub role_signal_bits : (s : SetupView) → IsSetup s → s.layout ≡ BitFlags → (signal : Signal) (owner : ℕ) → owner < s.nue → role_of s (own_word s owner 1 (signal_word signal)) ≡ SignalFlags signal owner
+role_signal_bits s valid e Sent owner lt = role_sent_bits s valid e owner lt
+role_signal_bits s valid e Ready owner lt = role_ready_bits s valid e owner lt
 
 -- the other words of the lines of flags
 pub role_spare_line : (s : SetupView) → IsSetup s → s.layout ≡ LineFlags → (owner line word : ℕ) → owner < s.nue → 1 ≤ line → line < first_gather s.layout → word ≢ 0 → role_of s (own_word s owner line word) ≡ IdleWord

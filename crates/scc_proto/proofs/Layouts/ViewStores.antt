@@ -14,7 +14,7 @@ use Rattle.scc_proto.specs.Words.{Memory, word_at, is_at, memory_by, Role, Heade
 use Rattle.scc_proto.specs.Views.{View, flag_in, view_of}
 use Rattle.scc_proto.proofs.Layouts.MoveFacts.{SameView}
 use Rattle.scc_proto.proofs.Tests.{same_or_other, eqb_same, eqb_other, put_two_here, put_two_first, put_two_second}
-use Rattle.scc_proto.proofs.Layouts.Roles.{if_yes, if_no, lt_yes, lt_no, lt_is, lt_not, own_word, own_is, Stands, role_stands, sent_role, ready_role, role_header, role_chunk, role_sent, role_ready, role_gather, role_release}
+use Rattle.scc_proto.proofs.Layouts.Roles.{if_yes, if_no, lt_yes, lt_no, lt_is, lt_not, own_word, own_is, Stands, role_stands, signal_role, role_header, role_chunk, role_sent, role_ready, role_gather, role_release}
 
 -- the view with a word of this use stored
 abbrev pub view_stored : Role → ℕ → View → View
@@ -105,11 +105,11 @@ module _ (s : SetupView) (valid : IsSetup s) (place : WordAt) (value : ℕ) (mem
 
   -- ---- the word itself is stored
 
-  sent_here : (layout : Layout) (from to : ℕ) → (view_stored (sent_role layout from to) value (view_of s memory)).sent from to ≡ flag_in layout value (signal_at layout Sent from)
+  sent_here : (layout : Layout) (from to : ℕ) → (view_stored (signal_role layout Sent from to) value (view_of s memory)).sent from to ≡ flag_in layout value (signal_at layout Sent from)
   sent_here LineFlags from to = put_two_here (view_of s memory).sent from to value
   sent_here BitFlags from to = if_yes (to == to) (bit_at value from) ((view_of s memory).sent from to) (eqb_same to)
 
-  ready_here : (layout : Layout) (from to : ℕ) → (view_stored (ready_role layout from to) value (view_of s memory)).ready from to ≡ flag_in layout value (signal_at layout Ready to)
+  ready_here : (layout : Layout) (from to : ℕ) → (view_stored (signal_role layout Ready to from) value (view_of s memory)).ready from to ≡ flag_in layout value (signal_at layout Ready to)
   ready_here LineFlags from to = put_two_here (view_of s memory).ready from to value
   ready_here BitFlags from to = if_yes (from == from) (bit_at value to) ((view_of s memory).ready from to) (eqb_same from)
 

@@ -27,7 +27,7 @@ use Rattle.scc_proto.specs.Ports.{Seat, MayMakeAll, record_next, record_on}
 use Rattle.scc_proto.specs.Examples.{two_ranks_by, for_each, drafts_head, begins_first, raises_ready, goes_second, bytes_of}
 use Rattle.scc_proto.proofs.Tests.{same_or_other, put_here, put_there, eqb_same}
 use Rattle.scc_proto.proofs.PortLaws.{record_on-append, may-append}
-use Rattle.scc_proto.proofs.Layouts.PlaceMoves.{Makes, store_moves, load_moves, sent_raised, ready_raised, sent_bit_raised, ready_bit_raised}
+use Rattle.scc_proto.proofs.Layouts.PlaceMoves.{Makes, store_moves, load_moves, signal_raised, signal_bit_raised}
 use Rattle.scc_proto.proofs.Layouts.Roles.{chunk_lines-end, role_chunk}
 
 -- ---- lists of events one after another
@@ -242,7 +242,7 @@ offering BitFlags chunk = record_on (seat_of BitFlags 0) (bit_raised chunk) (fre
 pub raises : (layout : Layout) (word : ℕ → ℕ) → Goes (seat_of layout 0) (drafting layout (notes_up word (words_in layout))) (raised_events layout) (offering layout (notes_up word (words_in layout)))
 unfolding record_next act_of
 raises LineFlags word = goes_one (seat_of LineFlags 0) (drafting LineFlags (notes_up word 448)) (store_of (record { core = 1; line = 1; word = 0 }) 1) (offering LineFlags (notes_up word 448))
-    (sent_raised (seat_of LineFlags 0) (drafting LineFlags (notes_up word 448)) (two_valid LineFlags) refl 1 refl may)
+    (signal_raised (seat_of LineFlags 0) (drafting LineFlags (notes_up word 448)) (two_valid LineFlags) refl Sent 1 refl may)
   where
     may : permits 3584 (RaiseSignal Sent 1) (drafting LineFlags (notes_up word 448)) ≡ true
     may = let whole = has_up word 448 448 (omega arith) in λ i. (header_all LineFlags i && true) && (whole i && nothing_padded 3584 (notes_up word 448) i)
@@ -250,7 +250,7 @@ raises BitFlags word =
     goes_then seat (drafting BitFlags chunk) (notes_flags 1 0 0) (noted_there chunk) (store_of (flags_word 1 0) 1 ∷ free_of 1 ∷ []) (offering BitFlags chunk)
     (record { may = (refl, (refl, (refl, (refl, (refl, tt))))); becomes = refl })
     (goes_then seat (noted_there chunk) (store_of (flags_word 1 0) 1 ∷ []) (bit_raised chunk) (free_of 1 ∷ []) (offering BitFlags chunk)
-    (goes_one seat (noted_there chunk) (store_of (flags_word 1 0) 1) (bit_raised chunk) (sent_bit_raised seat (noted_there chunk) (two_valid BitFlags) refl 1 0 refl refl refl may))
+    (goes_one seat (noted_there chunk) (store_of (flags_word 1 0) 1) (bit_raised chunk) (signal_bit_raised seat (noted_there chunk) (two_valid BitFlags) refl Sent 1 0 refl refl refl may))
     (record { may = (refl, tt); becomes = refl }))
   where
     seat : Seat
@@ -339,12 +339,12 @@ between BitFlags chunk = record_on (seat_of BitFlags 1) (bit_answered chunk) (fr
 pub answers : (layout : Layout) (word : ℕ → ℕ) → Goes (seat_of layout 1) (taking layout (notes_up word (words_in layout))) (events_of 1 (raises_ready layout)) (between layout (notes_up word (words_in layout)))
 unfolding record_next act_of has_all
 answers LineFlags word = goes_one (seat_of LineFlags 1) (taking LineFlags (notes_up word 448)) (store_of (record { core = 0; line = 50; word = 0 }) 1) (between LineFlags (notes_up word 448))
-    (ready_raised (seat_of LineFlags 1) (taking LineFlags (notes_up word 448)) (two_valid LineFlags) refl 0 refl (has_up word 448 448 (omega arith)))
+    (signal_raised (seat_of LineFlags 1) (taking LineFlags (notes_up word 448)) (two_valid LineFlags) refl Ready 0 refl (has_up word 448 448 (omega arith)))
 answers BitFlags word =
     goes_then seat (taking BitFlags chunk) (notes_flags 0 0 0) (noted_here chunk) (store_of (flags_word 0 1) 2 ∷ free_of 0 ∷ []) (between BitFlags chunk)
     (record { may = (refl, (refl, (refl, (refl, (refl, tt))))); becomes = refl })
     (goes_then seat (noted_here chunk) (store_of (flags_word 0 1) 2 ∷ []) (bit_answered chunk) (free_of 0 ∷ []) (between BitFlags chunk)
-    (goes_one seat (noted_here chunk) (store_of (flags_word 0 1) 2) (bit_answered chunk) (ready_bit_raised seat (noted_here chunk) (two_valid BitFlags) refl 0 0 refl refl refl (has_up word 828 828 (omega arith))))
+    (goes_one seat (noted_here chunk) (store_of (flags_word 0 1) 2) (bit_answered chunk) (signal_bit_raised seat (noted_here chunk) (two_valid BitFlags) refl Ready 0 0 refl refl refl (has_up word 828 828 (omega arith))))
     (record { may = (refl, tt); becomes = refl }))
   where
     seat : Seat

@@ -16,7 +16,7 @@ use Rattle.scc_proto.specs.Records.{chunk_of, change_held, note_flags, flags_not
 use Rattle.scc_proto.specs.Ports.{Seat, record_next, record_on}
 use Rattle.scc_proto.proofs.Tests.{put_here}
 use Rattle.scc_proto.proofs.Layouts.Roles.{own_word, role_spare_bits, if_no}
-use Rattle.scc_proto.proofs.Layouts.PlaceMoves.{idle_loaded, register_taken, register_freed, sent_bits_noted, ready_bits_noted}
+use Rattle.scc_proto.proofs.Layouts.PlaceMoves.{idle_loaded, register_taken, register_freed, signal_bits_noted}
 use Rattle.put_get.specs.Accesses.{loads_of}
 use Rattle.sync_flags.specs.Flags.{with_bit}
 use Rattle.send_recv.specs.Steps.{core_of, line_at}
@@ -53,8 +53,8 @@ line_noted seat rec r words valid bits below free =
     let two : FlagWords = both_noted (slice_index words 0) (slice_index words 1) in
     ap (λ (x : Record). record_on seat x (loads_of (line_at seat r 1) words)) (register_taken seat rec valid core free).becomes
     ∙ on_four seat (with_hold rec core none) (with_hold rec core one) (with_hold rec core two) (with_hold rec core two) (with_hold rec core two) _ _ _ _
-    ((sent_bits_noted seat (with_hold rec core none) valid bits r (slice_index words 0) below (is_held rec core none)).becomes ∙ change_hold (note_flags Sent (slice_index words 0)) rec core none)
-    ((ready_bits_noted seat (with_hold rec core one) valid bits r (slice_index words 1) below (is_held rec core one)).becomes ∙ change_hold (note_flags Ready (slice_index words 1)) rec core one)
+    ((signal_bits_noted seat (with_hold rec core none) valid bits Sent r (slice_index words 0) below (is_held rec core none)).becomes ∙ change_hold (note_flags Sent (slice_index words 0)) rec core none)
+    ((signal_bits_noted seat (with_hold rec core one) valid bits Ready r (slice_index words 1) below (is_held rec core one)).becomes ∙ change_hold (note_flags Ready (slice_index words 1)) rec core one)
     (idle_loaded seat (with_hold rec core two) (own_word seat.setup r 1 2) (slice_index words 2) (role_spare_bits seat.setup valid bits r 2 below (omega arith))).becomes
     (idle_loaded seat (with_hold rec core two) (own_word seat.setup r 1 3) (slice_index words 3) (role_spare_bits seat.setup valid bits r 3 below (omega arith))).becomes
 

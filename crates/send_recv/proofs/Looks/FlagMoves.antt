@@ -19,7 +19,7 @@ use Rattle.scc_proto.specs.Records.{chunk_of, change_held, forget_flags}
 use Rattle.scc_proto.specs.Ports.{Seat, Sight, Did, MayMake, MayMakeAll, IsSoundPort, record_in, record_on}
 use Rattle.scc_proto.proofs.Tests.{peers_are}
 use Rattle.scc_proto.proofs.PortLaws.{record_did, record_did_one, record_on-append, seat_kept}
-use Rattle.scc_proto.proofs.Layouts.PlaceMoves.{Makes, sent_lowered, ready_raised, ready_lowered, sent_bit_raised, sent_bit_lowered, ready_bit_raised, ready_bit_lowered}
+use Rattle.scc_proto.proofs.Layouts.PlaceMoves.{Makes, signal_lowered, signal_raised, signal_bit_raised, signal_bit_lowered}
 use Rattle.write_combine.specs.declared.combiner.Out.{Out}
 use Rattle.write_combine.specs.Combining.{handed_out}
 use Rattle.put_get.specs.Accesses.{loads_of, stores_of}
@@ -122,7 +122,7 @@ flag_moved s t c d r flag set move valid hands empty moves changes = flag_moved_
 pub sent_lowers : (layout : Layout) (s : Sight) (from : ℕ) (header : Notes) → s.seat.setup.layout ≡ layout → IsSetup s.seat.setup → are_peers s.seat.setup s.seat.rank from ≡ true
     → (record_in s).notes from ≡ Some header → permits (chunk_of s.seat.setup) (LowerSignal Sent from) (record_in s) ≡ true
     → MovesFlag layout s.seat (record_in s) s.seat.rank (signal_at layout Sent from) false (LowerSignal Sent from)
-sent_lowers LineFlags s from header lines valid peers seen may = (omega arith, sent_lowered s.seat (record_in s) valid lines from peers may)
+sent_lowers LineFlags s from header lines valid peers seen may = (omega arith, signal_lowered s.seat (record_in s) valid lines Sent from peers may)
 sent_lowers BitFlags s from header bits valid peers seen may =
     let p = peers_are s.seat.setup s.seat.rank from peers in
     record {
@@ -132,7 +132,7 @@ sent_lowers BitFlags s from header bits valid peers seen may =
       apart = λ flags. refl;
       turns = λ words sound. sound.sent_set from (slice_index words 0) header (sent_is_noted (record_in s) (own_core s.seat) (slice_index words 0) (slice_index words 1)) seen;
       stored = λ words set.
-          sent_bit_lowered s.seat (noted_under s.seat (record_in s) s.seat.rank words) valid bits from (slice_index words 0) (with_bit from false (slice_index words 0)) peers
+          signal_bit_lowered s.seat (noted_under s.seat (record_in s) s.seat.rank words) valid bits Sent from (slice_index words 0) (with_bit from false (slice_index words 0)) peers
           (sent_is_noted (record_in s) (own_core s.seat) (slice_index words 0) (slice_index words 1)) set (bit_taken (slice_index words 0) from set) may;
     }
 
@@ -140,7 +140,7 @@ sent_lowers BitFlags s from header bits valid peers seen may =
 pub ready_lowers : (layout : Layout) (s : Sight) (by : ℕ) → s.seat.setup.layout ≡ layout → IsSetup s.seat.setup → are_peers s.seat.setup s.seat.rank by ≡ true
     → is_answered by (record_in s).stage (record_in s).post ≡ true → permits (chunk_of s.seat.setup) (LowerSignal Ready by) (record_in s) ≡ true
     → MovesFlag layout s.seat (record_in s) s.seat.rank (signal_at layout Ready by) false (LowerSignal Ready by)
-ready_lowers LineFlags s by lines valid peers seen may = (omega arith, ready_lowered s.seat (record_in s) valid lines by peers may)
+ready_lowers LineFlags s by lines valid peers seen may = (omega arith, signal_lowered s.seat (record_in s) valid lines Ready by peers may)
 ready_lowers BitFlags s by bits valid peers seen may =
     let p = peers_are s.seat.setup s.seat.rank by peers in
     record {
@@ -150,7 +150,7 @@ ready_lowers BitFlags s by bits valid peers seen may =
       apart = λ flags. refl;
       turns = λ words sound. sound.ready_set by (slice_index words 1) (ready_is_noted (record_in s) (own_core s.seat) (slice_index words 0) (slice_index words 1)) seen;
       stored = λ words set.
-          ready_bit_lowered s.seat (noted_under s.seat (record_in s) s.seat.rank words) valid bits by (slice_index words 1) (with_bit by false (slice_index words 1)) peers
+          signal_bit_lowered s.seat (noted_under s.seat (record_in s) s.seat.rank words) valid bits Ready by (slice_index words 1) (with_bit by false (slice_index words 1)) peers
           (ready_is_noted (record_in s) (own_core s.seat) (slice_index words 0) (slice_index words 1)) set (bit_taken (slice_index words 1) by set) may;
     }
 
@@ -158,7 +158,7 @@ ready_lowers BitFlags s by bits valid peers seen may =
 pub ready_raises : (layout : Layout) (s : Sight) (to : ℕ) → s.seat.setup.layout ≡ layout → IsSetup s.seat.setup → are_peers s.seat.setup s.seat.rank to ≡ true
     → is_taking to (record_in s).stage ≡ true → permits (chunk_of s.seat.setup) (RaiseSignal Ready to) (record_in s) ≡ true
     → MovesFlag layout s.seat (record_in s) to (signal_at layout Ready s.seat.rank) true (RaiseSignal Ready to)
-ready_raises LineFlags s to lines valid peers taking may = (omega arith, ready_raised s.seat (record_in s) valid lines to peers may)
+ready_raises LineFlags s to lines valid peers taking may = (omega arith, signal_raised s.seat (record_in s) valid lines Ready to peers may)
 ready_raises BitFlags s to bits valid peers taking may =
     let p = peers_are s.seat.setup s.seat.rank to peers in
     let core = core_of s.seat to in
@@ -172,7 +172,7 @@ ready_raises BitFlags s to bits valid peers taking may =
           let rec : Record = noted_under s.seat (record_in s) to words in
           subst (λ v. Makes s.seat rec (store_of (flag_word core (signal_at BitFlags Ready s.seat.rank)) v) (change_held (forget_flags Ready) core (after (chunk_of s.seat.setup) (RaiseSignal Ready to) rec)))
           (sym (bit_given (slice_index words 1) s.seat.rank clear))
-          (ready_bit_raised s.seat rec valid bits to (slice_index words 1) peers (ready_is_noted (record_in s) core (slice_index words 0) (slice_index words 1)) clear may);
+          (signal_bit_raised s.seat rec valid bits Ready to (slice_index words 1) peers (ready_is_noted (record_in s) core (slice_index words 0) (slice_index words 1)) clear may);
     }
 
 -- a sender raises `sent` at the core of the receiver, with bit flags; with line flags it stores first what waits
@@ -192,5 +192,5 @@ sent_raises s to bits valid peers drafting may =
           let rec : Record = noted_under s.seat (record_in s) to words in
           subst (λ v. Makes s.seat rec (store_of (flag_word core (signal_at BitFlags Sent s.seat.rank)) v) (change_held (forget_flags Sent) core (after (chunk_of s.seat.setup) (RaiseSignal Sent to) rec)))
           (sym (bit_given (slice_index words 0) s.seat.rank clear))
-          (sent_bit_raised s.seat rec valid bits to (slice_index words 0) peers (sent_is_noted (record_in s) core (slice_index words 0) (slice_index words 1)) clear may);
+          (signal_bit_raised s.seat rec valid bits Sent to (slice_index words 0) peers (sent_is_noted (record_in s) core (slice_index words 0) (slice_index words 1)) clear may);
     }

@@ -18,7 +18,7 @@ use Rattle.scc_proto.specs.Records.{chunk_of}
 use Rattle.scc_proto.specs.Ports.{Seat, Sight, Did, MayMakeAll, record_in, record_next}
 use Rattle.scc_proto.proofs.Tests.{peers_are, eqb_same, eqb_other}
 use Rattle.scc_proto.proofs.PortLaws.{record_did, record_on-append, may-append}
-use Rattle.scc_proto.proofs.Layouts.PlaceMoves.{sent_raised}
+use Rattle.scc_proto.proofs.Layouts.PlaceMoves.{signal_raised}
 use Rattle.scc_proto.proofs.Layouts.Roles.{if_no}
 use Rattle.write_combine.specs.declared.combiner.Out.{Out}
 use Rattle.write_combine.specs.Combining.{handed_out}
@@ -104,7 +104,7 @@ may_by LineFlags s c op slot bytes layout valid small r hands none before =
     let one = p.one in
     let l = waiting_out s.seat (record_in s) op bytes lines valid p.one none (omega arith) before.1 in
     let may = permitted_by s.seat (record_in s) c l.new op slot bytes small r none l.drafted in
-    let raised = sent_raised s.seat (record (record_in s) { stage = l.new }) valid layout op.to r.peers may in
+    let raised = signal_raised s.seat (record (record_in s) { stage = l.new }) valid layout Sent op.to r.peers may in
     record {
       word_below = omega arith;
       other = subst (λ (o : Option Out). handed_out o (line_of_word (flag_word (core_of s.seat op.to) (signal_at LineFlags Sent s.seat.rank))) ≡ o) (sym out)
@@ -146,7 +146,7 @@ raised_by LineFlags s t c d op slot bytes layout valid small r hands none before
       is = record_did s (stores_of (waiting s.seat op bytes lines) ++ store ∷ []) t (subst (λ (o : Option Out). Did s (stores_of o ++ store ∷ []) t) out writes.did)
           ∙ record_on-append s.seat (record_in s) (stores_of (waiting s.seat op bytes lines)) (store ∷ [])
           ∙ ap (λ (x : Record). record_next s.seat x store) l.becomes
-          ∙ (sent_raised s.seat (record (record_in s) { stage = l.new }) valid layout op.to r.peers may).becomes;
+          ∙ (signal_raised s.seat (record (record_in s) { stage = l.new }) valid layout Sent op.to r.peers may).becomes;
     }
 raised_by BitFlags s t c d op slot bytes bits valid small r hands none before tries = record {
   new = (record_in s).stage;
