@@ -8,6 +8,8 @@ use Rattle.scc_base.specs.Setups.{IsSetup}
 use Rattle.scc_base.specs.Events.{take_of, free_of}
 use Rattle.scc_base.specs.declared.events.Event.{Event}
 use Rattle.scc_base.specs.declared.layouts.Layout.TheVariants.{BitFlags}
+use Rattle.scc_base.specs.Layouts.{signal_word}
+use Rattle.scc_base.specs.declared.signals.Signal.{Signal}
 use Rattle.scc_base.specs.declared.signals.Signal.TheVariants.{Sent, Ready}
 use Rattle.scc_proto.specs.Tables.{put}
 use Rattle.scc_proto.specs.Stages.{FlagWords, Record}
@@ -59,11 +61,10 @@ line_noted seat rec r words valid bits below free =
     (idle_loaded seat (with_hold rec core two) (own_word seat.setup r 1 3) (slice_index words 3) (role_spare_bits seat.setup valid bits r 3 below (omega arith))).becomes
 
 -- the words noted under the register
-pub sent_is_noted : (rec : Record) (core sent ready : ℕ) → flags_noted Sent (with_hold rec core (both_noted sent ready)) core ≡ Some sent
-sent_is_noted rec core sent ready = ap (λ (o : Option FlagWords). option_and_then (λ (flags : FlagWords). flags.sent) o) (held_here rec core (both_noted sent ready))
-
-pub ready_is_noted : (rec : Record) (core sent ready : ℕ) → flags_noted Ready (with_hold rec core (both_noted sent ready)) core ≡ Some ready
-ready_is_noted rec core sent ready = ap (λ (o : Option FlagWords). option_and_then (λ (flags : FlagWords). flags.ready) o) (held_here rec core (both_noted sent ready))
+pub is_noted : (signal : Signal) (rec : Record) (core : ℕ) (words : List ℕ)
+    → flags_noted signal (with_hold rec core (both_noted (slice_index words 0) (slice_index words 1))) core ≡ Some (slice_index words (signal_word signal))
+is_noted Sent rec core words = ap (λ (o : Option FlagWords). option_and_then (λ (flags : FlagWords). flags.sent) o) (held_here rec core (both_noted (slice_index words 0) (slice_index words 1)))
+is_noted Ready rec core words = ap (λ (o : Option FlagWords). option_and_then (λ (flags : FlagWords). flags.ready) o) (held_here rec core (both_noted (slice_index words 0) (slice_index words 1)))
 
 -- after the store and the free the record is that after the move, with the register free
 pub move_made : (seat : Seat) (rec : Record) (core : ℕ) (flags : FlagWords) (f : FlagWords → FlagWords) (move : Move) (store : Event) → IsSetup seat.setup → rec.held core ≡ None

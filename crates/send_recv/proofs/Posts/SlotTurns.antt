@@ -36,7 +36,7 @@ use Rattle.send_recv.specs.Turns.{HoldsNone, OnlyTries, NoLoad, waits_at}
 use Rattle.send_recv.specs.Ranks.{SlotHolder, with_slot}
 use Rattle.send_recv.proofs.Posts.SlotApart.{is_apart, apart_in}
 use Rattle.send_recv.proofs.Lines.DraftNone.{ready_is_flag, look_drafts_none, change_drafts_none}
-use Rattle.send_recv.proofs.Looks.FlagMoves.{MovesFlag, may_change, flag_moved, ready_lowers}
+use Rattle.send_recv.proofs.Looks.FlagMoves.{MovesFlag, may_change, flag_moved, signal_lowers, ready_turns}
 use Rattle.send_recv.proofs.Looks.LookLemmas.{looks_at}
 use Rattle.send_recv.proofs.Receiving.LookTurn.{looked_post, looked_rest, looked_calls}
 use Rattle.send_recv.proofs.Receiving.HeadTurn.{post_kept, post_itself}
@@ -251,7 +251,7 @@ lowers_ready s slot to valid h full seen =
     let f = is_full s slot to h full in
     let peers : are_peers s.seat.setup s.seat.rank to ≡ true = subst (λ (o : Option ℕ). IfSome o (λ j. are_peers s.seat.setup s.seat.rank j ≡ true)) full h.peers in
     let may = goes_on_free to (record_in s).stage (record_in s).post f.free (answered_is s slot to h full seen) in
-    ready_lowers s.seat.setup.layout s to refl valid peers may.1 may.0
+    signal_lowers s.seat.setup.layout s Ready to refl valid peers (ready_turns s to may.1) may.0
 
 pub may_lower_slot : (s : Sight) (c : Private) (slot : SlotAt) (to : ℕ) → IsSetup s.seat.setup → SlotStands s.seat (record_in s) slot → c.out ≡ None → HoldsNone s.seat.setup.layout (record_in s)
     → slot.to ≡ Some to → slot.seen ≡ true → MayChange s c (own_core s.seat) (signal_flag s.seat Ready to) false

@@ -32,7 +32,7 @@ use Rattle.send_recv.specs.Turns.{KeepsAllButMessages}
 use Rattle.send_recv.specs.Ranks.{receiving}
 use Rattle.send_recv.proofs.Receiving.LookTurn.{recv_does, Turns, stands_after}
 use Rattle.send_recv.proofs.Receiving.HeadTurn.{post_kept}
-use Rattle.send_recv.proofs.Looks.FlagMoves.{MovesFlag, may_change, flag_moved, sent_lowers}
+use Rattle.send_recv.proofs.Looks.FlagMoves.{MovesFlag, may_change, flag_moved, signal_lowers, sent_turns}
 use Rattle.send_recv.proofs.Looks.ChangeFacts.{change_facts}
 use Rattle.send_recv.proofs.Lines.DraftNone.{sent_is_flag, change_drafts_none}
 
@@ -69,7 +69,7 @@ lowers_sent : (s : Sight) (c : Private) (op : RecvAt) (bytes : List ℕ) → IsS
     → MovesFlag s.seat.setup.layout s.seat (record_in s) s.seat.rank (signal_flag s.seat Sent op.from) false (LowerSignal Sent op.from)
 lowers_sent s c op bytes valid r lower =
     let l = is_lowering s.seat (record_in s) c op bytes r lower in
-    sent_lowers s.seat.setup.layout s op.from l.header refl valid r.peers l.seen (lower_permitted (chunk_of s.seat.setup) (record_in s) op bytes l)
+    signal_lowers s.seat.setup.layout s Sent op.from refl valid r.peers (sent_turns s op.from l.header l.seen) (lower_permitted (chunk_of s.seat.setup) (record_in s) op bytes l)
 
 -- the flag may be lowered
 pub may_lower_turn : (s : Sight) (c : Private) (op : RecvAt) (bytes : List ℕ) → IsSetup s.seat.setup → RecvStands s c op bytes → op.stage ≡ Lower → MayChange s c (own_core s.seat) (signal_flag s.seat Sent op.from) false

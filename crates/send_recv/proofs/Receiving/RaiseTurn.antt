@@ -27,7 +27,7 @@ use Rattle.send_recv.specs.Flags.{Changes, MayChange}
 use Rattle.send_recv.specs.Ops.{RecvAt}
 use Rattle.send_recv.specs.Receiving.{IsAtStage, IsReceiving, RecvStands, IsRead, IsTakingLines, between, progress_at, lines_now, flag_lines}
 use Rattle.send_recv.specs.Steps.{core_of, signal_flag}
-use Rattle.send_recv.proofs.Looks.FlagMoves.{MovesFlag, may_change, flag_moved, ready_raises}
+use Rattle.send_recv.proofs.Looks.FlagMoves.{MovesFlag, may_change, flag_moved, signal_raises, ready_is_clear}
 
 -- what a receive that is to raise `ready` has of the record
 pub record IsRaising (size : ℕ) (rec : Record) (op : RecvAt) (bytes : List ℕ) : Type 0 where
@@ -50,7 +50,7 @@ raises_ready : (s : Sight) (c : Private) (op : RecvAt) (bytes : List ℕ) → Is
     → MovesFlag s.seat.setup.layout s.seat (record_in s) op.from (signal_flag s.seat Ready s.seat.rank) true (RaiseSignal Ready op.from)
 raises_ready s c op bytes valid r raise =
     let l = is_raising s.seat (record_in s) c op bytes r raise in
-    ready_raises s.seat.setup.layout s op.from refl valid r.peers (raise_takes (chunk_of s.seat.setup) (record_in s) op bytes l) (raise_permitted (chunk_of s.seat.setup) (record_in s) op bytes l)
+    signal_raises s.seat.setup.layout s Ready op.from refl valid r.peers (ready_is_clear s op.from (raise_takes (chunk_of s.seat.setup) (record_in s) op bytes l)) (raise_permitted (chunk_of s.seat.setup) (record_in s) op bytes l)
 
 -- the flag may be raised
 pub may_raise_turn : (s : Sight) (c : Private) (op : RecvAt) (bytes : List ℕ) → IsSetup s.seat.setup → RecvStands s c op bytes → op.stage ≡ Raise

@@ -38,7 +38,7 @@ use Rattle.send_recv.proofs.Receiving.LookTurn.{holds_kept}
 use Rattle.send_recv.proofs.Looks.ChangeFacts.{change_facts}
 use Rattle.send_recv.proofs.Receiving.FlagTurns.{went_on}
 use Rattle.send_recv.proofs.Receiving.RaiseTurn.{whole, longer, last_is, next_below}
-use Rattle.send_recv.proofs.Looks.FlagMoves.{MovesFlag, may_change, flag_moved, ready_lowers}
+use Rattle.send_recv.proofs.Looks.FlagMoves.{MovesFlag, may_change, flag_moved, signal_lowers, ready_turns}
 use Rattle.send_recv.proofs.Lines.DraftNone.{ready_is_flag, change_drafts_none}
 use Rattle.send_recv.proofs.Lines.DraftNotes.{no_lines}
 use Rattle.send_recv.proofs.Lines.DraftWhole.{AreBytes, as_receive, drafted_read}
@@ -52,7 +52,7 @@ use Rattle.send_recv.proofs.Sending.SendWaits.{no_stores, register_waits, next_a
 lowers_ready : (s : Sight) (op : SendAt) (bytes : List ℕ) → IsSetup s.seat.setup → are_peers s.seat.setup s.seat.rank op.to ≡ true → IsUp (chunk_of s.seat.setup) (record_in s).stage op bytes Answered
     → MovesFlag s.seat.setup.layout s.seat (record_in s) s.seat.rank (signal_flag s.seat Ready op.to) false (LowerSignal Ready op.to)
 lowers_ready s op bytes valid peers up =
-    ready_lowers s.seat.setup.layout s op.to refl valid peers (ap (λ (st : Stage). is_answered op.to st (record_in s).post) up.stage_is ∙ eqb_same op.to)
+    signal_lowers s.seat.setup.layout s Ready op.to refl valid peers (ready_turns s op.to (ap (λ (st : Stage). is_answered op.to st (record_in s).post) up.stage_is ∙ eqb_same op.to))
     (ap (λ (st : Stage). may_go_on op.to st (record_in s).post) up.stage_is ∙ eqb_same op.to)
 
 pub may_lower_turn : (s : Sight) (c : Private) (op : SendAt) (slot : SlotAt) (bytes : List ℕ) → IsSetup s.seat.setup → SendStands s c op slot bytes → op.stage ≡ Lower → MayChange s c (own_core s.seat) (signal_flag s.seat Ready op.to) false

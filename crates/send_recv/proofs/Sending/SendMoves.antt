@@ -32,7 +32,7 @@ use Rattle.send_recv.specs.Ops.{SendAt, SlotAt}
 use Rattle.send_recv.specs.Sending.{HasDrafted, First, Later, IsBeforeRaise, IsSending, SendStands, lines_in_hand, own_line, header_words, waiting}
 use Rattle.send_recv.specs.Steps.{own_core, core_of, signal_flag}
 use Rattle.send_recv.specs.Turns.{HoldsNoneBy}
-use Rattle.send_recv.proofs.Looks.FlagMoves.{MovesFlag, may_change_by, flag_moved_by, sent_raises}
+use Rattle.send_recv.proofs.Looks.FlagMoves.{MovesFlag, may_change_by, flag_moved_by, signal_raises, sent_is_clear}
 use Rattle.send_recv.proofs.Lines.DraftWhole.{AreBytes, drafted_is, head_drafted, header_whole, begun_is}
 use Rattle.send_recv.proofs.Lines.WaitingOut.{waiting_out}
 use Rattle.send_recv.proofs.Sending.SendFacts.{at_stage}
@@ -90,7 +90,7 @@ raises_bit : (s : Sight) (c : Private) (op : SendAt) (slot : SlotAt) (bytes : Li
 raises_bit s c op slot bytes bits valid small r none drafted =
     let drafting : is_drafting (record_in s).stage (record_in s).post ≡ true = ap (λ (o : Option OnItsWay). is_drafting (record_in s).stage o) none
     ∙ drafting_by (chunk_of s.seat.setup) (record_in s).stage op bytes (lines_in_hand (chunk_of s.seat.setup) op) drafted in
-    sent_raises s op.to bits valid r.peers drafting (permitted_by s.seat (record_in s) c (record_in s).stage op slot bytes small r none drafted)
+    signal_raises BitFlags s Sent op.to bits valid r.peers (sent_is_clear s op.to r.peers drafting) (permitted_by s.seat (record_in s) c (record_in s).stage op slot bytes small r none drafted)
 
 may_by : (layout : Layout) (s : Sight) (c : Private) (op : SendAt) (slot : SlotAt) (bytes : List ℕ) → s.seat.setup.layout ≡ layout → IsSetup s.seat.setup → AreBytes bytes → SendStands s c op slot bytes
     → HoldsNoneBy layout (record_in s).held → (record_in s).post ≡ None → IsBeforeRaise layout s.seat (record_in s).stage c op bytes → MayChangeBy layout s c (core_of s.seat op.to) (signal_at layout Sent s.seat.rank) true
