@@ -5,9 +5,10 @@ use Rattle.std.proofs.lemmas.List.Elements.{All-nil, All-cons, All-head, All-tai
 use Rattle.scc_base.specs.Calls.{DataCall, Bar}
 use Rattle.scc_base.specs.Setups.{SetupView}
 use Rattle.scc_base.specs.declared.events.Event.{Event}
+use Rattle.scc_base.specs.declared.signals.Signal.TheVariants.{Sent, Ready}
 use Rattle.scc_proto.specs.Messages.{Notes, Progress, begun, bytes_from, chunk_bytes, head_of, is_last, message_of, note_word, post_to, recv_from, send_to, with_chunk}
-use Rattle.scc_proto.specs.Moves.{Move, DraftHeader, DraftChunk, RaiseSent, LookSent, ReadHeader, ReadChunk, LowerSent, RaiseReady, LookReady, LowerReady, FlipGather, LookGather, WriteRelease, LookRelease, StoreHeap, NoMove, Misplaced, after, calls_after, calls_let_go, calls_raised, calls_received, calls_released, calls_sent, draft_chunk, draft_header, finished_if, flip_gather, is_posted, look_gather, look_ready, look_release, lower_ready, lower_sent, raise_ready, raise_sent, read_chunk, stage_after, write_release}
-use Rattle.scc_proto.specs.Records.{Act, Moving, NotingSent, NotingReady, ChangingSent, ChangingReady, Holding, Freeing, act_of, after_act, chunk_of, is_permitted, record_after, record_from, record_of}
+use Rattle.scc_proto.specs.Moves.{Move, DraftHeader, DraftChunk, RaiseSignal, LookSignal, ReadHeader, ReadChunk, LowerSignal, FlipGather, LookGather, WriteRelease, LookRelease, StoreHeap, NoMove, Misplaced, after, calls_after, calls_let_go, calls_raised, calls_received, calls_released, calls_sent, draft_chunk, draft_header, finished_if, flip_gather, is_posted, look_gather, look_ready, look_release, lower_ready, lower_sent, raise_ready, raise_sent, read_chunk, stage_after, write_release}
+use Rattle.scc_proto.specs.Records.{Act, Moving, NotingSignal, ChangingSignal, Holding, Freeing, act_of, after_act, chunk_of, is_permitted, record_after, record_from, record_of}
 use Rattle.scc_proto.specs.Stages.{Filling, Raised, Answered, Stage, Idle, Drafting, Sending, Between, Taking, Barrier, Record, blank}
 use Rattle.call_tap.specs.Bytes.{AreBytes, HasBytes}
 
@@ -149,14 +150,14 @@ look_release_open comm value v (Barrier c seen released) are = if_open ((c == co
 move_open : (size : ℕ) (move : Move) (rec : Record) → OpenBytes rec.stage → OpenBytes (stage_after size move rec)
 move_open size (DraftHeader k v) rec are = draft_header_open k v rec.stage are
 move_open size (DraftChunk k v) rec are = draft_chunk_open k v rec.stage are
-move_open size (RaiseSent to) rec are = raise_sent_open to rec.stage are
-move_open size (LookSent is_set) rec are = are
+move_open size (RaiseSignal Sent to) rec are = raise_sent_open to rec.stage are
+move_open size (LookSignal Sent is_set) rec are = are
 move_open size (ReadHeader from k v) rec are = are
 move_open size (ReadChunk from k v) rec are = read_chunk_open from k v rec.stage are
-move_open size (LowerSent from) rec are = lower_sent_open from (unwrap_or (rec.notes from) []) rec.stage are
-move_open size (RaiseReady to) rec are = raise_ready_open size rec.stage are
-move_open size (LookReady is_set) rec are = look_ready_open is_set rec.stage are
-move_open size (LowerReady by) rec are = lower_ready_open size rec.stage are
+move_open size (LowerSignal Sent from) rec are = lower_sent_open from (unwrap_or (rec.notes from) []) rec.stage are
+move_open size (RaiseSignal Ready to) rec are = raise_ready_open size rec.stage are
+move_open size (LookSignal Ready is_set) rec are = look_ready_open is_set rec.stage are
+move_open size (LowerSignal Ready by) rec are = lower_ready_open size rec.stage are
 move_open size (FlipGather comm value last) rec are = flip_gather_open comm last rec.stage are
 move_open size (LookGather comm from place value) rec are = look_gather_open comm place value (rec.flips comm % 2) rec.stage are
 move_open size (WriteRelease comm to place value last) rec are = write_release_open last rec.stage are
@@ -221,14 +222,13 @@ calls_let_go_have comm value v (Barrier c seen released) calls are all = if_fini
 move_have : (size : ℕ) (move : Move) (rec : Record) → OpenBytes rec.stage → HaveBytes rec.calls → HaveBytes (calls_after size move rec)
 move_have size (DraftHeader k v) rec are all = all
 move_have size (DraftChunk k v) rec are all = all
-move_have size (RaiseSent to) rec are all = calls_raised_have size to rec.stage rec.calls are all
-move_have size (LookSent is_set) rec are all = all
+move_have size (RaiseSignal Sent to) rec are all = calls_raised_have size to rec.stage rec.calls are all
+move_have size (LookSignal signal is_set) rec are all = all
 move_have size (ReadHeader from k v) rec are all = all
 move_have size (ReadChunk from k v) rec are all = all
-move_have size (LowerSent from) rec are all = all
-move_have size (RaiseReady to) rec are all = calls_received_have size rec.stage rec.calls are all
-move_have size (LookReady is_set) rec are all = all
-move_have size (LowerReady by) rec are all = calls_sent_have size rec.stage rec.calls are all
+move_have size (LowerSignal Sent from) rec are all = all
+move_have size (RaiseSignal Ready to) rec are all = calls_received_have size rec.stage rec.calls are all
+move_have size (LowerSignal Ready by) rec are all = calls_sent_have size rec.stage rec.calls are all
 move_have size (FlipGather comm value last) rec are all = if_finished (last == 0) (Bar comm) rec.calls none_bytes all
 move_have size (LookGather comm from place value) rec are all = all
 move_have size (WriteRelease comm to place value last) rec are all = calls_released_have last rec.stage rec.calls are all
@@ -248,10 +248,8 @@ after_move size move rec is = record { open_bytes = move_open size move rec is.o
 
 after_any : (size : ℕ) (act : Act) (rec : Record) → Bytes rec → Bytes (after_act size act rec)
 after_any size (Moving move) rec is = after_move size move rec is
-after_any size (NotingSent core value) rec is = record { open_bytes = is.open_bytes; have = is.have }
-after_any size (NotingReady core value) rec is = record { open_bytes = is.open_bytes; have = is.have }
-after_any size (ChangingSent core move) rec is = let moved = after_move size move rec is in record { open_bytes = moved.open_bytes; have = moved.have }
-after_any size (ChangingReady core move) rec is = let moved = after_move size move rec is in record { open_bytes = moved.open_bytes; have = moved.have }
+after_any size (NotingSignal signal core value) rec is = record { open_bytes = is.open_bytes; have = is.have }
+after_any size (ChangingSignal signal core move) rec is = let moved = after_move size move rec is in record { open_bytes = moved.open_bytes; have = moved.have }
 after_any size (Holding core) rec is = record { open_bytes = is.open_bytes; have = is.have }
 after_any size (Freeing core) rec is = record { open_bytes = is.open_bytes; have = is.have }
 

@@ -5,13 +5,14 @@ use Rattle.scc_base.specs.Calls.{DataCall}
 use Rattle.scc_base.specs.Events.{free_of, store_of, take_of}
 use Rattle.scc_base.specs.Places.{WordAt}
 use Rattle.scc_base.specs.Setups.{SetupView}
+use Rattle.scc_base.specs.declared.signals.Signal.TheVariants.{Sent, Ready}
 use Rattle.scc_proto.specs.Messages.{Note, Notes, Progress, begun, head_of, is_whole}
-use Rattle.scc_proto.specs.Moves.{Move, DraftHeader, DraftChunk, RaiseSent, LookSent, ReadHeader, ReadChunk, LowerSent, RaiseReady, LookReady, LowerReady, FlipGather, LookGather, WriteRelease, LookRelease, StoreHeap, NoMove, Misplaced}
+use Rattle.scc_proto.specs.Moves.{Move, DraftHeader, DraftChunk, RaiseSignal, LookSignal, ReadHeader, ReadChunk, LowerSignal, FlipGather, LookGather, WriteRelease, LookRelease, StoreHeap, NoMove, Misplaced}
 use Rattle.scc_proto.specs.Permission.{is_drafted, is_whole_header, may_take, permits}
-use Rattle.scc_proto.specs.Records.{change_at, chunk_of, is_permitted, permits_act, ready_noted, sent_noted, store_act}
+use Rattle.scc_proto.specs.Records.{change_at, chunk_of, is_permitted, permits_act, flags_noted, store_act}
 use Rattle.scc_proto.specs.Singles.{is_free}
 use Rattle.scc_proto.specs.Stages.{FlagWords, HeapStore, Filling, Raised, Answered, Stage, Idle, Drafting, Sending, Between, Taking, Barrier, OnItsWay, Record}
-use Rattle.scc_proto.specs.Words.{Role, HeaderWord, ChunkWord, SentFlag, ReadyFlag, SentFlags, ReadyFlags, GatherFlag, ReleaseFlag, HeapWord, IdleWord, role_of}
+use Rattle.scc_proto.specs.Words.{Role, HeaderWord, ChunkWord, SignalFlag, SignalFlags, GatherFlag, ReleaseFlag, HeapWord, IdleWord, role_of}
 use Rattle.scc_proto.proofs.Tests.{both_first, both_second, same_by_eqb, true_not_false}
 use Rattle.record_machine.specs.Next.{allowed_for, awaits, is_load_move, lacks_flags, lowers_beside, names_move, offers, ready_allowed, store_allowed, stores_allowed}
 use Rattle.record_machine.specs.declared.next.NextEvent.{NextEvent}
@@ -32,10 +33,10 @@ both true b p q = q
 both false b p q = p
 
 -- the `ready` of a post that is taken
-lowers_posted : (post : OnItsWay) (by : ℕ) → ((post.to == by) && post.is_answered) ≡ true → lowers_beside (if post.is_answered then Some post.to else None) (LowerReady by) ≡ true
+lowers_posted : (post : OnItsWay) (by : ℕ) → ((post.to == by) && post.is_answered) ≡ true → lowers_beside (if post.is_answered then Some post.to else None) (LowerSignal Ready by) ≡ true
 lowers_posted post by t = go post.is_answered t
   where
-    go : (b : Bool) → ((post.to == by) && b) ≡ true → lowers_beside (if b then Some post.to else None) (LowerReady by) ≡ true
+    go : (b : Bool) → ((post.to == by) && b) ≡ true → lowers_beside (if b then Some post.to else None) (LowerSignal Ready by) ≡ true
     go true t = both_first (post.to == by) true t
     go false t = absurd (true_not_false (sym (both_second (post.to == by) false t)))
 
@@ -72,89 +73,89 @@ module _ (size : ℕ) (notes : ℕ → Option Notes) (flips : ℕ → ℕ) (held
   idle_named : (post : Option OnItsWay) (move : Move) → Named Idle post (store_allowed size Idle post notes) move
   idle_named None (DraftHeader k v) t u = refl
   idle_named None move t u = cc
-  idle_named (Some p) (LowerReady by) t u = lowers_posted p by t
+  idle_named (Some p) (LowerSignal Ready by) t u = lowers_posted p by t
   idle_named (Some p) move t u = cc
 
   drafting_named : (h c : Notes) (post : Option OnItsWay) (b : Bool) (move : Move) → Named (Drafting h c) post (if b then may.Raise else may.Draft) move
-  drafting_named h c None true (LowerSent from) t u = absurd (none_taken (Drafting h c) from (λ header e. true_not_false (sym e)) t)
+  drafting_named h c None true (LowerSignal Sent from) t u = absurd (none_taken (Drafting h c) from (λ header e. true_not_false (sym e)) t)
   drafting_named h c None true move t u = cc
-  drafting_named h c None false (LowerSent from) t u = absurd (none_taken (Drafting h c) from (λ header e. true_not_false (sym e)) t)
+  drafting_named h c None false (LowerSignal Sent from) t u = absurd (none_taken (Drafting h c) from (λ header e. true_not_false (sym e)) t)
   drafting_named h c None false move t u = cc
-  drafting_named h c (Some p) true (LowerReady by) t u = lowers_posted p by t
-  drafting_named h c (Some p) true (LowerSent from) t u = absurd (none_taken (Drafting h c) from (λ header e. true_not_false (sym e)) t)
+  drafting_named h c (Some p) true (LowerSignal Ready by) t u = lowers_posted p by t
+  drafting_named h c (Some p) true (LowerSignal Sent from) t u = absurd (none_taken (Drafting h c) from (λ header e. true_not_false (sym e)) t)
   drafting_named h c (Some p) true move t u = cc
-  drafting_named h c (Some p) false (LowerReady by) t u = lowers_posted p by t
-  drafting_named h c (Some p) false (LowerSent from) t u = absurd (none_taken (Drafting h c) from (λ header e. true_not_false (sym e)) t)
+  drafting_named h c (Some p) false (LowerSignal Ready by) t u = lowers_posted p by t
+  drafting_named h c (Some p) false (LowerSignal Sent from) t u = absurd (none_taken (Drafting h c) from (λ header e. true_not_false (sym e)) t)
   drafting_named h c (Some p) false move t u = cc
 
   fill_first_named : (j : ℕ) (message : Progress) (post : Option OnItsWay) (move : Move) → Named (Sending j Filling message []) post (may.FillFirst j) move
-  fill_first_named j message None (RaiseSent to) t u = or_first (j == to) _ (both_first (j == to) _ t)
-  fill_first_named j message None (LowerSent from) t u = absurd (none_taken (Sending j Filling message []) from (λ header e. true_not_false (sym e)) t)
+  fill_first_named j message None (RaiseSignal Sent to) t u = or_first (j == to) _ (both_first (j == to) _ t)
+  fill_first_named j message None (LowerSignal Sent from) t u = absurd (none_taken (Sending j Filling message []) from (λ header e. true_not_false (sym e)) t)
   fill_first_named j message None move t u = cc
-  fill_first_named j message (Some p) (LowerSent from) t u = absurd (none_taken (Sending j Filling message []) from (λ header e. true_not_false (sym e)) t)
+  fill_first_named j message (Some p) (LowerSignal Sent from) t u = absurd (none_taken (Sending j Filling message []) from (λ header e. true_not_false (sym e)) t)
   fill_first_named j message (Some p) move t u = cc
 
   fill_named : (j : ℕ) (message : Progress) (n : Note) (ns : Notes) (post : Option OnItsWay) (b : Bool) (move : Move) → Named (Sending j Filling message (n ∷ ns)) post (if b then may.RaiseMore j else may.Fill j) move
-  fill_named j message n ns None true (RaiseSent to) t u = or_first (j == to) _ (both_first (j == to) _ t)
-  fill_named j message n ns None true (LowerSent from) t u = absurd (none_taken (Sending j Filling message (n ∷ ns)) from (λ header e. true_not_false (sym e)) t)
+  fill_named j message n ns None true (RaiseSignal Sent to) t u = or_first (j == to) _ (both_first (j == to) _ t)
+  fill_named j message n ns None true (LowerSignal Sent from) t u = absurd (none_taken (Sending j Filling message (n ∷ ns)) from (λ header e. true_not_false (sym e)) t)
   fill_named j message n ns None true move t u = cc
-  fill_named j message n ns None false (RaiseSent to) t u = or_first (j == to) _ (both_first (j == to) _ t)
-  fill_named j message n ns None false (LowerSent from) t u = absurd (none_taken (Sending j Filling message (n ∷ ns)) from (λ header e. true_not_false (sym e)) t)
+  fill_named j message n ns None false (RaiseSignal Sent to) t u = or_first (j == to) _ (both_first (j == to) _ t)
+  fill_named j message n ns None false (LowerSignal Sent from) t u = absurd (none_taken (Sending j Filling message (n ∷ ns)) from (λ header e. true_not_false (sym e)) t)
   fill_named j message n ns None false move t u = cc
-  fill_named j message n ns (Some p) true (LowerSent from) t u = absurd (none_taken (Sending j Filling message (n ∷ ns)) from (λ header e. true_not_false (sym e)) t)
+  fill_named j message n ns (Some p) true (LowerSignal Sent from) t u = absurd (none_taken (Sending j Filling message (n ∷ ns)) from (λ header e. true_not_false (sym e)) t)
   fill_named j message n ns (Some p) true move t u = cc
-  fill_named j message n ns (Some p) false (LowerSent from) t u = absurd (none_taken (Sending j Filling message (n ∷ ns)) from (λ header e. true_not_false (sym e)) t)
+  fill_named j message n ns (Some p) false (LowerSignal Sent from) t u = absurd (none_taken (Sending j Filling message (n ∷ ns)) from (λ header e. true_not_false (sym e)) t)
   fill_named j message n ns (Some p) false move t u = cc
 
   raised_named : (j : ℕ) (message : Progress) (c : Notes) (post : Option OnItsWay) (move : Move) → Named (Sending j Raised message c) post (may.SeeReady j) move
-  raised_named j message c None (LowerSent from) t u = absurd (none_taken (Sending j Raised message c) from (λ header e. true_not_false (sym e)) t)
+  raised_named j message c None (LowerSignal Sent from) t u = absurd (none_taken (Sending j Raised message c) from (λ header e. true_not_false (sym e)) t)
   raised_named j message c None move t u = cc
-  raised_named j message c (Some p) (LowerSent from) t u = absurd (none_taken (Sending j Raised message c) from (λ header e. true_not_false (sym e)) t)
+  raised_named j message c (Some p) (LowerSignal Sent from) t u = absurd (none_taken (Sending j Raised message c) from (λ header e. true_not_false (sym e)) t)
   raised_named j message c (Some p) move t u = cc
 
   answered_named : (j : ℕ) (message : Progress) (c : Notes) (post : Option OnItsWay) (move : Move) → Named (Sending j Answered message c) post (may.LowerReady j) move
-  answered_named j message c None (LowerReady by) t u = or_first (j == by) _ t
-  answered_named j message c None (LowerSent from) t u = absurd (none_taken (Sending j Answered message c) from (λ header e. true_not_false (sym e)) t)
+  answered_named j message c None (LowerSignal Ready by) t u = or_first (j == by) _ t
+  answered_named j message c None (LowerSignal Sent from) t u = absurd (none_taken (Sending j Answered message c) from (λ header e. true_not_false (sym e)) t)
   answered_named j message c None move t u = cc
-  answered_named j message c (Some p) (LowerReady by) t u = or_first (j == by) _ t
-  answered_named j message c (Some p) (LowerSent from) t u = absurd (none_taken (Sending j Answered message c) from (λ header e. true_not_false (sym e)) t)
+  answered_named j message c (Some p) (LowerSignal Ready by) t u = or_first (j == by) _ t
+  answered_named j message c (Some p) (LowerSignal Sent from) t u = absurd (none_taken (Sending j Answered message c) from (λ header e. true_not_false (sym e)) t)
   answered_named j message c (Some p) move t u = cc
 
   between_named : (i : ℕ) (message : Progress) (post : Option OnItsWay) (b : Bool) (move : Move) → Named (Between i message) post (if b then may.LowerSent i else may.SeeSent i) move
-  between_named i message None true (LowerSent from) t u = or_first (i == from) _ (taken_of from i (notes from) message t)
+  between_named i message None true (LowerSignal Sent from) t u = or_first (i == from) _ (taken_of from i (notes from) message t)
   between_named i message None true move t u = cc
-  between_named i message None false (LowerSent from) t u = or_first (i == from) _ (taken_of from i (notes from) message t)
+  between_named i message None false (LowerSignal Sent from) t u = or_first (i == from) _ (taken_of from i (notes from) message t)
   between_named i message None false move t u = cc
-  between_named i message (Some p) true (LowerSent from) t u = or_first (i == from) _ (taken_of from i (notes from) message t)
-  between_named i message (Some p) true (LowerReady by) t u = lowers_posted p by t
+  between_named i message (Some p) true (LowerSignal Sent from) t u = or_first (i == from) _ (taken_of from i (notes from) message t)
+  between_named i message (Some p) true (LowerSignal Ready by) t u = lowers_posted p by t
   between_named i message (Some p) true move t u = cc
-  between_named i message (Some p) false (LowerSent from) t u = or_first (i == from) _ (taken_of from i (notes from) message t)
-  between_named i message (Some p) false (LowerReady by) t u = lowers_posted p by t
+  between_named i message (Some p) false (LowerSignal Sent from) t u = or_first (i == from) _ (taken_of from i (notes from) message t)
+  between_named i message (Some p) false (LowerSignal Ready by) t u = lowers_posted p by t
   between_named i message (Some p) false move t u = cc
 
   taking_named : (i : ℕ) (message : Progress) (c : Notes) (post : Option OnItsWay) (b : Bool) (move : Move) → Named (Taking i message c) post (if b then may.RaiseReady i else may.ReadChunk i) move
-  taking_named i message c None true (RaiseReady to) t u = or_first (i == to) _ (both_first (i == to) _ t)
-  taking_named i message c None true (LowerSent from) t u = absurd (none_taken (Taking i message c) from (λ header e. true_not_false (sym e)) t)
+  taking_named i message c None true (RaiseSignal Ready to) t u = or_first (i == to) _ (both_first (i == to) _ t)
+  taking_named i message c None true (LowerSignal Sent from) t u = absurd (none_taken (Taking i message c) from (λ header e. true_not_false (sym e)) t)
   taking_named i message c None true move t u = cc
-  taking_named i message c None false (RaiseReady to) t u = or_first (i == to) _ (both_first (i == to) _ t)
-  taking_named i message c None false (LowerSent from) t u = absurd (none_taken (Taking i message c) from (λ header e. true_not_false (sym e)) t)
+  taking_named i message c None false (RaiseSignal Ready to) t u = or_first (i == to) _ (both_first (i == to) _ t)
+  taking_named i message c None false (LowerSignal Sent from) t u = absurd (none_taken (Taking i message c) from (λ header e. true_not_false (sym e)) t)
   taking_named i message c None false move t u = cc
-  taking_named i message c (Some p) true (RaiseReady to) t u = or_first (i == to) _ (both_first (i == to) _ t)
-  taking_named i message c (Some p) true (LowerReady by) t u = lowers_posted p by t
-  taking_named i message c (Some p) true (LowerSent from) t u = absurd (none_taken (Taking i message c) from (λ header e. true_not_false (sym e)) t)
+  taking_named i message c (Some p) true (RaiseSignal Ready to) t u = or_first (i == to) _ (both_first (i == to) _ t)
+  taking_named i message c (Some p) true (LowerSignal Ready by) t u = lowers_posted p by t
+  taking_named i message c (Some p) true (LowerSignal Sent from) t u = absurd (none_taken (Taking i message c) from (λ header e. true_not_false (sym e)) t)
   taking_named i message c (Some p) true move t u = cc
-  taking_named i message c (Some p) false (RaiseReady to) t u = or_first (i == to) _ (both_first (i == to) _ t)
-  taking_named i message c (Some p) false (LowerReady by) t u = lowers_posted p by t
-  taking_named i message c (Some p) false (LowerSent from) t u = absurd (none_taken (Taking i message c) from (λ header e. true_not_false (sym e)) t)
+  taking_named i message c (Some p) false (RaiseSignal Ready to) t u = or_first (i == to) _ (both_first (i == to) _ t)
+  taking_named i message c (Some p) false (LowerSignal Ready by) t u = lowers_posted p by t
+  taking_named i message c (Some p) false (LowerSignal Sent from) t u = absurd (none_taken (Taking i message c) from (λ header e. true_not_false (sym e)) t)
   taking_named i message c (Some p) false move t u = cc
 
   barrier_named : (c seen released : ℕ) (post : Option OnItsWay) (move : Move) → Named (Barrier c seen released) post (may.Meet c) move
   barrier_named c seen released None (WriteRelease comm to place value last) t u = or_first (c == comm) _ (both_first (c == comm) _ t)
-  barrier_named c seen released None (LowerSent from) t u = absurd (none_taken (Barrier c seen released) from (λ header e. true_not_false (sym e)) t)
+  barrier_named c seen released None (LowerSignal Sent from) t u = absurd (none_taken (Barrier c seen released) from (λ header e. true_not_false (sym e)) t)
   barrier_named c seen released None move t u = cc
   barrier_named c seen released (Some p) (WriteRelease comm to place value last) t u = or_first (c == comm) _ (both_first (c == comm) _ t)
-  barrier_named c seen released (Some p) (LowerReady by) t u = lowers_posted p by t
-  barrier_named c seen released (Some p) (LowerSent from) t u = absurd (none_taken (Barrier c seen released) from (λ header e. true_not_false (sym e)) t)
+  barrier_named c seen released (Some p) (LowerSignal Ready by) t u = lowers_posted p by t
+  barrier_named c seen released (Some p) (LowerSignal Sent from) t u = absurd (none_taken (Barrier c seen released) from (λ header e. true_not_false (sym e)) t)
   barrier_named c seen released (Some p) move t u = cc
 
   pub store_named : (st : Stage) (post : Option OnItsWay) (move : Move) → Named st post (store_allowed size st post notes) move
@@ -175,7 +176,7 @@ module _ (size : ℕ) (notes : ℕ → Option Notes) (flips : ℕ → ℕ) (held
   Offered st post store move = offers store move ≡ true → permits size move (at st post) ≡ true
 
   drafting_offered : (h c : Notes) (b : Bool) (move : Move) → (is_whole_header h && is_drafted size (begun (head_of h)) c) ≡ b → Offered (Drafting h c) None (if b then may.Raise else may.Draft) move
-  drafting_offered h c true (RaiseSent to) is t = is
+  drafting_offered h c true (RaiseSignal Sent to) is t = is
   drafting_offered h c true move is t = cc
   drafting_offered h c false (DraftHeader k v) is t = refl
   drafting_offered h c false move is t = cc
@@ -186,17 +187,17 @@ module _ (size : ℕ) (notes : ℕ → Option Notes) (flips : ℕ → ℕ) (held
 
   fill_offered : (j : ℕ) (message : Progress) (n : Note) (ns : Notes) (b : Bool) (move : Move) → is_drafted size message (n ∷ ns) ≡ b
       → Offered (Sending j Filling message (n ∷ ns)) None (if b then may.RaiseMore j else may.Fill j) move
-  fill_offered j message n ns true (RaiseSent to) is t = both (j == to) _ t is
+  fill_offered j message n ns true (RaiseSignal Sent to) is t = both (j == to) _ t is
   fill_offered j message n ns true move is t = cc
   fill_offered j message n ns false (DraftChunk k v) is t = refl
   fill_offered j message n ns false move is t = cc
 
   answered_offered : (j : ℕ) (message : Progress) (c : Notes) (post : Option OnItsWay) (move : Move) → Offered (Sending j Answered message c) post (may.LowerReady j) move
-  answered_offered j message c post (LowerReady by) t = t
+  answered_offered j message c post (LowerSignal Ready by) t = t
   answered_offered j message c post move t = absurd (cc)
 
   between_offered : (i : ℕ) (message : Progress) (post : Option OnItsWay) (b : Bool) (move : Move) → is_some (notes i) ≡ b → Offered (Between i message) post (if b then may.LowerSent i else may.SeeSent i) move
-  between_offered i message post true (LowerSent from) is t = by (notes from) (ap (λ (k : ℕ). is_some (notes k)) (sym (same_by_eqb i from t)) ∙ is)
+  between_offered i message post true (LowerSignal Sent from) is t = by (notes from) (ap (λ (k : ℕ). is_some (notes k)) (sym (same_by_eqb i from t)) ∙ is)
     where
       by : (n : Option Notes) → is_some n ≡ true → may_take from n (Between i message) ≡ true
       by None e = absurd (cc)
@@ -206,7 +207,7 @@ module _ (size : ℕ) (notes : ℕ → Option Notes) (flips : ℕ → ℕ) (held
   between_offered i message post false move is t = cc
 
   taking_offered : (i : ℕ) (message : Progress) (c : Notes) (post : Option OnItsWay) (b : Bool) (move : Move) → is_whole size message c ≡ b → Offered (Taking i message c) post (if b then may.RaiseReady i else may.ReadChunk i) move
-  taking_offered i message c post true (RaiseReady to) is t = both (i == to) _ t is
+  taking_offered i message c post true (RaiseSignal Ready to) is t = both (i == to) _ t is
   taking_offered i message c post true move is t = absurd (cc)
   taking_offered i message c post false move is t = absurd (nothing move t)
     where
@@ -249,7 +250,7 @@ module _ (size : ℕ) (notes : ℕ → Option Notes) (flips : ℕ → ℕ) (held
   store_offered (Taking i message c) post move free t = taking_offered i message c post (is_whole size message c) move refl t
   store_offered (Barrier c seen released) post move free t = nothing_offered (may.Meet c) (Barrier c seen released) post move (meet_none c) t
 
-  pub beside_permitted : (by : ℕ) (st : Stage) (post : Option OnItsWay) → ready_allowed st post ≡ Some by → permits size (LowerReady by) (at st post) ≡ true
+  pub beside_permitted : (by : ℕ) (st : Stage) (post : Option OnItsWay) → ready_allowed st post ≡ Some by → permits size (LowerSignal Ready by) (at st post) ≡ true
   beside_permitted by (Sending j part message c) post is = absurd (cc)
   beside_permitted by Idle None is = absurd (cc)
   beside_permitted by Idle (Some p) is = posted_lowers p by is
@@ -283,8 +284,7 @@ flags_first s me value other rec place is t = by (role_of s place) is t
     unnoted lower raise owner (Some old) e f = absurd (cc)
 
     no_word : (role : Role) → lacks_flags rec place.core role ≡ true → permits_act (chunk_of s) (store_act s me rec place other role) rec ≡ true → ⊥
-    no_word (SentFlags owner) e f = absurd (unnoted LowerSent RaiseSent owner (sent_noted rec place.core) e f)
-    no_word (ReadyFlags owner) e f = absurd (unnoted LowerReady RaiseReady owner (ready_noted rec place.core) e f)
+    no_word (SignalFlags signal at) e f = absurd (unnoted (LowerSignal signal) (RaiseSignal signal) at (flags_noted signal rec place.core) e f)
     no_word role e f = absurd (cc)
 
     by : (role : Role) → (if lacks_flags rec place.core role then next.LoadFlags else stores_allowed s rec) ≡ next.LoadFlags

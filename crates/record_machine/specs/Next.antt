@@ -5,12 +5,13 @@ use Rattle.scc_base.specs.Setups.{SetupView}
 use Rattle.scc_base.specs.declared.events.Access.{Access}
 use Rattle.scc_base.specs.declared.events.Access.TheVariants.{Load, Store, Take, Free}
 use Rattle.scc_base.specs.declared.events.Event.{Event}
+use Rattle.scc_base.specs.declared.signals.Signal.TheVariants.{Sent, Ready}
 use Rattle.scc_proto.specs.Messages.{Notes, begun, head_of, is_whole}
-use Rattle.scc_proto.specs.Moves.{Move, DraftHeader, DraftChunk, RaiseSent, LookSent, ReadHeader, ReadChunk, LowerSent, RaiseReady, LookReady, LowerReady, FlipGather, LookGather, WriteRelease, LookRelease, StoreHeap, NoMove, Misplaced}
+use Rattle.scc_proto.specs.Moves.{Move, DraftHeader, DraftChunk, RaiseSignal, LookSignal, ReadHeader, ReadChunk, LowerSignal, FlipGather, LookGather, WriteRelease, LookRelease, StoreHeap, NoMove, Misplaced}
 use Rattle.scc_proto.specs.Permission.{is_drafted, is_empty, is_whole_header}
-use Rattle.scc_proto.specs.Records.{chunk_of, ready_noted, sent_noted}
+use Rattle.scc_proto.specs.Records.{chunk_of, flags_noted}
 use Rattle.scc_proto.specs.Stages.{Filling, Raised, Answered, Stage, Idle, Drafting, Sending, Between, Taking, Barrier, OnItsWay, Record}
-use Rattle.scc_proto.specs.Words.{Role, HeaderWord, ChunkWord, SentFlag, ReadyFlag, SentFlags, ReadyFlags, GatherFlag, ReleaseFlag, HeapWord, IdleWord, role_of}
+use Rattle.scc_proto.specs.Words.{Role, HeaderWord, ChunkWord, SignalFlag, SignalFlags, GatherFlag, ReleaseFlag, HeapWord, IdleWord, role_of}
 use Rattle.record_machine.specs.declared.next.NextEvent.{NextEvent}
 use Rattle.record_machine.specs.declared.next.NextEvent.TheVariants as next
 use Rattle.record_machine.specs.declared.next.NextStore.{NextStore}
@@ -43,10 +44,8 @@ stores_allowed s rec = next.Stores (store_allowed (chunk_of s) rec.stage rec.pos
 abbrev pub lacks_flags : Record → ℕ → Role → Bool
 lacks_flags rec core (HeaderWord owner k) = false
 lacks_flags rec core (ChunkWord owner k) = false
-lacks_flags rec core (SentFlag from to) = false
-lacks_flags rec core (ReadyFlag from to) = false
-lacks_flags rec core (SentFlags owner) = is_none (sent_noted rec core)
-lacks_flags rec core (ReadyFlags owner) = is_none (ready_noted rec core)
+lacks_flags rec core (SignalFlag signal by at) = false
+lacks_flags rec core (SignalFlags signal at) = is_none (flags_noted signal rec core)
 lacks_flags rec core (GatherFlag comm owner) = false
 lacks_flags rec core (ReleaseFlag comm owner) = false
 lacks_flags rec core HeapWord = false
@@ -73,37 +72,37 @@ offers may.Draft (DraftHeader k v) = true
 offers may.Draft (DraftChunk k v) = true
 offers may.Raise (DraftHeader k v) = true
 offers may.Raise (DraftChunk k v) = true
-offers may.Raise (RaiseSent to) = true
+offers may.Raise (RaiseSignal Sent to) = true
 offers (may.FillFirst j) (DraftChunk k v) = true
 offers (may.FillFirst j) (StoreHeap place v) = true
 offers (may.Fill j) (DraftChunk k v) = true
 offers (may.RaiseMore j) (DraftChunk k v) = true
-offers (may.RaiseMore j) (RaiseSent to) = j == to
-offers (may.LowerReady j) (LowerReady by) = j == by
+offers (may.RaiseMore j) (RaiseSignal Sent to) = j == to
+offers (may.LowerReady j) (LowerSignal Ready by) = j == by
 offers (may.SeeSent i) (StoreHeap place v) = true
 offers (may.LowerSent i) (StoreHeap place v) = true
-offers (may.LowerSent i) (LowerSent from) = i == from
-offers (may.RaiseReady i) (RaiseReady to) = i == to
+offers (may.LowerSent i) (LowerSignal Sent from) = i == from
+offers (may.RaiseReady i) (RaiseSignal Ready to) = i == to
 offers store move = false
 
 -- the move is named under a condition: a flag that is seen, a header that is read, a chunk that is whole, the value of a barrier
 abbrev pub awaits : NextStore → Move → Bool
-awaits may.Begin (LowerSent from) = true
+awaits may.Begin (LowerSignal Sent from) = true
 awaits may.Begin (FlipGather comm value last) = true
-awaits (may.BesidePost j) (LowerSent from) = true
+awaits (may.BesidePost j) (LowerSignal Sent from) = true
 awaits (may.BesidePost j) (FlipGather comm value last) = true
-awaits may.Draft (RaiseSent to) = true
-awaits (may.FillFirst j) (RaiseSent to) = j == to
-awaits (may.Fill j) (RaiseSent to) = j == to
-awaits (may.SeeReady j) (LowerReady by) = j == by
-awaits (may.SeeSent i) (LowerSent from) = i == from
-awaits (may.ReadChunk i) (RaiseReady to) = i == to
+awaits may.Draft (RaiseSignal Sent to) = true
+awaits (may.FillFirst j) (RaiseSignal Sent to) = j == to
+awaits (may.Fill j) (RaiseSignal Sent to) = j == to
+awaits (may.SeeReady j) (LowerSignal Ready by) = j == by
+awaits (may.SeeSent i) (LowerSignal Sent from) = i == from
+awaits (may.ReadChunk i) (RaiseSignal Ready to) = i == to
 awaits (may.Meet c) (WriteRelease comm to place value last) = c == comm
 awaits store move = false
 
 -- the move lowers the `ready` that may be lowered beside the stores
 abbrev pub lowers_beside : Option ℕ → Move → Bool
-lowers_beside (Some j) (LowerReady by) = j == by
+lowers_beside (Some j) (LowerSignal Ready by) = j == by
 lowers_beside ready move = false
 
 -- the move is named
@@ -114,14 +113,12 @@ names_move store ready move = offers store move || (awaits store move || lowers_
 abbrev pub is_load_move : Move → Bool
 is_load_move (DraftHeader k v) = false
 is_load_move (DraftChunk k v) = false
-is_load_move (RaiseSent to) = false
-is_load_move (LookSent is_set) = true
+is_load_move (RaiseSignal signal to) = false
+is_load_move (LookSignal signal is_set) = true
 is_load_move (ReadHeader from k v) = true
 is_load_move (ReadChunk from k v) = true
-is_load_move (LowerSent from) = false
-is_load_move (RaiseReady to) = false
-is_load_move (LookReady is_set) = true
-is_load_move (LowerReady by) = false
+is_load_move (LowerSignal Sent from) = false
+is_load_move (LowerSignal Ready by) = false
 is_load_move (FlipGather comm value last) = false
 is_load_move (LookGather comm from place value) = true
 is_load_move (WriteRelease comm to place value last) = false

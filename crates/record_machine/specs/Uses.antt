@@ -5,19 +5,20 @@ use Rattle.scc_base.specs.Setups.{SetupView}
 use Rattle.scc_base.specs.declared.communicators.CommRule.TheVariants.{Absent}
 use Rattle.record_machine.specs.declared.uses.Use.{Use}
 use Rattle.record_machine.specs.declared.uses.Use.TheVariants as word_use
-use Rattle.scc_proto.specs.Records.{forget_ready, forget_sent, note_ready, note_sent}
+use Rattle.scc_base.specs.declared.signals.Signal.TheVariants.{Sent, Ready}
+use Rattle.scc_proto.specs.Records.{forget_flags, note_flags}
 use Rattle.scc_proto.specs.Stages.{FlagWords}
-use Rattle.scc_proto.specs.Words.{Role, HeaderWord, ChunkWord, SentFlag, ReadyFlag, SentFlags, ReadyFlags, GatherFlag, ReleaseFlag, HeapWord, IdleWord}
+use Rattle.scc_proto.specs.Words.{Role, HeaderWord, ChunkWord, SignalFlag, SignalFlags, GatherFlag, ReleaseFlag, HeapWord, IdleWord}
 use Rattle.scc_base.specs.Layouts.{most_chunk_words}
 
 -- the role that is meant
 abbrev pub role_meant : Use → Role
 role_meant (word_use.Header owner word) = HeaderWord owner word
 role_meant (word_use.Chunk owner word) = ChunkWord owner word
-role_meant (word_use.Sent from to) = SentFlag from to
-role_meant (word_use.Ready from to) = ReadyFlag from to
-role_meant (word_use.SentBits owner) = SentFlags owner
-role_meant (word_use.ReadyBits owner) = ReadyFlags owner
+role_meant (word_use.Sent from to) = SignalFlag Sent from to
+role_meant (word_use.Ready from to) = SignalFlag Ready to from
+role_meant (word_use.SentBits owner) = SignalFlags Sent owner
+role_meant (word_use.ReadyBits owner) = SignalFlags Ready owner
 role_meant (word_use.Gather comm owner) = GatherFlag comm owner
 role_meant (word_use.Release comm owner) = ReleaseFlag comm owner
 role_meant word_use.Heap = HeapWord
@@ -45,12 +46,12 @@ is_flags_use of = false
 
 -- what a load of the word notes of the flag words of its core
 abbrev pub note_by : Use → ℕ → FlagWords → FlagWords
-note_by (word_use.SentBits owner) value flags = note_sent value flags
-note_by (word_use.ReadyBits owner) value flags = note_ready value flags
+note_by (word_use.SentBits owner) value flags = note_flags Sent value flags
+note_by (word_use.ReadyBits owner) value flags = note_flags Ready value flags
 note_by of value flags = flags
 
 -- what a store of the word leaves noted of the flag words of its core
 abbrev pub forget_by : Use → FlagWords → FlagWords
-forget_by (word_use.SentBits owner) flags = forget_sent flags
-forget_by (word_use.ReadyBits owner) flags = forget_ready flags
+forget_by (word_use.SentBits owner) flags = forget_flags Sent flags
+forget_by (word_use.ReadyBits owner) flags = forget_flags Ready flags
 forget_by of flags = flags

@@ -4,7 +4,8 @@ ghost use Rattle.std.specs.Prelude.{◌≡◌, ◌⊎◌, ℕ, Bool, false, true
 ghost use Rattle.scc_base.specs.Events.{free_of, store_of, take_of};
 ghost use Rattle.scc_base.specs.Places.{WordAt};
 ghost use Rattle.scc_base.specs.Setups.{SetupView};
-ghost use Rattle.scc_proto.specs.Moves.{LowerReady, Move};
+ghost use Rattle.scc_base.specs.declared.signals.Signal.TheVariants.{Ready};
+ghost use Rattle.scc_proto.specs.Moves.{LowerSignal, Move};
 ghost use Rattle.scc_proto.specs.Permission.{permits};
 ghost use Rattle.scc_proto.specs.Records.{IsPermitted};
 ghost use Rattle.scc_proto.specs.Singles.{is_free};
@@ -19,7 +20,7 @@ pub fn next_store_law()
         → names_move (store_allowed size rec.stage rec.post rec.notes) (ready_allowed rec.stage rec.post) move ≡ true }
     ensures offered { (size : ℕ) (rec : Record) (move : Move) → (rec.post ≡ None) ⊎ (is_free rec.stage ≡ true)
         → offers (store_allowed size rec.stage rec.post rec.notes) move ≡ true → permits size move rec ≡ true }
-    ensures beside { (size by : ℕ) (rec : Record) → ready_allowed rec.stage rec.post ≡ Some by → permits size (LowerReady by) rec ≡ true }
+    ensures beside { (size by : ℕ) (rec : Record) → ready_allowed rec.stage rec.post ≡ Some by → permits size (LowerSignal Ready by) rec ≡ true }
 {}
 
 /// A register that may not be taken may be freed, and the other way round; and where a word of bit flags is to be loaded first,

@@ -1,6 +1,7 @@
 //! The moves of a receiver.
 
 ghost use Rattle.std.specs.Prelude.{ℕ, if◌then◌else◌, Option, Some, []};
+ghost use Rattle.scc_base.specs.declared.signals.Signal.TheVariants.{Sent, Ready};
 ghost use Rattle.scc_proto.specs.Messages.{Notes};
 ghost use Rattle.record_machine.specs.Standing.{KeepsSaid};
 ghost use Rattle.record_machine.specs.Steps.{look_of};
@@ -27,7 +28,7 @@ fn see(said: &mut [Option<NotedLine>; 48], look: &Look)
 impl Work {
     ghost use Rattle.std.specs.Prelude.{◌≡◌, ◌<◌, true, ℕ, None, Some};
     ghost use Rattle.scc_proto.specs.Messages.{Notes};
-    ghost use Rattle.scc_proto.specs.Moves.{LookSent, LowerSent, RaiseReady, ReadChunk, ReadHeader, lower_sent};
+    ghost use Rattle.scc_proto.specs.Moves.{LookSignal, LowerSignal, RaiseSignal, ReadChunk, ReadHeader, lower_sent};
     ghost use Rattle.scc_proto.specs.Permission.{may_take};
     ghost use Rattle.scc_proto.specs.Stages.{Record};
     ghost use Rattle.record_machine.specs.Noted.{IsLineOf};
@@ -38,7 +39,7 @@ impl Work {
 
     /// Whether `sent` may be lowered.
     pub(crate) fn may_take(&self, from: Rank) -> bool
-        ensures decides { Decides self.now (LowerSent from) result }
+        ensures decides { Decides self.now (LowerSignal Sent from) result }
     {
         let Some(line) = self.said[from.number() as usize] else {
             return false;
@@ -54,7 +55,7 @@ impl Work {
 
     /// Whether `ready` may be raised.
     pub(crate) fn has_taken(&self, to: Rank) -> bool
-        ensures decides { Decides self.now (RaiseReady to) result }
+        ensures decides { Decides self.now (RaiseSignal Ready to) result }
     {
         let Standing::Taking { from, head } = self.standing else {
             return false;
@@ -65,7 +66,7 @@ impl Work {
 
     pub(crate) fn look_sent(&mut self, look: &Look)
         ensures size { self.new.size ≡ self.old.size }
-        ensures moves { MovesOn self.old self.new (LookSent (look_of look.now)) None }
+        ensures moves { MovesOn self.old self.new (LookSignal Sent (look_of look.now)) None }
     {
         see(&mut self.said, look);
     }
@@ -98,7 +99,7 @@ impl Work {
 
     pub(crate) fn lower_sent(&mut self, from: Rank)
         ensures size { self.new.size ≡ self.old.size }
-        ensures moves { MovesOn self.old self.new (LowerSent from) None }
+        ensures moves { MovesOn self.old self.new (LowerSignal Sent from) None }
     {
         let at = from.number() as usize;
         let Some(line) = self.said[at] else {
@@ -132,7 +133,7 @@ impl Work {
 
     pub(crate) fn raise_ready(&mut self) -> Option<Call>
         ensures size { self.new.size ≡ self.old.size }
-        ensures moves { (to : ℕ) → MovesOn self.old self.new (RaiseReady to) result }
+        ensures moves { (to : ℕ) → MovesOn self.old self.new (RaiseSignal Ready to) result }
     {
         let Standing::Taking { from, head } = &self.standing else {
             return None;

@@ -8,7 +8,8 @@ use scc_base::{Call, PostHead, Rank};
 
 impl Work {
     ghost use Rattle.std.specs.Prelude.{◌≡◌, ◌<◌, ℕ, None, option_map};
-    ghost use Rattle.scc_proto.specs.Moves.{DraftChunk, DraftHeader, LookReady, LowerReady, RaiseSent, StoreHeap, look_ready, post_answered};
+    ghost use Rattle.scc_base.specs.declared.signals.Signal.TheVariants.{Sent, Ready};
+    ghost use Rattle.scc_proto.specs.Moves.{DraftChunk, DraftHeader, LookSignal, LowerSignal, RaiseSignal, StoreHeap, look_ready, post_answered};
     ghost use Rattle.scc_proto.specs.Permission.{is_answered_by, may_raise};
     ghost use Rattle.scc_proto.specs.Stages.{Record};
     ghost use Rattle.scc_base.specs.Places.{WordAt};
@@ -37,7 +38,7 @@ impl Work {
 
     /// Whether `sent` may be raised at a rank.
     pub(crate) fn may_raise(&self, to: Rank) -> bool
-        ensures decides { Decides self.now (RaiseSent to) result }
+        ensures decides { Decides self.now (RaiseSignal Sent to) result }
     {
         let free = self.post.is_none();
         let ready = self.is_ready_for(to);
@@ -66,7 +67,7 @@ impl Work {
 
     /// Whether `ready` may be lowered: of the message that is being sent, or else of the posted one.
     pub(crate) fn may_go_on(&self, by: Rank) -> bool
-        ensures decides { Decides self.now (LowerReady by) result }
+        ensures decides { Decides self.now (LowerSignal Ready by) result }
     {
         if let Standing::Answered { to, .. } = self.standing {
             return to == by;
@@ -130,7 +131,7 @@ impl Work {
     /// A later chunk is raised, or a first one with its header line; a message that is posted is finished by it.
     pub(crate) fn raise_sent(&mut self, to: Rank) -> Option<Call>
         ensures size { self.new.size ≡ self.old.size }
-        ensures moves { MovesOn self.old self.new (RaiseSent to) result }
+        ensures moves { MovesOn self.old self.new (RaiseSignal Sent to) result }
     {
         if let Standing::Filling { to: receiver, head } = &self.standing {
             self.standing = Standing::Raised {
@@ -162,7 +163,7 @@ impl Work {
 
     pub(crate) fn look_ready(&mut self, look: &Look)
         ensures size { self.new.size ≡ self.old.size }
-        ensures moves { MovesOn self.old self.new (LookReady (look_of look.now)) None }
+        ensures moves { MovesOn self.old self.new (LookSignal Ready (look_of look.now)) None }
     {
         self.answer_chunk(look);
         self.answer_post(look);
@@ -206,7 +207,7 @@ impl Work {
 
     pub(crate) fn lower_ready(&mut self) -> Option<Call>
         ensures size { self.new.size ≡ self.old.size }
-        ensures moves { (by : ℕ) → MovesOn self.old self.new (LowerReady by) result }
+        ensures moves { (by : ℕ) → MovesOn self.old self.new (LowerSignal Ready by) result }
     {
         self.post = None;
         let Standing::Answered { to, head } = &self.standing else {

@@ -2,8 +2,9 @@
 
 ghost use Rattle.std.specs.Prelude.{◌≡◌, ◌<◌, option_map};
 ghost use Rattle.scc_base.specs.Places.{WordAt};
+ghost use Rattle.scc_base.specs.declared.signals.Signal.TheVariants.{Sent, Ready};
 ghost use Rattle.scc_proto.specs.Records.{last_of, leads, load_by, store_by};
-ghost use Rattle.scc_proto.specs.Words.{ReadyFlags, SentFlags};
+ghost use Rattle.scc_proto.specs.Words.{SignalFlags};
 ghost use Rattle.scc_proto.specs.Stages.{Record};
 ghost use Rattle.record_machine.specs.Held.{flag_words};
 ghost use Rattle.record_machine.specs.Steps.{IsStepWithin, move_of};
@@ -197,7 +198,7 @@ fn sent_change(
     value: u64,
 ) -> Step
     ensures gives { (rec : Record) (place : WordAt) → rec.held place.core ≡ option_map flag_words flags
-        → move_of result ≡ store_by setup.now rank rec place value (SentFlags owner) }
+        → move_of result ≡ store_by setup.now rank rec place value (SignalFlags Sent owner) }
     ensures within { IsStepWithin result }
 {
     let noted = match flags {
@@ -220,7 +221,7 @@ fn ready_change(
     value: u64,
 ) -> Step
     ensures gives { (rec : Record) (place : WordAt) → rec.held place.core ≡ option_map flag_words flags
-        → move_of result ≡ store_by setup.now rank rec place value (ReadyFlags owner) }
+        → move_of result ≡ store_by setup.now rank rec place value (SignalFlags Ready owner) }
     ensures within { IsStepWithin result }
 {
     let noted = match flags {

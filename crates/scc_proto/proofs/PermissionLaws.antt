@@ -4,12 +4,13 @@ use Rattle.std.proofs.lemmas.Bool.Decides.{nat_tests}
 use Rattle.scc_base.specs.Events.{store_of}
 use Rattle.scc_base.specs.Places.{WordAt}
 use Rattle.scc_base.specs.Setups.{SetupView}
+use Rattle.scc_base.specs.declared.signals.Signal.TheVariants.{Sent, Ready}
 use Rattle.scc_proto.specs.Messages.{Notes, Progress, begun, head_of, is_whole}
 use Rattle.scc_proto.specs.Stages.{Part, Filling, Raised, Answered, Stage, Idle, Drafting, Sending, Between, Taking, Barrier, OnItsWay, Record}
-use Rattle.scc_proto.specs.Moves.{Move, DraftHeader, DraftChunk, RaiseSent, LowerSent, RaiseReady, LowerReady, FlipGather, WriteRelease, Misplaced}
+use Rattle.scc_proto.specs.Moves.{Move, DraftHeader, DraftChunk, RaiseSignal, LowerSignal, FlipGather, WriteRelease, Misplaced}
 use Rattle.scc_proto.specs.Permission.{drafts_header, drafts_chunk, is_whole_header, says_head, is_drafted, may_raise, may_take, has_taken, is_answered_by, may_go_on, is_idle, may_release, leaves_heap, permits}
-use Rattle.scc_proto.specs.Words.{Role, HeapWord, IdleWord, SentFlags, ReadyFlags, role_of}
-use Rattle.scc_proto.specs.Records.{chunk_of, lowered_below, raises_bit, move_at, change_at, sent_noted, ready_noted, store_act, permits_act, is_permitted}
+use Rattle.scc_proto.specs.Words.{Role, HeapWord, IdleWord, SignalFlags, role_of}
+use Rattle.scc_proto.specs.Records.{chunk_of, lowered_below, raises_bit, move_at, change_at, flags_noted, store_act, permits_act, is_permitted}
 use Rattle.scc_proto.proofs.Tests.{both_first, both_second, eqb_same, same_by_eqb, eqb_other}
 
 both : (a b : Bool) → a ≡ true → b ≡ true → (a && b) ≡ true
@@ -103,18 +104,18 @@ module _ (lower raise : ℕ → Move) (s : SetupView) (me owner new : ℕ) (rec 
           (eqb_other owner me x.0)
           ∙ ap (λ (b : Bool). permits (chunk_of s) (if b then raise owner else Misplaced) rec) x.1 ∙ x.2
 
-pub sent_bits_where : (s : SetupView) (me owner value : ℕ) (rec : Record) (place : WordAt) → role_of s place ≡ SentFlags owner
-    → (is_permitted s me rec (store_of place value) ≡ true) ↔ (ChangesWhere LowerSent RaiseSent s me owner value rec (sent_noted rec place.core))
-sent_bits_where s me owner value rec place is = let e = stored_by s me rec place value (SentFlags owner) is in (
-  λ t. changes LowerSent RaiseSent s me owner value rec (sent_noted rec place.core) (sym e ∙ t),
-  λ w. e ∙ may_change LowerSent RaiseSent s me owner value rec (sent_noted rec place.core) w,
+pub sent_bits_where : (s : SetupView) (me owner value : ℕ) (rec : Record) (place : WordAt) → role_of s place ≡ SignalFlags Sent owner
+    → (is_permitted s me rec (store_of place value) ≡ true) ↔ (ChangesWhere (LowerSignal Sent) (RaiseSignal Sent) s me owner value rec (flags_noted Sent rec place.core))
+sent_bits_where s me owner value rec place is = let e = stored_by s me rec place value (SignalFlags Sent owner) is in (
+  λ t. changes (LowerSignal Sent) (RaiseSignal Sent) s me owner value rec (flags_noted Sent rec place.core) (sym e ∙ t),
+  λ w. e ∙ may_change (LowerSignal Sent) (RaiseSignal Sent) s me owner value rec (flags_noted Sent rec place.core) w,
 )
 
-pub ready_bits_where : (s : SetupView) (me owner value : ℕ) (rec : Record) (place : WordAt) → role_of s place ≡ ReadyFlags owner
-    → (is_permitted s me rec (store_of place value) ≡ true) ↔ (ChangesWhere LowerReady RaiseReady s me owner value rec (ready_noted rec place.core))
-ready_bits_where s me owner value rec place is = let e = stored_by s me rec place value (ReadyFlags owner) is in (
-  λ t. changes LowerReady RaiseReady s me owner value rec (ready_noted rec place.core) (sym e ∙ t),
-  λ w. e ∙ may_change LowerReady RaiseReady s me owner value rec (ready_noted rec place.core) w,
+pub ready_bits_where : (s : SetupView) (me owner value : ℕ) (rec : Record) (place : WordAt) → role_of s place ≡ SignalFlags Ready owner
+    → (is_permitted s me rec (store_of place value) ≡ true) ↔ (ChangesWhere (LowerSignal Ready) (RaiseSignal Ready) s me owner value rec (flags_noted Ready rec place.core))
+ready_bits_where s me owner value rec place is = let e = stored_by s me rec place value (SignalFlags Ready owner) is in (
+  λ t. changes (LowerSignal Ready) (RaiseSignal Ready) s me owner value rec (flags_noted Ready rec place.core) (sym e ∙ t),
+  λ w. e ∙ may_change (LowerSignal Ready) (RaiseSignal Ready) s me owner value rec (flags_noted Ready rec place.core) w,
 )
 
 -- ---- drafts
@@ -196,7 +197,7 @@ sent_may : (size to : ℕ) (stage : Stage) → RaisesSent size to stage → may_
 sent_may size to stage (inl x) = ap (may_raise size to) x.2 ∙ both (is_whole_header x.0) (is_drafted size (begun (head_of x.0)) x.1) x.3 x.4
 sent_may size to stage (inr x) = ap (may_raise size to) x.2 ∙ both (to == to) (is_drafted size x.0 x.1) (eqb_same to) x.3
 
-pub raise_where : (size to : ℕ) (rec : Record) → (permits size (RaiseSent to) rec ≡ true) ↔ ((rec.post ≡ None) × RaisesSent size to rec.stage)
+pub raise_where : (size to : ℕ) (rec : Record) → (permits size (RaiseSignal Sent to) rec ≡ true) ↔ ((rec.post ≡ None) × RaisesSent size to rec.stage)
 raise_where size to rec = with_no_post rec.post (may_raise size to rec.stage) (RaisesSent size to rec.stage) (sent_raises size to rec.stage, sent_may size to rec.stage)
 
 abbrev LowersSent : ℕ → Notes → Stage → Type 0
@@ -218,7 +219,7 @@ lowers_noted : (from : ℕ) (seen : Option Notes) (stage : Stage) → may_take f
 lowers_noted from None stage t = absurd (cc)
 lowers_noted from (Some header) stage t = (header, refl, sent_lowers from header stage t)
 
-pub lower_where : (size from : ℕ) (rec : Record) → (permits size (LowerSent from) rec ≡ true) ↔ ((header : Notes) × (rec.notes from ≡ Some header) × LowersSent from header rec.stage)
+pub lower_where : (size from : ℕ) (rec : Record) → (permits size (LowerSignal Sent from) rec ≡ true) ↔ ((header : Notes) × (rec.notes from ≡ Some header) × LowersSent from header rec.stage)
 lower_where size from rec = (
   lowers_noted from (rec.notes from) rec.stage,
   λ x. ap (λ (seen : Option Notes). may_take from seen rec.stage) x.1 ∙ lowers_may from x.0 rec.stage x.2,
@@ -240,7 +241,7 @@ ready_raises size to (Taking from message chunk) t = (
 )
 ready_raises size to (Barrier comm seen released) t = absurd (cc)
 
-pub ready_where : (size to : ℕ) (rec : Record) → (permits size (RaiseReady to) rec ≡ true) ↔ (TakesWhole size to rec.stage)
+pub ready_where : (size to : ℕ) (rec : Record) → (permits size (RaiseSignal Ready to) rec ≡ true) ↔ (TakesWhole size to rec.stage)
 ready_where size to rec = (
   ready_raises size to rec.stage,
   λ x. ap (has_taken size to) x.2 ∙ both (to == to) (is_whole size x.0 x.1) (eqb_same to) x.3,
@@ -284,7 +285,7 @@ may_lower : (by : ℕ) (stage : Stage) (o : Option OnItsWay) → LowersReady by 
 may_lower by stage o (inl x) = ap (λ (st : Stage). may_go_on by st o) x.2 ∙ eqb_same by
 may_lower by stage o (inr x) = goes_in_no_send by stage o x.0 (is_answered_of by o (x.1, x.2, x.3, x.4))
 
-pub go_on_where : (size by : ℕ) (rec : Record) → (permits size (LowerReady by) rec ≡ true) ↔ (LowersReady by rec.stage rec.post)
+pub go_on_where : (size by : ℕ) (rec : Record) → (permits size (LowerSignal Ready by) rec ≡ true) ↔ (LowersReady by rec.stage rec.post)
 go_on_where size by rec = (goes_on by rec.stage rec.post, may_lower by rec.stage rec.post)
 
 -- ---- barriers

@@ -3,8 +3,9 @@ use Rattle.std.specs.Prelude.{◌≡◌, ◌≢◌, ℕ, ◌<◌, ◌≤◌, ◌
 use Rattle.std.specs.Int.{bit_at}
 use Rattle.scc_base.specs.Places.{WordAt, IsPlace}
 use Rattle.scc_base.specs.Setups.{SetupView, setup_key, place_of, root_of}
+use Rattle.scc_base.specs.declared.signals.Signal.TheVariants.{Sent, Ready}
 use Rattle.scc_proto.specs.Stages.{Record, blank}
-use Rattle.scc_proto.specs.Words.{Memory, word_at, Role, SentFlags, ReadyFlags, HeapWord, IdleWord, role_of, are_peers, is_present}
+use Rattle.scc_proto.specs.Words.{Memory, word_at, Role, SignalFlags, HeapWord, IdleWord, role_of, are_peers, is_present}
 use Rattle.scc_proto.specs.Records.{chunk_of}
 use Rattle.scc_proto.specs.Views.{View, view_of}
 use Rattle.scc_proto.specs.Singles.{IsConsistent}
@@ -50,8 +51,7 @@ pub record WasStored (nue : ℕ) (records : ℕ → Record) (place : WordAt) (va
 abbrev pub WordAgrees : SetupView → WordAt → ℕ → (ℕ → Record) → Role → Type 0
 WordAgrees s place word records HeapWord = (word ≡ 0) ⊎ WasStored s.nue records place word
 WordAgrees s place word records IdleWord = word ≡ 0
-WordAgrees s place word records (SentFlags owner) = (b : ℕ) → are_peers s owner b ≡ false → bit_at word b ≡ 0
-WordAgrees s place word records (ReadyFlags owner) = (b : ℕ) → are_peers s owner b ≡ false → bit_at word b ≡ 0
+WordAgrees s place word records (SignalFlags signal at) = (b : ℕ) → are_peers s at b ≡ false → bit_at word b ≡ 0
 WordAgrees s place word records role = Unit {0}
 
 -- each word of the chip agrees with the records, by its role

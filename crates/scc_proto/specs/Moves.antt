@@ -3,6 +3,8 @@
 use Rattle.std.specs.Prelude.{ℕ, suc, ◌%◌, Bool, true, false, ◌&&◌, ◌==◌, if◌then◌else◌, List, [], ◌∷◌, ◌++◌, Option, Some, None, unwrap_or, option_map}
 use Rattle.scc_base.specs.Calls.{DataCall, Bar}
 use Rattle.scc_base.specs.Places.{WordAt}
+use Rattle.scc_base.specs.declared.signals.Signal.{Signal}
+use Rattle.scc_base.specs.declared.signals.Signal.TheVariants.{Sent, Ready}
 use Rattle.scc_proto.specs.Tables.{put}
 use Rattle.scc_proto.specs.Messages.{Notes, noted, note_word, head_of, begun, is_last, with_chunk, message_of, send_to, recv_from, post_to}
 use Rattle.scc_proto.specs.Stages.{Filling, Raised, Answered, Stage, Idle, Drafting, Sending, Between, Taking, Barrier, OnItsWay, HeapStore, Record}
@@ -12,14 +14,11 @@ use Rattle.scc_proto.specs.Stages.{Filling, Raised, Answered, Stage, Idle, Draft
 pub data Move : Type 0 where
   DraftHeader : (k v : ℕ) → Move
   DraftChunk : (k v : ℕ) → Move
-  RaiseSent : (to : ℕ) → Move
-  LookSent : (is_set : ℕ → Bool) → Move
+  RaiseSignal : Signal → (to : ℕ) → Move
+  LookSignal : Signal → (is_set : ℕ → Bool) → Move
   ReadHeader : (from k v : ℕ) → Move
   ReadChunk : (from k v : ℕ) → Move
-  LowerSent : (from : ℕ) → Move
-  RaiseReady : (to : ℕ) → Move
-  LookReady : (is_set : ℕ → Bool) → Move
-  LowerReady : (by : ℕ) → Move
+  LowerSignal : Signal → (by : ℕ) → Move
   FlipGather : (comm value last : ℕ) → Move
   LookGather : (comm from place value : ℕ) → Move
   WriteRelease : (comm to place value last : ℕ) → Move
@@ -104,12 +103,12 @@ look_release comm value v stage = stage
 abbrev pub stage_after : ℕ → Move → Record → Stage
 stage_after size (DraftHeader k v) rec = draft_header k v rec.stage
 stage_after size (DraftChunk k v) rec = draft_chunk k v rec.stage
-stage_after size (RaiseSent to) rec = raise_sent to rec.stage
+stage_after size (RaiseSignal Sent to) rec = raise_sent to rec.stage
 stage_after size (ReadChunk from k v) rec = read_chunk from k v rec.stage
-stage_after size (LowerSent from) rec = lower_sent from (unwrap_or (rec.notes from) []) rec.stage
-stage_after size (RaiseReady to) rec = raise_ready size rec.stage
-stage_after size (LookReady is_set) rec = look_ready is_set rec.stage
-stage_after size (LowerReady by) rec = lower_ready size rec.stage
+stage_after size (LowerSignal Sent from) rec = lower_sent from (unwrap_or (rec.notes from) []) rec.stage
+stage_after size (RaiseSignal Ready to) rec = raise_ready size rec.stage
+stage_after size (LookSignal Ready is_set) rec = look_ready is_set rec.stage
+stage_after size (LowerSignal Ready by) rec = lower_ready size rec.stage
 stage_after size (FlipGather comm value last) rec = flip_gather comm last rec.stage
 stage_after size (LookGather comm from place value) rec = look_gather comm place value (rec.flips comm % 2) rec.stage
 stage_after size (WriteRelease comm to place value last) rec = write_release last rec.stage
@@ -128,16 +127,16 @@ post_answered is_set post = record post { is_answered = if is_set post.to then t
 
 -- the posted message on its way after a move
 abbrev pub post_after : Move → Record → Option OnItsWay
-post_after (RaiseSent to) rec = post_raised to rec.stage rec.post
-post_after (LookReady is_set) rec = option_map (post_answered is_set) rec.post
-post_after (LowerReady by) rec = None
+post_after (RaiseSignal Sent to) rec = post_raised to rec.stage rec.post
+post_after (LookSignal Ready is_set) rec = option_map (post_answered is_set) rec.post
+post_after (LowerSignal Ready by) rec = None
 post_after move rec = rec.post
 
 -- whose `sent` was seen, with the header words loaded since
 abbrev pub notes_after : Move → (ℕ → Option Notes) → ℕ → Option Notes
-notes_after (LookSent is_set) notes = λ j. if is_set j then Some [] else notes j
+notes_after (LookSignal Sent is_set) notes = λ j. if is_set j then Some [] else notes j
 notes_after (ReadHeader from k v) notes = put notes from (option_map (note_word k v) (notes from))
-notes_after (LowerSent from) notes = put notes from None
+notes_after (LowerSignal Sent from) notes = put notes from None
 notes_after move notes = notes
 
 -- how often each own gather flag was flipped, after a move
@@ -182,9 +181,9 @@ calls_let_go comm value v stage calls = calls
 
 -- the finished calls after a move
 abbrev pub calls_after : ℕ → Move → Record → List DataCall
-calls_after size (RaiseSent to) rec = calls_raised size to rec.stage rec.calls
-calls_after size (RaiseReady to) rec = calls_received size rec.stage rec.calls
-calls_after size (LowerReady by) rec = calls_sent size rec.stage rec.calls
+calls_after size (RaiseSignal Sent to) rec = calls_raised size to rec.stage rec.calls
+calls_after size (RaiseSignal Ready to) rec = calls_received size rec.stage rec.calls
+calls_after size (LowerSignal Ready by) rec = calls_sent size rec.stage rec.calls
 calls_after size (FlipGather comm value last) rec = finished_if (last == 0) (Bar comm) rec.calls
 calls_after size (WriteRelease comm to place value last) rec = calls_released last rec.stage rec.calls
 calls_after size (LookRelease comm value) rec = calls_let_go comm value (rec.flips comm % 2) rec.stage rec.calls

@@ -1,8 +1,9 @@
 -- Which move a record permits next (this project's profile).
 use Rattle.std.specs.Prelude.{ℕ, suc, ◌-◌, ◌%◌, Bool, true, false, ◌&&◌, ◌==◌, if◌then◌else◌, [], ◌∷◌, Option, Some, None, unwrap_or, is_none}
+use Rattle.scc_base.specs.declared.signals.Signal.TheVariants.{Sent, Ready}
 use Rattle.scc_proto.specs.Messages.{Notes, noted, has_all, head_of, is_head, is_post_head, Progress, begun, is_whole, is_padded}
 use Rattle.scc_proto.specs.Stages.{Filling, Answered, Stage, Idle, Drafting, Sending, Between, Taking, Barrier, OnItsWay, Record}
-use Rattle.scc_proto.specs.Moves.{Move, DraftHeader, DraftChunk, RaiseSent, LowerSent, RaiseReady, LowerReady, FlipGather, WriteRelease, StoreHeap, Misplaced, is_posted}
+use Rattle.scc_proto.specs.Moves.{Move, DraftHeader, DraftChunk, RaiseSignal, LowerSignal, FlipGather, WriteRelease, StoreHeap, Misplaced, is_posted}
 
 -- a header word is drafted only before the first chunk is raised
 abbrev pub drafts_header : Stage → Bool
@@ -90,10 +91,10 @@ leaves_heap stage = false
 abbrev pub permits : ℕ → Move → Record → Bool
 permits size (DraftHeader k v) rec = is_none rec.post && drafts_header rec.stage
 permits size (DraftChunk k v) rec = is_none rec.post && drafts_chunk rec.stage
-permits size (RaiseSent to) rec = is_none rec.post && may_raise size to rec.stage
-permits size (LowerSent from) rec = may_take from (rec.notes from) rec.stage
-permits size (RaiseReady to) rec = has_taken size to rec.stage
-permits size (LowerReady by) rec = may_go_on by rec.stage rec.post
+permits size (RaiseSignal Sent to) rec = is_none rec.post && may_raise size to rec.stage
+permits size (LowerSignal Sent from) rec = may_take from (rec.notes from) rec.stage
+permits size (RaiseSignal Ready to) rec = has_taken size to rec.stage
+permits size (LowerSignal Ready by) rec = may_go_on by rec.stage rec.post
 permits size (FlipGather comm value last) rec = is_idle rec.stage && (value == 1 - rec.flips comm % 2)
 permits size (WriteRelease comm to place value last) rec = may_release comm place value last (rec.flips comm % 2) rec.stage
 permits size (StoreHeap place value) rec = leaves_heap rec.stage

@@ -7,12 +7,14 @@ use Rattle.scc_base.specs.Setups.{SetupView, setup_key, place_of, size_of}
 use Rattle.scc_base.specs.declared.events.Access.{Access}
 use Rattle.scc_base.specs.declared.events.Access.TheVariants.{Load, Store, Take, Free}
 use Rattle.scc_base.specs.declared.events.Event.{Event}
+use Rattle.scc_base.specs.declared.signals.Signal.{Signal}
+use Rattle.scc_base.specs.declared.signals.Signal.TheVariants.{Sent, Ready}
 use Rattle.scc_proto.specs.Tables.{put}
 use Rattle.scc_proto.specs.Messages.{Notes, noted}
 use Rattle.scc_proto.specs.Stages.{Stage, Taking, FlagWords, Record, blank}
-use Rattle.scc_proto.specs.Moves.{Move, DraftHeader, DraftChunk, RaiseSent, LookSent, ReadHeader, ReadChunk, LowerSent, RaiseReady, LookReady, LowerReady, FlipGather, LookGather, WriteRelease, LookRelease, StoreHeap, NoMove, Misplaced, after}
+use Rattle.scc_proto.specs.Moves.{Move, DraftHeader, DraftChunk, RaiseSignal, LookSignal, ReadHeader, ReadChunk, LowerSignal, FlipGather, LookGather, WriteRelease, LookRelease, StoreHeap, NoMove, Misplaced, after}
 use Rattle.scc_proto.specs.Permission.{permits}
-use Rattle.scc_proto.specs.Words.{Role, HeaderWord, ChunkWord, SentFlag, ReadyFlag, SentFlags, ReadyFlags, GatherFlag, ReleaseFlag, HeapWord, IdleWord, role_of, are_peers}
+use Rattle.scc_proto.specs.Words.{Role, HeaderWord, ChunkWord, SignalFlag, SignalFlags, GatherFlag, ReleaseFlag, HeapWord, IdleWord, role_of, are_peers}
 
 -- the bytes of a whole chunk
 abbrev pub chunk_of : SetupView → ℕ
@@ -38,10 +40,8 @@ look_at_bits s me value = λ j. are_peers s me j && (bit_at value j == 1)
 abbrev pub load_by : SetupView → ℕ → ℕ → Role → Move
 load_by s me value (HeaderWord owner k) = ReadHeader owner k value
 load_by s me value (ChunkWord owner k) = ReadChunk owner k value
-load_by s me value (SentFlag from to) = if to == me then LookSent (look_at from value) else NoMove
-load_by s me value (ReadyFlag from to) = if from == me then LookReady (look_at to value) else NoMove
-load_by s me value (SentFlags owner) = if owner == me then LookSent (look_at_bits s me value) else NoMove
-load_by s me value (ReadyFlags owner) = if owner == me then LookReady (look_at_bits s me value) else NoMove
+load_by s me value (SignalFlag signal by at) = if at == me then LookSignal signal (look_at by value) else NoMove
+load_by s me value (SignalFlags signal at) = if at == me then LookSignal signal (look_at_bits s me value) else NoMove
 load_by s me value (GatherFlag comm owner) = if leads s comm me owner then LookGather comm owner (place_of s comm owner) value else NoMove
 load_by s me value (ReleaseFlag comm owner) = if (owner == me) && not (leads s comm me me) then LookRelease comm value else NoMove
 load_by s me value HeapWord = NoMove
@@ -72,24 +72,22 @@ change_at lower raise s me owner new None = Misplaced
 change_at lower raise s me owner new (Some old) = if owner == me then move_at lower (lowered_below me old new s.nue)
     else (if raises_bit me old new then raise owner else Misplaced)
 
--- the word of `sent` flags that a rank has noted under its hold of a core's register
-abbrev pub sent_noted : Record → ℕ → Option ℕ
-sent_noted rec core = option_and_then (λ (flags : FlagWords). flags.sent) (rec.held core)
+-- the word of a signal's flags among those of a core
+abbrev pub flags_in : Signal → FlagWords → Option ℕ
+flags_in Sent flags = flags.sent
+flags_in Ready flags = flags.ready
 
--- the word of `ready` flags that a rank has noted under its hold of a core's register
-abbrev pub ready_noted : Record → ℕ → Option ℕ
-ready_noted rec core = option_and_then (λ (flags : FlagWords). flags.ready) (rec.held core)
+-- the word of a signal's flags that a rank has noted under its hold of a core's register
+abbrev pub flags_noted : Signal → Record → ℕ → Option ℕ
+flags_noted signal rec core = option_and_then (λ (flags : FlagWords). flags_in signal flags) (rec.held core)
 
 -- the move that a store to a word is, by the word's role
 abbrev pub store_by : SetupView → ℕ → Record → WordAt → ℕ → Role → Move
 store_by s me rec place value (HeaderWord owner k) = if owner == me then DraftHeader k value else Misplaced
 store_by s me rec place value (ChunkWord owner k) = if owner == me then DraftChunk k value else Misplaced
-store_by s me rec place value (SentFlag from to) = if (from == me) && (value == 1) then RaiseSent to
-    else (if (to == me) && (value == 0) then LowerSent from else Misplaced)
-store_by s me rec place value (ReadyFlag from to) = if (to == me) && (value == 1) then RaiseReady from
-    else (if (from == me) && (value == 0) then LowerReady to else Misplaced)
-store_by s me rec place value (SentFlags owner) = change_at LowerSent RaiseSent s me owner value (sent_noted rec place.core)
-store_by s me rec place value (ReadyFlags owner) = change_at LowerReady RaiseReady s me owner value (ready_noted rec place.core)
+store_by s me rec place value (SignalFlag signal by at) = if (by == me) && (value == 1) then RaiseSignal signal at
+    else (if (at == me) && (value == 0) then LowerSignal signal by else Misplaced)
+store_by s me rec place value (SignalFlags signal at) = change_at (LowerSignal signal) (RaiseSignal signal) s me at value (flags_noted signal rec place.core)
 store_by s me rec place value (GatherFlag comm owner) = if owner == me then FlipGather comm value (last_of s comm me) else Misplaced
 store_by s me rec place value (ReleaseFlag comm owner) =
     if leads s comm me owner then WriteRelease comm owner (place_of s comm owner) value (last_of s comm me) else Misplaced
@@ -100,25 +98,20 @@ store_by s me rec place value IdleWord = Misplaced
 -- noted by a load, and changed by a store, which is the move.
 pub data Act : Type 0 where
   Moving : Move → Act
-  NotingSent : (core value : ℕ) → Act
-  NotingReady : (core value : ℕ) → Act
-  ChangingSent : (core : ℕ) → Move → Act
-  ChangingReady : (core : ℕ) → Move → Act
+  NotingSignal : Signal → (core value : ℕ) → Act
+  ChangingSignal : Signal → (core : ℕ) → Move → Act
   Holding : (core : ℕ) → Act
   Freeing : (core : ℕ) → Act
 
 -- what a load is to the record: of bit flags under the own hold of their register it notes the word, else it is a move
 abbrev pub load_act : SetupView → ℕ → Record → WordAt → ℕ → Role → Act
-load_act s me rec place value (SentFlags owner) =
-    if is_some (rec.held place.core) then NotingSent place.core value else Moving (load_by s me value (SentFlags owner))
-load_act s me rec place value (ReadyFlags owner) =
-    if is_some (rec.held place.core) then NotingReady place.core value else Moving (load_by s me value (ReadyFlags owner))
+load_act s me rec place value (SignalFlags signal at) =
+    if is_some (rec.held place.core) then NotingSignal signal place.core value else Moving (load_by s me value (SignalFlags signal at))
 load_act s me rec place value role = Moving (load_by s me value role)
 
 -- what a store is to the record: of bit flags it changes a noted word, else it is a move
 abbrev pub store_act : SetupView → ℕ → Record → WordAt → ℕ → Role → Act
-store_act s me rec place value (SentFlags owner) = ChangingSent place.core (store_by s me rec place value (SentFlags owner))
-store_act s me rec place value (ReadyFlags owner) = ChangingReady place.core (store_by s me rec place value (ReadyFlags owner))
+store_act s me rec place value (SignalFlags signal at) = ChangingSignal signal place.core (store_by s me rec place value (SignalFlags signal at))
 store_act s me rec place value role = Moving (store_by s me rec place value role)
 
 -- what an access to a place is to the record
@@ -132,21 +125,15 @@ act_by s me rec Free place value = Freeing place.core
 unfoldable pub act_of : SetupView → ℕ → Record → Event → Act
 act_of s me rec e = act_by s me rec e.access e.place e.value
 
--- the word of `sent` flags is noted
-abbrev pub note_sent : ℕ → FlagWords → FlagWords
-note_sent value flags = record flags { sent = Some value }
+-- the word of a signal's flags is noted
+abbrev pub note_flags : Signal → ℕ → FlagWords → FlagWords
+note_flags Sent value flags = record flags { sent = Some value }
+note_flags Ready value flags = record flags { ready = Some value }
 
--- the word of `ready` flags is noted
-abbrev pub note_ready : ℕ → FlagWords → FlagWords
-note_ready value flags = record flags { ready = Some value }
-
--- the word of `sent` flags was stored, and is noted no more
-abbrev pub forget_sent : FlagWords → FlagWords
-forget_sent flags = record flags { sent = None }
-
--- the word of `ready` flags was stored, and is noted no more
-abbrev pub forget_ready : FlagWords → FlagWords
-forget_ready flags = record flags { ready = None }
+-- the word of a signal's flags was stored, and is noted no more
+abbrev pub forget_flags : Signal → FlagWords → FlagWords
+forget_flags Sent flags = record flags { sent = None }
+forget_flags Ready flags = record flags { ready = None }
 
 -- the flag words under the hold of one core's register, changed
 abbrev pub change_held : (FlagWords → FlagWords) → ℕ → Record → Record
@@ -155,18 +142,15 @@ change_held change core rec = record rec { held = put rec.held core (option_map 
 -- the record after an act that it permits
 abbrev pub after_act : ℕ → Act → Record → Record
 after_act size (Moving move) rec = after size move rec
-after_act size (NotingSent core value) rec = change_held (note_sent value) core rec
-after_act size (NotingReady core value) rec = change_held (note_ready value) core rec
-after_act size (ChangingSent core move) rec = change_held forget_sent core (after size move rec)
-after_act size (ChangingReady core move) rec = change_held forget_ready core (after size move rec)
+after_act size (NotingSignal signal core value) rec = change_held (note_flags signal value) core rec
+after_act size (ChangingSignal signal core move) rec = change_held (forget_flags signal) core (after size move rec)
 after_act size (Holding core) rec = record rec { held = put rec.held core (Some (record { sent = None; ready = None })) }
 after_act size (Freeing core) rec = record rec { held = put rec.held core None }
 
 -- the record permits the act: a move that it permits, a take of a register that it does not hold, a free of one that it holds
 abbrev pub permits_act : ℕ → Act → Record → Bool
 permits_act size (Moving move) rec = permits size move rec
-permits_act size (ChangingSent core move) rec = permits size move rec
-permits_act size (ChangingReady core move) rec = permits size move rec
+permits_act size (ChangingSignal signal core move) rec = permits size move rec
 permits_act size (Holding core) rec = is_none (rec.held core)
 permits_act size (Freeing core) rec = is_some (rec.held core)
 permits_act size act rec = true

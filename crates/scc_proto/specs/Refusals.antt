@@ -4,8 +4,9 @@ use Rattle.scc_base.specs.Events.{take_of}
 use Rattle.scc_base.specs.Setups.{SetupView}
 use Rattle.scc_base.specs.declared.communicators.CommRule.TheVariants.{World, Mod}
 use Rattle.scc_base.specs.declared.layouts.Layout.TheVariants.{LineFlags, BitFlags}
+use Rattle.scc_base.specs.declared.signals.Signal.TheVariants.{Sent, Ready}
 use Rattle.scc_proto.specs.Stages.{Record, blank}
-use Rattle.scc_proto.specs.Moves.{Move, DraftHeader, DraftChunk, RaiseSent, LookSent, ReadHeader, ReadChunk, LowerSent, RaiseReady, LookReady, LowerReady, FlipGather, LookGather, after}
+use Rattle.scc_proto.specs.Moves.{Move, DraftHeader, DraftChunk, RaiseSignal, LookSignal, ReadHeader, ReadChunk, LowerSignal, FlipGather, LookGather, after}
 use Rattle.scc_proto.specs.Permission.{permits}
 use Rattle.scc_proto.specs.Words.{RankEvent}
 use Rattle.scc_proto.specs.Records.{look_at, is_permitted, record_after}
@@ -40,19 +41,19 @@ drafts_words word = DraftChunk 3 0 ∷ DraftChunk 2 0 ∷ DraftChunk 1 0 ∷ Dra
 
 -- a message of four bytes, raised at rank 1
 abbrev pub raises_four : List Move
-raises_four = drafts_line 0 0 4 0 ++ (drafts_words 7 ++ RaiseSent 1 ∷ [])
+raises_four = drafts_line 0 0 4 0 ++ (drafts_words 7 ++ RaiseSignal Sent 1 ∷ [])
 
 -- a message of four bytes, raised at rank 1, whose `ready` is seen
 abbrev pub sees_ready : List Move
-sees_ready = raises_four ++ LookReady (look_at 1 1) ∷ []
+sees_ready = raises_four ++ LookSignal Ready (look_at 1 1) ∷ []
 
 -- a post of four bytes on its way to rank 1
 abbrev pub posts : List Move
-posts = drafts_line 0 0 4 1 ++ (drafts_words 7 ++ RaiseSent 1 ∷ [])
+posts = drafts_line 0 0 4 1 ++ (drafts_words 7 ++ RaiseSignal Sent 1 ∷ [])
 
 -- the first chunk of 33 bytes is through to rank 1
 abbrev pub sends_first : List Move
-sends_first = drafts_line 0 0 33 0 ++ (drafts_words 7 ++ RaiseSent 1 ∷ LookReady (look_at 1 1) ∷ LowerReady 1 ∷ [])
+sends_first = drafts_line 0 0 33 0 ++ (drafts_words 7 ++ RaiseSignal Sent 1 ∷ LookSignal Ready (look_at 1 1) ∷ LowerSignal Ready 1 ∷ [])
 
 -- the first chunk of 33 bytes is through to rank 1, and the second is drafted
 abbrev pub drafts_second : List Move
@@ -60,7 +61,7 @@ drafts_second = sends_first ++ drafts_words 9
 
 -- `sent` of a rank is seen, and its head of a plain message is read
 abbrev pub reads_plain : (from len : ℕ) → List Move
-reads_plain from len = LookSent (look_at from 1) ∷ ReadHeader from 0 0 ∷ ReadHeader from 1 0 ∷ ReadHeader from 2 len ∷ []
+reads_plain from len = LookSignal Sent (look_at from 1) ∷ ReadHeader from 0 0 ∷ ReadHeader from 1 0 ∷ ReadHeader from 2 len ∷ []
 
 -- `sent` of rank 0 is seen, and its head of four bytes is read
 abbrev pub reads_head : List Move
@@ -68,7 +69,7 @@ reads_head = reads_plain 0 4
 
 -- the chunk of rank 0 is being taken
 abbrev pub begins_taking : List Move
-begins_taking = reads_head ++ LowerSent 0 ∷ []
+begins_taking = reads_head ++ LowerSignal Sent 0 ∷ []
 
 -- a chunk line of a rank is loaded
 abbrev pub reads_words : ℕ → List Move
@@ -76,7 +77,7 @@ reads_words from = ReadChunk from 0 7 ∷ ReadChunk from 1 0 ∷ ReadChunk from 
 
 -- the first chunk of 33 bytes of rank 0 is taken
 abbrev pub takes_first : List Move
-takes_first = reads_plain 0 33 ++ LowerSent 0 ∷ (reads_words 0 ++ RaiseReady 0 ∷ [])
+takes_first = reads_plain 0 33 ++ LowerSignal Sent 0 ∷ (reads_words 0 ++ RaiseSignal Ready 0 ∷ [])
 
 -- the root of three has flipped, and has seen its first member
 abbrev pub sees_first : List Move

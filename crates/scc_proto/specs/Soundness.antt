@@ -3,11 +3,12 @@ use Rattle.std.specs.Prelude.{◌≡◌, ℕ, ◌<◌, Bool, true, false, ◌==�
 use Rattle.std.specs.Int.{bit_at}
 use Rattle.scc_base.specs.Heads.{MessageHead}
 use Rattle.scc_base.specs.Setups.{SetupView, host_of}
+use Rattle.scc_base.specs.declared.signals.Signal.TheVariants.{Sent, Ready}
 use Rattle.scc_proto.specs.Messages.{Notes, noted, header_word, is_head, is_post_head}
 use Rattle.scc_proto.specs.Stages.{Filling, Answered, Stage, Sending, Taking, OnItsWay, Record}
 use Rattle.scc_proto.specs.Permission.{is_answered_by}
 use Rattle.scc_proto.specs.Words.{are_peers}
-use Rattle.scc_proto.specs.Records.{sent_noted, ready_noted}
+use Rattle.scc_proto.specs.Records.{flags_noted}
 
 -- noted header words are words of one head that a message may have
 pub record AreOfHead (header : Notes) : Type 0 where
@@ -40,10 +41,10 @@ pub record IsSound (s : SetupView) (me : ℕ) (rec : Record) : Type 0 where
   pub heads : (j : ℕ) (header : Notes) → rec.notes j ≡ Some header → AreOfHead header
   -- in a word of bit flags that was noted under a register, at the core of j: the own bits that this rank
   -- may raise next are clear
-  pub sent_clear : (j word : ℕ) → are_peers s me j ≡ true → sent_noted rec (host_of s.hosts j) ≡ Some word
+  pub sent_clear : (j word : ℕ) → are_peers s me j ≡ true → flags_noted Sent rec (host_of s.hosts j) ≡ Some word
       → is_drafting rec.stage rec.post ≡ true → bit_at word me ≡ 0
-  pub ready_clear : (j word : ℕ) → ready_noted rec (host_of s.hosts j) ≡ Some word → is_taking j rec.stage ≡ true → bit_at word me ≡ 0
+  pub ready_clear : (j word : ℕ) → flags_noted Ready rec (host_of s.hosts j) ≡ Some word → is_taking j rec.stage ≡ true → bit_at word me ≡ 0
   -- in a word of bit flags that was noted under the register of the own core: the bits that this rank may lower next
   -- are set
-  pub sent_set : (j word : ℕ) (header : Notes) → sent_noted rec (host_of s.hosts me) ≡ Some word → rec.notes j ≡ Some header → bit_at word j ≡ 1
-  pub ready_set : (j word : ℕ) → ready_noted rec (host_of s.hosts me) ≡ Some word → is_answered j rec.stage rec.post ≡ true → bit_at word j ≡ 1
+  pub sent_set : (j word : ℕ) (header : Notes) → flags_noted Sent rec (host_of s.hosts me) ≡ Some word → rec.notes j ≡ Some header → bit_at word j ≡ 1
+  pub ready_set : (j word : ℕ) → flags_noted Ready rec (host_of s.hosts me) ≡ Some word → is_answered j rec.stage rec.post ≡ true → bit_at word j ≡ 1

@@ -8,7 +8,7 @@ use Rattle.scc_base.specs.Setups.{SetupView, host_of}
 use Rattle.scc_base.specs.declared.layouts.Layout.{Layout}
 use Rattle.scc_base.specs.declared.layouts.Layout.TheVariants.{LineFlags, BitFlags}
 use Rattle.scc_proto.specs.Tables.{put_two}
-use Rattle.scc_proto.specs.Moves.{Move, DraftHeader, DraftChunk, RaiseSent, LowerSent, RaiseReady, LowerReady, FlipGather, WriteRelease}
+use Rattle.scc_proto.specs.Moves.{Move, DraftHeader, DraftChunk, RaiseSignal, LowerSignal, FlipGather, WriteRelease}
 use Rattle.scc_proto.specs.Words.{Memory, are_peers, is_present}
 
 -- the words of the chip by what they are for: by rank, peer, communicator and member in place of core, line and word
@@ -45,14 +45,14 @@ view_of s memory = record {
 
 -- what a move of rank `me` does to the `sent` flags
 abbrev pub sent_shown : ℕ → Move → (ℕ → ℕ → ℕ) → ℕ → ℕ → ℕ
-sent_shown me (RaiseSent to) sent = put_two sent me to 1
-sent_shown me (LowerSent from) sent = put_two sent from me 0
+sent_shown me (RaiseSignal Sent to) sent = put_two sent me to 1
+sent_shown me (LowerSignal Sent from) sent = put_two sent from me 0
 sent_shown me move sent = sent
 
 -- what a move of rank `me` does to the `ready` flags
 abbrev pub ready_shown : ℕ → Move → (ℕ → ℕ → ℕ) → ℕ → ℕ → ℕ
-ready_shown me (RaiseReady to) ready = put_two ready to me 1
-ready_shown me (LowerReady by) ready = put_two ready me by 0
+ready_shown me (RaiseSignal Ready to) ready = put_two ready to me 1
+ready_shown me (LowerSignal Ready by) ready = put_two ready me by 0
 ready_shown me move ready = ready
 
 -- what a move of rank `me` does to the header lines

@@ -12,6 +12,8 @@ use Rattle.scc_base.specs.declared.layouts.Layout.TheVariants.{LineFlags, BitFla
 use Rattle.scc_base.specs.declared.events.Access.{Access}
 use Rattle.scc_base.specs.declared.events.Access.TheVariants.{Load, Store, Take, Free}
 use Rattle.scc_base.specs.declared.events.Event.{Event}
+use Rattle.scc_base.specs.declared.signals.Signal.{Signal}
+use Rattle.scc_base.specs.declared.signals.Signal.TheVariants.{Sent, Ready}
 use Rattle.scc_proto.specs.Tables.{put}
 
 -- a number for each buffer word, by core, line and word, and for each core's test-and-set register
@@ -68,15 +70,13 @@ pub record SameWords (one other : Memory) : Type 0 where
   pub words : (core line word : ℕ) → one.word core line word ≡ other.word core line word
   pub registers : (core : ℕ) → one.register core ≡ other.register core
 
--- what a buffer word is for. A flag is named by the two ranks of its messages, and by a communicator and
--- a member; with bit flags a word has the flags of all ranks at its owner's core.
+-- what a buffer word is for. A flag of a signal is named by the rank that raises it and the rank at whose core it
+-- lies, which lowers it; a barrier's by a communicator and a member. With bit flags a word has the flags of all ranks.
 pub data Role : Type 0 where
   HeaderWord : (owner k : ℕ) → Role
   ChunkWord : (owner k : ℕ) → Role
-  SentFlag : (from to : ℕ) → Role
-  ReadyFlag : (from to : ℕ) → Role
-  SentFlags : (owner : ℕ) → Role
-  ReadyFlags : (owner : ℕ) → Role
+  SignalFlag : Signal → (by at : ℕ) → Role
+  SignalFlags : Signal → (at : ℕ) → Role
   GatherFlag : (comm owner : ℕ) → Role
   ReleaseFlag : (comm owner : ℕ) → Role
   HeapWord : Role
@@ -127,9 +127,9 @@ barrier_role s owner line word = if nat_le (first_release s.layout) line
 -- the role of a word of the lines between the header line and the barriers' flags
 abbrev pub flag_role : Layout → SetupView → ℕ → ℕ → ℕ → Role
 flag_role LineFlags s owner line word = if word == 0
-    then (if nat_le line 48 then if_peers s (line - 1) owner (SentFlag (line - 1) owner) else if_peers s owner (line - 49) (ReadyFlag owner (line - 49)))
+    then (if nat_le line 48 then if_peers s (line - 1) owner (SignalFlag Sent (line - 1) owner) else if_peers s owner (line - 49) (SignalFlag Ready (line - 49) owner))
     else IdleWord
-flag_role BitFlags s owner line word = if word == 0 then SentFlags owner else (if word == 1 then ReadyFlags owner else IdleWord)
+flag_role BitFlags s owner line word = if word == 0 then SignalFlags Sent owner else (if word == 1 then SignalFlags Ready owner else IdleWord)
 
 -- the role of a word of the core of a rank
 abbrev pub role_at : SetupView → ℕ → ℕ → ℕ → Role

@@ -4,13 +4,14 @@ ghost use Rattle.std.specs.Prelude.{◌≡◌, ◌≢◌, ◌⊎◌, ◌↔◌, 
 ghost use Rattle.scc_base.specs.Events.{load_of, store_of, take_of, free_of};
 ghost use Rattle.scc_base.specs.Places.{WordAt};
 ghost use Rattle.scc_base.specs.Setups.{SetupView};
+ghost use Rattle.scc_base.specs.declared.signals.Signal.TheVariants.{Sent, Ready};
 ghost use Rattle.scc_proto.specs.Messages.{Notes, Progress, begun, head_of};
 ghost use Rattle.scc_proto.specs.Stages.{Part, Filling, Answered, Stage, Idle, Drafting, Sending, Between, Taking, Barrier, OnItsWay, Record};
-ghost use Rattle.scc_proto.specs.Moves.{DraftHeader, DraftChunk, RaiseSent, LowerSent, RaiseReady, LowerReady, FlipGather, WriteRelease};
+ghost use Rattle.scc_proto.specs.Moves.{DraftHeader, DraftChunk, RaiseSignal, LowerSignal, FlipGather, WriteRelease};
 ghost use Rattle.scc_proto.specs.Permission.{is_whole_header, says_head, is_drafted, permits};
 ghost use Rattle.scc_proto.specs.Messages.{is_whole};
-ghost use Rattle.scc_proto.specs.Words.{HeapWord, IdleWord, SentFlags, ReadyFlags, role_of};
-ghost use Rattle.scc_proto.specs.Records.{IsPermitted, chunk_of, lowered_below, raises_bit, sent_noted, ready_noted};
+ghost use Rattle.scc_proto.specs.Words.{HeapWord, IdleWord, SignalFlags, role_of};
+ghost use Rattle.scc_proto.specs.Records.{IsPermitted, chunk_of, lowered_below, raises_bit, flags_noted};
 
 /// A heap word is stored exactly where nothing is drafted, no chunk is being taken and no barrier is open.
 pub fn heap_store_law()
@@ -37,14 +38,14 @@ pub fn register_law()
 /// bit of it: at its own core a set bit of another rank is lowered, at another core its own bit is raised, and the move is
 /// permitted.
 pub fn bits_law()
-    ensures sent { (s : SetupView) (me owner value : ℕ) (rec : Record) (place : WordAt) → role_of s place ≡ SentFlags owner
-        → (IsPermitted s me rec (store_of place value)) ↔ ((old : ℕ) × (sent_noted rec place.core ≡ Some old)
-        × (((owner ≡ me) × (from : ℕ) × (lowered_below me old value s.nue ≡ Some from) × (permits (chunk_of s) (LowerSent from) rec ≡ true))
-        ⊎ ((owner ≢ me) × (raises_bit me old value ≡ true) × (permits (chunk_of s) (RaiseSent owner) rec ≡ true)))) }
-    ensures ready { (s : SetupView) (me owner value : ℕ) (rec : Record) (place : WordAt) → role_of s place ≡ ReadyFlags owner
-        → (IsPermitted s me rec (store_of place value)) ↔ ((old : ℕ) × (ready_noted rec place.core ≡ Some old)
-        × (((owner ≡ me) × (by : ℕ) × (lowered_below me old value s.nue ≡ Some by) × (permits (chunk_of s) (LowerReady by) rec ≡ true))
-        ⊎ ((owner ≢ me) × (raises_bit me old value ≡ true) × (permits (chunk_of s) (RaiseReady owner) rec ≡ true)))) }
+    ensures sent { (s : SetupView) (me owner value : ℕ) (rec : Record) (place : WordAt) → role_of s place ≡ SignalFlags Sent owner
+        → (IsPermitted s me rec (store_of place value)) ↔ ((old : ℕ) × (flags_noted Sent rec place.core ≡ Some old)
+        × (((owner ≡ me) × (from : ℕ) × (lowered_below me old value s.nue ≡ Some from) × (permits (chunk_of s) (LowerSignal Sent from) rec ≡ true))
+        ⊎ ((owner ≢ me) × (raises_bit me old value ≡ true) × (permits (chunk_of s) (RaiseSignal Sent owner) rec ≡ true)))) }
+    ensures ready { (s : SetupView) (me owner value : ℕ) (rec : Record) (place : WordAt) → role_of s place ≡ SignalFlags Ready owner
+        → (IsPermitted s me rec (store_of place value)) ↔ ((old : ℕ) × (flags_noted Ready rec place.core ≡ Some old)
+        × (((owner ≡ me) × (by : ℕ) × (lowered_below me old value s.nue ≡ Some by) × (permits (chunk_of s) (LowerSignal Ready by) rec ≡ true))
+        ⊎ ((owner ≢ me) × (raises_bit me old value ≡ true) × (permits (chunk_of s) (RaiseSignal Ready owner) rec ≡ true)))) }
 {}
 
 /// A word is drafted exactly where no post is on its way, and a header word before the first raise, a chunk word while no chunk is raised.
@@ -59,7 +60,7 @@ pub fn draft_law()
 /// `sent` is raised exactly where no post is on its way and a whole chunk is drafted: the first one beside a whole header line, a
 /// later one at the rank of the first.
 pub fn raise_sent_law()
-    ensures law { (size to : ℕ) (rec : Record) → (permits size (RaiseSent to) rec ≡ true) ↔ ((rec.post ≡ None)
+    ensures law { (size to : ℕ) (rec : Record) → (permits size (RaiseSignal Sent to) rec ≡ true) ↔ ((rec.post ≡ None)
         × (((header chunk : Notes) × (rec.stage ≡ Drafting header chunk) × (is_whole_header header ≡ true)
         × (is_drafted size (begun (head_of header)) chunk ≡ true))
         ⊎ ((message : Progress) × (chunk : Notes) × (rec.stage ≡ Sending to Filling message chunk) × (is_drafted size message chunk ≡ true)))) }
@@ -68,20 +69,20 @@ pub fn raise_sent_law()
 /// `sent` is lowered exactly where it was seen: of a first chunk once a head was read and nothing is open, of a later one
 /// between the chunks of the same rank.
 pub fn lower_sent_law()
-    ensures law { (size from : ℕ) (rec : Record) → (permits size (LowerSent from) rec ≡ true) ↔ ((header : Notes) × (rec.notes from ≡ Some header)
+    ensures law { (size from : ℕ) (rec : Record) → (permits size (LowerSignal Sent from) rec ≡ true) ↔ ((header : Notes) × (rec.notes from ≡ Some header)
         × (((rec.stage ≡ Idle) × (says_head header ≡ true)) ⊎ ((message : Progress) × (rec.stage ≡ Between from message)))) }
 {}
 
 /// `ready` is raised exactly where all words of the chunk that is being taken of that rank were loaded.
 pub fn raise_ready_law()
-    ensures law { (size to : ℕ) (rec : Record) → (permits size (RaiseReady to) rec ≡ true) ↔ ((message : Progress) × (chunk : Notes)
+    ensures law { (size to : ℕ) (rec : Record) → (permits size (RaiseSignal Ready to) rec ≡ true) ↔ ((message : Progress) × (chunk : Notes)
         × (rec.stage ≡ Taking to message chunk) × (is_whole size message chunk ≡ true)) }
 {}
 
 /// `ready` is lowered exactly where it was seen: for the chunk of the message that is being sent to that rank, or in no send
 /// for the post to it.
 pub fn lower_ready_law()
-    ensures law { (size by : ℕ) (rec : Record) → (permits size (LowerReady by) rec ≡ true) ↔
+    ensures law { (size by : ℕ) (rec : Record) → (permits size (LowerSignal Ready by) rec ≡ true) ↔
         (((message : Progress) × (chunk : Notes) × (rec.stage ≡ Sending by Answered message chunk))
         ⊎ (((to : ℕ) (part : Part) (message : Progress) (chunk : Notes) → rec.stage ≢ Sending to part message chunk)
         × (post : OnItsWay) × (rec.post ≡ Some post) × (post.to ≡ by) × (post.is_answered ≡ true))) }

@@ -3,28 +3,29 @@
 
 ghost use Rattle.std.specs.Prelude.{[], ◌∷◌, ◌++◌};
 ghost use Rattle.scc_base.specs.Places.{WordAt};
-ghost use Rattle.scc_proto.specs.Moves.{DraftHeader, DraftChunk, RaiseSent, LookSent, ReadHeader, ReadChunk, LowerSent, RaiseReady, LookReady, LowerReady, FlipGather, LookGather, WriteRelease, LookRelease, StoreHeap};
+ghost use Rattle.scc_base.specs.declared.signals.Signal.TheVariants.{Sent, Ready};
+ghost use Rattle.scc_proto.specs.Moves.{DraftHeader, DraftChunk, RaiseSignal, LookSignal, ReadHeader, ReadChunk, LowerSignal, FlipGather, LookGather, WriteRelease, LookRelease, StoreHeap};
 ghost use Rattle.scc_proto.specs.Records.{look_at};
 ghost use Rattle.scc_proto.specs.Examples.{two_ranks, two_ranks_bits, three_ranks, loads, stores, takes, frees};
 ghost use Rattle.scc_proto.specs.Refusals.{Refuses, RefusesEvent, drafts_line, drafts_words, raises_four, sees_ready, posts, sends_first, drafts_second, reads_plain, reads_head, begins_taking, reads_words, takes_first, sees_first, sees_all, drafts_empty, reads_empty, misses, sees_sent, raises_empty, sees_bit, takes_bit, holds_draft, sets_bit, three_ranks_bits, four_ranks};
 
 /// `sent` is not raised before all four words of the header line are drafted.
 pub fn header_is_whole()
-    ensures kind { Refuses (DraftHeader 3 0 ∷ DraftHeader 2 4 ∷ DraftHeader 1 0 ∷ drafts_words 7) (RaiseSent 1) }
-    ensures comm { Refuses (DraftHeader 3 0 ∷ DraftHeader 2 4 ∷ DraftHeader 0 0 ∷ drafts_words 7) (RaiseSent 1) }
-    ensures len { Refuses (DraftHeader 3 0 ∷ DraftHeader 1 0 ∷ DraftHeader 0 0 ∷ []) (RaiseSent 1) }
-    ensures post { Refuses (DraftHeader 2 4 ∷ DraftHeader 1 0 ∷ DraftHeader 0 0 ∷ drafts_words 7) (RaiseSent 1) }
-    ensures chunk_alone { Refuses (drafts_words 7) (RaiseSent 1) }
-    ensures nothing { Refuses [] (RaiseSent 1) }
+    ensures kind { Refuses (DraftHeader 3 0 ∷ DraftHeader 2 4 ∷ DraftHeader 1 0 ∷ drafts_words 7) (RaiseSignal Sent 1) }
+    ensures comm { Refuses (DraftHeader 3 0 ∷ DraftHeader 2 4 ∷ DraftHeader 0 0 ∷ drafts_words 7) (RaiseSignal Sent 1) }
+    ensures len { Refuses (DraftHeader 3 0 ∷ DraftHeader 1 0 ∷ DraftHeader 0 0 ∷ []) (RaiseSignal Sent 1) }
+    ensures post { Refuses (DraftHeader 2 4 ∷ DraftHeader 1 0 ∷ DraftHeader 0 0 ∷ drafts_words 7) (RaiseSignal Sent 1) }
+    ensures chunk_alone { Refuses (drafts_words 7) (RaiseSignal Sent 1) }
+    ensures nothing { Refuses [] (RaiseSignal Sent 1) }
 {}
 
 /// `sent` is not raised over a head that no message has.
 pub fn header_is_valid()
-    ensures kind { Refuses (drafts_line 5 0 4 0 ++ drafts_words 7) (RaiseSent 1) }
-    ensures comm { Refuses (drafts_line 1 16 4 0 ++ drafts_words 7) (RaiseSent 1) }
-    ensures plain { Refuses (drafts_line 0 1 4 0 ++ drafts_words 7) (RaiseSent 1) }
-    ensures len { Refuses (drafts_line 0 0 65537 0 ++ drafts_words 7) (RaiseSent 1) }
-    ensures last { Refuses (drafts_line 0 0 4 2 ++ drafts_words 7) (RaiseSent 1) }
+    ensures kind { Refuses (drafts_line 5 0 4 0 ++ drafts_words 7) (RaiseSignal Sent 1) }
+    ensures comm { Refuses (drafts_line 1 16 4 0 ++ drafts_words 7) (RaiseSignal Sent 1) }
+    ensures plain { Refuses (drafts_line 0 1 4 0 ++ drafts_words 7) (RaiseSignal Sent 1) }
+    ensures len { Refuses (drafts_line 0 0 65537 0 ++ drafts_words 7) (RaiseSignal Sent 1) }
+    ensures last { Refuses (drafts_line 0 0 4 2 ++ drafts_words 7) (RaiseSignal Sent 1) }
 {}
 
 /// Header words are drafted only before the first chunk is raised.
@@ -35,95 +36,95 @@ pub fn header_comes_first()
 
 /// `sent` is not raised before all words of the chunk's lines are drafted, for each chunk anew.
 pub fn chunk_is_whole()
-    ensures first { Refuses (drafts_line 0 0 4 0 ++ DraftChunk 3 0 ∷ DraftChunk 2 0 ∷ DraftChunk 1 0 ∷ []) (RaiseSent 1) }
-    ensures last { Refuses (drafts_line 0 0 4 0 ++ DraftChunk 2 0 ∷ DraftChunk 1 0 ∷ DraftChunk 0 7 ∷ []) (RaiseSent 1) }
-    ensures none { Refuses (drafts_line 0 0 4 0) (RaiseSent 1) }
-    ensures second { Refuses sends_first (RaiseSent 1) }
-    ensures second_part { Refuses (sends_first ++ DraftChunk 3 0 ∷ DraftChunk 2 0 ∷ DraftChunk 1 0 ∷ []) (RaiseSent 1) }
+    ensures first { Refuses (drafts_line 0 0 4 0 ++ DraftChunk 3 0 ∷ DraftChunk 2 0 ∷ DraftChunk 1 0 ∷ []) (RaiseSignal Sent 1) }
+    ensures last { Refuses (drafts_line 0 0 4 0 ++ DraftChunk 2 0 ∷ DraftChunk 1 0 ∷ DraftChunk 0 7 ∷ []) (RaiseSignal Sent 1) }
+    ensures none { Refuses (drafts_line 0 0 4 0) (RaiseSignal Sent 1) }
+    ensures second { Refuses sends_first (RaiseSignal Sent 1) }
+    ensures second_part { Refuses (sends_first ++ DraftChunk 3 0 ∷ DraftChunk 2 0 ∷ DraftChunk 1 0 ∷ []) (RaiseSignal Sent 1) }
 {}
 
 /// The bytes of the chunk's last line past its end are zero.
 pub fn padding_is_zero()
-    ensures word { Refuses (drafts_line 0 0 4 0 ++ drafts_words 4294967296) (RaiseSent 1) }
-    ensures line { Refuses (drafts_line 0 0 4 0 ++ DraftChunk 3 1 ∷ DraftChunk 2 0 ∷ DraftChunk 1 0 ∷ DraftChunk 0 7 ∷ []) (RaiseSent 1) }
-    ensures second { Refuses (sends_first ++ drafts_words 256) (RaiseSent 1) }
+    ensures word { Refuses (drafts_line 0 0 4 0 ++ drafts_words 4294967296) (RaiseSignal Sent 1) }
+    ensures line { Refuses (drafts_line 0 0 4 0 ++ DraftChunk 3 1 ∷ DraftChunk 2 0 ∷ DraftChunk 1 0 ∷ DraftChunk 0 7 ∷ []) (RaiseSignal Sent 1) }
+    ensures second { Refuses (sends_first ++ drafts_words 256) (RaiseSignal Sent 1) }
 {}
 
 /// A later chunk goes to the same rank.
 pub fn target_stays()
-    ensures second { Refuses drafts_second (RaiseSent 2) }
+    ensures second { Refuses drafts_second (RaiseSignal Sent 2) }
 {}
 
 /// After a raise nothing is drafted, and `ready` is lowered only once it was seen, and of the same rank.
 pub fn ready_is_seen()
-    ensures lower { Refuses raises_four (LowerReady 1) }
-    ensures clear { Refuses (raises_four ++ LookReady (look_at 1 0) ∷ []) (LowerReady 1) }
-    ensures of_other { Refuses (raises_four ++ LookReady (look_at 2 1) ∷ []) (LowerReady 1) }
-    ensures other { Refuses sees_ready (LowerReady 2) }
+    ensures lower { Refuses raises_four (LowerSignal Ready 1) }
+    ensures clear { Refuses (raises_four ++ LookSignal Ready (look_at 1 0) ∷ []) (LowerSignal Ready 1) }
+    ensures of_other { Refuses (raises_four ++ LookSignal Ready (look_at 2 1) ∷ []) (LowerSignal Ready 1) }
+    ensures other { Refuses sees_ready (LowerSignal Ready 2) }
     ensures chunk { Refuses raises_four (DraftChunk 0 8) }
     ensures header { Refuses raises_four (DraftHeader 0 0) }
-    ensures raise { Refuses raises_four (RaiseSent 1) }
+    ensures raise { Refuses raises_four (RaiseSignal Sent 1) }
     ensures seen_chunk { Refuses sees_ready (DraftChunk 0 8) }
     ensures seen_header { Refuses sees_ready (DraftHeader 0 0) }
-    ensures seen_raise { Refuses sees_ready (RaiseSent 1) }
-    ensures drafted { Refuses drafts_second (LowerReady 1) }
-    ensures nothing { Refuses [] (LowerReady 1) }
+    ensures seen_raise { Refuses sees_ready (RaiseSignal Sent 1) }
+    ensures drafted { Refuses drafts_second (LowerSignal Ready 1) }
+    ensures nothing { Refuses [] (LowerSignal Ready 1) }
 {}
 
 /// `sent` is lowered only where it was seen set, for each chunk anew.
 pub fn sent_is_seen()
-    ensures never { Refuses [] (LowerSent 0) }
-    ensures clear { Refuses (LookSent (look_at 0 0) ∷ ReadHeader 0 0 0 ∷ ReadHeader 0 1 0 ∷ ReadHeader 0 2 4 ∷ []) (LowerSent 0) }
-    ensures other { Refuses reads_head (LowerSent 1) }
-    ensures twice { Refuses begins_taking (LowerSent 0) }
-    ensures second { Refuses takes_first (LowerSent 0) }
+    ensures never { Refuses [] (LowerSignal Sent 0) }
+    ensures clear { Refuses (LookSignal Sent (look_at 0 0) ∷ ReadHeader 0 0 0 ∷ ReadHeader 0 1 0 ∷ ReadHeader 0 2 4 ∷ []) (LowerSignal Sent 0) }
+    ensures other { Refuses reads_head (LowerSignal Sent 1) }
+    ensures twice { Refuses begins_taking (LowerSignal Sent 0) }
+    ensures second { Refuses takes_first (LowerSignal Sent 0) }
 {}
 
 /// `sent` is lowered for a first chunk only once the head was read since, and only where it is one.
 pub fn head_is_read()
-    ensures kind { Refuses (LookSent (look_at 0 1) ∷ ReadHeader 0 1 0 ∷ ReadHeader 0 2 4 ∷ []) (LowerSent 0) }
-    ensures comm { Refuses (LookSent (look_at 0 1) ∷ ReadHeader 0 0 0 ∷ ReadHeader 0 2 4 ∷ []) (LowerSent 0) }
-    ensures short { Refuses (LookSent (look_at 0 1) ∷ ReadHeader 0 0 0 ∷ ReadHeader 0 1 0 ∷ []) (LowerSent 0) }
-    ensures invalid_kind { Refuses (LookSent (look_at 0 1) ∷ ReadHeader 0 0 5 ∷ ReadHeader 0 1 0 ∷ ReadHeader 0 2 4 ∷ []) (LowerSent 0) }
-    ensures invalid_comm { Refuses (LookSent (look_at 0 1) ∷ ReadHeader 0 0 1 ∷ ReadHeader 0 1 16 ∷ ReadHeader 0 2 4 ∷ []) (LowerSent 0) }
-    ensures invalid_plain { Refuses (LookSent (look_at 0 1) ∷ ReadHeader 0 0 0 ∷ ReadHeader 0 1 1 ∷ ReadHeader 0 2 4 ∷ []) (LowerSent 0) }
-    ensures invalid_len { Refuses (reads_plain 0 65537) (LowerSent 0) }
-    ensures before { Refuses (ReadHeader 0 0 0 ∷ ReadHeader 0 1 0 ∷ ReadHeader 0 2 4 ∷ LookSent (look_at 0 1) ∷ []) (LowerSent 0) }
-    ensures anew { Refuses (reads_head ++ LookSent (look_at 0 1) ∷ []) (LowerSent 0) }
-    ensures other { Refuses (LookSent (look_at 0 1) ∷ reads_plain 2 4) (LowerSent 0) }
+    ensures kind { Refuses (LookSignal Sent (look_at 0 1) ∷ ReadHeader 0 1 0 ∷ ReadHeader 0 2 4 ∷ []) (LowerSignal Sent 0) }
+    ensures comm { Refuses (LookSignal Sent (look_at 0 1) ∷ ReadHeader 0 0 0 ∷ ReadHeader 0 2 4 ∷ []) (LowerSignal Sent 0) }
+    ensures short { Refuses (LookSignal Sent (look_at 0 1) ∷ ReadHeader 0 0 0 ∷ ReadHeader 0 1 0 ∷ []) (LowerSignal Sent 0) }
+    ensures invalid_kind { Refuses (LookSignal Sent (look_at 0 1) ∷ ReadHeader 0 0 5 ∷ ReadHeader 0 1 0 ∷ ReadHeader 0 2 4 ∷ []) (LowerSignal Sent 0) }
+    ensures invalid_comm { Refuses (LookSignal Sent (look_at 0 1) ∷ ReadHeader 0 0 1 ∷ ReadHeader 0 1 16 ∷ ReadHeader 0 2 4 ∷ []) (LowerSignal Sent 0) }
+    ensures invalid_plain { Refuses (LookSignal Sent (look_at 0 1) ∷ ReadHeader 0 0 0 ∷ ReadHeader 0 1 1 ∷ ReadHeader 0 2 4 ∷ []) (LowerSignal Sent 0) }
+    ensures invalid_len { Refuses (reads_plain 0 65537) (LowerSignal Sent 0) }
+    ensures before { Refuses (ReadHeader 0 0 0 ∷ ReadHeader 0 1 0 ∷ ReadHeader 0 2 4 ∷ LookSignal Sent (look_at 0 1) ∷ []) (LowerSignal Sent 0) }
+    ensures anew { Refuses (reads_head ++ LookSignal Sent (look_at 0 1) ∷ []) (LowerSignal Sent 0) }
+    ensures other { Refuses (LookSignal Sent (look_at 0 1) ∷ reads_plain 2 4) (LowerSignal Sent 0) }
 {}
 
 /// A later chunk is taken from the same rank.
 pub fn source_stays()
-    ensures second { Refuses (takes_first ++ reads_plain 2 4) (LowerSent 2) }
+    ensures second { Refuses (takes_first ++ reads_plain 2 4) (LowerSignal Sent 2) }
 {}
 
 /// `ready` is raised only once all words of the chunk were loaded, since `sent` was lowered for it.
 pub fn chunk_is_loaded()
-    ensures none { Refuses begins_taking (RaiseReady 0) }
-    ensures first { Refuses (begins_taking ++ ReadChunk 0 1 0 ∷ ReadChunk 0 2 0 ∷ ReadChunk 0 3 0 ∷ []) (RaiseReady 0) }
-    ensures last { Refuses (begins_taking ++ ReadChunk 0 0 7 ∷ ReadChunk 0 1 0 ∷ ReadChunk 0 2 0 ∷ []) (RaiseReady 0) }
-    ensures other { Refuses (begins_taking ++ reads_words 2) (RaiseReady 0) }
-    ensures before { Refuses (reads_head ++ (reads_words 0 ++ LowerSent 0 ∷ [])) (RaiseReady 0) }
-    ensures second { Refuses (takes_first ++ LookSent (look_at 0 1) ∷ LowerSent 0 ∷ []) (RaiseReady 0) }
-    ensures not_taken { Refuses (reads_head ++ reads_words 0) (RaiseReady 0) }
-    ensures between { Refuses takes_first (RaiseReady 0) }
+    ensures none { Refuses begins_taking (RaiseSignal Ready 0) }
+    ensures first { Refuses (begins_taking ++ ReadChunk 0 1 0 ∷ ReadChunk 0 2 0 ∷ ReadChunk 0 3 0 ∷ []) (RaiseSignal Ready 0) }
+    ensures last { Refuses (begins_taking ++ ReadChunk 0 0 7 ∷ ReadChunk 0 1 0 ∷ ReadChunk 0 2 0 ∷ []) (RaiseSignal Ready 0) }
+    ensures other { Refuses (begins_taking ++ reads_words 2) (RaiseSignal Ready 0) }
+    ensures before { Refuses (reads_head ++ (reads_words 0 ++ LowerSignal Sent 0 ∷ [])) (RaiseSignal Ready 0) }
+    ensures second { Refuses (takes_first ++ LookSignal Sent (look_at 0 1) ∷ LowerSignal Sent 0 ∷ []) (RaiseSignal Ready 0) }
+    ensures not_taken { Refuses (reads_head ++ reads_words 0) (RaiseSignal Ready 0) }
+    ensures between { Refuses takes_first (RaiseSignal Ready 0) }
 {}
 
 /// `ready` is raised at the rank that the chunk was taken from.
 pub fn answer_goes_back()
-    ensures other { Refuses (begins_taking ++ reads_words 0) (RaiseReady 2) }
+    ensures other { Refuses (begins_taking ++ reads_words 0) (RaiseSignal Ready 2) }
 {}
 
 /// One thing at a time: no receive while a message is drafted, sent or taken, and no draft while one is received.
 pub fn one_message_is_open()
-    ensures take_in_draft { Refuses (reads_head ++ drafts_words 7) (LowerSent 0) }
-    ensures take_in_header { Refuses (reads_head ++ DraftHeader 0 0 ∷ []) (LowerSent 0) }
-    ensures take_in_send { Refuses (reads_head ++ raises_four) (LowerSent 0) }
-    ensures take_in_answer { Refuses (reads_head ++ sees_ready) (LowerSent 0) }
-    ensures take_in_sends { Refuses (reads_head ++ sends_first) (LowerSent 0) }
-    ensures take_in_take { Refuses (reads_plain 2 4 ++ begins_taking) (LowerSent 2) }
-    ensures take_again { Refuses (begins_taking ++ LookSent (look_at 0 1) ∷ []) (LowerSent 0) }
+    ensures take_in_draft { Refuses (reads_head ++ drafts_words 7) (LowerSignal Sent 0) }
+    ensures take_in_header { Refuses (reads_head ++ DraftHeader 0 0 ∷ []) (LowerSignal Sent 0) }
+    ensures take_in_send { Refuses (reads_head ++ raises_four) (LowerSignal Sent 0) }
+    ensures take_in_answer { Refuses (reads_head ++ sees_ready) (LowerSignal Sent 0) }
+    ensures take_in_sends { Refuses (reads_head ++ sends_first) (LowerSignal Sent 0) }
+    ensures take_in_take { Refuses (reads_plain 2 4 ++ begins_taking) (LowerSignal Sent 2) }
+    ensures take_again { Refuses (begins_taking ++ LookSignal Sent (look_at 0 1) ∷ []) (LowerSignal Sent 0) }
     ensures draft_in_take { Refuses begins_taking (DraftChunk 0 7) }
     ensures header_in_take { Refuses begins_taking (DraftHeader 0 0) }
     ensures draft_between { Refuses takes_first (DraftChunk 0 7) }
@@ -141,7 +142,7 @@ pub fn barrier_stands_alone()
     ensures between { Refuses takes_first (FlipGather 0 1 2) }
     ensures draft { Refuses (FlipGather 0 1 2 ∷ []) (DraftChunk 0 7) }
     ensures header { Refuses (FlipGather 0 1 2 ∷ []) (DraftHeader 0 0) }
-    ensures take { Refuses (reads_head ++ FlipGather 0 1 2 ∷ []) (LowerSent 0) }
+    ensures take { Refuses (reads_head ++ FlipGather 0 1 2 ∷ []) (LowerSignal Sent 0) }
 {}
 
 /// A gather flag is flipped to its other value, and only where no barrier is open.
@@ -195,21 +196,21 @@ pub fn barrier_ends_at_release()
 
 /// A posted message is plain and has at most 3,584 bytes.
 pub fn post_is_short()
-    ensures len { Refuses (drafts_line 0 0 3585 1 ++ drafts_words 7) (RaiseSent 1) }
-    ensures kind { Refuses (drafts_line 1 0 4 1 ++ drafts_words 7) (RaiseSent 1) }
+    ensures len { Refuses (drafts_line 0 0 3585 1 ++ drafts_words 7) (RaiseSignal Sent 1) }
+    ensures kind { Refuses (drafts_line 1 0 4 1 ++ drafts_words 7) (RaiseSignal Sent 1) }
 {}
 
 /// While a posted message is on its way nothing is drafted, and its `ready` is lowered only once it was seen.
 pub fn post_is_kept()
     ensures chunk { Refuses posts (DraftChunk 0 8) }
     ensures header { Refuses posts (DraftHeader 0 0) }
-    ensures raise { Refuses posts (RaiseSent 1) }
-    ensures lower { Refuses posts (LowerReady 1) }
-    ensures clear { Refuses (posts ++ LookReady (look_at 1 0) ∷ []) (LowerReady 1) }
-    ensures of_other { Refuses (posts ++ LookReady (look_at 2 1) ∷ []) (LowerReady 1) }
-    ensures other { Refuses (posts ++ LookReady (look_at 1 1) ∷ []) (LowerReady 2) }
-    ensures seen_chunk { Refuses (posts ++ LookReady (look_at 1 1) ∷ []) (DraftChunk 0 8) }
-    ensures twice { Refuses (posts ++ LookReady (look_at 1 1) ∷ LowerReady 1 ∷ []) (LowerReady 1) }
+    ensures raise { Refuses posts (RaiseSignal Sent 1) }
+    ensures lower { Refuses posts (LowerSignal Ready 1) }
+    ensures clear { Refuses (posts ++ LookSignal Ready (look_at 1 0) ∷ []) (LowerSignal Ready 1) }
+    ensures of_other { Refuses (posts ++ LookSignal Ready (look_at 2 1) ∷ []) (LowerSignal Ready 1) }
+    ensures other { Refuses (posts ++ LookSignal Ready (look_at 1 1) ∷ []) (LowerSignal Ready 2) }
+    ensures seen_chunk { Refuses (posts ++ LookSignal Ready (look_at 1 1) ∷ []) (DraftChunk 0 8) }
+    ensures twice { Refuses (posts ++ LookSignal Ready (look_at 1 1) ∷ LowerSignal Ready 1 ∷ []) (LowerSignal Ready 1) }
 {}
 
 /// A heap word is stored only where nothing is drafted, no chunk is being taken and no barrier is open.

@@ -4,11 +4,12 @@ use Rattle.scc_base.specs.Places.{LineAt, WordAt, line_of_word}
 use Rattle.scc_base.specs.Setups.{IsSetup, host_of, place_of}
 use Rattle.scc_base.specs.Events.{load_of, store_of}
 use Rattle.scc_base.specs.declared.events.Event.{Event}
+use Rattle.scc_base.specs.declared.signals.Signal.TheVariants.{Sent, Ready}
 use Rattle.scc_proto.specs.Stages.{Stage, Idle, Record}
-use Rattle.scc_proto.specs.Moves.{Move, LookSent, LookReady, LookGather, LookRelease, NoMove, stage_after, read_chunk, look_ready}
+use Rattle.scc_proto.specs.Moves.{Move, LookSignal, LookGather, LookRelease, NoMove, stage_after, read_chunk, look_ready}
 use Rattle.scc_proto.specs.Permission.{leaves_heap}
-use Rattle.scc_proto.specs.Words.{Role, HeaderWord, ChunkWord, SentFlag, ReadyFlag, SentFlags, ReadyFlags, GatherFlag, ReleaseFlag, HeapWord, IdleWord, role_of}
-use Rattle.scc_proto.specs.Records.{Act, Moving, NotingSent, NotingReady, act_of, after_act, load_act, load_by, leads, look_at, look_at_bits, chunk_of}
+use Rattle.scc_proto.specs.Words.{Role, HeaderWord, ChunkWord, SignalFlag, SignalFlags, GatherFlag, ReleaseFlag, HeapWord, IdleWord, role_of}
+use Rattle.scc_proto.specs.Records.{Act, Moving, NotingSignal, act_of, after_act, load_act, load_by, leads, look_at, look_at_bits, chunk_of}
 use Rattle.scc_proto.specs.Ports.{Seat, Sight, Did, MayMakeAll, record_in, record_next, record_on}
 use Rattle.scc_proto.proofs.PortLaws.{record_did, seat_kept}
 use Rattle.write_combine.specs.declared.combiner.Out.{Out}
@@ -32,12 +33,12 @@ module _ (seat : Seat) (rec : Record) (place : WordAt) (value : ℕ) (idle : rec
   by_role : (role : Role) → (after_act (chunk_of seat.setup) (load_act seat.setup seat.rank rec place value role) rec).stage ≡ Idle
   by_role (HeaderWord owner k) = idle
   by_role (ChunkWord owner k) = ap (λ (st : Stage). read_chunk owner k value st) idle
-  by_role (SentFlag from to) = either (chunk_of seat.setup) rec (to == seat.rank) (LookSent (look_at from value)) NoMove idle idle
-  by_role (ReadyFlag from to) = either (chunk_of seat.setup) rec (from == seat.rank) (LookReady (look_at to value)) NoMove (ap (λ (st : Stage). look_ready (look_at to value) st) idle) idle
-  by_role (SentFlags owner) = either_act (chunk_of seat.setup) rec (is_some (rec.held place.core)) (NotingSent place.core value) (Moving (load_by seat.setup seat.rank value (SentFlags owner))) idle
-      (either (chunk_of seat.setup) rec (owner == seat.rank) (LookSent (look_at_bits seat.setup seat.rank value)) NoMove idle idle)
-  by_role (ReadyFlags owner) = either_act (chunk_of seat.setup) rec (is_some (rec.held place.core)) (NotingReady place.core value) (Moving (load_by seat.setup seat.rank value (ReadyFlags owner))) idle
-      (either (chunk_of seat.setup) rec (owner == seat.rank) (LookReady (look_at_bits seat.setup seat.rank value)) NoMove (ap (λ (st : Stage). look_ready (look_at_bits seat.setup seat.rank value) st) idle) idle)
+  by_role (SignalFlag Sent from to) = either (chunk_of seat.setup) rec (to == seat.rank) (LookSignal Sent (look_at from value)) NoMove idle idle
+  by_role (SignalFlag Ready to from) = either (chunk_of seat.setup) rec (from == seat.rank) (LookSignal Ready (look_at to value)) NoMove (ap (λ (st : Stage). look_ready (look_at to value) st) idle) idle
+  by_role (SignalFlags Sent owner) = either_act (chunk_of seat.setup) rec (is_some (rec.held place.core)) (NotingSignal Sent place.core value) (Moving (load_by seat.setup seat.rank value (SignalFlags Sent owner))) idle
+      (either (chunk_of seat.setup) rec (owner == seat.rank) (LookSignal Sent (look_at_bits seat.setup seat.rank value)) NoMove idle idle)
+  by_role (SignalFlags Ready owner) = either_act (chunk_of seat.setup) rec (is_some (rec.held place.core)) (NotingSignal Ready place.core value) (Moving (load_by seat.setup seat.rank value (SignalFlags Ready owner))) idle
+      (either (chunk_of seat.setup) rec (owner == seat.rank) (LookSignal Ready (look_at_bits seat.setup seat.rank value)) NoMove (ap (λ (st : Stage). look_ready (look_at_bits seat.setup seat.rank value) st) idle) idle)
   by_role (GatherFlag comm owner) = either (chunk_of seat.setup) rec (leads seat.setup comm seat.rank owner) (LookGather comm owner (place_of seat.setup comm owner) value) NoMove
       (ap (λ (st : Stage). stage_after (chunk_of seat.setup) (LookGather comm owner (place_of seat.setup comm owner) value) (record rec { stage = st })) idle) idle
   by_role (ReleaseFlag comm owner) = either (chunk_of seat.setup) rec ((owner == seat.rank) && not (leads seat.setup comm seat.rank seat.rank)) (LookRelease comm value) NoMove

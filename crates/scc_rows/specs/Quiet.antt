@@ -4,8 +4,9 @@ use Rattle.scc_base.specs.Places.{first_heap, WordAt}
 use Rattle.scc_base.specs.declared.events.Access.{Access}
 use Rattle.scc_base.specs.declared.events.Access.TheVariants.{Load, Store, Take, Free}
 use Rattle.scc_base.specs.declared.events.Event.{Event}
+use Rattle.scc_base.specs.declared.signals.Signal.TheVariants.{Sent, Ready}
 use Rattle.scc_proto.specs.Stages.{Idle, Record}
-use Rattle.scc_proto.specs.Records.{sent_noted, ready_noted}
+use Rattle.scc_proto.specs.Records.{flags_noted}
 
 -- an access is of a register, or of a word of the heap's lines
 abbrev pub is_quiet : Access → WordAt → Bool
@@ -24,5 +25,5 @@ pub record IsQuietRecord (rec : Record) : Type 0 where
   pub stage : rec.stage ≡ Idle
   pub post : rec.post ≡ None
   pub notes : (j : ℕ) → rec.notes j ≡ None
-  pub sent : (core : ℕ) → sent_noted rec core ≡ None
-  pub ready : (core : ℕ) → ready_noted rec core ≡ None
+  pub sent : (core : ℕ) → flags_noted Sent rec core ≡ None
+  pub ready : (core : ℕ) → flags_noted Ready rec core ≡ None

@@ -3,10 +3,11 @@ use Rattle.std.proofs.Common.{◌≡◌, ℕ, Bool, true, false, ◌==◌, if◌
 use Rattle.scc_base.specs.Places.{WordAt}
 use Rattle.scc_base.specs.Setups.{SetupView}
 use Rattle.scc_base.specs.Events.{load_of, store_of}
+use Rattle.scc_base.specs.declared.signals.Signal.TheVariants.{Sent, Ready}
 use Rattle.scc_proto.specs.Tables.{put}
 use Rattle.scc_proto.specs.Stages.{FlagWords, Record}
-use Rattle.scc_proto.specs.Words.{Role, HeaderWord, ChunkWord, SentFlag, ReadyFlag, SentFlags, ReadyFlags, GatherFlag, ReleaseFlag, HeapWord, IdleWord, role_of}
-use Rattle.scc_proto.specs.Records.{Act, Moving, NotingSent, NotingReady, ChangingSent, ChangingReady, Holding, Freeing, act_of, load_act, store_act, after_act, permits_act, chunk_of, note_sent, note_ready, forget_sent, forget_ready}
+use Rattle.scc_proto.specs.Words.{Role, HeaderWord, ChunkWord, SignalFlag, SignalFlags, GatherFlag, ReleaseFlag, HeapWord, IdleWord, role_of}
+use Rattle.scc_proto.specs.Records.{Act, Moving, NotingSignal, ChangingSignal, Holding, Freeing, act_of, load_act, store_act, after_act, permits_act, chunk_of, note_flags, forget_flags}
 use Rattle.scc_proto.specs.Ports.{Seat, record_next}
 use Rattle.scc_proto.proofs.Tests.{same_by_eqb}
 use Rattle.tas_lock.specs.Holds.{IsHolding}
@@ -14,10 +15,8 @@ use Rattle.tas_lock.specs.Holds.{IsHolding}
 is_freeing : Act → Bool
 is_freeing (Freeing core) = true
 is_freeing (Moving move) = false
-is_freeing (NotingSent core value) = false
-is_freeing (NotingReady core value) = false
-is_freeing (ChangingSent core move) = false
-is_freeing (ChangingReady core move) = false
+is_freeing (NotingSignal signal core value) = false
+is_freeing (ChangingSignal signal core move) = false
 is_freeing (Holding core) = false
 
 some_mapped : (change : FlagWords → FlagWords) (o : Option FlagWords) → is_some o ≡ true → is_some (option_map change o) ≡ true
@@ -40,10 +39,8 @@ changed_some change held core k h =
 holds_after : (size : ℕ) (a : Act) (rec : Record) (k : ℕ) → is_freeing a ≡ false → IsHolding rec k → IsHolding (after_act size a rec) k
 unfolding is_freeing
 holds_after size (Moving move) rec k quiet h = h
-holds_after size (NotingSent core value) rec k quiet h = changed_some (note_sent value) rec.held core k h
-holds_after size (NotingReady core value) rec k quiet h = changed_some (note_ready value) rec.held core k h
-holds_after size (ChangingSent core move) rec k quiet h = changed_some forget_sent rec.held core k h
-holds_after size (ChangingReady core move) rec k quiet h = changed_some forget_ready rec.held core k h
+holds_after size (NotingSignal signal core value) rec k quiet h = changed_some (note_flags signal value) rec.held core k h
+holds_after size (ChangingSignal signal core move) rec k quiet h = changed_some (forget_flags signal) rec.held core k h
 holds_after size (Holding core) rec k quiet h = put_some rec.held core k (Some (record { sent = None; ready = None })) (λ e. refl) h
 holds_after size (Freeing core) rec k quiet h = absurd (cc)
 
@@ -53,12 +50,10 @@ either_quiet false x y p q = q
 
 load_quiet : (s : SetupView) (me : ℕ) (rec : Record) (place : WordAt) (value : ℕ) (role : Role) → is_freeing (load_act s me rec place value role) ≡ false
 unfolding is_freeing
-load_quiet s me rec place value (SentFlags owner) = either_quiet (is_some (rec.held place.core)) _ _ refl refl
-load_quiet s me rec place value (ReadyFlags owner) = either_quiet (is_some (rec.held place.core)) _ _ refl refl
+load_quiet s me rec place value (SignalFlags signal at) = either_quiet (is_some (rec.held place.core)) _ _ refl refl
 load_quiet s me rec place value (HeaderWord owner k) = refl
 load_quiet s me rec place value (ChunkWord owner k) = refl
-load_quiet s me rec place value (SentFlag from to) = refl
-load_quiet s me rec place value (ReadyFlag from to) = refl
+load_quiet s me rec place value (SignalFlag signal by at) = refl
 load_quiet s me rec place value (GatherFlag comm owner) = refl
 load_quiet s me rec place value (ReleaseFlag comm owner) = refl
 load_quiet s me rec place value HeapWord = refl
@@ -66,12 +61,10 @@ load_quiet s me rec place value IdleWord = refl
 
 store_quiet : (s : SetupView) (me : ℕ) (rec : Record) (place : WordAt) (value : ℕ) (role : Role) → is_freeing (store_act s me rec place value role) ≡ false
 unfolding is_freeing
-store_quiet s me rec place value (SentFlags owner) = refl
-store_quiet s me rec place value (ReadyFlags owner) = refl
+store_quiet s me rec place value (SignalFlags signal at) = refl
 store_quiet s me rec place value (HeaderWord owner k) = refl
 store_quiet s me rec place value (ChunkWord owner k) = refl
-store_quiet s me rec place value (SentFlag from to) = refl
-store_quiet s me rec place value (ReadyFlag from to) = refl
+store_quiet s me rec place value (SignalFlag signal by at) = refl
 store_quiet s me rec place value (GatherFlag comm owner) = refl
 store_quiet s me rec place value (ReleaseFlag comm owner) = refl
 store_quiet s me rec place value HeapWord = refl

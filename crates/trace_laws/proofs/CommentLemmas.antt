@@ -11,7 +11,8 @@ use Rattle.scc_base.specs.declared.events.Access.{Access}
 use Rattle.scc_base.specs.declared.events.Access.TheVariants.{Load, Store, Take, Free}
 use Rattle.scc_base.specs.declared.layouts.Layout.{Layout}
 use Rattle.scc_base.specs.declared.layouts.Layout.TheVariants.{LineFlags, BitFlags}
-use Rattle.scc_proto.specs.Words.{Role, HeaderWord, ChunkWord, SentFlag, ReadyFlag, SentFlags, ReadyFlags, GatherFlag, ReleaseFlag, HeapWord, IdleWord, are_peers, barrier_comm, barrier_role, flag_role, if_peers, if_present, is_present, rank_below, rank_on, role_at, role_of, role_where}
+use Rattle.scc_base.specs.declared.signals.Signal.TheVariants.{Sent, Ready}
+use Rattle.scc_proto.specs.Words.{Role, HeaderWord, ChunkWord, SignalFlag, SignalFlags, GatherFlag, ReleaseFlag, HeapWord, IdleWord, are_peers, barrier_comm, barrier_role, flag_role, if_peers, if_present, is_present, rank_below, rank_on, role_at, role_of, role_where}
 use Rattle.trace_writer.specs.Lines.{comment_words, header_word_name, role_words}
 use Rattle.trace_laws.proofs.ByteLemmas.{IsFrom, at_most, decimal_from, from_append, from_lower}
 
@@ -20,10 +21,9 @@ use Rattle.trace_laws.proofs.ByteLemmas.{IsFrom, at_most, decimal_from, from_app
 abbrev pub IsLowRole : Role → Type 0
 IsLowRole (HeaderWord owner k) = owner < 48
 IsLowRole (ChunkWord owner k) = (owner < 48) × (k < 10000)
-IsLowRole (SentFlag from to) = (from < 1000) × (to < 1000)
-IsLowRole (ReadyFlag from to) = (from < 1000) × (to < 1000)
-IsLowRole (SentFlags owner) = owner < 48
-IsLowRole (ReadyFlags owner) = owner < 48
+IsLowRole (SignalFlag Sent from to) = (from < 1000) × (to < 1000)
+IsLowRole (SignalFlag Ready to from) = (from < 1000) × (to < 1000)
+IsLowRole (SignalFlags signal at) = at < 48
 IsLowRole (GatherFlag comm owner) = (comm < 1000) × (owner < 48)
 IsLowRole (ReleaseFlag comm owner) = (comm < 1000) × (owner < 48)
 IsLowRole HeapWord = Unit {0}
@@ -35,12 +35,12 @@ either false x y one other = other
 
 flag_low : (l : Layout) (s : SetupView) (owner line word : ℕ) → owner < 48 → line < 256 → IsLowRole (flag_role l s owner line word)
 flag_low LineFlags s owner line word low below =
-    either (word == 0) (if nat_le line 48 then if_peers s (line - 1) owner (SentFlag (line - 1) owner) else if_peers s owner (line - 49) (ReadyFlag owner (line - 49))) IdleWord
-    (either (nat_le line 48) (if_peers s (line - 1) owner (SentFlag (line - 1) owner)) (if_peers s owner (line - 49) (ReadyFlag owner (line - 49)))
-    (either (are_peers s (line - 1) owner) (SentFlag (line - 1) owner) IdleWord (omega (arith, below), omega (arith, low)) tt)
-    (either (are_peers s owner (line - 49)) (ReadyFlag owner (line - 49)) IdleWord (omega (arith, low), omega (arith, below)) tt))
+    either (word == 0) (if nat_le line 48 then if_peers s (line - 1) owner (SignalFlag Sent (line - 1) owner) else if_peers s owner (line - 49) (SignalFlag Ready (line - 49) owner)) IdleWord
+    (either (nat_le line 48) (if_peers s (line - 1) owner (SignalFlag Sent (line - 1) owner)) (if_peers s owner (line - 49) (SignalFlag Ready (line - 49) owner))
+    (either (are_peers s (line - 1) owner) (SignalFlag Sent (line - 1) owner) IdleWord (omega (arith, below), omega (arith, low)) tt)
+    (either (are_peers s owner (line - 49)) (SignalFlag Ready (line - 49) owner) IdleWord (omega (arith, low), omega (arith, below)) tt))
     tt
-flag_low BitFlags s owner line word low below = either (word == 0) (SentFlags owner) (if word == 1 then ReadyFlags owner else IdleWord) low (either (word == 1) (ReadyFlags owner) IdleWord low tt)
+flag_low BitFlags s owner line word low below = either (word == 0) (SignalFlags Sent owner) (if word == 1 then SignalFlags Ready owner else IdleWord) low (either (word == 1) (SignalFlags Ready owner) IdleWord low tt)
 
 comm_low : (first line word : ℕ) → line < 256 → word < 4 → barrier_comm first line word < 1000
 comm_low first line word below few = omega (arith, below, few)
@@ -143,16 +143,16 @@ role_comment (ChunkWord owner k) (low, few) =
     let a = four k few in
     let b = two owner low in
     four_texts (codes "chunk word ") (decimal k) (codes " of ") (decimal owner) 11 4 refl refl (omega (arith, a, b)) refl (number_is k few) refl (number_is owner (omega (arith, low)))
-role_comment (SentFlag from to) (low, few) =
+role_comment (SignalFlag Sent from to) (low, few) =
     let a = three from low in
     let b = three to few in
     four_texts (codes "sent of ") (decimal from) (codes " to ") (decimal to) 8 4 refl refl (omega (arith, a, b)) refl (number_is from (omega (arith, low))) refl (number_is to (omega (arith, few)))
-role_comment (ReadyFlag from to) (low, few) =
+role_comment (SignalFlag Ready to from) (low, few) =
     let a = three from low in
     let b = three to few in
     four_texts (codes "ready of ") (decimal to) (codes " to ") (decimal from) 9 4 refl refl (omega (arith, a, b)) refl (number_is to (omega (arith, few))) refl (number_is from (omega (arith, low)))
-role_comment (SentFlags owner) low = let a = two owner low in two_texts (codes "sent flags of ") (decimal owner) 14 refl (omega (arith, a)) refl (number_is owner (omega (arith, low)))
-role_comment (ReadyFlags owner) low = let a = two owner low in two_texts (codes "ready flags of ") (decimal owner) 15 refl (omega (arith, a)) refl (number_is owner (omega (arith, low)))
+role_comment (SignalFlags Sent owner) low = let a = two owner low in two_texts (codes "sent flags of ") (decimal owner) 14 refl (omega (arith, a)) refl (number_is owner (omega (arith, low)))
+role_comment (SignalFlags Ready owner) low = let a = two owner low in two_texts (codes "ready flags of ") (decimal owner) 15 refl (omega (arith, a)) refl (number_is owner (omega (arith, low)))
 role_comment (GatherFlag comm owner) (few, low) =
     let a = three comm few in
     let b = two owner low in

@@ -9,12 +9,13 @@ use Rattle.scc_base.specs.declared.events.Access.TheVariants.{Load, Store, Take,
 use Rattle.scc_base.specs.declared.events.Event.{Event}
 use Rattle.scc_base.specs.declared.layouts.Layout.{Layout}
 use Rattle.scc_base.specs.declared.layouts.Layout.TheVariants.{LineFlags, BitFlags}
+use Rattle.scc_base.specs.declared.signals.Signal.TheVariants.{Sent, Ready}
 use Rattle.scc_proto.specs.Histories.{IsPermittedRun, records_from}
-use Rattle.scc_proto.specs.Moves.{Move, LowerReady, LowerSent, RaiseReady, RaiseSent}
-use Rattle.scc_proto.specs.Records.{Act, ChangingReady, ChangingSent, act_by, act_of, after_act, change_at, chunk_of, load_act, permits_by, permits_act, ready_noted, record_after, sent_noted, store_act}
+use Rattle.scc_proto.specs.Moves.{Move, LowerSignal, RaiseSignal}
+use Rattle.scc_proto.specs.Records.{Act, ChangingSignal, act_by, act_of, after_act, change_at, chunk_of, load_act, permits_by, permits_act, flags_noted, record_after, store_act}
 use Rattle.scc_proto.specs.Stages.{Record}
 use Rattle.scc_proto.specs.Tables.{put}
-use Rattle.scc_proto.specs.Words.{RankEvent, Role, HeaderWord, ChunkWord, SentFlag, ReadyFlag, SentFlags, ReadyFlags, GatherFlag, ReleaseFlag, HeapWord, IdleWord, barrier_role, flag_role, rank_below, rank_on, role_at, role_of, role_where}
+use Rattle.scc_proto.specs.Words.{RankEvent, Role, HeaderWord, ChunkWord, SignalFlag, SignalFlags, GatherFlag, ReleaseFlag, HeapWord, IdleWord, barrier_role, flag_role, rank_below, rank_on, role_at, role_of, role_where}
 
 -- the setup with other cores
 abbrev pub on_hosts : SetupView → List ℕ → SetupView
@@ -54,10 +55,8 @@ role_same s hosts p same =
 load_same : (s : SetupView) (hosts : List ℕ) (me : ℕ) (rec : Record) (p : WordAt) (v : ℕ) (role : Role) → load_act (on_hosts s hosts) me rec p v role ≡ load_act s me rec p v role
 load_same s hosts me rec p v (HeaderWord owner k) = refl
 load_same s hosts me rec p v (ChunkWord owner k) = refl
-load_same s hosts me rec p v (SentFlag from to) = refl
-load_same s hosts me rec p v (ReadyFlag from to) = refl
-load_same s hosts me rec p v (SentFlags owner) = refl
-load_same s hosts me rec p v (ReadyFlags owner) = refl
+load_same s hosts me rec p v (SignalFlag signal by at) = refl
+load_same s hosts me rec p v (SignalFlags signal at) = refl
 load_same s hosts me rec p v (GatherFlag comm owner) = refl
 load_same s hosts me rec p v (ReleaseFlag comm owner) = refl
 load_same s hosts me rec p v HeapWord = refl
@@ -70,10 +69,8 @@ change_same lower raise s hosts me owner new (Some old) = refl
 store_same : (s : SetupView) (hosts : List ℕ) (me : ℕ) (rec : Record) (p : WordAt) (v : ℕ) (role : Role) → store_act (on_hosts s hosts) me rec p v role ≡ store_act s me rec p v role
 store_same s hosts me rec p v (HeaderWord owner k) = refl
 store_same s hosts me rec p v (ChunkWord owner k) = refl
-store_same s hosts me rec p v (SentFlag from to) = refl
-store_same s hosts me rec p v (ReadyFlag from to) = refl
-store_same s hosts me rec p v (SentFlags owner) = ap (ChangingSent p.core) (change_same LowerSent RaiseSent s hosts me owner v (sent_noted rec p.core))
-store_same s hosts me rec p v (ReadyFlags owner) = ap (ChangingReady p.core) (change_same LowerReady RaiseReady s hosts me owner v (ready_noted rec p.core))
+store_same s hosts me rec p v (SignalFlag signal by at) = refl
+store_same s hosts me rec p v (SignalFlags signal at) = ap (ChangingSignal signal p.core) (change_same (LowerSignal signal) (RaiseSignal signal) s hosts me at v (flags_noted signal rec p.core))
 store_same s hosts me rec p v (GatherFlag comm owner) = refl
 store_same s hosts me rec p v (ReleaseFlag comm owner) = refl
 store_same s hosts me rec p v HeapWord = refl

@@ -14,7 +14,8 @@ use Rattle.scc_base.specs.declared.events.Access.{Access}
 use Rattle.scc_base.specs.declared.events.Access.TheVariants.{Load, Store, Take, Free}
 use Rattle.scc_base.specs.declared.layouts.Layout.{Layout}
 use Rattle.scc_base.specs.declared.layouts.Layout.TheVariants.{LineFlags, BitFlags}
-use Rattle.scc_proto.specs.Words.{Role, HeaderWord, ChunkWord, SentFlag, ReadyFlag, SentFlags, ReadyFlags, GatherFlag, ReleaseFlag, HeapWord, IdleWord, RankEvent, role_of}
+use Rattle.scc_base.specs.declared.signals.Signal.TheVariants.{Sent, Ready}
+use Rattle.scc_proto.specs.Words.{Role, HeaderWord, ChunkWord, SignalFlag, SignalFlags, GatherFlag, ReleaseFlag, HeapWord, IdleWord, RankEvent, role_of}
 
 -- the name of a layout
 abbrev pub layout_name : Layout → List ℕ
@@ -36,10 +37,10 @@ header_word_name word = if word == 0 then codes "kind" else if word == 1 then co
 abbrev pub role_words : Role → List (List ℕ)
 role_words (HeaderWord owner word) = codes "header of " ∷ decimal owner ∷ codes ": " ∷ header_word_name word ∷ []
 role_words (ChunkWord owner word) = codes "chunk word " ∷ decimal word ∷ codes " of " ∷ decimal owner ∷ []
-role_words (SentFlag from to) = codes "sent of " ∷ decimal from ∷ codes " to " ∷ decimal to ∷ []
-role_words (ReadyFlag from to) = codes "ready of " ∷ decimal to ∷ codes " to " ∷ decimal from ∷ []
-role_words (SentFlags owner) = codes "sent flags of " ∷ decimal owner ∷ []
-role_words (ReadyFlags owner) = codes "ready flags of " ∷ decimal owner ∷ []
+role_words (SignalFlag Sent from to) = codes "sent of " ∷ decimal from ∷ codes " to " ∷ decimal to ∷ []
+role_words (SignalFlag Ready to from) = codes "ready of " ∷ decimal to ∷ codes " to " ∷ decimal from ∷ []
+role_words (SignalFlags Sent owner) = codes "sent flags of " ∷ decimal owner ∷ []
+role_words (SignalFlags Ready owner) = codes "ready flags of " ∷ decimal owner ∷ []
 role_words (GatherFlag comm owner) = codes "gather of " ∷ decimal owner ∷ codes " in comm " ∷ decimal comm ∷ []
 role_words (ReleaseFlag comm owner) = codes "release of " ∷ decimal owner ∷ codes " in comm " ∷ decimal comm ∷ []
 role_words HeapWord = codes "heap" ∷ []

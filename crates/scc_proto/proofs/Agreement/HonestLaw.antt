@@ -7,10 +7,11 @@ use Rattle.scc_base.specs.declared.events.Access.{Access}
 use Rattle.scc_base.specs.declared.events.Access.TheVariants.{Load, Store, Take, Free}
 use Rattle.scc_base.specs.declared.events.Event.{Event}
 use Rattle.scc_base.specs.Events.{IsEvent, IsAccess}
+use Rattle.scc_base.specs.declared.signals.Signal.TheVariants.{Sent, Ready}
 use Rattle.scc_proto.specs.Messages.{Notes, noted, StandsIn}
 use Rattle.scc_proto.specs.Stages.{Stage, Idle, Drafting, Sending, Between, Taking, Barrier, Record}
-use Rattle.scc_proto.specs.Moves.{Move, LookSent, LookReady, LookGather, LookRelease, NoMove}
-use Rattle.scc_proto.specs.Words.{Memory, word_at, IsStep, IsStepBy, Role, HeaderWord, ChunkWord, SentFlag, ReadyFlag, SentFlags, ReadyFlags, GatherFlag, ReleaseFlag, HeapWord, IdleWord, role_of, are_peers}
+use Rattle.scc_proto.specs.Moves.{Move, LookSignal, LookGather, LookRelease, NoMove}
+use Rattle.scc_proto.specs.Words.{Memory, word_at, IsStep, IsStepBy, Role, HeaderWord, ChunkWord, SignalFlag, SignalFlags, GatherFlag, ReleaseFlag, HeapWord, IdleWord, role_of, are_peers}
 use Rattle.scc_proto.specs.Records.{chunk_of, leads, look_at, look_at_bits, load_by, noted_chunk, noted_by, noted_load, IsHonest}
 use Rattle.scc_proto.specs.Views.{view_of}
 use Rattle.scc_proto.specs.Pairs.{NotesStand, Awaiting, Receiving, taking_side, pair_of}
@@ -59,10 +60,8 @@ module _ (s : SetupView) (memory : Memory) (records : ℕ → Record) (agrees : 
   word_is : (role : Role) → Stands s place role → noted_by (load_by s me 0 role) (records me) ≡ Some v → word_at memory place ≡ v
   word_is (HeaderWord owner k) stands is = here owner 0 k stands ∙ header_word_is owner k ((records me).notes owner) refl is
   word_is (ChunkWord owner k) stands is = here owner _ _ stands.0 ∙ chunk_word_is owner k (records me).stage refl stands.1 is
-  word_is (SentFlag from to) stands is = no_read (to == me) (LookSent (look_at from 0)) (records me) v refl is
-  word_is (ReadyFlag from to) stands is = no_read (from == me) (LookReady (look_at to 0)) (records me) v refl is
-  word_is (SentFlags owner) stands is = no_read (owner == me) (LookSent (look_at_bits s me 0)) (records me) v refl is
-  word_is (ReadyFlags owner) stands is = no_read (owner == me) (LookReady (look_at_bits s me 0)) (records me) v refl is
+  word_is (SignalFlag signal by at) stands is = no_read (at == me) (LookSignal signal (look_at by 0)) (records me) v refl is
+  word_is (SignalFlags signal at) stands is = no_read (at == me) (LookSignal signal (look_at_bits s me 0)) (records me) v refl is
   word_is (GatherFlag comm owner) stands is = no_read (leads s comm me owner) (LookGather comm owner (place_of s comm owner) 0) (records me) v refl is
   word_is (ReleaseFlag comm owner) stands is = no_read ((owner == me) && not (leads s comm me me)) (LookRelease comm 0) (records me) v refl is
   word_is HeapWord stands is = absurd (cc (is))

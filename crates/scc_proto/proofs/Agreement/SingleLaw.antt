@@ -3,10 +3,11 @@ use Rattle.std.proofs.Common.{◌≡◌, ◌≢◌, ℕ, suc, ◌+◌, ◌-◌, 
 use Rattle.scc_base.specs.Calls.{Bar}
 use Rattle.scc_base.specs.Setups.{SetupView, setup_key}
 use Rattle.scc_base.proofs.GroupFacts.{place_below, size_same, root_with}
+use Rattle.scc_base.specs.declared.signals.Signal.TheVariants.{Sent, Ready}
 use Rattle.scc_proto.specs.Tables.{put}
 use Rattle.scc_proto.specs.Messages.{Notes, note_word, barriers_of}
 use Rattle.scc_proto.specs.Stages.{Stage, OnItsWay, Record, blank}
-use Rattle.scc_proto.specs.Moves.{Move, DraftHeader, DraftChunk, RaiseSent, LookSent, ReadHeader, ReadChunk, LowerSent, RaiseReady, LookReady, LowerReady, FlipGather, LookGather, WriteRelease, LookRelease, StoreHeap, NoMove, Misplaced, after, flip_gather, post_answered, finished_if}
+use Rattle.scc_proto.specs.Moves.{Move, DraftHeader, DraftChunk, RaiseSignal, LookSignal, ReadHeader, ReadChunk, LowerSignal, FlipGather, LookGather, WriteRelease, LookRelease, StoreHeap, NoMove, Misplaced, after, flip_gather, post_answered, finished_if}
 use Rattle.scc_proto.specs.Permission.{permits, drafts_header, drafts_chunk, is_idle}
 use Rattle.scc_proto.specs.Records.{chunk_of, last_of}
 use Rattle.scc_proto.specs.Views.{View}
@@ -45,10 +46,10 @@ module _ (s : SetupView) (me : ℕ) where
   single_by rec (DraftChunk k v) below own may old =
       let r = chunk_drafted s me k v rec.stage rec.calls (both_second (is_none rec.post) (drafts_chunk rec.stage) may) old.stage in
       record { stage = r.0; post = post_none (drafts_chunk rec.stage) _ rec.post may; notes = old.notes; flips = λ c. old.flips c ∙ ap (λ n. barriers_of c rec.calls + n) (sym (r.1 c)); calls = old.calls }
-  single_by rec (RaiseSent to) below own may old =
+  single_by rec (RaiseSignal Sent to) below own may old =
       let r = sent_raised s me to rec.stage rec.post rec.calls may own old.stage in
       record { stage = r.stage; post = r.posted; notes = old.notes; flips = λ c. old.flips c ∙ sym (r.count c); calls = r.bytes old.calls }
-  single_by rec (LookSent is_set) below own may old =
+  single_by rec (LookSignal Sent is_set) below own may old =
       record { stage = old.stage; post = old.post; notes = λ j none. look_notes (is_set j) (rec.notes j) (λ t is. absurd (cc (own j t, none))) (old.notes j none); flips = old.flips; calls = old.calls }
   single_by rec (ReadHeader from k v) below own may old =
       record {
@@ -63,7 +64,7 @@ module _ (s : SetupView) (me : ℕ) where
   single_by rec (ReadChunk from k v) below own may old =
       let r = chunk_read s me from k v rec.stage rec.calls old.stage in
       record { stage = r.stage; post = post_kept rec.stage _ rec.post r.free old.post; notes = old.notes; flips = λ c. old.flips c ∙ sym (r.count c); calls = r.bytes old.calls }
-  single_by rec (LowerSent from) below own may old =
+  single_by rec (LowerSignal Sent from) below own may old =
       let r = sent_lowered s me from (rec.notes from) rec.stage rec.calls may own old.stage in
       record {
         stage = r.stage;
@@ -72,13 +73,13 @@ module _ (s : SetupView) (me : ℕ) where
         flips = λ c. old.flips c ∙ sym (r.count c);
         calls = r.bytes old.calls;
       }
-  single_by rec (RaiseReady to) below own may old =
+  single_by rec (RaiseSignal Ready to) below own may old =
       let r = ready_raised s me to rec.stage rec.calls may old.stage in
       record { stage = r.stage; post = post_kept rec.stage _ rec.post r.free old.post; notes = old.notes; flips = λ c. old.flips c ∙ sym (r.count c); calls = r.bytes old.calls }
-  single_by rec (LookReady is_set) below own may old =
+  single_by rec (LookSignal Ready is_set) below own may old =
       let r = ready_looked_at s me is_set rec.stage rec.calls old.stage in
       record { stage = r.stage; post = post_seen is_set rec.stage _ rec.post r.free old.post; notes = old.notes; flips = λ c. old.flips c ∙ sym (r.count c); calls = r.bytes old.calls }
-  single_by rec (LowerReady by) below own may old =
+  single_by rec (LowerSignal Ready by) below own may old =
       let r = ready_lowered s me rec.stage rec.calls old.stage in
       record { stage = r.stage; post = tt; notes = old.notes; flips = λ c. old.flips c ∙ sym (r.count c); calls = r.bytes old.calls }
   single_by rec (FlipGather comm value last) below own may old =

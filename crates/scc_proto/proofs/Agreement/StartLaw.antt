@@ -5,8 +5,9 @@ use Rattle.scc_base.specs.Places.{WordAt, FlagPlace}
 use Rattle.scc_base.specs.Setups.{SetupView, setup_key}
 use Rattle.scc_base.specs.declared.layouts.Layout.{Layout}
 use Rattle.scc_base.specs.declared.layouts.Layout.TheVariants.{LineFlags, BitFlags}
+use Rattle.scc_base.specs.declared.signals.Signal.TheVariants.{Sent, Ready}
 use Rattle.scc_proto.specs.Stages.{blank}
-use Rattle.scc_proto.specs.Words.{zeros, Role, HeaderWord, ChunkWord, SentFlag, ReadyFlag, SentFlags, ReadyFlags, GatherFlag, ReleaseFlag, HeapWord, IdleWord, role_of}
+use Rattle.scc_proto.specs.Words.{zeros, Role, HeaderWord, ChunkWord, SignalFlag, SignalFlags, GatherFlag, ReleaseFlag, HeapWord, IdleWord, role_of}
 use Rattle.scc_proto.specs.Views.{flag_in}
 use Rattle.scc_proto.specs.Pairs.{InRest}
 use Rattle.scc_proto.specs.Registers.{Nobody}
@@ -21,10 +22,8 @@ clear_flag BitFlags flag = bit_at-zero flag.bit
 word_at_start : (s : SetupView) (place : WordAt) (role : Role) → WordAgrees s place 0 (λ r. blank) role
 word_at_start s place (HeaderWord owner k) = tt
 word_at_start s place (ChunkWord owner k) = tt
-word_at_start s place (SentFlag from to) = tt
-word_at_start s place (ReadyFlag from to) = tt
-word_at_start s place (SentFlags owner) = λ b idle. bit_at-zero b
-word_at_start s place (ReadyFlags owner) = λ b idle. bit_at-zero b
+word_at_start s place (SignalFlag signal by at) = tt
+word_at_start s place (SignalFlags signal at) = λ b idle. bit_at-zero b
 word_at_start s place (GatherFlag comm owner) = tt
 word_at_start s place (ReleaseFlag comm owner) = tt
 word_at_start s place HeapWord = inl refl

@@ -1,9 +1,10 @@
 -- What each move makes of the barrier that is open at its rank.
 use Rattle.std.proofs.Common.{◌≡◌, ◌≢◌, ℕ, suc, ◌==◌, Bool, true, false, true≢false, ◌&&◌, if◌then◌else◌, [], Option, Some, None, unwrap_or, refl, sym, ◌∙◌, ap, arith}
 use Rattle.std.proofs.lemmas.Bool.Decides.{nat_tests}
+use Rattle.scc_base.specs.declared.signals.Signal.TheVariants.{Sent, Ready}
 use Rattle.scc_proto.specs.Messages.{Notes, note_word, head_of, begun, is_last, with_chunk}
 use Rattle.scc_proto.specs.Stages.{Filling, Raised, Answered, Stage, Idle, Drafting, Sending, Between, Taking, Barrier, Record}
-use Rattle.scc_proto.specs.Moves.{Move, DraftHeader, DraftChunk, RaiseSent, LookSent, ReadHeader, ReadChunk, LowerSent, RaiseReady, LookReady, LowerReady, FlipGather, LookGather, WriteRelease, LookRelease, StoreHeap, NoMove, Misplaced, is_posted, draft_header, draft_chunk, raise_sent, read_chunk, lower_sent, raise_ready, look_ready, lower_ready, flip_gather, look_gather, write_release, look_release, stage_after}
+use Rattle.scc_proto.specs.Moves.{Move, DraftHeader, DraftChunk, RaiseSignal, LookSignal, ReadHeader, ReadChunk, LowerSignal, FlipGather, LookGather, WriteRelease, LookRelease, StoreHeap, NoMove, Misplaced, is_posted, draft_header, draft_chunk, raise_sent, read_chunk, lower_sent, raise_ready, look_ready, lower_ready, flip_gather, look_gather, write_release, look_release, stage_after}
 use Rattle.scc_proto.specs.Permission.{is_idle, may_release}
 use Rattle.scc_proto.proofs.Barriers.BarrierFacts.{Counts, bar_at, released_bar}
 
@@ -94,14 +95,14 @@ is_barrier_move move = false
 pub bar_kept : (comm size : ℕ) (move : Move) (rec : Record) → is_barrier_move move ≡ false → bar_at comm (stage_after size move rec) ≡ bar_at comm rec.stage
 bar_kept comm size (DraftHeader k v) rec other = draft_header-bar comm k v rec.stage
 bar_kept comm size (DraftChunk k v) rec other = draft_chunk-bar comm k v rec.stage
-bar_kept comm size (RaiseSent to) rec other = raise_sent-bar comm to rec.stage
-bar_kept comm size (LookSent is_set) rec other = refl
+bar_kept comm size (RaiseSignal Sent to) rec other = raise_sent-bar comm to rec.stage
+bar_kept comm size (LookSignal Sent is_set) rec other = refl
 bar_kept comm size (ReadHeader from k v) rec other = refl
 bar_kept comm size (ReadChunk from k v) rec other = read_chunk-bar comm from k v rec.stage
-bar_kept comm size (LowerSent from) rec other = lower_sent-bar comm from (unwrap_or (rec.notes from) []) rec.stage
-bar_kept comm size (RaiseReady to) rec other = raise_ready-bar comm size rec.stage
-bar_kept comm size (LookReady is_set) rec other = look_ready-bar comm is_set rec.stage
-bar_kept comm size (LowerReady by) rec other = lower_ready-bar comm size rec.stage
+bar_kept comm size (LowerSignal Sent from) rec other = lower_sent-bar comm from (unwrap_or (rec.notes from) []) rec.stage
+bar_kept comm size (RaiseSignal Ready to) rec other = raise_ready-bar comm size rec.stage
+bar_kept comm size (LookSignal Ready is_set) rec other = look_ready-bar comm is_set rec.stage
+bar_kept comm size (LowerSignal Ready by) rec other = lower_ready-bar comm size rec.stage
 bar_kept comm size (FlipGather c value last) rec other = absurd (true≢false other)
 bar_kept comm size (LookGather c from place value) rec other = absurd (true≢false other)
 bar_kept comm size (WriteRelease c to place value last) rec other = absurd (true≢false other)

@@ -4,9 +4,10 @@ use Rattle.std.proofs.lemmas.Bool.Decides.{nat_tests}
 use Rattle.scc_base.specs.Setups.{SetupView, IsSetup, setup_key, place_of, root_of}
 use Rattle.scc_base.proofs.Confluence.{equal_or_not}
 use Rattle.scc_base.proofs.GroupFacts.{place_once, root_with, same_root}
+use Rattle.scc_base.specs.declared.signals.Signal.TheVariants.{Sent, Ready}
 use Rattle.scc_proto.specs.Tables.{put, put_two}
 use Rattle.scc_proto.specs.Stages.{Stage, Idle, Record}
-use Rattle.scc_proto.specs.Moves.{Move, DraftHeader, DraftChunk, RaiseSent, LookSent, ReadHeader, ReadChunk, LowerSent, RaiseReady, LookReady, LowerReady, FlipGather, LookGather, WriteRelease, LookRelease, StoreHeap, NoMove, Misplaced, flip_gather, write_release, stage_after, after}
+use Rattle.scc_proto.specs.Moves.{Move, DraftHeader, DraftChunk, RaiseSignal, LookSignal, ReadHeader, ReadChunk, LowerSignal, FlipGather, LookGather, WriteRelease, LookRelease, StoreHeap, NoMove, Misplaced, flip_gather, write_release, stage_after, after}
 use Rattle.scc_proto.specs.Permission.{is_idle}
 use Rattle.scc_proto.specs.Words.{is_present}
 use Rattle.scc_proto.specs.Records.{chunk_of, last_of}
@@ -245,14 +246,12 @@ module _ (s : SetupView) (me : ℕ) (view : View) (records : ℕ → Record) (lo
   kept : (move : Move) → IsViewStep s me view (records me) move → (comm r : ℕ) → r < s.nue → Stood comm r → Kept move comm r
   kept (DraftHeader k v) step comm r low_r at = unchanged comm r _ _ _ _ refl (bar_kept comm (chunk_of s) (DraftHeader k v) (records me) refl) at
   kept (DraftChunk k v) step comm r low_r at = unchanged comm r _ _ _ _ refl (bar_kept comm (chunk_of s) (DraftChunk k v) (records me) refl) at
-  kept (RaiseSent to) step comm r low_r at = unchanged comm r _ _ _ _ refl (bar_kept comm (chunk_of s) (RaiseSent to) (records me) refl) at
-  kept (LookSent is_set) step comm r low_r at = unchanged comm r _ _ _ _ refl (bar_kept comm (chunk_of s) (LookSent is_set) (records me) refl) at
+  kept (RaiseSignal signal to) step comm r low_r at = unchanged comm r _ _ _ _ refl (bar_kept comm (chunk_of s) (RaiseSignal signal to) (records me) refl) at
+  kept (LookSignal signal is_set) step comm r low_r at = unchanged comm r _ _ _ _ refl (bar_kept comm (chunk_of s) (LookSignal signal is_set) (records me) refl) at
   kept (ReadHeader from k v) step comm r low_r at = unchanged comm r _ _ _ _ refl (bar_kept comm (chunk_of s) (ReadHeader from k v) (records me) refl) at
   kept (ReadChunk from k v) step comm r low_r at = unchanged comm r _ _ _ _ refl (bar_kept comm (chunk_of s) (ReadChunk from k v) (records me) refl) at
-  kept (LowerSent from) step comm r low_r at = unchanged comm r _ _ _ _ refl (bar_kept comm (chunk_of s) (LowerSent from) (records me) refl) at
-  kept (RaiseReady to) step comm r low_r at = unchanged comm r _ _ _ _ refl (bar_kept comm (chunk_of s) (RaiseReady to) (records me) refl) at
-  kept (LookReady is_set) step comm r low_r at = unchanged comm r _ _ _ _ refl (bar_kept comm (chunk_of s) (LookReady is_set) (records me) refl) at
-  kept (LowerReady by) step comm r low_r at = unchanged comm r _ _ _ _ refl (bar_kept comm (chunk_of s) (LowerReady by) (records me) refl) at
+  kept (LowerSignal Sent from) step comm r low_r at = unchanged comm r _ _ _ _ refl (bar_kept comm (chunk_of s) (LowerSignal Sent from) (records me) refl) at
+  kept (LowerSignal Ready by) step comm r low_r at = unchanged comm r _ _ _ _ refl (bar_kept comm (chunk_of s) (LowerSignal Ready by) (records me) refl) at
   kept (FlipGather c value last) step comm r low_r at = flip_kept c value last step comm r low_r at
   kept (LookGather c from place value) step comm r low_r at = look_gather_kept c from place value step comm r low_r step.own.present at
   kept (WriteRelease c to place value last) step comm r low_r at = write_release_kept c to place value last step comm r low_r at

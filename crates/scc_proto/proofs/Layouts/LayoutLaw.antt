@@ -14,10 +14,10 @@ use Rattle.scc_base.specs.declared.events.Access.TheVariants.{Load, Store, Take,
 use Rattle.scc_base.specs.declared.events.Event.{Event}
 use Rattle.scc_proto.specs.Tables.{put, put_two}
 use Rattle.scc_proto.specs.Stages.{FlagWords, Record}
-use Rattle.scc_proto.specs.Moves.{Move, DraftHeader, DraftChunk, RaiseSent, LowerSent, RaiseReady, LowerReady, FlipGather, WriteRelease, NoMove, Misplaced, after}
+use Rattle.scc_proto.specs.Moves.{Move, DraftHeader, DraftChunk, RaiseSignal, LowerSignal, FlipGather, WriteRelease, NoMove, Misplaced, after}
 use Rattle.scc_proto.specs.Permission.{permits}
-use Rattle.scc_proto.specs.Words.{Memory, word_at, IsStep, IsStepBy, memory_after, Role, HeaderWord, ChunkWord, SentFlag, ReadyFlag, SentFlags, ReadyFlags, GatherFlag, ReleaseFlag, HeapWord, IdleWord, role_of, are_peers}
-use Rattle.scc_proto.specs.Records.{Act, Moving, NotingSent, NotingReady, Holding, act_of, load_act, store_act, load_by, store_by, last_of, leads, raises_bit, lowered_below, move_at, change_at, sent_noted, ready_noted, note_sent, note_ready, forget_sent, forget_ready, chunk_of, after_act, permits_act, permits_by, IsPermitted, record_after}
+use Rattle.scc_proto.specs.Words.{Memory, word_at, IsStep, IsStepBy, memory_after, Role, HeaderWord, ChunkWord, SignalFlag, SignalFlags, GatherFlag, ReleaseFlag, HeapWord, IdleWord, role_of, are_peers}
+use Rattle.scc_proto.specs.Records.{Act, Moving, NotingSignal, Holding, act_of, load_act, store_act, load_by, store_by, last_of, leads, raises_bit, lowered_below, move_at, change_at, flags_noted, note_flags, forget_flags, chunk_of, after_act, permits_act, permits_by, IsPermitted, record_after}
 use Rattle.scc_proto.specs.Registers.{IsNotedWord, NotedFlags}
 use Rattle.scc_proto.specs.Views.{View, flag_in, word_of_flag, view_of, shown}
 use Rattle.scc_proto.specs.Agreement.{RegistersAgree}
@@ -83,18 +83,18 @@ module _ (s : SetupView) (memory : Memory) (rec : Record) (me : ℕ) (below : me
   Stored role move = IfPermitted s rec (StoresAs s me (view_of s memory) role value) move
 
   -- a bit that is not put shows the noted word
-  sent_shows_old : (owner old : ℕ) → IsOwn s place owner 1 0 → s.layout ≡ BitFlags → sent_noted rec place.core ≡ Some old → (from : ℕ) → (view_of s memory).sent from owner ≡ bit_at old from
+  sent_shows_old : (owner old : ℕ) → IsOwn s place owner 1 0 → s.layout ≡ BitFlags → flags_noted Sent rec place.core ≡ Some old → (from : ℕ) → (view_of s memory).sent from owner ≡ bit_at old from
   sent_shows_old owner old own bits is from =
       ap (λ (layout : Layout). flag_in layout (word_of_flag memory (host_of s.hosts owner) (signal_at layout Sent from)) (signal_at layout Sent from)) bits
       ∙ ap (λ (w : ℕ). bit_at w from) (ap (λ (core : ℕ). memory.word core 1 0) (sym own.on) ∙ sent_noted_is s.layout (rec.held place.core) (memory.word place.core 1) old noted is)
 
-  ready_shows_old : (owner old : ℕ) → IsOwn s place owner 1 1 → s.layout ≡ BitFlags → ready_noted rec place.core ≡ Some old → (to : ℕ) → (view_of s memory).ready owner to ≡ bit_at old to
+  ready_shows_old : (owner old : ℕ) → IsOwn s place owner 1 1 → s.layout ≡ BitFlags → flags_noted Ready rec place.core ≡ Some old → (to : ℕ) → (view_of s memory).ready owner to ≡ bit_at old to
   ready_shows_old owner old own bits is to =
       ap (λ (layout : Layout). flag_in layout (word_of_flag memory (host_of s.hosts owner) (signal_at layout Ready to)) (signal_at layout Ready to)) bits
       ∙ ap (λ (w : ℕ). bit_at w to) (ap (λ (core : ℕ). memory.word core 1 1) (sym own.on) ∙ ready_noted_is s.layout (rec.held place.core) (memory.word place.core 1) old noted is)
 
-  sent_bits : (owner old new i b : ℕ) → IsOwn s place owner 1 0 → s.layout ≡ BitFlags → sent_noted rec place.core ≡ Some old → bit_at new i ≡ b → ((k : ℕ) → k ≢ i → bit_at new k ≡ bit_at old k)
-      → SameView s (record (view_of s memory) { sent = put_two (view_of s memory).sent i owner b }) (view_stored (SentFlags owner) new (view_of s memory))
+  sent_bits : (owner old new i b : ℕ) → IsOwn s place owner 1 0 → s.layout ≡ BitFlags → flags_noted Sent rec place.core ≡ Some old → bit_at new i ≡ b → ((k : ℕ) → k ≢ i → bit_at new k ≡ bit_at old k)
+      → SameView s (record (view_of s memory) { sent = put_two (view_of s memory).sent i owner b }) (view_stored (SignalFlags Sent owner) new (view_of s memory))
   sent_bits owner old new i b own bits is here there = record {
     sent = λ from to peers. bit_put_first (view_of s memory).sent i owner b old new here there (sent_shows_old owner old own bits is) from to;
     ready = λ from to peers. refl;
@@ -104,8 +104,8 @@ module _ (s : SetupView) (memory : Memory) (rec : Record) (me : ℕ) (below : me
     release = λ comm r present lt. refl;
   }
 
-  ready_bits : (owner old new i b : ℕ) → IsOwn s place owner 1 1 → s.layout ≡ BitFlags → ready_noted rec place.core ≡ Some old → bit_at new i ≡ b → ((k : ℕ) → k ≢ i → bit_at new k ≡ bit_at old k)
-      → SameView s (record (view_of s memory) { ready = put_two (view_of s memory).ready owner i b }) (view_stored (ReadyFlags owner) new (view_of s memory))
+  ready_bits : (owner old new i b : ℕ) → IsOwn s place owner 1 1 → s.layout ≡ BitFlags → flags_noted Ready rec place.core ≡ Some old → bit_at new i ≡ b → ((k : ℕ) → k ≢ i → bit_at new k ≡ bit_at old k)
+      → SameView s (record (view_of s memory) { ready = put_two (view_of s memory).ready owner i b }) (view_stored (SignalFlags Ready owner) new (view_of s memory))
   ready_bits owner old new i b own bits is here there = record {
     sent = λ from to peers. refl;
     ready = λ from to peers. bit_put_second (view_of s memory).ready owner i b old new here there (ready_shows_old owner old own bits is) from to;
@@ -115,37 +115,37 @@ module _ (s : SetupView) (memory : Memory) (rec : Record) (me : ℕ) (below : me
     release = λ comm r present lt. refl;
   }
 
-  sent_lowers : (owner old : ℕ) (o : Option ℕ) → lowered_below me old value s.nue ≡ o → owner ≡ me → IsOwn s place owner 1 0 → s.layout ≡ BitFlags → sent_noted rec place.core ≡ Some old → Stored (SentFlags owner) (move_at LowerSent o)
+  sent_lowers : (owner old : ℕ) (o : Option ℕ) → lowered_below me old value s.nue ≡ o → owner ≡ me → IsOwn s place owner 1 0 → s.layout ≡ BitFlags → flags_noted Sent rec place.core ≡ Some old → Stored (SignalFlags Sent owner) (move_at (LowerSignal Sent) o)
   sent_lowers owner old None low e own bits is = misplaced s rec
   sent_lowers owner old (Some j) low e own bits is = let l = lowered_below-is me old value s.nue j low in let w = lowers_is j old value l.lowers in
       λ t. record {
         own = peers_from s me j below l.below (λ x. l.other (sym x));
         told = tt;
-        shows = subst (λ (x : ℕ). SameView s (record (view_of s memory) { sent = put_two (view_of s memory).sent j x 0 }) (view_stored (SentFlags owner) value (view_of s memory))) e (sent_bits owner old value j 0 own bits is w.here w.there);
+        shows = subst (λ (x : ℕ). SameView s (record (view_of s memory) { sent = put_two (view_of s memory).sent j x 0 }) (view_stored (SignalFlags Sent owner) value (view_of s memory))) e (sent_bits owner old value j 0 own bits is w.here w.there);
       }
 
-  ready_lowers : (owner old : ℕ) (o : Option ℕ) → lowered_below me old value s.nue ≡ o → owner ≡ me → IsOwn s place owner 1 1 → s.layout ≡ BitFlags → ready_noted rec place.core ≡ Some old → Stored (ReadyFlags owner) (move_at LowerReady o)
+  ready_lowers : (owner old : ℕ) (o : Option ℕ) → lowered_below me old value s.nue ≡ o → owner ≡ me → IsOwn s place owner 1 1 → s.layout ≡ BitFlags → flags_noted Ready rec place.core ≡ Some old → Stored (SignalFlags Ready owner) (move_at (LowerSignal Ready) o)
   ready_lowers owner old None low e own bits is = misplaced s rec
   ready_lowers owner old (Some j) low e own bits is = let l = lowered_below-is me old value s.nue j low in let w = lowers_is j old value l.lowers in
       λ t. record {
         own = peers_from s me j below l.below (λ x. l.other (sym x));
         told = tt;
-        shows = subst (λ (x : ℕ). SameView s (record (view_of s memory) { ready = put_two (view_of s memory).ready x j 0 }) (view_stored (ReadyFlags owner) value (view_of s memory))) e (ready_bits owner old value j 0 own bits is w.here w.there);
+        shows = subst (λ (x : ℕ). SameView s (record (view_of s memory) { ready = put_two (view_of s memory).ready x j 0 }) (view_stored (SignalFlags Ready owner) value (view_of s memory))) e (ready_bits owner old value j 0 own bits is w.here w.there);
       }
 
-  sent_changes : (owner : ℕ) (o : Option ℕ) → sent_noted rec place.core ≡ o → IsOwn s place owner 1 0 → s.layout ≡ BitFlags → Stored (SentFlags owner) (change_at LowerSent RaiseSent s me owner value o)
+  sent_changes : (owner : ℕ) (o : Option ℕ) → flags_noted Sent rec place.core ≡ o → IsOwn s place owner 1 0 → s.layout ≡ BitFlags → Stored (SignalFlags Sent owner) (change_at (LowerSignal Sent) (RaiseSignal Sent) s me owner value o)
   sent_changes owner None is own bits = misplaced s rec
-  sent_changes owner (Some old) is own bits = either (Stored (SentFlags owner)) (owner == me) _ _
+  sent_changes owner (Some old) is own bits = either (Stored (SignalFlags Sent owner)) (owner == me) _ _
       (λ t. sent_lowers owner old (lowered_below me old value s.nue) refl (eq_is owner me t) own bits is)
-      (λ f. either (Stored (SentFlags owner)) (raises_bit me old value) (RaiseSent owner) Misplaced
+      (λ f. either (Stored (SignalFlags Sent owner)) (raises_bit me old value) (RaiseSignal Sent owner) Misplaced
       (λ t may. let w = raises_is me old value t in record { own = peers_from s me owner below own.below (λ x. eq_not owner me f (sym x)); told = tt; shows = sent_bits owner old value me 1 own bits is w.here w.there })
       (λ g. misplaced s rec))
 
-  ready_changes : (owner : ℕ) (o : Option ℕ) → ready_noted rec place.core ≡ o → IsOwn s place owner 1 1 → s.layout ≡ BitFlags → Stored (ReadyFlags owner) (change_at LowerReady RaiseReady s me owner value o)
+  ready_changes : (owner : ℕ) (o : Option ℕ) → flags_noted Ready rec place.core ≡ o → IsOwn s place owner 1 1 → s.layout ≡ BitFlags → Stored (SignalFlags Ready owner) (change_at (LowerSignal Ready) (RaiseSignal Ready) s me owner value o)
   ready_changes owner None is own bits = misplaced s rec
-  ready_changes owner (Some old) is own bits = either (Stored (ReadyFlags owner)) (owner == me) _ _
+  ready_changes owner (Some old) is own bits = either (Stored (SignalFlags Ready owner)) (owner == me) _ _
       (λ t. ready_lowers owner old (lowered_below me old value s.nue) refl (eq_is owner me t) own bits is)
-      (λ f. either (Stored (ReadyFlags owner)) (raises_bit me old value) (RaiseReady owner) Misplaced
+      (λ f. either (Stored (SignalFlags Ready owner)) (raises_bit me old value) (RaiseSignal Ready owner) Misplaced
       (λ t may. let w = raises_is me old value t in record { own = peers_from s me owner below own.below (λ x. eq_not owner me f (sym x)); told = tt; shows = ready_bits owner old value me 1 own bits is w.here w.there })
       (λ g. misplaced s rec))
 
@@ -156,14 +156,14 @@ module _ (s : SetupView) (memory : Memory) (rec : Record) (me : ℕ) (below : me
   stores_as (ChunkWord owner k) st = either (Stored (ChunkWord owner k)) (owner == me) (DraftChunk k value) Misplaced
       (λ t may. record { own = tt; told = tt; shows = view_is s _ _ (ap (λ (x : ℕ). record (view_of s memory) { chunk = put_two (view_of s memory).chunk x k value }) (sym (eq_is owner me t))) })
       (λ f. misplaced s rec)
-  stores_as (SentFlag from to) st = either (Stored (SentFlag from to)) ((from == me) && (value == 1)) (RaiseSent to) _
+  stores_as (SignalFlag Sent from to) st = either (Stored (SignalFlag Sent from to)) ((from == me) && (value == 1)) (RaiseSignal Sent to) _
       (λ t may. let own = eq_is from me (both_first (from == me) (value == 1) t) in let set = eq_is value 1 (both_second (from == me) (value == 1) t) in
       record {
         own = subst (λ (x : ℕ). are_peers s x to ≡ true) own st.1;
         told = tt;
         shows = view_is s _ _ (λ i. record (view_of s memory) { sent = put_two (view_of s memory).sent (sym own i) to (sym set i) });
       })
-      (λ f. either (Stored (SentFlag from to)) ((to == me) && (value == 0)) (LowerSent from) Misplaced
+      (λ f. either (Stored (SignalFlag Sent from to)) ((to == me) && (value == 0)) (LowerSignal Sent from) Misplaced
       (λ t may. let own = eq_is to me (both_first (to == me) (value == 0) t) in let clear = eq_is value 0 (both_second (to == me) (value == 0) t) in
       record {
         own = peers_swap s from me (subst (λ (x : ℕ). are_peers s from x ≡ true) own st.1);
@@ -171,14 +171,14 @@ module _ (s : SetupView) (memory : Memory) (rec : Record) (me : ℕ) (below : me
         shows = view_is s _ _ (λ i. record (view_of s memory) { sent = put_two (view_of s memory).sent from (sym own i) (sym clear i) });
       })
       (λ g. misplaced s rec))
-  stores_as (ReadyFlag from to) st = either (Stored (ReadyFlag from to)) ((to == me) && (value == 1)) (RaiseReady from) _
+  stores_as (SignalFlag Ready to from) st = either (Stored (SignalFlag Ready to from)) ((to == me) && (value == 1)) (RaiseSignal Ready from) _
       (λ t may. let own = eq_is to me (both_first (to == me) (value == 1) t) in let set = eq_is value 1 (both_second (to == me) (value == 1) t) in
       record {
         own = peers_swap s from me (subst (λ (x : ℕ). are_peers s from x ≡ true) own st.1);
         told = tt;
         shows = view_is s _ _ (λ i. record (view_of s memory) { ready = put_two (view_of s memory).ready from (sym own i) (sym set i) });
       })
-      (λ f. either (Stored (ReadyFlag from to)) ((from == me) && (value == 0)) (LowerReady to) Misplaced
+      (λ f. either (Stored (SignalFlag Ready to from)) ((from == me) && (value == 0)) (LowerSignal Ready to) Misplaced
       (λ t may. let own = eq_is from me (both_first (from == me) (value == 0) t) in let clear = eq_is value 0 (both_second (from == me) (value == 0) t) in
       record {
         own = subst (λ (x : ℕ). are_peers s x to ≡ true) own st.1;
@@ -186,8 +186,8 @@ module _ (s : SetupView) (memory : Memory) (rec : Record) (me : ℕ) (below : me
         shows = view_is s _ _ (λ i. record (view_of s memory) { ready = put_two (view_of s memory).ready (sym own i) to (sym clear i) });
       })
       (λ g. misplaced s rec))
-  stores_as (SentFlags owner) st = sent_changes owner (sent_noted rec place.core) refl st.0 st.1
-  stores_as (ReadyFlags owner) st = ready_changes owner (ready_noted rec place.core) refl st.0 st.1
+  stores_as (SignalFlags Sent owner) st = sent_changes owner (flags_noted Sent rec place.core) refl st.0 st.1
+  stores_as (SignalFlags Ready owner) st = ready_changes owner (flags_noted Ready rec place.core) refl st.0 st.1
   stores_as (GatherFlag comm owner) st = either (Stored (GatherFlag comm owner)) (owner == me) (FlipGather comm value (last_of s comm me)) Misplaced
       (λ t may. record { own = (st.1, refl); told = tt; shows = view_is s _ _ (ap (λ (x : ℕ). record (view_of s memory) { gather = put_two (view_of s memory).gather comm x value }) (sym (eq_is owner me t))) })
       (λ f. misplaced s rec)
@@ -223,10 +223,10 @@ module _ (s : SetupView) (valid : IsSetup s) (memory : Memory) (rec : Record) (m
   notes_or noting held move false is none loads = moves move loads
 
   load_acts : word_at memory place ≡ value → (role : Role) → Stands s place role → ActsAs (load_act s me rec place value role)
-  load_acts tells (SentFlags owner) st = notes_or (NotingSent place.core value) (put rec.held place.core (option_map (note_sent value) (rec.held place.core))) _ (is_some (rec.held place.core)) refl
-      (no_move s memory rec me below place value tells) (loads_as s memory rec me below place value tells (SentFlags owner) st)
-  load_acts tells (ReadyFlags owner) st = notes_or (NotingReady place.core value) (put rec.held place.core (option_map (note_ready value) (rec.held place.core))) _ (is_some (rec.held place.core)) refl
-      (no_move s memory rec me below place value tells) (loads_as s memory rec me below place value tells (ReadyFlags owner) st)
+  load_acts tells (SignalFlags Sent owner) st = notes_or (NotingSignal Sent place.core value) (put rec.held place.core (option_map (note_flags Sent value) (rec.held place.core))) _ (is_some (rec.held place.core)) refl
+      (no_move s memory rec me below place value tells) (loads_as s memory rec me below place value tells (SignalFlags Sent owner) st)
+  load_acts tells (SignalFlags Ready owner) st = notes_or (NotingSignal Ready place.core value) (put rec.held place.core (option_map (note_flags Ready value) (rec.held place.core))) _ (is_some (rec.held place.core)) refl
+      (no_move s memory rec me below place value tells) (loads_as s memory rec me below place value tells (SignalFlags Ready owner) st)
   load_acts tells role st = moves (load_by s me value role) (loads_as s memory rec me below place value tells role st)
 
   load_made : place.word < 4 → word_at memory place ≡ value → IsMade s memory rec me (made Load)
@@ -243,13 +243,11 @@ module _ (s : SetupView) (valid : IsSetup s) (memory : Memory) (rec : Record) (m
 
   -- a store of this act
   store_becomes : (role : Role) → (held : ℕ → Option FlagWords) × (after_act (chunk_of s) (store_act s me rec place value role) rec ≡ record (after (chunk_of s) (store_by s me rec place value role) rec) { held = held })
-  store_becomes (SentFlags owner) = (put rec.held place.core (option_map forget_sent (rec.held place.core)), refl)
-  store_becomes (ReadyFlags owner) = (put rec.held place.core (option_map forget_ready (rec.held place.core)), refl)
+  store_becomes (SignalFlags signal at) = (put rec.held place.core (option_map (forget_flags signal) (rec.held place.core)), refl)
   store_becomes role = (rec.held, refl)
 
   store_permits : (role : Role) → permits_act (chunk_of s) (store_act s me rec place value role) rec ≡ true → permits (chunk_of s) (store_by s me rec place value role) rec ≡ true
-  store_permits (SentFlags owner) may = may
-  store_permits (ReadyFlags owner) may = may
+  store_permits (SignalFlags signal at) may = may
   store_permits role may = may
 
   store_made : place.word < 4 → NotedFlags s.layout (rec.held place.core) (memory.word place.core 1) → permits_act (chunk_of s) (store_act s me rec place value (role_of s place)) rec ≡ true → IsMade s memory rec me (made Store)

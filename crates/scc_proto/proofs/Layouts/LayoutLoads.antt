@@ -10,9 +10,9 @@ use Rattle.scc_base.specs.declared.layouts.Layout.{Layout}
 use Rattle.scc_base.specs.declared.layouts.Layout.TheVariants.{LineFlags, BitFlags}
 use Rattle.scc_base.proofs.GroupFacts.{root_is}
 use Rattle.scc_proto.specs.Stages.{Record}
-use Rattle.scc_proto.specs.Moves.{Move, LookSent, LookReady, LookGather, LookRelease, NoMove}
+use Rattle.scc_proto.specs.Moves.{Move, LookSignal, LookGather, LookRelease, NoMove}
 use Rattle.scc_proto.specs.Permission.{permits}
-use Rattle.scc_proto.specs.Words.{Memory, word_at, Role, HeaderWord, ChunkWord, SentFlag, ReadyFlag, SentFlags, ReadyFlags, GatherFlag, ReleaseFlag, HeapWord, IdleWord, are_peers, is_present}
+use Rattle.scc_proto.specs.Words.{Memory, word_at, Role, HeaderWord, ChunkWord, SignalFlag, SignalFlags, GatherFlag, ReleaseFlag, HeapWord, IdleWord, are_peers, is_present}
 use Rattle.scc_proto.specs.Records.{load_by, look_at, look_at_bits, leads, chunk_of}
 use Rattle.scc_proto.specs.Views.{View, flag_in, word_of_flag, view_of, shown}
 use Rattle.scc_proto.proofs.Layouts.MoveFacts.{IsMember, IsMoveOf, Tells, SameView}
@@ -88,7 +88,7 @@ module _ (s : SetupView) (memory : Memory) (rec : Record) (me : ℕ) (below : me
     permitted = refl;
     shows = refl;
   }
-  loads_as (SentFlag from to) st = either (LoadsAs s me (view_of s memory) rec) (to == me) (LookSent (look_at from value)) NoMove
+  loads_as (SignalFlag Sent from to) st = either (LoadsAs s me (view_of s memory) rec) (to == me) (LookSignal Sent (look_at from value)) NoMove
       (λ t. let own = eq_is to me t in record {
         own = λ j u. let same = eq_is j from (both_first (j == from) (value == 1) u) in
             subst (λ (x : ℕ). are_peers s me x ≡ true) (sym same) (peers_swap s from me (subst (λ (x : ℕ). are_peers s from x ≡ true) own st.1));
@@ -98,7 +98,7 @@ module _ (s : SetupView) (memory : Memory) (rec : Record) (me : ℕ) (below : me
         shows = refl;
       })
       (λ f. no_move)
-  loads_as (ReadyFlag from to) st = either (LoadsAs s me (view_of s memory) rec) (from == me) (LookReady (look_at to value)) NoMove
+  loads_as (SignalFlag Ready to from) st = either (LoadsAs s me (view_of s memory) rec) (from == me) (LookSignal Ready (look_at to value)) NoMove
       (λ t. let own = eq_is from me t in record {
         own = λ j u. let same = eq_is j to (both_first (j == to) (value == 1) u) in
             subst (λ (x : ℕ). are_peers s me x ≡ true) (sym same) (subst (λ (x : ℕ). are_peers s x to ≡ true) own st.1);
@@ -108,7 +108,7 @@ module _ (s : SetupView) (memory : Memory) (rec : Record) (me : ℕ) (below : me
         shows = refl;
       })
       (λ f. no_move)
-  loads_as (SentFlags owner) st = either (LoadsAs s me (view_of s memory) rec) (owner == me) (LookSent (look_at_bits s me value)) NoMove
+  loads_as (SignalFlags Sent owner) st = either (LoadsAs s me (view_of s memory) rec) (owner == me) (LookSignal Sent (look_at_bits s me value)) NoMove
       (λ t. let own = eq_is owner me t in record {
         own = λ j u. both_first (are_peers s me j) (bit_at value j == 1) u;
         told = λ j u. ap (λ (x : ℕ). (view_of s memory).sent j x) (sym own) ∙ sent_bit_is owner j st.0 st.1 ∙ eq_is (bit_at value j) 1 (both_second (are_peers s me j) (bit_at value j == 1) u);
@@ -116,7 +116,7 @@ module _ (s : SetupView) (memory : Memory) (rec : Record) (me : ℕ) (below : me
         shows = refl;
       })
       (λ f. no_move)
-  loads_as (ReadyFlags owner) st = either (LoadsAs s me (view_of s memory) rec) (owner == me) (LookReady (look_at_bits s me value)) NoMove
+  loads_as (SignalFlags Ready owner) st = either (LoadsAs s me (view_of s memory) rec) (owner == me) (LookSignal Ready (look_at_bits s me value)) NoMove
       (λ t. let own = eq_is owner me t in record {
         own = λ j u. both_first (are_peers s me j) (bit_at value j == 1) u;
         told = λ j u. ap (λ (x : ℕ). (view_of s memory).ready x j) (sym own) ∙ ready_bit_is owner j st.0 st.1 ∙ eq_is (bit_at value j) 1 (both_second (are_peers s me j) (bit_at value j == 1) u);

@@ -2,8 +2,9 @@
 -- read tells the word, and that the record permits it.
 use Rattle.std.proofs.Common.{◌≡◌, ◌≢◌, ℕ, ◌<◌, true}
 use Rattle.scc_base.specs.Setups.{SetupView, place_of, root_of}
+use Rattle.scc_base.specs.declared.signals.Signal.TheVariants.{Sent, Ready}
 use Rattle.scc_proto.specs.Stages.{Record}
-use Rattle.scc_proto.specs.Moves.{Move, RaiseSent, LookSent, ReadHeader, ReadChunk, LowerSent, RaiseReady, LookReady, LowerReady, FlipGather, LookGather, WriteRelease, LookRelease}
+use Rattle.scc_proto.specs.Moves.{Move, RaiseSignal, LookSignal, ReadHeader, ReadChunk, LowerSignal, FlipGather, LookGather, WriteRelease, LookRelease}
 use Rattle.scc_proto.specs.Permission.{permits}
 use Rattle.scc_proto.specs.Words.{are_peers, is_present}
 use Rattle.scc_proto.specs.Records.{chunk_of, last_of}
@@ -19,12 +20,10 @@ pub record IsMember (s : SetupView) (me comm r place : ℕ) : Type 0 where
 
 -- the move is one that a place of the layout gives to rank `me`
 abbrev pub IsMoveOf : SetupView → ℕ → Move → Type 0
-IsMoveOf s me (RaiseSent to) = are_peers s me to ≡ true
-IsMoveOf s me (LookSent is_set) = (j : ℕ) → is_set j ≡ true → are_peers s me j ≡ true
-IsMoveOf s me (LowerSent from) = are_peers s me from ≡ true
-IsMoveOf s me (RaiseReady to) = are_peers s me to ≡ true
-IsMoveOf s me (LookReady is_set) = (j : ℕ) → is_set j ≡ true → are_peers s me j ≡ true
-IsMoveOf s me (LowerReady by) = are_peers s me by ≡ true
+IsMoveOf s me (RaiseSignal signal to) = are_peers s me to ≡ true
+IsMoveOf s me (LookSignal signal is_set) = (j : ℕ) → is_set j ≡ true → are_peers s me j ≡ true
+IsMoveOf s me (LowerSignal Sent from) = are_peers s me from ≡ true
+IsMoveOf s me (LowerSignal Ready by) = are_peers s me by ≡ true
 IsMoveOf s me (FlipGather comm value last) = (is_present s comm ≡ true) × (last ≡ last_of s comm me)
 IsMoveOf s me (LookGather comm from place value) = IsMember s me comm from place
 IsMoveOf s me (WriteRelease comm to place value last) = IsMember s me comm to place × (last ≡ last_of s comm me)
@@ -33,10 +32,10 @@ IsMoveOf s me move = Unit {0}
 
 -- what a load tells of the words
 abbrev pub Tells : ℕ → Move → View → Type 0
-Tells me (LookSent is_set) view = (j : ℕ) → is_set j ≡ true → view.sent j me ≡ 1
+Tells me (LookSignal Sent is_set) view = (j : ℕ) → is_set j ≡ true → view.sent j me ≡ 1
 Tells me (ReadHeader from k v) view = view.header from k ≡ v
 Tells me (ReadChunk from k v) view = view.chunk from k ≡ v
-Tells me (LookReady is_set) view = (j : ℕ) → is_set j ≡ true → view.ready me j ≡ 1
+Tells me (LookSignal Ready is_set) view = (j : ℕ) → is_set j ≡ true → view.ready me j ≡ 1
 Tells me (LookGather comm from place value) view = view.gather comm from ≡ value
 Tells me (LookRelease comm value) view = view.release comm me ≡ value
 Tells me move view = Unit {0}

@@ -3,8 +3,8 @@
 use Rattle.std.proofs.Common.{◌≡◌, ◌≢◌, ℕ, ◌+◌, ◌*◌, ◌^◌, ◌<◌, ◌≤◌, Bool, true, false, not, ◌&&◌, ◌==◌, Option, Some, None, is_some, is_none, refl, sym, ◌∙◌, ap, subst}
 use Rattle.std.specs.Int.{bit_at}
 use Rattle.scc_base.specs.Places.{first_heap, WordAt, flag_word}
-use Rattle.scc_base.specs.Layouts.{signal_at, gather_at, release_at, first_chunk, chunk_lines}
-use Rattle.scc_base.specs.declared.signals.Signal.TheVariants.{Sent, Ready}
+use Rattle.scc_base.specs.Layouts.{signal_at, signal_word, gather_at, release_at, first_chunk, chunk_lines}
+use Rattle.scc_base.specs.declared.signals.Signal.{Signal}
 use Rattle.scc_base.specs.Setups.{IsSetup, host_of, place_of}
 use Rattle.scc_base.specs.Events.{load_of, store_of, take_of, free_of}
 use Rattle.scc_base.specs.declared.layouts.Layout.{Layout}
@@ -12,14 +12,14 @@ use Rattle.scc_base.specs.declared.layouts.Layout.TheVariants.{LineFlags, BitFla
 use Rattle.scc_base.specs.declared.events.Event.{Event}
 use Rattle.scc_proto.specs.Tables.{put}
 use Rattle.scc_proto.specs.Stages.{Record}
-use Rattle.scc_proto.specs.Moves.{Move, DraftHeader, DraftChunk, RaiseSent, LookSent, ReadHeader, ReadChunk, LowerSent, RaiseReady, LookReady, LowerReady, FlipGather, LookGather, WriteRelease, LookRelease, StoreHeap, NoMove, Misplaced, after}
+use Rattle.scc_proto.specs.Moves.{Move, DraftHeader, DraftChunk, RaiseSignal, LookSignal, ReadHeader, ReadChunk, LowerSignal, FlipGather, LookGather, WriteRelease, LookRelease, StoreHeap, NoMove, Misplaced, after}
 use Rattle.scc_proto.specs.Permission.{permits}
-use Rattle.scc_proto.specs.Words.{Role, HeaderWord, ChunkWord, SentFlag, ReadyFlag, SentFlags, ReadyFlags, GatherFlag, ReleaseFlag, HeapWord, IdleWord, role_of, are_peers, is_present}
-use Rattle.scc_proto.specs.Records.{Act, Moving, NotingSent, NotingReady, act_of, load_act, store_act, store_by, look_at, look_at_bits, last_of, leads, move_at, change_at, raises_bit, chunk_of, sent_noted, ready_noted, note_sent, note_ready, forget_sent, forget_ready, change_held, after_act, permits_act}
+use Rattle.scc_proto.specs.Words.{Role, HeaderWord, ChunkWord, SignalFlag, SignalFlags, GatherFlag, ReleaseFlag, HeapWord, IdleWord, role_of, are_peers, is_present}
+use Rattle.scc_proto.specs.Records.{Act, Moving, NotingSignal, act_of, load_act, store_act, store_by, look_at, look_at_bits, last_of, leads, move_at, change_at, raises_bit, chunk_of, flags_noted, note_flags, forget_flags, change_held, after_act, permits_act}
 use Rattle.scc_proto.specs.Ports.{Seat, record_next, MayMake}
 use Rattle.scc_proto.proofs.Tests.{eqb_same, eqb_other, peers_are, peers_swap}
 use Rattle.scc_proto.proofs.Words.FlagBits.{raises_from, lowers_from, lowered_below-from}
-use Rattle.scc_proto.proofs.Layouts.Roles.{if_yes, if_no, own_word, sent_role, ready_role, role_header, role_sent, role_ready, role_sent_bits, role_ready_bits, role_gather, role_release, role_chunk_line, role_heap}
+use Rattle.scc_proto.proofs.Layouts.Roles.{if_yes, if_no, own_word, signal_role, role_header, role_signal, role_signal_bits, role_gather, role_release, role_chunk_line, role_heap}
 
 and_false : (b : Bool) → (b && false) ≡ false
 and_false true = refl
@@ -148,90 +148,53 @@ module _ (seat : Seat) (rec : Record) (valid : IsSetup seat.setup) where
 -- ---- line flags
 
 module _ (seat : Seat) (rec : Record) (valid : IsSetup seat.setup) (lines : seat.setup.layout ≡ LineFlags) where
-  sent_is : (from to : ℕ) → are_peers seat.setup from to ≡ true → role_of seat.setup (flag_word (host_of seat.setup.hosts to) (signal_at LineFlags Sent from)) ≡ SentFlag from to
-  sent_is from to peers = subst (λ (layout : Layout). role_of seat.setup (flag_word (host_of seat.setup.hosts to) (signal_at layout Sent from)) ≡ sent_role layout from to) lines (role_sent seat.setup valid from to peers)
+  signal_is : (signal : Signal) (by at : ℕ) → are_peers seat.setup by at ≡ true → role_of seat.setup (flag_word (host_of seat.setup.hosts at) (signal_at LineFlags signal by)) ≡ SignalFlag signal by at
+  signal_is signal by at peers =
+      subst (λ (layout : Layout). role_of seat.setup (flag_word (host_of seat.setup.hosts at) (signal_at layout signal by)) ≡ signal_role layout signal by at) lines (role_signal seat.setup valid signal by at peers)
 
-  ready_is : (from to : ℕ) → are_peers seat.setup from to ≡ true → role_of seat.setup (flag_word (host_of seat.setup.hosts from) (signal_at LineFlags Ready to)) ≡ ReadyFlag from to
-  ready_is from to peers = subst (λ (layout : Layout). role_of seat.setup (flag_word (host_of seat.setup.hosts from) (signal_at layout Ready to)) ≡ ready_role layout from to) lines (role_ready seat.setup valid from to peers)
+  -- the flag of a signal that rank j raises, at the own core
+  pub signal_loaded : (signal : Signal) (j value : ℕ) → are_peers seat.setup seat.rank j ≡ true
+      → Makes seat rec (load_of (flag_word (host_of seat.setup.hosts seat.rank) (signal_at LineFlags signal j)) value) (after (chunk_of seat.setup) (LookSignal signal (look_at j value)) rec)
+  signal_loaded signal j value peers = load_moves seat rec _ value (SignalFlag signal j seat.rank) (LookSignal signal (look_at j value)) (signal_is signal j seat.rank (peers_swap seat.setup seat.rank j peers))
+      (ap (λ (m : Move). Moving m) (if_yes (seat.rank == seat.rank) (LookSignal signal (look_at j value)) NoMove (eqb_same seat.rank)))
 
-  -- the flag of the messages from rank j, at the own core
-  pub sent_loaded : (j value : ℕ) → are_peers seat.setup seat.rank j ≡ true
-      → Makes seat rec (load_of (flag_word (host_of seat.setup.hosts seat.rank) (signal_at LineFlags Sent j)) value) (after (chunk_of seat.setup) (LookSent (look_at j value)) rec)
-  sent_loaded j value peers = load_moves seat rec _ value (SentFlag j seat.rank) (LookSent (look_at j value)) (sent_is j seat.rank (peers_swap seat.setup seat.rank j peers))
-      (ap (λ (m : Move). Moving m) (if_yes (seat.rank == seat.rank) (LookSent (look_at j value)) NoMove (eqb_same seat.rank)))
+  -- at the core of another rank
+  pub signal_raised : (signal : Signal) (at : ℕ) → are_peers seat.setup seat.rank at ≡ true → permits (chunk_of seat.setup) (RaiseSignal signal at) rec ≡ true
+      → Makes seat rec (store_of (flag_word (host_of seat.setup.hosts at) (signal_at LineFlags signal seat.rank)) 1) (after (chunk_of seat.setup) (RaiseSignal signal at) rec)
+  signal_raised signal at peers = store_moves seat rec _ 1 (SignalFlag signal seat.rank at) (RaiseSignal signal at) (signal_is signal seat.rank at peers)
+      (ap (λ (m : Move). Moving m) (if_yes ((seat.rank == seat.rank) && true) (RaiseSignal signal at) _ (λ i. eqb_same seat.rank i && true)))
 
-  pub ready_loaded : (j value : ℕ) → are_peers seat.setup seat.rank j ≡ true
-      → Makes seat rec (load_of (flag_word (host_of seat.setup.hosts seat.rank) (signal_at LineFlags Ready j)) value) (after (chunk_of seat.setup) (LookReady (look_at j value)) rec)
-  ready_loaded j value peers = load_moves seat rec _ value (ReadyFlag seat.rank j) (LookReady (look_at j value)) (ready_is seat.rank j peers)
-      (ap (λ (m : Move). Moving m) (if_yes (seat.rank == seat.rank) (LookReady (look_at j value)) NoMove (eqb_same seat.rank)))
-
-  -- at the core of the receiver
-  pub sent_raised : (to : ℕ) → are_peers seat.setup seat.rank to ≡ true → permits (chunk_of seat.setup) (RaiseSent to) rec ≡ true
-      → Makes seat rec (store_of (flag_word (host_of seat.setup.hosts to) (signal_at LineFlags Sent seat.rank)) 1) (after (chunk_of seat.setup) (RaiseSent to) rec)
-  sent_raised to peers = store_moves seat rec _ 1 (SentFlag seat.rank to) (RaiseSent to) (sent_is seat.rank to peers)
-      (ap (λ (m : Move). Moving m) (if_yes ((seat.rank == seat.rank) && true) (RaiseSent to) _ (λ i. eqb_same seat.rank i && true)))
-
-  pub sent_lowered : (from : ℕ) → are_peers seat.setup seat.rank from ≡ true → permits (chunk_of seat.setup) (LowerSent from) rec ≡ true
-      → Makes seat rec (store_of (flag_word (host_of seat.setup.hosts seat.rank) (signal_at LineFlags Sent from)) 0) (after (chunk_of seat.setup) (LowerSent from) rec)
-  sent_lowered from peers = let p = peers_are seat.setup seat.rank from peers in
-      store_moves seat rec _ 0 (SentFlag from seat.rank) (LowerSent from) (sent_is from seat.rank (peers_swap seat.setup seat.rank from peers))
-      (ap (λ (m : Move). Moving m) (if_no ((from == seat.rank) && false) (RaiseSent seat.rank) _ (and_false (from == seat.rank))
-      ∙ if_yes ((seat.rank == seat.rank) && true) (LowerSent from) Misplaced (λ i. eqb_same seat.rank i && true)))
-
-  pub ready_raised : (to : ℕ) → are_peers seat.setup seat.rank to ≡ true → permits (chunk_of seat.setup) (RaiseReady to) rec ≡ true
-      → Makes seat rec (store_of (flag_word (host_of seat.setup.hosts to) (signal_at LineFlags Ready seat.rank)) 1) (after (chunk_of seat.setup) (RaiseReady to) rec)
-  ready_raised to peers = store_moves seat rec _ 1 (ReadyFlag to seat.rank) (RaiseReady to) (ready_is to seat.rank (peers_swap seat.setup seat.rank to peers))
-      (ap (λ (m : Move). Moving m) (if_yes ((seat.rank == seat.rank) && true) (RaiseReady to) _ (λ i. eqb_same seat.rank i && true)))
-
-  pub ready_lowered : (by : ℕ) → are_peers seat.setup seat.rank by ≡ true → permits (chunk_of seat.setup) (LowerReady by) rec ≡ true
-      → Makes seat rec (store_of (flag_word (host_of seat.setup.hosts seat.rank) (signal_at LineFlags Ready by)) 0) (after (chunk_of seat.setup) (LowerReady by) rec)
-  ready_lowered by peers = store_moves seat rec _ 0 (ReadyFlag seat.rank by) (LowerReady by) (ready_is seat.rank by peers)
-      (ap (λ (m : Move). Moving m) (if_no ((by == seat.rank) && false) (RaiseReady seat.rank) _ (and_false (by == seat.rank))
-      ∙ if_yes ((seat.rank == seat.rank) && true) (LowerReady by) Misplaced (λ i. eqb_same seat.rank i && true)))
+  pub signal_lowered : (signal : Signal) (by : ℕ) → are_peers seat.setup seat.rank by ≡ true → permits (chunk_of seat.setup) (LowerSignal signal by) rec ≡ true
+      → Makes seat rec (store_of (flag_word (host_of seat.setup.hosts seat.rank) (signal_at LineFlags signal by)) 0) (after (chunk_of seat.setup) (LowerSignal signal by) rec)
+  signal_lowered signal by peers = store_moves seat rec _ 0 (SignalFlag signal by seat.rank) (LowerSignal signal by) (signal_is signal by seat.rank (peers_swap seat.setup seat.rank by peers))
+      (ap (λ (m : Move). Moving m) (if_no ((by == seat.rank) && false) (RaiseSignal signal seat.rank) _ (and_false (by == seat.rank))
+      ∙ if_yes ((seat.rank == seat.rank) && true) (LowerSignal signal by) Misplaced (λ i. eqb_same seat.rank i && true)))
 
 -- ---- bit flags
 
 module _ (seat : Seat) (rec : Record) (valid : IsSetup seat.setup) (bits : seat.setup.layout ≡ BitFlags) where
-  -- a look at all flags at the own core, which is not made under its register
-  pub sent_bits_loaded : (value : ℕ) → seat.rank < seat.setup.nue → rec.held (host_of seat.setup.hosts seat.rank) ≡ None
-      → Makes seat rec (load_of (own_word seat.setup seat.rank 1 0) value) (after (chunk_of seat.setup) (LookSent (look_at_bits seat.setup seat.rank value)) rec)
-  sent_bits_loaded value lt free = load_moves seat rec _ value (SentFlags seat.rank) (LookSent (look_at_bits seat.setup seat.rank value)) (role_sent_bits seat.setup valid bits seat.rank lt)
+  -- a look at all flags of a signal at the own core, which is not made under its register
+  pub signal_bits_loaded : (signal : Signal) (value : ℕ) → seat.rank < seat.setup.nue → rec.held (host_of seat.setup.hosts seat.rank) ≡ None
+      → Makes seat rec (load_of (own_word seat.setup seat.rank 1 (signal_word signal)) value) (after (chunk_of seat.setup) (LookSignal signal (look_at_bits seat.setup seat.rank value)) rec)
+  signal_bits_loaded signal value lt free =
+      load_moves seat rec _ value (SignalFlags signal seat.rank) (LookSignal signal (look_at_bits seat.setup seat.rank value)) (role_signal_bits seat.setup valid bits signal seat.rank lt)
       (if_no (is_some (rec.held (host_of seat.setup.hosts seat.rank))) _ _ (ap is_some free)
-      ∙ ap (λ (m : Move). Moving m) (if_yes (seat.rank == seat.rank) (LookSent (look_at_bits seat.setup seat.rank value)) NoMove (eqb_same seat.rank)))
-
-  pub ready_bits_loaded : (value : ℕ) → seat.rank < seat.setup.nue → rec.held (host_of seat.setup.hosts seat.rank) ≡ None
-      → Makes seat rec (load_of (own_word seat.setup seat.rank 1 1) value) (after (chunk_of seat.setup) (LookReady (look_at_bits seat.setup seat.rank value)) rec)
-  ready_bits_loaded value lt free = load_moves seat rec _ value (ReadyFlags seat.rank) (LookReady (look_at_bits seat.setup seat.rank value)) (role_ready_bits seat.setup valid bits seat.rank lt)
-      (if_no (is_some (rec.held (host_of seat.setup.hosts seat.rank))) _ _ (ap is_some free)
-      ∙ ap (λ (m : Move). Moving m) (if_yes (seat.rank == seat.rank) (LookReady (look_at_bits seat.setup seat.rank value)) NoMove (eqb_same seat.rank)))
+      ∙ ap (λ (m : Move). Moving m) (if_yes (seat.rank == seat.rank) (LookSignal signal (look_at_bits seat.setup seat.rank value)) NoMove (eqb_same seat.rank)))
 
   -- a load under the register of the word's core
-  pub sent_bits_noted : (r value : ℕ) → r < seat.setup.nue → is_some (rec.held (host_of seat.setup.hosts r)) ≡ true
-      → Makes seat rec (load_of (own_word seat.setup r 1 0) value) (change_held (note_sent value) (host_of seat.setup.hosts r) rec)
-  sent_bits_noted r value lt held = let act = if_yes (is_some (rec.held (host_of seat.setup.hosts r))) (NotingSent (host_of seat.setup.hosts r) value) _ held in
-      subst (λ (a : Act). Makes seat rec (load_of (own_word seat.setup r 1 0) value) (after_act (chunk_of seat.setup) a rec)) act
-      (load_makes seat rec (own_word seat.setup r 1 0) value (SentFlags r) (role_sent_bits seat.setup valid bits r lt))
-
-  pub ready_bits_noted : (r value : ℕ) → r < seat.setup.nue → is_some (rec.held (host_of seat.setup.hosts r)) ≡ true
-      → Makes seat rec (load_of (own_word seat.setup r 1 1) value) (change_held (note_ready value) (host_of seat.setup.hosts r) rec)
-  ready_bits_noted r value lt held = let act = if_yes (is_some (rec.held (host_of seat.setup.hosts r))) (NotingReady (host_of seat.setup.hosts r) value) _ held in
-      subst (λ (a : Act). Makes seat rec (load_of (own_word seat.setup r 1 1) value) (after_act (chunk_of seat.setup) a rec)) act
-      (load_makes seat rec (own_word seat.setup r 1 1) value (ReadyFlags r) (role_ready_bits seat.setup valid bits r lt))
+  pub signal_bits_noted : (signal : Signal) (r value : ℕ) → r < seat.setup.nue → is_some (rec.held (host_of seat.setup.hosts r)) ≡ true
+      → Makes seat rec (load_of (own_word seat.setup r 1 (signal_word signal)) value) (change_held (note_flags signal value) (host_of seat.setup.hosts r) rec)
+  signal_bits_noted signal r value lt held = let act = if_yes (is_some (rec.held (host_of seat.setup.hosts r))) (NotingSignal signal (host_of seat.setup.hosts r) value) _ held in
+      subst (λ (a : Act). Makes seat rec (load_of (own_word seat.setup r 1 (signal_word signal)) value) (after_act (chunk_of seat.setup) a rec)) act
+      (load_makes seat rec (own_word seat.setup r 1 (signal_word signal)) value (SignalFlags signal r) (role_signal_bits seat.setup valid bits signal r lt))
 
   -- a store of a flag word that is this move
-  sent_changed : (r value : ℕ) (move : Move) → r < seat.setup.nue → store_by seat.setup seat.rank rec (own_word seat.setup r 1 0) value (SentFlags r) ≡ move
+  signal_changed : (signal : Signal) (r value : ℕ) (move : Move) → r < seat.setup.nue → store_by seat.setup seat.rank rec (own_word seat.setup r 1 (signal_word signal)) value (SignalFlags signal r) ≡ move
       → permits (chunk_of seat.setup) move rec ≡ true
-      → Makes seat rec (store_of (own_word seat.setup r 1 0) value) (change_held forget_sent (host_of seat.setup.hosts r) (after (chunk_of seat.setup) move rec))
-  sent_changed r value move lt is may =
-      subst (λ (m : Move). Makes seat rec (store_of (own_word seat.setup r 1 0) value) (change_held forget_sent (host_of seat.setup.hosts r) (after (chunk_of seat.setup) m rec))) is
-      (store_makes seat rec (own_word seat.setup r 1 0) value (SentFlags r) (role_sent_bits seat.setup valid bits r lt) (ap (λ (m : Move). permits (chunk_of seat.setup) m rec) is ∙ may))
-
-  ready_changed : (r value : ℕ) (move : Move) → r < seat.setup.nue → store_by seat.setup seat.rank rec (own_word seat.setup r 1 1) value (ReadyFlags r) ≡ move
-      → permits (chunk_of seat.setup) move rec ≡ true
-      → Makes seat rec (store_of (own_word seat.setup r 1 1) value) (change_held forget_ready (host_of seat.setup.hosts r) (after (chunk_of seat.setup) move rec))
-  ready_changed r value move lt is may =
-      subst (λ (m : Move). Makes seat rec (store_of (own_word seat.setup r 1 1) value) (change_held forget_ready (host_of seat.setup.hosts r) (after (chunk_of seat.setup) m rec))) is
-      (store_makes seat rec (own_word seat.setup r 1 1) value (ReadyFlags r) (role_ready_bits seat.setup valid bits r lt) (ap (λ (m : Move). permits (chunk_of seat.setup) m rec) is ∙ may))
+      → Makes seat rec (store_of (own_word seat.setup r 1 (signal_word signal)) value) (change_held (forget_flags signal) (host_of seat.setup.hosts r) (after (chunk_of seat.setup) move rec))
+  signal_changed signal r value move lt is may =
+      subst (λ (m : Move). Makes seat rec (store_of (own_word seat.setup r 1 (signal_word signal)) value) (change_held (forget_flags signal) (host_of seat.setup.hosts r) (after (chunk_of seat.setup) m rec))) is
+      (store_makes seat rec (own_word seat.setup r 1 (signal_word signal)) value (SignalFlags signal r) (role_signal_bits seat.setup valid bits signal r lt) (ap (λ (m : Move). permits (chunk_of seat.setup) m rec) is ∙ may))
 
   raised_is : (lower raise : ℕ → Move) (r old : ℕ) (o : Option ℕ) → o ≡ Some old → seat.rank ≢ r → bit_at old seat.rank ≡ 0 → change_at lower raise seat.setup seat.rank r (old + 2 ^ seat.rank) o ≡ raise r
   raised_is lower raise r old o is other clear = ap (λ (x : Option ℕ). change_at lower raise seat.setup seat.rank r (old + 2 ^ seat.rank) x) is
@@ -245,27 +208,15 @@ module _ (seat : Seat) (rec : Record) (valid : IsSetup seat.setup) (bits : seat.
       ∙ ap (λ (x : Option ℕ). move_at lower x) (lowered_below-from seat.rank old new seat.setup.nue j p.other (λ e. p.apart (sym e)) (lowers_from j old new set sum))
 
   -- the own bit is raised in the noted word of another core
-  pub sent_bit_raised : (to old : ℕ) → are_peers seat.setup seat.rank to ≡ true → sent_noted rec (host_of seat.setup.hosts to) ≡ Some old → bit_at old seat.rank ≡ 0
-      → permits (chunk_of seat.setup) (RaiseSent to) rec ≡ true
-      → Makes seat rec (store_of (own_word seat.setup to 1 0) (old + 2 ^ seat.rank)) (change_held forget_sent (host_of seat.setup.hosts to) (after (chunk_of seat.setup) (RaiseSent to) rec))
-  sent_bit_raised to old peers is clear = let p = peers_are seat.setup seat.rank to peers in
-      sent_changed to (old + 2 ^ seat.rank) (RaiseSent to) p.other (raised_is LowerSent RaiseSent to old (sent_noted rec (host_of seat.setup.hosts to)) is p.apart clear)
-
-  pub ready_bit_raised : (to old : ℕ) → are_peers seat.setup seat.rank to ≡ true → ready_noted rec (host_of seat.setup.hosts to) ≡ Some old → bit_at old seat.rank ≡ 0
-      → permits (chunk_of seat.setup) (RaiseReady to) rec ≡ true
-      → Makes seat rec (store_of (own_word seat.setup to 1 1) (old + 2 ^ seat.rank)) (change_held forget_ready (host_of seat.setup.hosts to) (after (chunk_of seat.setup) (RaiseReady to) rec))
-  ready_bit_raised to old peers is clear = let p = peers_are seat.setup seat.rank to peers in
-      ready_changed to (old + 2 ^ seat.rank) (RaiseReady to) p.other (raised_is LowerReady RaiseReady to old (ready_noted rec (host_of seat.setup.hosts to)) is p.apart clear)
+  pub signal_bit_raised : (signal : Signal) (at old : ℕ) → are_peers seat.setup seat.rank at ≡ true → flags_noted signal rec (host_of seat.setup.hosts at) ≡ Some old → bit_at old seat.rank ≡ 0
+      → permits (chunk_of seat.setup) (RaiseSignal signal at) rec ≡ true
+      → Makes seat rec (store_of (own_word seat.setup at 1 (signal_word signal)) (old + 2 ^ seat.rank)) (change_held (forget_flags signal) (host_of seat.setup.hosts at) (after (chunk_of seat.setup) (RaiseSignal signal at) rec))
+  signal_bit_raised signal at old peers is clear = let p = peers_are seat.setup seat.rank at peers in
+      signal_changed signal at (old + 2 ^ seat.rank) (RaiseSignal signal at) p.other (raised_is (LowerSignal signal) (RaiseSignal signal) at old (flags_noted signal rec (host_of seat.setup.hosts at)) is p.apart clear)
 
   -- the bit of another rank is lowered in the noted word of the own core
-  pub sent_bit_lowered : (from old new : ℕ) → are_peers seat.setup seat.rank from ≡ true → sent_noted rec (host_of seat.setup.hosts seat.rank) ≡ Some old → bit_at old from ≡ 1 → old ≡ new + 2 ^ from
-      → permits (chunk_of seat.setup) (LowerSent from) rec ≡ true
-      → Makes seat rec (store_of (own_word seat.setup seat.rank 1 0) new) (change_held forget_sent (host_of seat.setup.hosts seat.rank) (after (chunk_of seat.setup) (LowerSent from) rec))
-  sent_bit_lowered from old new peers is set sum = let p = peers_are seat.setup seat.rank from peers in
-      sent_changed seat.rank new (LowerSent from) p.one (lowered_is LowerSent RaiseSent from old new (sent_noted rec (host_of seat.setup.hosts seat.rank)) is peers set sum)
-
-  pub ready_bit_lowered : (by old new : ℕ) → are_peers seat.setup seat.rank by ≡ true → ready_noted rec (host_of seat.setup.hosts seat.rank) ≡ Some old → bit_at old by ≡ 1 → old ≡ new + 2 ^ by
-      → permits (chunk_of seat.setup) (LowerReady by) rec ≡ true
-      → Makes seat rec (store_of (own_word seat.setup seat.rank 1 1) new) (change_held forget_ready (host_of seat.setup.hosts seat.rank) (after (chunk_of seat.setup) (LowerReady by) rec))
-  ready_bit_lowered by old new peers is set sum = let p = peers_are seat.setup seat.rank by peers in
-      ready_changed seat.rank new (LowerReady by) p.one (lowered_is LowerReady RaiseReady by old new (ready_noted rec (host_of seat.setup.hosts seat.rank)) is peers set sum)
+  pub signal_bit_lowered : (signal : Signal) (by old new : ℕ) → are_peers seat.setup seat.rank by ≡ true → flags_noted signal rec (host_of seat.setup.hosts seat.rank) ≡ Some old → bit_at old by ≡ 1 → old ≡ new + 2 ^ by
+      → permits (chunk_of seat.setup) (LowerSignal signal by) rec ≡ true
+      → Makes seat rec (store_of (own_word seat.setup seat.rank 1 (signal_word signal)) new) (change_held (forget_flags signal) (host_of seat.setup.hosts seat.rank) (after (chunk_of seat.setup) (LowerSignal signal by) rec))
+  signal_bit_lowered signal by old new peers is set sum = let p = peers_are seat.setup seat.rank by peers in
+      signal_changed signal seat.rank new (LowerSignal signal by) p.one (lowered_is (LowerSignal signal) (RaiseSignal signal) by old new (flags_noted signal rec (host_of seat.setup.hosts seat.rank)) is peers set sum)

@@ -3,13 +3,14 @@ use Rattle.std.proofs.Common.{◌≡◌, ◌≢◌, ℕ, zero, suc, ◌+◌, ◌
 use Rattle.std.specs.Prelude.{nat_lt, nat_le}
 use Rattle.std.proofs.lemmas.Bool.Decides.{nat_tests}
 use Rattle.scc_base.specs.Places.{first_heap, WordAt, flag_word}
-use Rattle.scc_base.specs.Layouts.{signal_at, gather_at, release_at, first_gather, first_release, first_chunk, chunk_lines}
+use Rattle.scc_base.specs.Layouts.{signal_at, signal_word, gather_at, release_at, first_gather, first_release, first_chunk, chunk_lines}
+use Rattle.scc_base.specs.declared.signals.Signal.{Signal}
 use Rattle.scc_base.specs.declared.signals.Signal.TheVariants.{Sent, Ready}
 use Rattle.scc_base.specs.Setups.{SetupView, IsSetup, AreApart, host_of}
 use Rattle.scc_base.specs.declared.layouts.Layout.{Layout}
 use Rattle.scc_base.specs.declared.layouts.Layout.TheVariants.{LineFlags, BitFlags}
-use Rattle.scc_proto.specs.Words.{Role, HeaderWord, ChunkWord, SentFlag, ReadyFlag, SentFlags, ReadyFlags, GatherFlag, ReleaseFlag, HeapWord, IdleWord, rank_below, rank_on, are_peers, if_peers, is_present, if_present, barrier_comm, barrier_role, flag_role, role_at, role_where, role_of}
-use Rattle.scc_proto.proofs.Tests.{same_or_other, both_first, both_second, eqb_other, ArePeers, peers_are}
+use Rattle.scc_proto.specs.Words.{Role, HeaderWord, ChunkWord, SignalFlag, SignalFlags, GatherFlag, ReleaseFlag, HeapWord, IdleWord, rank_below, rank_on, are_peers, if_peers, is_present, if_present, barrier_comm, barrier_role, flag_role, role_at, role_where, role_of}
+use Rattle.scc_proto.proofs.Tests.{same_or_other, both_first, both_second, eqb_other, ArePeers, peers_are, peers_swap}
 
 -- ---- tests
 
@@ -120,10 +121,10 @@ role_on s valid owner line word lt = ap (λ (o : Option ℕ). role_where s o lin
 abbrev pub Stands : SetupView → WordAt → Role → Type 0
 Stands s place (HeaderWord owner k) = IsOwn s place owner 0 k
 Stands s place (ChunkWord owner k) = IsOwn s place owner (first_chunk s.layout + k / 4) (k % 4) × (k < 4 * chunk_lines s.layout)
-Stands s place (SentFlag from to) = IsOwn s place to (1 + from) 0 × (are_peers s from to ≡ true) × (s.layout ≡ LineFlags)
-Stands s place (ReadyFlag from to) = IsOwn s place from (49 + to) 0 × (are_peers s from to ≡ true) × (s.layout ≡ LineFlags)
-Stands s place (SentFlags owner) = IsOwn s place owner 1 0 × (s.layout ≡ BitFlags)
-Stands s place (ReadyFlags owner) = IsOwn s place owner 1 1 × (s.layout ≡ BitFlags)
+Stands s place (SignalFlag Sent from to) = IsOwn s place to (1 + from) 0 × (are_peers s from to ≡ true) × (s.layout ≡ LineFlags)
+Stands s place (SignalFlag Ready to from) = IsOwn s place from (49 + to) 0 × (are_peers s from to ≡ true) × (s.layout ≡ LineFlags)
+Stands s place (SignalFlags Sent owner) = IsOwn s place owner 1 0 × (s.layout ≡ BitFlags)
+Stands s place (SignalFlags Ready owner) = IsOwn s place owner 1 1 × (s.layout ≡ BitFlags)
 Stands s place (GatherFlag comm owner) = IsOwn s place owner (first_gather s.layout + comm % 8) (comm / 8) × (is_present s comm ≡ true)
 Stands s place (ReleaseFlag comm owner) = IsOwn s place owner (first_release s.layout + comm % 8) (comm / 8) × (is_present s comm ≡ true)
 Stands s place HeapWord = first_heap ≤ place.line
@@ -140,14 +141,14 @@ module _ (s : SetupView) (place : WordAt) (owner : ℕ) (below : owner < s.nue) 
   flag_stands : (layout : Layout) → s.layout ≡ layout → place.line ≢ 0 → place.line < first_gather layout → Stands s place (flag_role layout s owner place.line place.word)
   flag_stands LineFlags is some low = if_stands s place (place.word == 0) _ IdleWord
       (λ t. if_stands s place (nat_le place.line 48) _ _
-      (λ le. if_stands s place (are_peers s (place.line - 1) owner) (SentFlag (place.line - 1) owner) IdleWord
+      (λ le. if_stands s place (are_peers s (place.line - 1) owner) (SignalFlag Sent (place.line - 1) owner) IdleWord
       (λ peers. (own (1 + (place.line - 1)) 0 (omega (arith, some)) (eq_is place.word 0 t), peers, is)) (λ f. tt))
-      (λ le. let high = le_not place.line 48 le in if_stands s place (are_peers s owner (place.line - 49)) (ReadyFlag owner (place.line - 49)) IdleWord
+      (λ le. let high = le_not place.line 48 le in if_stands s place (are_peers s owner (place.line - 49)) (SignalFlag Ready (place.line - 49) owner) IdleWord
       (λ peers. (own (49 + (place.line - 49)) 0 (omega (arith, high)) (eq_is place.word 0 t), peers, is)) (λ f. tt)))
       (λ f. tt)
-  flag_stands BitFlags is some low = if_stands s place (place.word == 0) (SentFlags owner) _
+  flag_stands BitFlags is some low = if_stands s place (place.word == 0) (SignalFlags Sent owner) _
       (λ t. (own 1 0 (omega (arith, some, low)) (eq_is place.word 0 t), is))
-      (λ f. if_stands s place (place.word == 1) (ReadyFlags owner) IdleWord
+      (λ f. if_stands s place (place.word == 1) (SignalFlags Ready owner) IdleWord
       (λ t. (own 1 1 (omega (arith, some, low)) (eq_is place.word 1 t), is)) (λ f. tt))
 
   barrier_stands : first_gather s.layout ≤ place.line → place.line < first_chunk s.layout → Stands s place (barrier_role s owner place.line place.word)
@@ -195,13 +196,9 @@ pub role_header : (s : SetupView) → IsSetup s → (owner k : ℕ) → owner < 
 role_header s valid owner k lt = role_on s valid owner 0 k lt
 
 -- with line flags a flag has a word, and with bit flags all flags at a core share one
-abbrev pub sent_role : Layout → ℕ → ℕ → Role
-sent_role LineFlags from to = SentFlag from to
-sent_role BitFlags from to = SentFlags to
-
-abbrev pub ready_role : Layout → ℕ → ℕ → Role
-ready_role LineFlags from to = ReadyFlag from to
-ready_role BitFlags from to = ReadyFlags from
+abbrev pub signal_role : Layout → Signal → (by at : ℕ) → Role
+signal_role LineFlags signal by at = SignalFlag signal by at
+signal_role BitFlags signal by at = SignalFlags signal at
 
 role_at-low : (s : SetupView) (owner line word : ℕ) → line ≢ 0 → line < first_gather s.layout → role_at s owner line word ≡ flag_role s.layout s owner line word
 role_at-low s owner line word some low = if_no (line == 0) (HeaderWord owner word) _ (eqb_other line 0 some) ∙ if_yes (nat_lt line (first_gather s.layout)) (flag_role s.layout s owner line word) _ (lt_yes _ _ low)
@@ -214,25 +211,25 @@ role_at-high s owner line word high = let a = first_gather-above s.layout in
 role_at-barrier : (s : SetupView) (owner line word : ℕ) → first_gather s.layout ≤ line → line < first_chunk s.layout → role_at s owner line word ≡ barrier_role s owner line word
 role_at-barrier s owner line word high low = role_at-high s owner line word high ∙ if_yes (nat_lt line (first_chunk s.layout)) (barrier_role s owner line word) _ (lt_yes _ _ low)
 
-sent_line : (s : SetupView) → IsSetup s → (from to : ℕ) → are_peers s from to ≡ true → flag_role LineFlags s to (1 + from) 0 ≡ SentFlag from to
+sent_line : (s : SetupView) → IsSetup s → (from to : ℕ) → are_peers s from to ≡ true → flag_role LineFlags s to (1 + from) 0 ≡ SignalFlag Sent from to
 sent_line s valid from to peers = let p = peers_are s from to peers in let w = valid.ranks_within in
     let back : 1 + from - 1 ≡ from = omega arith in
-    if_yes (nat_le (1 + from) 48) (if_peers s (1 + from - 1) to (SentFlag (1 + from - 1) to)) _ (le_yes (1 + from) 48 (omega (arith, p.one, w)))
-    ∙ ap (λ (r : ℕ). if_peers s r to (SentFlag r to)) back ∙ if_yes (are_peers s from to) (SentFlag from to) IdleWord peers
+    if_yes (nat_le (1 + from) 48) (if_peers s (1 + from - 1) to (SignalFlag Sent (1 + from - 1) to)) _ (le_yes (1 + from) 48 (omega (arith, p.one, w)))
+    ∙ ap (λ (r : ℕ). if_peers s r to (SignalFlag Sent r to)) back ∙ if_yes (are_peers s from to) (SignalFlag Sent from to) IdleWord peers
 
-ready_line : (s : SetupView) (from to : ℕ) → are_peers s from to ≡ true → flag_role LineFlags s from (49 + to) 0 ≡ ReadyFlag from to
+ready_line : (s : SetupView) (from to : ℕ) → are_peers s from to ≡ true → flag_role LineFlags s from (49 + to) 0 ≡ SignalFlag Ready to from
 ready_line s from to peers = let back : 49 + to - 49 ≡ to = omega arith in
-    if_no (nat_le (49 + to) 48) _ (if_peers s from (49 + to - 49) (ReadyFlag from (49 + to - 49))) (le_no (49 + to) 48 (omega arith))
-    ∙ ap (λ (r : ℕ). if_peers s from r (ReadyFlag from r)) back ∙ if_yes (are_peers s from to) (ReadyFlag from to) IdleWord peers
+    if_no (nat_le (49 + to) 48) _ (if_peers s from (49 + to - 49) (SignalFlag Ready (49 + to - 49) from)) (le_no (49 + to) 48 (omega arith))
+    ∙ ap (λ (r : ℕ). if_peers s from r (SignalFlag Ready r from)) back ∙ if_yes (are_peers s from to) (SignalFlag Ready to from) IdleWord peers
 
 -- the flag `sent` of the messages from one rank to another, at the core of the other one
-pub role_sent : (s : SetupView) → IsSetup s → (from to : ℕ) → are_peers s from to ≡ true → role_of s (flag_word (host_of s.hosts to) (signal_at s.layout Sent from)) ≡ sent_role s.layout from to
+pub role_sent : (s : SetupView) → IsSetup s → (from to : ℕ) → are_peers s from to ≡ true → role_of s (flag_word (host_of s.hosts to) (signal_at s.layout Sent from)) ≡ signal_role s.layout Sent from to
 role_sent s valid from to peers = by s.layout refl
   where
     p : ArePeers s from to
     p = peers_are s from to peers
 
-    by : (layout : Layout) → s.layout ≡ layout → role_of s (flag_word (host_of s.hosts to) (signal_at layout Sent from)) ≡ sent_role layout from to
+    by : (layout : Layout) → s.layout ≡ layout → role_of s (flag_word (host_of s.hosts to) (signal_at layout Sent from)) ≡ signal_role layout Sent from to
     by LineFlags e = let w = valid.ranks_within in let below = p.one in let g : first_gather s.layout ≡ 97 = ap first_gather e in
         role_on s valid to (1 + from) 0 p.other ∙ role_at-low s to (1 + from) 0 (omega arith) (omega (arith, w, below, g))
         ∙ ap (λ (layout : Layout). flag_role layout s to (1 + from) 0) e ∙ sent_line s valid from to peers
@@ -240,13 +237,13 @@ role_sent s valid from to peers = by s.layout refl
         role_on s valid to 1 0 p.other ∙ role_at-low s to 1 0 (omega arith) (omega (arith, a)) ∙ ap (λ (layout : Layout). flag_role layout s to 1 0) e
 
 -- the flag `ready` of the same messages, at the core of the first one
-pub role_ready : (s : SetupView) → IsSetup s → (from to : ℕ) → are_peers s from to ≡ true → role_of s (flag_word (host_of s.hosts from) (signal_at s.layout Ready to)) ≡ ready_role s.layout from to
+pub role_ready : (s : SetupView) → IsSetup s → (from to : ℕ) → are_peers s from to ≡ true → role_of s (flag_word (host_of s.hosts from) (signal_at s.layout Ready to)) ≡ signal_role s.layout Ready to from
 role_ready s valid from to peers = by s.layout refl
   where
     p : ArePeers s from to
     p = peers_are s from to peers
 
-    by : (layout : Layout) → s.layout ≡ layout → role_of s (flag_word (host_of s.hosts from) (signal_at layout Ready to)) ≡ ready_role layout from to
+    by : (layout : Layout) → s.layout ≡ layout → role_of s (flag_word (host_of s.hosts from) (signal_at layout Ready to)) ≡ signal_role layout Ready to from
     by LineFlags e = let w = valid.ranks_within in let below = p.other in let g : first_gather s.layout ≡ 97 = ap first_gather e in
         role_on s valid from (49 + to) 0 p.one ∙ role_at-low s from (49 + to) 0 (omega arith) (omega (arith, w, below, g))
         ∙ ap (λ (layout : Layout). flag_role layout s from (49 + to) 0) e ∙ ready_line s from to peers
@@ -254,13 +251,22 @@ role_ready s valid from to peers = by s.layout refl
         role_on s valid from 1 1 p.one ∙ role_at-low s from 1 1 (omega arith) (omega (arith, a)) ∙ ap (λ (layout : Layout). flag_role layout s from 1 1) e
 
 -- the words of bit flags, also where the run has no other rank
-pub role_sent_bits : (s : SetupView) → IsSetup s → s.layout ≡ BitFlags → (owner : ℕ) → owner < s.nue → role_of s (own_word s owner 1 0) ≡ SentFlags owner
+pub role_sent_bits : (s : SetupView) → IsSetup s → s.layout ≡ BitFlags → (owner : ℕ) → owner < s.nue → role_of s (own_word s owner 1 0) ≡ SignalFlags Sent owner
 role_sent_bits s valid e owner lt = let a = first_gather-above s.layout in
     role_on s valid owner 1 0 lt ∙ role_at-low s owner 1 0 (omega arith) (omega (arith, a)) ∙ ap (λ (layout : Layout). flag_role layout s owner 1 0) e
 
-pub role_ready_bits : (s : SetupView) → IsSetup s → s.layout ≡ BitFlags → (owner : ℕ) → owner < s.nue → role_of s (own_word s owner 1 1) ≡ ReadyFlags owner
+pub role_ready_bits : (s : SetupView) → IsSetup s → s.layout ≡ BitFlags → (owner : ℕ) → owner < s.nue → role_of s (own_word s owner 1 1) ≡ SignalFlags Ready owner
 role_ready_bits s valid e owner lt = let a = first_gather-above s.layout in
     role_on s valid owner 1 1 lt ∙ role_at-low s owner 1 1 (omega arith) (omega (arith, a)) ∙ ap (λ (layout : Layout). flag_role layout s owner 1 1) e
+
+-- the flag of a signal that one rank raises, at the core of the other
+pub role_signal : (s : SetupView) → IsSetup s → (signal : Signal) (by at : ℕ) → are_peers s by at ≡ true → role_of s (flag_word (host_of s.hosts at) (signal_at s.layout signal by)) ≡ signal_role s.layout signal by at
+role_signal s valid Sent by at peers = role_sent s valid by at peers
+role_signal s valid Ready by at peers = role_ready s valid at by (peers_swap s by at peers)
+
+pub role_signal_bits : (s : SetupView) → IsSetup s → s.layout ≡ BitFlags → (signal : Signal) (owner : ℕ) → owner < s.nue → role_of s (own_word s owner 1 (signal_word signal)) ≡ SignalFlags signal owner
+role_signal_bits s valid e Sent owner lt = role_sent_bits s valid e owner lt
+role_signal_bits s valid e Ready owner lt = role_ready_bits s valid e owner lt
 
 -- the other words of the lines of flags
 pub role_spare_line : (s : SetupView) → IsSetup s → s.layout ≡ LineFlags → (owner line word : ℕ) → owner < s.nue → 1 ≤ line → line < first_gather s.layout → word ≢ 0 → role_of s (own_word s owner line word) ≡ IdleWord
@@ -271,7 +277,7 @@ role_spare_line s valid e owner line word lt some low other =
 pub role_spare_bits : (s : SetupView) → IsSetup s → s.layout ≡ BitFlags → (owner word : ℕ) → owner < s.nue → 2 ≤ word → role_of s (own_word s owner 1 word) ≡ IdleWord
 role_spare_bits s valid e owner word lt high = let a = first_gather-above s.layout in
     role_on s valid owner 1 word lt ∙ role_at-low s owner 1 word (omega arith) (omega (arith, a)) ∙ ap (λ (layout : Layout). flag_role layout s owner 1 word) e
-    ∙ if_no (word == 0) (SentFlags owner) _ (eqb_other word 0 (λ z. absurd (omega (arith, high, z)))) ∙ if_no (word == 1) (ReadyFlags owner) IdleWord (eqb_other word 1 (λ z. absurd (omega (arith, high, z))))
+    ∙ if_no (word == 0) (SignalFlags Sent owner) _ (eqb_other word 0 (λ z. absurd (omega (arith, high, z)))) ∙ if_no (word == 1) (SignalFlags Ready owner) IdleWord (eqb_other word 1 (λ z. absurd (omega (arith, high, z))))
 
 -- a barrier's flags, of a communicator that may have no rule
 pub role_gather_any : (s : SetupView) → IsSetup s → (comm owner : ℕ) → comm < 16 → owner < s.nue

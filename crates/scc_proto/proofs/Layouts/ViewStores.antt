@@ -10,20 +10,20 @@ use Rattle.scc_base.specs.declared.layouts.Layout.{Layout}
 use Rattle.scc_base.specs.declared.layouts.Layout.TheVariants.{LineFlags, BitFlags}
 use Rattle.scc_base.specs.declared.events.Access.TheVariants.{Store}
 use Rattle.scc_proto.specs.Tables.{put_two}
-use Rattle.scc_proto.specs.Words.{Memory, word_at, is_at, memory_by, Role, HeaderWord, ChunkWord, SentFlag, ReadyFlag, SentFlags, ReadyFlags, GatherFlag, ReleaseFlag, HeapWord, IdleWord, are_peers, is_present, role_of}
+use Rattle.scc_proto.specs.Words.{Memory, word_at, is_at, memory_by, Role, HeaderWord, ChunkWord, SignalFlag, SignalFlags, GatherFlag, ReleaseFlag, HeapWord, IdleWord, are_peers, is_present, role_of}
 use Rattle.scc_proto.specs.Views.{View, flag_in, view_of}
 use Rattle.scc_proto.proofs.Layouts.MoveFacts.{SameView}
 use Rattle.scc_proto.proofs.Tests.{same_or_other, eqb_same, eqb_other, put_two_here, put_two_first, put_two_second}
-use Rattle.scc_proto.proofs.Layouts.Roles.{if_yes, if_no, lt_yes, lt_no, lt_is, lt_not, own_word, own_is, Stands, role_stands, sent_role, ready_role, role_header, role_chunk, role_sent, role_ready, role_gather, role_release}
+use Rattle.scc_proto.proofs.Layouts.Roles.{if_yes, if_no, lt_yes, lt_no, lt_is, lt_not, own_word, own_is, Stands, role_stands, signal_role, role_header, role_chunk, role_sent, role_ready, role_gather, role_release}
 
 -- the view with a word of this use stored
 abbrev pub view_stored : Role → ℕ → View → View
 view_stored (HeaderWord owner k) v view = record view { header = put_two view.header owner k v }
 view_stored (ChunkWord owner k) v view = record view { chunk = put_two view.chunk owner k v }
-view_stored (SentFlag from to) v view = record view { sent = put_two view.sent from to v }
-view_stored (ReadyFlag from to) v view = record view { ready = put_two view.ready from to v }
-view_stored (SentFlags owner) v view = record view { sent = λ from to. if to == owner then bit_at v from else view.sent from to }
-view_stored (ReadyFlags owner) v view = record view { ready = λ from to. if from == owner then bit_at v to else view.ready from to }
+view_stored (SignalFlag Sent from to) v view = record view { sent = put_two view.sent from to v }
+view_stored (SignalFlag Ready to from) v view = record view { ready = put_two view.ready from to v }
+view_stored (SignalFlags Sent owner) v view = record view { sent = λ from to. if to == owner then bit_at v from else view.sent from to }
+view_stored (SignalFlags Ready owner) v view = record view { ready = λ from to. if from == owner then bit_at v to else view.ready from to }
 view_stored (GatherFlag comm owner) v view = record view { gather = put_two view.gather comm owner v }
 view_stored (ReleaseFlag comm owner) v view = record view { release = put_two view.release comm owner v }
 view_stored HeapWord v view = view
@@ -65,17 +65,17 @@ module _ (s : SetupView) (valid : IsSetup s) (place : WordAt) (value : ℕ) (mem
 
   sent_left : (role : Role) → Stands s place role → (from to : ℕ) → place ≢ flag_word (host_of s.hosts to) (signal_at s.layout Sent from)
       → (view_stored role value (view_of s memory)).sent from to ≡ (view_of s memory).sent from to
-  sent_left (SentFlag a b) st from to ne = two_left (view_of s memory).sent a b value from to
+  sent_left (SignalFlag Sent a b) st from to ne = two_left (view_of s memory).sent a b value from to
       (λ e f. ne (own_is s place b (1 + a) 0 st.0 ∙ (λ i. own_word s (sym f i) (1 + sym e i) 0) ∙ ap (λ (layout : Layout). flag_word (host_of s.hosts to) (signal_at layout Sent from)) (sym st.2)))
-  sent_left (SentFlags owner) st from to ne = if_no (to == owner) _ _
+  sent_left (SignalFlags Sent owner) st from to ne = if_no (to == owner) _ _
       (eqb_other to owner (λ e. ne (own_is s place owner 1 0 st.0 ∙ (λ i. own_word s (sym e i) 1 0) ∙ ap (λ (layout : Layout). flag_word (host_of s.hosts to) (signal_at layout Sent from)) (sym st.1))))
   sent_left role st from to ne = refl
 
   ready_left : (role : Role) → Stands s place role → (from to : ℕ) → place ≢ flag_word (host_of s.hosts from) (signal_at s.layout Ready to)
       → (view_stored role value (view_of s memory)).ready from to ≡ (view_of s memory).ready from to
-  ready_left (ReadyFlag a b) st from to ne = two_left (view_of s memory).ready a b value from to
+  ready_left (SignalFlag Ready b a) st from to ne = two_left (view_of s memory).ready a b value from to
       (λ e f. ne (own_is s place a (49 + b) 0 st.0 ∙ (λ i. own_word s (sym e i) (49 + sym f i) 0) ∙ ap (λ (layout : Layout). flag_word (host_of s.hosts from) (signal_at layout Ready to)) (sym st.2)))
-  ready_left (ReadyFlags owner) st from to ne = if_no (from == owner) _ _
+  ready_left (SignalFlags Ready owner) st from to ne = if_no (from == owner) _ _
       (eqb_other from owner (λ e. ne (own_is s place owner 1 1 st.0 ∙ (λ i. own_word s (sym e i) 1 1) ∙ ap (λ (layout : Layout). flag_word (host_of s.hosts from) (signal_at layout Ready to)) (sym st.1))))
   ready_left role st from to ne = refl
 
@@ -105,11 +105,11 @@ module _ (s : SetupView) (valid : IsSetup s) (place : WordAt) (value : ℕ) (mem
 
   -- ---- the word itself is stored
 
-  sent_here : (layout : Layout) (from to : ℕ) → (view_stored (sent_role layout from to) value (view_of s memory)).sent from to ≡ flag_in layout value (signal_at layout Sent from)
+  sent_here : (layout : Layout) (from to : ℕ) → (view_stored (signal_role layout Sent from to) value (view_of s memory)).sent from to ≡ flag_in layout value (signal_at layout Sent from)
   sent_here LineFlags from to = put_two_here (view_of s memory).sent from to value
   sent_here BitFlags from to = if_yes (to == to) (bit_at value from) ((view_of s memory).sent from to) (eqb_same to)
 
-  ready_here : (layout : Layout) (from to : ℕ) → (view_stored (ready_role layout from to) value (view_of s memory)).ready from to ≡ flag_in layout value (signal_at layout Ready to)
+  ready_here : (layout : Layout) (from to : ℕ) → (view_stored (signal_role layout Ready to from) value (view_of s memory)).ready from to ≡ flag_in layout value (signal_at layout Ready to)
   ready_here LineFlags from to = put_two_here (view_of s memory).ready from to value
   ready_here BitFlags from to = if_yes (from == from) (bit_at value to) ((view_of s memory).ready from to) (eqb_same from)
 

@@ -14,19 +14,20 @@ use Rattle.scc_base.specs.declared.communicators.CommRule.TheVariants.{World}
 use Rattle.scc_base.specs.declared.layouts.Layout.{Layout}
 use Rattle.scc_base.specs.declared.layouts.Layout.TheVariants.{LineFlags, BitFlags}
 use Rattle.scc_base.specs.declared.events.Event.{Event}
+use Rattle.scc_base.specs.declared.signals.Signal.TheVariants.{Sent, Ready}
 use Rattle.scc_proto.specs.Tables.{put}
 use Rattle.scc_proto.specs.Messages.{Notes, noted, note_word, has_all, bytes_from, is_zero_from, begun}
 use Rattle.scc_proto.specs.Stages.{Drafting, Taking, Record, blank}
-use Rattle.scc_proto.specs.Moves.{DraftChunk, RaiseSent, ReadChunk, RaiseReady, after}
+use Rattle.scc_proto.specs.Moves.{DraftChunk, RaiseSignal, ReadChunk, after}
 use Rattle.scc_proto.specs.Permission.{permits}
 use Rattle.scc_proto.specs.Words.{Memory, memory_after, RankEvent, IsRun, ChunkWord}
-use Rattle.scc_proto.specs.Records.{act_of, record_after, forget_sent, forget_ready, change_held}
+use Rattle.scc_proto.specs.Records.{act_of, record_after, forget_flags, change_held}
 use Rattle.scc_proto.specs.Histories.{events_of, memory_from, IsPermittedRun}
 use Rattle.scc_proto.specs.Ports.{Seat, MayMakeAll, record_next, record_on}
 use Rattle.scc_proto.specs.Examples.{two_ranks_by, for_each, drafts_head, begins_first, raises_ready, goes_second, bytes_of}
 use Rattle.scc_proto.proofs.Tests.{same_or_other, put_here, put_there, eqb_same}
 use Rattle.scc_proto.proofs.PortLaws.{record_on-append, may-append}
-use Rattle.scc_proto.proofs.Layouts.PlaceMoves.{Makes, store_moves, load_moves, sent_raised, ready_raised, sent_bit_raised, ready_bit_raised}
+use Rattle.scc_proto.proofs.Layouts.PlaceMoves.{Makes, store_moves, load_moves, signal_raised, signal_bit_raised}
 use Rattle.scc_proto.proofs.Layouts.Roles.{chunk_lines-end, role_chunk}
 
 -- ---- lists of events one after another
@@ -231,25 +232,25 @@ abbrev noted_there : Notes → Record
 noted_there chunk = record_on (seat_of BitFlags 0) (drafting BitFlags chunk) (notes_flags 1 0 0)
 
 abbrev bit_raised : Notes → Record
-bit_raised chunk = change_held forget_sent 1 (after 6624 (RaiseSent 1) (noted_there chunk))
+bit_raised chunk = change_held (forget_flags Sent) 1 (after 6624 (RaiseSignal Sent 1) (noted_there chunk))
 
 -- the first chunk is raised
 abbrev pub offering : Layout → Notes → Record
-offering LineFlags chunk = after 3584 (RaiseSent 1) (drafting LineFlags chunk)
+offering LineFlags chunk = after 3584 (RaiseSignal Sent 1) (drafting LineFlags chunk)
 offering BitFlags chunk = record_on (seat_of BitFlags 0) (bit_raised chunk) (free_of 1 ∷ [])
 
 pub raises : (layout : Layout) (word : ℕ → ℕ) → Goes (seat_of layout 0) (drafting layout (notes_up word (words_in layout))) (raised_events layout) (offering layout (notes_up word (words_in layout)))
 unfolding record_next act_of
 raises LineFlags word = goes_one (seat_of LineFlags 0) (drafting LineFlags (notes_up word 448)) (store_of (record { core = 1; line = 1; word = 0 }) 1) (offering LineFlags (notes_up word 448))
-    (sent_raised (seat_of LineFlags 0) (drafting LineFlags (notes_up word 448)) (two_valid LineFlags) refl 1 refl may)
+    (signal_raised (seat_of LineFlags 0) (drafting LineFlags (notes_up word 448)) (two_valid LineFlags) refl Sent 1 refl may)
   where
-    may : permits 3584 (RaiseSent 1) (drafting LineFlags (notes_up word 448)) ≡ true
+    may : permits 3584 (RaiseSignal Sent 1) (drafting LineFlags (notes_up word 448)) ≡ true
     may = let whole = has_up word 448 448 (omega arith) in λ i. (header_all LineFlags i && true) && (whole i && nothing_padded 3584 (notes_up word 448) i)
 raises BitFlags word =
     goes_then seat (drafting BitFlags chunk) (notes_flags 1 0 0) (noted_there chunk) (store_of (flags_word 1 0) 1 ∷ free_of 1 ∷ []) (offering BitFlags chunk)
     (record { may = (refl, (refl, (refl, (refl, (refl, tt))))); becomes = refl })
     (goes_then seat (noted_there chunk) (store_of (flags_word 1 0) 1 ∷ []) (bit_raised chunk) (free_of 1 ∷ []) (offering BitFlags chunk)
-    (goes_one seat (noted_there chunk) (store_of (flags_word 1 0) 1) (bit_raised chunk) (sent_bit_raised seat (noted_there chunk) (two_valid BitFlags) refl 1 0 refl refl refl may))
+    (goes_one seat (noted_there chunk) (store_of (flags_word 1 0) 1) (bit_raised chunk) (signal_bit_raised seat (noted_there chunk) (two_valid BitFlags) refl Sent 1 0 refl refl refl may))
     (record { may = (refl, tt); becomes = refl }))
   where
     seat : Seat
@@ -258,7 +259,7 @@ raises BitFlags word =
     chunk : Notes
     chunk = notes_up word 828
 
-    may : permits 6624 (RaiseSent 1) (noted_there chunk) ≡ true
+    may : permits 6624 (RaiseSignal Sent 1) (noted_there chunk) ≡ true
     may = let whole = has_up word 828 828 (omega arith) in λ i. (header_all BitFlags i && true) && (whole i && nothing_padded 6624 chunk i)
 
 -- the second chunk, as it was drafted and as it was loaded
@@ -328,22 +329,22 @@ abbrev noted_here : Notes → Record
 noted_here chunk = record_on (seat_of BitFlags 1) (taking BitFlags chunk) (notes_flags 0 0 0)
 
 abbrev bit_answered : Notes → Record
-bit_answered chunk = change_held forget_ready 0 (after 6624 (RaiseReady 0) (noted_here chunk))
+bit_answered chunk = change_held (forget_flags Ready) 0 (after 6624 (RaiseSignal Ready 0) (noted_here chunk))
 
 -- the first chunk is answered
 abbrev pub between : Layout → Notes → Record
-between LineFlags chunk = after 3584 (RaiseReady 0) (taking LineFlags chunk)
+between LineFlags chunk = after 3584 (RaiseSignal Ready 0) (taking LineFlags chunk)
 between BitFlags chunk = record_on (seat_of BitFlags 1) (bit_answered chunk) (free_of 0 ∷ [])
 
 pub answers : (layout : Layout) (word : ℕ → ℕ) → Goes (seat_of layout 1) (taking layout (notes_up word (words_in layout))) (events_of 1 (raises_ready layout)) (between layout (notes_up word (words_in layout)))
 unfolding record_next act_of has_all
 answers LineFlags word = goes_one (seat_of LineFlags 1) (taking LineFlags (notes_up word 448)) (store_of (record { core = 0; line = 50; word = 0 }) 1) (between LineFlags (notes_up word 448))
-    (ready_raised (seat_of LineFlags 1) (taking LineFlags (notes_up word 448)) (two_valid LineFlags) refl 0 refl (has_up word 448 448 (omega arith)))
+    (signal_raised (seat_of LineFlags 1) (taking LineFlags (notes_up word 448)) (two_valid LineFlags) refl Ready 0 refl (has_up word 448 448 (omega arith)))
 answers BitFlags word =
     goes_then seat (taking BitFlags chunk) (notes_flags 0 0 0) (noted_here chunk) (store_of (flags_word 0 1) 2 ∷ free_of 0 ∷ []) (between BitFlags chunk)
     (record { may = (refl, (refl, (refl, (refl, (refl, tt))))); becomes = refl })
     (goes_then seat (noted_here chunk) (store_of (flags_word 0 1) 2 ∷ []) (bit_answered chunk) (free_of 0 ∷ []) (between BitFlags chunk)
-    (goes_one seat (noted_here chunk) (store_of (flags_word 0 1) 2) (bit_answered chunk) (ready_bit_raised seat (noted_here chunk) (two_valid BitFlags) refl 0 0 refl refl refl (has_up word 828 828 (omega arith))))
+    (goes_one seat (noted_here chunk) (store_of (flags_word 0 1) 2) (bit_answered chunk) (signal_bit_raised seat (noted_here chunk) (two_valid BitFlags) refl Ready 0 0 refl refl refl (has_up word 828 828 (omega arith))))
     (record { may = (refl, tt); becomes = refl }))
   where
     seat : Seat

@@ -4,10 +4,11 @@ use Rattle.scc_base.specs.Calls.{DataCall, Message}
 use Rattle.scc_base.specs.Setups.{SetupView, IsSetup, setup_key}
 use Rattle.scc_base.proofs.Confluence.{equal_or_not}
 use Rattle.scc_base.proofs.ChangeLaws.{true_or_false}
+use Rattle.scc_base.specs.declared.signals.Signal.TheVariants.{Sent, Ready}
 use Rattle.scc_proto.specs.Tables.{put}
 use Rattle.scc_proto.specs.Messages.{Progress, begun, with_chunk, message_of, sent_messages, received_messages, send_to, post_to, head_of, is_last}
 use Rattle.scc_proto.specs.Stages.{Filling, Raised, Answered, Stage, Idle, Drafting, Sending, Between, Taking, Barrier, OnItsWay, Record}
-use Rattle.scc_proto.specs.Moves.{Move, DraftHeader, DraftChunk, RaiseSent, LookSent, ReadHeader, ReadChunk, LowerSent, RaiseReady, LookReady, LowerReady, FlipGather, LookGather, WriteRelease, LookRelease, StoreHeap, NoMove, Misplaced, is_posted, raise_sent, lower_ready, post_raised, finished_if, calls_raised, calls_sent, after}
+use Rattle.scc_proto.specs.Moves.{Move, DraftHeader, DraftChunk, RaiseSignal, LookSignal, ReadHeader, ReadChunk, LowerSignal, FlipGather, LookGather, WriteRelease, LookRelease, StoreHeap, NoMove, Misplaced, is_posted, raise_sent, lower_ready, post_raised, finished_if, calls_raised, calls_sent, after}
 use Rattle.scc_proto.specs.Permission.{is_drafted, may_raise, may_go_on, is_answered_by}
 use Rattle.scc_proto.specs.Words.{are_peers}
 use Rattle.scc_proto.specs.Records.{chunk_of}
@@ -39,7 +40,7 @@ module _ (s : SetupView) (me : ℕ) (view : View) (records : ℕ → Record) (lo
   GrowsBy move = Grows s.nue (setup_key s) (passed_calls s records) (slot_of s records) (passed_calls s (next_of move)) (slot_of s (next_of move))
 
   -- a chunk is raised: the first one of a posted message is a post
-  raise_sent_grows : (to : ℕ) → IsViewStep s me view (records me) (RaiseSent to) → GrowsBy (RaiseSent to)
+  raise_sent_grows : (to : ℕ) → IsViewStep s me view (records me) (RaiseSignal Sent to) → GrowsBy (RaiseSignal Sent to)
   raise_sent_grows to step = by_stage (records me).stage refl
     where
       peers : are_peers s me to ≡ true
@@ -62,20 +63,20 @@ module _ (s : SetupView) (me : ℕ) (view : View) (records : ℕ → Record) (lo
       level m rests = (at_rest (chunk_of s) (pair_of me to view (records me) (records to)) m rests (pairs me to peers)).level
 
       bars : (comm : ℕ) → bar_at comm (raise_sent to (records me).stage) ≡ bar_at comm (records me).stage
-      bars comm = bar_kept comm (chunk_of s) (RaiseSent to) (records me) refl
+      bars comm = bar_kept comm (chunk_of s) (RaiseSignal Sent to) (records me) refl
 
       empty : slot_of s records me ≡ None
       empty = ap (λ (p : Option OnItsWay). slot_by (chunk_of s) me p records) no_post
 
-      not_allowed : (st : Stage) → (records me).stage ≡ st → may_raise (chunk_of s) to st ≡ false → GrowsBy (RaiseSent to)
+      not_allowed : (st : Stage) → (records me).stage ≡ st → may_raise (chunk_of s) to st ≡ false → GrowsBy (RaiseSignal Sent to)
       not_allowed st is refused = absurd (true≢false (sym may ∙ ap (may_raise (chunk_of s) to) is ∙ refused))
 
-      by_stage : (st : Stage) → (records me).stage ≡ st → GrowsBy (RaiseSent to)
+      by_stage : (st : Stage) → (records me).stage ≡ st → GrowsBy (RaiseSignal Sent to)
       by_stage (Drafting header chunk) is =
           ⊎_elim
           (λ (posts : is_posted header ≡ true). a_post posts)
           (λ (sends : is_posted header ≡ false).
-          quiet s me records (new_of (RaiseSent to)) refl bars
+          quiet s me records (new_of (RaiseSignal Sent to)) refl bars
           (ap (λ (st : Stage). calls_raised (chunk_of s) to st (records me).calls) is ∙ ap (λ (b : Bool). finished_if b (post_to to (message_of (with_chunk (chunk_of s) (begun (head_of header)) chunk))) (records me).calls) sends)
           (ap (λ (p : Option OnItsWay). slot_by (chunk_of s) me p records) (ap (λ (st : Stage). post_raised to st (records me).post) is ∙ ap (λ (b : Bool). if b then Some (record { to = to; head = head_of header; chunk = chunk; is_answered = false }) else (records me).post) sends))
           (ap (λ (st : Stage). passed_open s me (raise_sent to st) records) is
@@ -87,14 +88,14 @@ module _ (s : SetupView) (me : ℕ) (view : View) (records : ℕ → Record) (lo
           at_level : received_messages me (records to).calls ≡ sent_messages to (records me).calls
           at_level = level None (ap₂ (sending_side to) is no_post)
 
-          a_post : is_posted header ≡ true → GrowsBy (RaiseSent to)
+          a_post : is_posted header ≡ true → GrowsBy (RaiseSignal Sent to)
           a_post posts =
-              grows_by_post s.nue (setup_key s) (passed_calls s records) (passed_calls s (next_of (RaiseSent to))) (slot_of s records) (slot_of s (next_of (RaiseSent to))) me
+              grows_by_post s.nue (setup_key s) (passed_calls s records) (passed_calls s (next_of (RaiseSignal Sent to))) (slot_of s records) (slot_of s (next_of (RaiseSignal Sent to))) me
               (record { to = to; head = head_of header; bytes = (with_chunk (chunk_of s) (begun (head_of header)) chunk).bytes })
               empty gain
-              (λ k other. passed_stays s me records (new_of (RaiseSent to)) refl bars k other (received k))
+              (λ k other. passed_stays s me records (new_of (RaiseSignal Sent to)) refl bars k other (received k))
               full
-              (λ k other. slot_stays s me records (new_of (RaiseSent to)) refl bars k other (received k))
+              (λ k other. slot_stays s me records (new_of (RaiseSignal Sent to)) refl bars k other (received k))
             where
               new_calls : calls_raised (chunk_of s) to (records me).stage (records me).calls ≡ (records me).calls ++ post_to to (message_of (with_chunk (chunk_of s) (begun (head_of header)) chunk)) ∷ []
               new_calls = ap (λ (st : Stage). calls_raised (chunk_of s) to st (records me).calls) is ∙ ap (λ (b : Bool). finished_if b (post_to to (message_of (with_chunk (chunk_of s) (begun (head_of header)) chunk))) (records me).calls) posts
@@ -108,29 +109,29 @@ module _ (s : SetupView) (me : ℕ) (view : View) (records : ℕ → Record) (lo
               received : (k : ℕ) → received_messages k (calls_raised (chunk_of s) to (records me).stage (records me).calls) ≡ received_messages k (records me).calls
               received k = ap (received_messages k) new_calls ∙ received_messages-post k (records me).calls to (message_of (with_chunk (chunk_of s) (begun (head_of header)) chunk))
 
-              gain : passed_calls s (next_of (RaiseSent to)) me ≡ passed_calls s records me ++ post_to to (message_of (with_chunk (chunk_of s) (begun (head_of header)) chunk)) ∷ []
+              gain : passed_calls s (next_of (RaiseSignal Sent to)) me ≡ passed_calls s records me ++ post_to to (message_of (with_chunk (chunk_of s) (begun (head_of header)) chunk)) ∷ []
               gain =
-                  passed_now s me records (new_of (RaiseSent to)) refl bars
-                  ∙ ap₂ (λ (l : List DataCall) (st : Stage). l ++ passed_open s me st (next_of (RaiseSent to))) new_calls new_stage
+                  passed_now s me records (new_of (RaiseSignal Sent to)) refl bars
+                  ∙ ap₂ (λ (l : List DataCall) (st : Stage). l ++ passed_open s me st (next_of (RaiseSignal Sent to))) new_calls new_stage
                   ∙ append-nil ((records me).calls ++ post_to to (message_of (with_chunk (chunk_of s) (begun (head_of header)) chunk)) ∷ [])
                   ∙ ap (λ (l : List DataCall). l ++ post_to to (message_of (with_chunk (chunk_of s) (begun (head_of header)) chunk)) ∷ []) (sym (ap (λ (st : Stage). (records me).calls ++ passed_open s me st records) is ∙ append-nil (records me).calls))
 
-              apart : (length (received_messages me (next_of (RaiseSent to) to).calls) == length (sent_messages to (next_of (RaiseSent to) me).calls)) ≡ false
+              apart : (length (received_messages me (next_of (RaiseSignal Sent to) to).calls) == length (sent_messages to (next_of (RaiseSignal Sent to) me).calls)) ≡ false
               apart =
                   ap₂ (λ (a b : List Message). length a == length b)
-                  (received_at s me records (new_of (RaiseSent to)) refl bars me (received me) to)
-                  (sent_now s me records (new_of (RaiseSent to)) refl bars to ∙ ap (sent_messages to) new_calls ∙ sent_messages-post to (records me).calls to (message_of (with_chunk (chunk_of s) (begun (head_of header)) chunk))
+                  (received_at s me records (new_of (RaiseSignal Sent to)) refl bars me (received me) to)
+                  (sent_now s me records (new_of (RaiseSignal Sent to)) refl bars to ∙ ap (sent_messages to) new_calls ∙ sent_messages-post to (records me).calls to (message_of (with_chunk (chunk_of s) (begun (head_of header)) chunk))
                   ∙ message_here (sent_messages to (records me).calls) to to (message_of (with_chunk (chunk_of s) (begun (head_of header)) chunk)) (test_same to to refl))
                   ∙ test_apart (length (received_messages me (records to).calls)) (length (sent_messages to (records me).calls ++ message_of (with_chunk (chunk_of s) (begun (head_of header)) chunk) ∷ []))
                   (λ same. let longer = one_more (sent_messages to (records me).calls) (message_of (with_chunk (chunk_of s) (begun (head_of header)) chunk)) in let even = ap length at_level in absurd (omega (arith, same, longer, even)))
 
-              full : slot_of s (next_of (RaiseSent to)) me ≡ Some (record { to = to; head = head_of header; bytes = (with_chunk (chunk_of s) (begun (head_of header)) chunk).bytes })
+              full : slot_of s (next_of (RaiseSignal Sent to)) me ≡ Some (record { to = to; head = head_of header; bytes = (with_chunk (chunk_of s) (begun (head_of header)) chunk).bytes })
               full =
-                  slot_now s me records (new_of (RaiseSent to)) refl bars
-                  ∙ ap (λ (p : Option OnItsWay). slot_by (chunk_of s) me p (next_of (RaiseSent to))) new_post
+                  slot_now s me records (new_of (RaiseSignal Sent to)) refl bars
+                  ∙ ap (λ (p : Option OnItsWay). slot_by (chunk_of s) me p (next_of (RaiseSignal Sent to))) new_post
                   ∙ ap (λ (b : Bool). if b then None else Some (record { to = to; head = head_of header; bytes = (with_chunk (chunk_of s) (begun (head_of header)) chunk).bytes })) apart
       by_stage (Sending j Filling message chunk) is =
-          quiet s me records (new_of (RaiseSent to)) refl bars
+          quiet s me records (new_of (RaiseSignal Sent to)) refl bars
           (ap (λ (st : Stage). calls_raised (chunk_of s) to st (records me).calls) is)
           (ap (λ (p : Option OnItsWay). slot_by (chunk_of s) me p records) (ap (λ (st : Stage). post_raised to st (records me).post) is))
           (ap (λ (st : Stage). passed_open s me (raise_sent to st) records) is
@@ -157,7 +158,7 @@ module _ (s : SetupView) (me : ℕ) (view : View) (records : ℕ → Record) (lo
       by_stage (Barrier c seen released) is = not_allowed (Barrier c seen released) is refl
 
   -- the sender goes on: a send that ends was passed before, and so was a posted message
-  lower_ready_grows : (by : ℕ) → IsViewStep s me view (records me) (LowerReady by) → GrowsBy (LowerReady by)
+  lower_ready_grows : (by : ℕ) → IsViewStep s me view (records me) (LowerSignal Ready by) → GrowsBy (LowerSignal Ready by)
   lower_ready_grows by step = by_stage (records me).stage refl
     where
       peers : are_peers s me by ≡ true
@@ -170,9 +171,9 @@ module _ (s : SetupView) (me : ℕ) (view : View) (records : ℕ → Record) (lo
       may = step.permitted
 
       bars : (comm : ℕ) → bar_at comm (lower_ready (chunk_of s) (records me).stage) ≡ bar_at comm (records me).stage
-      bars comm = bar_kept comm (chunk_of s) (LowerReady by) (records me) refl
+      bars comm = bar_kept comm (chunk_of s) (LowerSignal Ready by) (records me) refl
 
-      not_allowed : (st : Stage) → (records me).stage ≡ st → may_go_on by st (records me).post ≡ false → GrowsBy (LowerReady by)
+      not_allowed : (st : Stage) → (records me).stage ≡ st → may_go_on by st (records me).post ≡ false → GrowsBy (LowerSignal Ready by)
       not_allowed st is refused = absurd (true≢false (sym may ∙ ap (λ (x : Stage). may_go_on by x (records me).post) is ∙ refused))
 
       -- a posted message was received
@@ -206,14 +207,14 @@ module _ (s : SetupView) (me : ℕ) (view : View) (records : ℕ → Record) (lo
           level : received_messages me (records by).calls ≡ sent_messages by (records me).calls
           level = arrived (is_last (chunk_of s) (begun p.head)) ready.1.arrived
 
-      a_post : (st : Stage) → (records me).stage ≡ st → lower_ready (chunk_of s) st ≡ st → calls_sent (chunk_of s) st (records me).calls ≡ (records me).calls → sending_side by st (records me).post ≡ side_of_post by (records me).post → may_go_on by st (records me).post ≡ is_answered_by by (records me).post → GrowsBy (LowerReady by)
+      a_post : (st : Stage) → (records me).stage ≡ st → lower_ready (chunk_of s) st ≡ st → calls_sent (chunk_of s) st (records me).calls ≡ (records me).calls → sending_side by st (records me).post ≡ side_of_post by (records me).post → may_go_on by st (records me).post ≡ is_answered_by by (records me).post → GrowsBy (LowerSignal Ready by)
       a_post st is same_stage same_calls side asks =
-          quiet s me records (new_of (LowerReady by)) refl bars
+          quiet s me records (new_of (LowerSignal Ready by)) refl bars
           (ap (λ (x : Stage). calls_sent (chunk_of s) x (records me).calls) is ∙ same_calls)
           (sym (settled (records me).post refl (sym asks ∙ sym (ap (λ (x : Stage). may_go_on by x (records me).post) is) ∙ may) (ap (λ (x : Stage). sending_side by x (records me).post) is ∙ side)))
           (ap (λ (x : Stage). passed_open s me x records) (ap (lower_ready (chunk_of s)) is ∙ same_stage ∙ sym is))
 
-      by_stage : (st : Stage) → (records me).stage ≡ st → GrowsBy (LowerReady by)
+      by_stage : (st : Stage) → (records me).stage ≡ st → GrowsBy (LowerSignal Ready by)
       by_stage (Sending j Answered message chunk) is = by_last (is_last (chunk_of s) message) refl
         where
           here : (j == by) ≡ true
@@ -234,9 +235,9 @@ module _ (s : SetupView) (me : ℕ) (view : View) (records : ℕ → Record) (lo
           empty : slot_of s records me ≡ None
           empty = ap (λ (o : Option OnItsWay). slot_by (chunk_of s) me o records) no_post
 
-          by_last : (b : Bool) → is_last (chunk_of s) message ≡ b → GrowsBy (LowerReady by)
+          by_last : (b : Bool) → is_last (chunk_of s) message ≡ b → GrowsBy (LowerSignal Ready by)
           by_last false more =
-              quiet s me records (new_of (LowerReady by)) refl bars
+              quiet s me records (new_of (LowerSignal Ready by)) refl bars
               (ap (λ (x : Stage). calls_sent (chunk_of s) x (records me).calls) is ∙ ap (λ (b : Bool). finished_if b (send_to j (message_of (with_chunk (chunk_of s) message chunk))) (records me).calls) more)
               (sym empty)
               (ap (λ (x : Stage). passed_open s me (lower_ready (chunk_of s) x) records) is
@@ -272,24 +273,24 @@ module _ (s : SetupView) (me : ℕ) (view : View) (records : ℕ → Record) (lo
               old_passed : passed_calls s records me ≡ (records me).calls ++ send_to j (message_of (with_chunk (chunk_of s) message chunk)) ∷ []
               old_passed = ap (λ (x : Stage). (records me).calls ++ passed_open s me x records) is ∙ ap (λ (b : Bool). (records me).calls ++ (if b then send_to j (message_of (with_chunk (chunk_of s) message chunk)) ∷ [] else [])) through
 
-              new_passed : passed_calls s (next_of (LowerReady by)) me ≡ (records me).calls ++ send_to j (message_of (with_chunk (chunk_of s) message chunk)) ∷ []
+              new_passed : passed_calls s (next_of (LowerSignal Ready by)) me ≡ (records me).calls ++ send_to j (message_of (with_chunk (chunk_of s) message chunk)) ∷ []
               new_passed =
-                  passed_now s me records (new_of (LowerReady by)) refl bars
-                  ∙ ap₂ (λ (l : List DataCall) (x : Stage). l ++ passed_open s me x (next_of (LowerReady by))) new_calls new_stage
+                  passed_now s me records (new_of (LowerSignal Ready by)) refl bars
+                  ∙ ap₂ (λ (l : List DataCall) (x : Stage). l ++ passed_open s me x (next_of (LowerSignal Ready by))) new_calls new_stage
                   ∙ append-nil ((records me).calls ++ send_to j (message_of (with_chunk (chunk_of s) message chunk)) ∷ [])
 
-              calls : (k : ℕ) → passed_calls s (next_of (LowerReady by)) k ≡ passed_calls s records k
+              calls : (k : ℕ) → passed_calls s (next_of (LowerSignal Ready by)) k ≡ passed_calls s records k
               calls k =
                   ⊎_elim
-                  (λ (same : k ≡ me). subst (λ (x : ℕ). passed_calls s (next_of (LowerReady by)) x ≡ passed_calls s records x) (sym same) (new_passed ∙ sym old_passed))
-                  (λ (other : k ≢ me). passed_stays s me records (new_of (LowerReady by)) refl bars k other (received k))
+                  (λ (same : k ≡ me). subst (λ (x : ℕ). passed_calls s (next_of (LowerSignal Ready by)) x ≡ passed_calls s records x) (sym same) (new_passed ∙ sym old_passed))
+                  (λ (other : k ≢ me). passed_stays s me records (new_of (LowerSignal Ready by)) refl bars k other (received k))
                   (equal_or_not k me)
 
-              slots : (k : ℕ) → slot_of s (next_of (LowerReady by)) k ≡ slot_of s records k
+              slots : (k : ℕ) → slot_of s (next_of (LowerSignal Ready by)) k ≡ slot_of s records k
               slots k =
                   ⊎_elim
-                  (λ (same : k ≡ me). subst (λ (x : ℕ). slot_of s (next_of (LowerReady by)) x ≡ slot_of s records x) (sym same) (slot_now s me records (new_of (LowerReady by)) refl bars ∙ sym empty))
-                  (λ (other : k ≢ me). slot_stays s me records (new_of (LowerReady by)) refl bars k other (received k))
+                  (λ (same : k ≡ me). subst (λ (x : ℕ). slot_of s (next_of (LowerSignal Ready by)) x ≡ slot_of s records x) (sym same) (slot_now s me records (new_of (LowerSignal Ready by)) refl bars ∙ sym empty))
+                  (λ (other : k ≢ me). slot_stays s me records (new_of (LowerSignal Ready by)) refl bars k other (received k))
                   (equal_or_not k me)
       by_stage (Sending j Filling message chunk) is = not_allowed (Sending j Filling message chunk) is refl
       by_stage (Sending j Raised message chunk) is = not_allowed (Sending j Raised message chunk) is refl
@@ -306,14 +307,14 @@ module _ (s : SetupView) (me : ℕ) (view : View) (records : ℕ → Record) (lo
   message_grows : (move : Move) → IsViewStep s me view (records me) move → is_barrier_move move ≡ false → GrowsBy move
   message_grows (DraftHeader k v) step other = kept_quiet (DraftHeader k v) refl (λ comm. bar_kept comm (chunk_of s) (DraftHeader k v) (records me) refl) refl refl (draft_header-passed s me k v (records me).stage records)
   message_grows (DraftChunk k v) step other = kept_quiet (DraftChunk k v) refl (λ comm. bar_kept comm (chunk_of s) (DraftChunk k v) (records me) refl) refl refl (draft_chunk-passed s me k v (records me).stage records)
-  message_grows (RaiseSent to) step other = raise_sent_grows to step
-  message_grows (LookSent is_set) step other = kept_quiet (LookSent is_set) refl (λ comm. refl) refl refl refl
+  message_grows (RaiseSignal Sent to) step other = raise_sent_grows to step
+  message_grows (LookSignal Sent is_set) step other = kept_quiet (LookSignal Sent is_set) refl (λ comm. refl) refl refl refl
   message_grows (ReadHeader from k v) step other = kept_quiet (ReadHeader from k v) refl (λ comm. refl) refl refl refl
   message_grows (ReadChunk from k v) step other = kept_quiet (ReadChunk from k v) refl (λ comm. bar_kept comm (chunk_of s) (ReadChunk from k v) (records me) refl) refl refl (read_chunk-passed s me from k v (records me).stage records)
-  message_grows (LowerSent from) step other = kept_quiet (LowerSent from) refl (λ comm. bar_kept comm (chunk_of s) (LowerSent from) (records me) refl) refl refl (lower_sent-passed s me from (unwrap_or ((records me).notes from) []) (records me).stage records)
-  message_grows (RaiseReady to) step other = raise_ready_grows s me view records low consistent pairs senders to step
-  message_grows (LookReady is_set) step other = kept_quiet (LookReady is_set) refl (λ comm. bar_kept comm (chunk_of s) (LookReady is_set) (records me) refl) refl (look_ready-slot (chunk_of s) me is_set (records me).post records) (look_ready-passed s me is_set (records me).stage records)
-  message_grows (LowerReady by) step other = lower_ready_grows by step
+  message_grows (LowerSignal Sent from) step other = kept_quiet (LowerSignal Sent from) refl (λ comm. bar_kept comm (chunk_of s) (LowerSignal Sent from) (records me) refl) refl refl (lower_sent-passed s me from (unwrap_or ((records me).notes from) []) (records me).stage records)
+  message_grows (RaiseSignal Ready to) step other = raise_ready_grows s me view records low consistent pairs senders to step
+  message_grows (LookSignal Ready is_set) step other = kept_quiet (LookSignal Ready is_set) refl (λ comm. bar_kept comm (chunk_of s) (LookSignal Ready is_set) (records me) refl) refl (look_ready-slot (chunk_of s) me is_set (records me).post records) (look_ready-passed s me is_set (records me).stage records)
+  message_grows (LowerSignal Ready by) step other = lower_ready_grows by step
   message_grows (FlipGather c value last) step other = absurd (true≢false other)
   message_grows (LookGather c from place value) step other = absurd (true≢false other)
   message_grows (WriteRelease c to place value last) step other = absurd (true≢false other)

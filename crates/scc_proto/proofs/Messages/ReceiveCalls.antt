@@ -3,10 +3,11 @@ use Rattle.std.proofs.Common.{◌≡◌, ◌≢◌, ℕ, suc, ◌<◌, ◌==◌,
 use Rattle.scc_base.specs.Calls.{DataCall, Recv, Message}
 use Rattle.scc_base.specs.Setups.{SetupView, setup_key}
 use Rattle.scc_base.proofs.Confluence.{equal_or_not}
+use Rattle.scc_base.specs.declared.signals.Signal.TheVariants.{Ready}
 use Rattle.scc_proto.specs.Tables.{put}
 use Rattle.scc_proto.specs.Messages.{Notes, Progress, begun, with_chunk, message_of, sent_messages, received_messages, send_to, recv_from, is_last, is_whole, chunk_bytes, chunk_words, bytes_from}
 use Rattle.scc_proto.specs.Stages.{Raised, Stage, Idle, Drafting, Sending, Between, Taking, Barrier, OnItsWay, Record}
-use Rattle.scc_proto.specs.Moves.{Move, RaiseReady, raise_ready, finished_if, calls_received, after}
+use Rattle.scc_proto.specs.Moves.{Move, RaiseSignal, raise_ready, finished_if, calls_received, after}
 use Rattle.scc_proto.specs.Permission.{has_taken}
 use Rattle.scc_proto.specs.Words.{are_peers}
 use Rattle.scc_proto.specs.Records.{chunk_of}
@@ -39,7 +40,7 @@ module _ (s : SetupView) (me : ℕ) (view : View) (records : ℕ → Record) (lo
   GrowsBy move = Grows s.nue (setup_key s) (passed_calls s records) (slot_of s records) (passed_calls s (next_of move)) (slot_of s (next_of move))
 
   -- a chunk is taken: the last one of a message is a receive, and the sender's send or the posted message is received
-  pub raise_ready_grows : (to : ℕ) → IsViewStep s me view (records me) (RaiseReady to) → GrowsBy (RaiseReady to)
+  pub raise_ready_grows : (to : ℕ) → IsViewStep s me view (records me) (RaiseSignal Ready to) → GrowsBy (RaiseSignal Ready to)
   raise_ready_grows to step = by_stage (records me).stage refl
     where
       peers : are_peers s to me ≡ true
@@ -55,12 +56,12 @@ module _ (s : SetupView) (me : ℕ) (view : View) (records : ℕ → Record) (lo
       may = step.permitted
 
       bars : (comm : ℕ) → bar_at comm (raise_ready (chunk_of s) (records me).stage) ≡ bar_at comm (records me).stage
-      bars comm = bar_kept comm (chunk_of s) (RaiseReady to) (records me) refl
+      bars comm = bar_kept comm (chunk_of s) (RaiseSignal Ready to) (records me) refl
 
-      not_allowed : (st : Stage) → (records me).stage ≡ st → has_taken (chunk_of s) to st ≡ false → GrowsBy (RaiseReady to)
+      not_allowed : (st : Stage) → (records me).stage ≡ st → has_taken (chunk_of s) to st ≡ false → GrowsBy (RaiseSignal Ready to)
       not_allowed st is refused = absurd (true≢false (sym may ∙ ap (has_taken (chunk_of s) to) is ∙ refused))
 
-      by_stage : (st : Stage) → (records me).stage ≡ st → GrowsBy (RaiseReady to)
+      by_stage : (st : Stage) → (records me).stage ≡ st → GrowsBy (RaiseSignal Ready to)
       by_stage (Taking i message chunk) is = by_last (is_last (chunk_of s) message) refl
         where
           may_here : has_taken (chunk_of s) to (Taking i message chunk) ≡ true
@@ -90,9 +91,9 @@ module _ (s : SetupView) (me : ℕ) (view : View) (records : ℕ → Record) (lo
           old_passed : passed_calls s records me ≡ (records me).calls
           old_passed = ap (λ (st : Stage). (records me).calls ++ passed_open s me st records) is ∙ append-nil (records me).calls
 
-          by_last : (b : Bool) → is_last (chunk_of s) message ≡ b → GrowsBy (RaiseReady to)
+          by_last : (b : Bool) → is_last (chunk_of s) message ≡ b → GrowsBy (RaiseSignal Ready to)
           by_last false more =
-              quiet s me records (new_of (RaiseReady to)) refl bars
+              quiet s me records (new_of (RaiseSignal Ready to)) refl bars
               (ap (λ (st : Stage). calls_received (chunk_of s) st (records me).calls) is ∙ ap (λ (b : Bool). finished_if b (recv_from i (message_of (with_chunk (chunk_of s) message chunk))) (records me).calls) more)
               refl
               (ap (λ (st : Stage). passed_open s me (raise_ready (chunk_of s) st) records) is
@@ -108,10 +109,10 @@ module _ (s : SetupView) (me : ℕ) (view : View) (records : ℕ → Record) (lo
               new_stage : raise_ready (chunk_of s) (records me).stage ≡ Idle
               new_stage = ap (raise_ready (chunk_of s)) is ∙ ap (λ (b : Bool). if b then Idle else Between i (with_chunk (chunk_of s) message chunk)) last
 
-              receives : passed_calls s (next_of (RaiseReady to)) me ≡ passed_calls s records me ++ recv_from to (message_of (with_chunk (chunk_of s) message taken.1)) ∷ []
+              receives : passed_calls s (next_of (RaiseSignal Ready to)) me ≡ passed_calls s records me ++ recv_from to (message_of (with_chunk (chunk_of s) message taken.1)) ∷ []
               receives =
-                  passed_now s me records (new_of (RaiseReady to)) refl bars
-                  ∙ ap₂ (λ (l : List DataCall) (st : Stage). l ++ passed_open s me st (next_of (RaiseReady to))) new_calls new_stage
+                  passed_now s me records (new_of (RaiseSignal Ready to)) refl bars
+                  ∙ ap₂ (λ (l : List DataCall) (st : Stage). l ++ passed_open s me st (next_of (RaiseSignal Ready to))) new_calls new_stage
                   ∙ append-nil ((records me).calls ++ recv_from to (message_of (with_chunk (chunk_of s) message taken.1)) ∷ [])
                   ∙ ap (λ (l : List DataCall). l ++ recv_from to (message_of (with_chunk (chunk_of s) message taken.1)) ∷ []) (sym old_passed)
 
@@ -120,33 +121,33 @@ module _ (s : SetupView) (me : ℕ) (view : View) (records : ℕ → Record) (lo
                   ap (received_messages k) new_calls ∙ received_messages-recv k (records me).calls to (message_of (with_chunk (chunk_of s) message taken.1))
                   ∙ message_there (received_messages k (records me).calls) to k (message_of (with_chunk (chunk_of s) message taken.1)) (test_apart to k (λ same. other (sym same)))
 
-              received_here : received_messages to (next_of (RaiseReady to) me).calls ≡ received_messages to (records me).calls ++ message_of (with_chunk (chunk_of s) message taken.1) ∷ []
+              received_here : received_messages to (next_of (RaiseSignal Ready to) me).calls ≡ received_messages to (records me).calls ++ message_of (with_chunk (chunk_of s) message taken.1) ∷ []
               received_here =
-                  ap (λ (rec : Record). received_messages to rec.calls) (put_here records me me (new_of (RaiseReady to)) refl)
+                  ap (λ (rec : Record). received_messages to rec.calls) (put_here records me me (new_of (RaiseSignal Ready to)) refl)
                   ∙ ap (received_messages to) new_calls ∙ received_messages-recv to (records me).calls to (message_of (with_chunk (chunk_of s) message taken.1))
                   ∙ message_here (received_messages to (records me).calls) to to (message_of (with_chunk (chunk_of s) message taken.1)) (test_same to to refl)
 
-              sent_me : (j : ℕ) → sent_messages j (next_of (RaiseReady to) me).calls ≡ sent_messages j (records me).calls
-              sent_me j = sent_now s me records (new_of (RaiseReady to)) refl bars j ∙ ap (sent_messages j) new_calls ∙ sent_messages-recv j (records me).calls to (message_of (with_chunk (chunk_of s) message taken.1))
+              sent_me : (j : ℕ) → sent_messages j (next_of (RaiseSignal Ready to) me).calls ≡ sent_messages j (records me).calls
+              sent_me j = sent_now s me records (new_of (RaiseSignal Ready to)) refl bars j ∙ ap (sent_messages j) new_calls ∙ sent_messages-recv j (records me).calls to (message_of (with_chunk (chunk_of s) message taken.1))
 
-              slot_me : slot_of s (next_of (RaiseReady to)) me ≡ slot_of s records me
-              slot_me = slot_now s me records (new_of (RaiseReady to)) refl bars
-                  ∙ slot_at_rank s me (records me).post records (next_of (RaiseReady to)) (received_at s me records (new_of (RaiseReady to)) refl bars me (received_other me (λ same. apart (sym same)))) sent_me
+              slot_me : slot_of s (next_of (RaiseSignal Ready to)) me ≡ slot_of s records me
+              slot_me = slot_now s me records (new_of (RaiseSignal Ready to)) refl bars
+                  ∙ slot_at_rank s me (records me).post records (next_of (RaiseSignal Ready to)) (received_at s me records (new_of (RaiseSignal Ready to)) refl bars me (received_other me (λ same. apart (sym same)))) sent_me
 
-              slot_else : (k : ℕ) → k ≢ to → slot_of s (next_of (RaiseReady to)) k ≡ slot_of s records k
+              slot_else : (k : ℕ) → k ≢ to → slot_of s (next_of (RaiseSignal Ready to)) k ≡ slot_of s records k
               slot_else k other =
                   ⊎_elim
-                  (λ (same : k ≡ me). subst (λ (j : ℕ). slot_of s (next_of (RaiseReady to)) j ≡ slot_of s records j) (sym same) slot_me)
-                  (λ (away : k ≢ me). slot_stays s me records (new_of (RaiseReady to)) refl bars k away (received_other k other))
+                  (λ (same : k ≡ me). subst (λ (j : ℕ). slot_of s (next_of (RaiseSignal Ready to)) j ≡ slot_of s records j) (sym same) slot_me)
+                  (λ (away : k ≢ me). slot_stays s me records (new_of (RaiseSignal Ready to)) refl bars k away (received_other k other))
                   (equal_or_not k me)
 
               -- the sender is in its send
-              a_pair : taken.0 ≡ false → GrowsBy (RaiseReady to)
+              a_pair : taken.0 ≡ false → GrowsBy (RaiseSignal Ready to)
               a_pair sends =
-                  grows_by_pair s.nue (setup_key s) (passed_calls s records) (passed_calls s (next_of (RaiseReady to))) (slot_of s records) (slot_of s (next_of (RaiseReady to))) to
+                  grows_by_pair s.nue (setup_key s) (passed_calls s records) (passed_calls s (next_of (RaiseSignal Ready to))) (slot_of s records) (slot_of s (next_of (RaiseSignal Ready to))) to
                   (record { to = me; head = message.head; bytes = (with_chunk (chunk_of s) message taken.1).bytes })
                   apart empty sent_call receives
-                  (λ k not_to not_me. passed_stays s me records (new_of (RaiseReady to)) refl bars k not_me (received_other k not_to))
+                  (λ k not_to not_me. passed_stays s me records (new_of (RaiseSignal Ready to)) refl bars k not_me (received_other k not_to))
                   slots
                 where
                   sending : sending_side me (records to).stage (records to).post ≡ Offering false false message taken.1
@@ -170,32 +171,32 @@ module _ (s : SetupView) (me : ℕ) (view : View) (records : ℕ → Record) (lo
                       ∙ ap (λ (b : Bool). (records to).calls ++ (if b then send_to me (message_of (with_chunk (chunk_of s) message taken.1)) ∷ [] else [])) (not_received (received_messages to (records me).calls) (sent_messages me (records to).calls) (sym level))
                       ∙ append-nil (records to).calls
 
-                  through : is_received to me (next_of (RaiseReady to)) ≡ true
+                  through : is_received to me (next_of (RaiseSignal Ready to)) ≡ true
                   through =
-                      ap₂ (λ (a b : List Message). length a == suc (length b)) received_here (sent_at_rank s me records (new_of (RaiseReady to)) refl bars to apart me)
+                      ap₂ (λ (a b : List Message). length a == suc (length b)) received_here (sent_at_rank s me records (new_of (RaiseSignal Ready to)) refl bars to apart me)
                       ∙ test_same (length (received_messages to (records me).calls ++ message_of (with_chunk (chunk_of s) message taken.1) ∷ [])) (suc (length (sent_messages me (records to).calls)))
                       (one_more (received_messages to (records me).calls) (message_of (with_chunk (chunk_of s) message taken.1)) ∙ ap (λ (l : List Message). suc (length l)) (sym level))
 
-                  sent_call : passed_calls s (next_of (RaiseReady to)) to ≡ passed_calls s records to ++ send_to me (message_of (with_chunk (chunk_of s) message taken.1)) ∷ []
+                  sent_call : passed_calls s (next_of (RaiseSignal Ready to)) to ≡ passed_calls s records to ++ send_to me (message_of (with_chunk (chunk_of s) message taken.1)) ∷ []
                   sent_call =
-                      ap (λ (rec : Record). rec.calls ++ passed_open s to rec.stage (next_of (RaiseReady to))) (put_there records me to (new_of (RaiseReady to)) apart)
-                      ∙ ap (λ (st : Stage). (records to).calls ++ passed_open s to st (next_of (RaiseReady to))) stage_to
+                      ap (λ (rec : Record). rec.calls ++ passed_open s to rec.stage (next_of (RaiseSignal Ready to))) (put_there records me to (new_of (RaiseSignal Ready to)) apart)
+                      ∙ ap (λ (st : Stage). (records to).calls ++ passed_open s to st (next_of (RaiseSignal Ready to))) stage_to
                       ∙ ap (λ (b : Bool). (records to).calls ++ (if b then send_to me (message_of (with_chunk (chunk_of s) message taken.1)) ∷ [] else [])) through
                       ∙ ap (λ (l : List DataCall). l ++ send_to me (message_of (with_chunk (chunk_of s) message taken.1)) ∷ []) (sym before_it)
 
-                  slots : (k : ℕ) → slot_of s (next_of (RaiseReady to)) k ≡ slot_of s records k
+                  slots : (k : ℕ) → slot_of s (next_of (RaiseSignal Ready to)) k ≡ slot_of s records k
                   slots k =
                       ⊎_elim
-                      (λ (same : k ≡ to). subst (λ (j : ℕ). slot_of s (next_of (RaiseReady to)) j ≡ slot_of s records j) (sym same)
-                      (ap (λ (rec : Record). slot_by (chunk_of s) to rec.post (next_of (RaiseReady to))) (put_there records me to (new_of (RaiseReady to)) apart)
-                      ∙ ap (λ (p : Option OnItsWay). slot_by (chunk_of s) to p (next_of (RaiseReady to))) post_to_none ∙ sym empty))
+                      (λ (same : k ≡ to). subst (λ (j : ℕ). slot_of s (next_of (RaiseSignal Ready to)) j ≡ slot_of s records j) (sym same)
+                      (ap (λ (rec : Record). slot_by (chunk_of s) to rec.post (next_of (RaiseSignal Ready to))) (put_there records me to (new_of (RaiseSignal Ready to)) apart)
+                      ∙ ap (λ (p : Option OnItsWay). slot_by (chunk_of s) to p (next_of (RaiseSignal Ready to))) post_to_none ∙ sym empty))
                       (λ (other : k ≢ to). slot_else k other)
                       (equal_or_not k to)
 
               -- the message was posted
-              a_take : taken.0 ≡ true → GrowsBy (RaiseReady to)
+              a_take : taken.0 ≡ true → GrowsBy (RaiseSignal Ready to)
               a_take posts =
-                  grows_by_take s.nue (setup_key s) (passed_calls s records) (passed_calls s (next_of (RaiseReady to))) (slot_of s records) (slot_of s (next_of (RaiseReady to))) to
+                  grows_by_take s.nue (setup_key s) (passed_calls s records) (passed_calls s (next_of (RaiseSignal Ready to))) (slot_of s records) (slot_of s (next_of (RaiseSignal Ready to))) to
                   (record { to = on_way.to; head = on_way.head; bytes = (with_chunk (chunk_of s) (begun on_way.head) on_way.chunk).bytes })
                   full gain stay empty slot_else
                 where
@@ -222,18 +223,18 @@ module _ (s : SetupView) (me : ℕ) (view : View) (records : ℕ → Record) (lo
                       ∙ test_apart (length (received_messages to (records me).calls)) (length (sent_messages me (records to).calls))
                       (λ same. let longer = one_more (received_messages to (records me).calls) (message_of (with_chunk (chunk_of s) message taken.1)) in let even = ap length level in absurd (omega (arith, same, longer, even))))
 
-                  empty : slot_of s (next_of (RaiseReady to)) to ≡ None
+                  empty : slot_of s (next_of (RaiseSignal Ready to)) to ≡ None
                   empty =
-                      ap (λ (rec : Record). slot_by (chunk_of s) to rec.post (next_of (RaiseReady to))) (put_there records me to (new_of (RaiseReady to)) apart)
-                      ∙ ap (λ (p : Option OnItsWay). slot_by (chunk_of s) to p (next_of (RaiseReady to))) posted.is
+                      ap (λ (rec : Record). slot_by (chunk_of s) to rec.post (next_of (RaiseSignal Ready to))) (put_there records me to (new_of (RaiseSignal Ready to)) apart)
+                      ∙ ap (λ (p : Option OnItsWay). slot_by (chunk_of s) to p (next_of (RaiseSignal Ready to))) posted.is
                       ∙ ap (λ (b : Bool). if b then None else Some (record { to = on_way.to; head = on_way.head; bytes = (with_chunk (chunk_of s) (begun on_way.head) on_way.chunk).bytes }))
-                      (ap (λ (j : ℕ). length (received_messages to (next_of (RaiseReady to) j).calls) == length (sent_messages j (next_of (RaiseReady to) to).calls)) posted.to
-                      ∙ ap₂ (λ (a b : List Message). length a == length b) received_here (sent_at_rank s me records (new_of (RaiseReady to)) refl bars to apart me ∙ level)
+                      (ap (λ (j : ℕ). length (received_messages to (next_of (RaiseSignal Ready to) j).calls) == length (sent_messages j (next_of (RaiseSignal Ready to) to).calls)) posted.to
+                      ∙ ap₂ (λ (a b : List Message). length a == length b) received_here (sent_at_rank s me records (new_of (RaiseSignal Ready to)) refl bars to apart me ∙ level)
                       ∙ test_same (length (received_messages to (records me).calls ++ message_of (with_chunk (chunk_of s) message taken.1) ∷ [])) (length (received_messages to (records me).calls ++ message_of (with_chunk (chunk_of s) message taken.1) ∷ [])) refl)
 
-                  gain : passed_calls s (next_of (RaiseReady to)) on_way.to ≡ passed_calls s records on_way.to ++ Recv to on_way.head (with_chunk (chunk_of s) (begun on_way.head) on_way.chunk).bytes ∷ []
+                  gain : passed_calls s (next_of (RaiseSignal Ready to)) on_way.to ≡ passed_calls s records on_way.to ++ Recv to on_way.head (with_chunk (chunk_of s) (begun on_way.head) on_way.chunk).bytes ∷ []
                   gain =
-                      subst (λ (j : ℕ). passed_calls s (next_of (RaiseReady to)) j ≡ passed_calls s records j ++ Recv to on_way.head (with_chunk (chunk_of s) (begun on_way.head) on_way.chunk).bytes ∷ []) (sym posted.to)
+                      subst (λ (j : ℕ). passed_calls s (next_of (RaiseSignal Ready to)) j ≡ passed_calls s records j ++ Recv to on_way.head (with_chunk (chunk_of s) (begun on_way.head) on_way.chunk).bytes ∷ []) (sym posted.to)
                       (receives ∙ ap (λ (m : Progress). passed_calls s records me ++ recv_from to (message_of m) ∷ []) whole_message)
 
                   free : is_free (records to).stage ≡ true
@@ -243,17 +244,17 @@ module _ (s : SetupView) (me : ℕ) (view : View) (records : ℕ → Record) (lo
                       free_of None beside is_some_post = absurd cc
                       free_of (Some p) beside is_some_post = beside.free
 
-                  stay : (k : ℕ) → k ≢ on_way.to → passed_calls s (next_of (RaiseReady to)) k ≡ passed_calls s records k
+                  stay : (k : ℕ) → k ≢ on_way.to → passed_calls s (next_of (RaiseSignal Ready to)) k ≡ passed_calls s records k
                   stay k other =
                       let not_me : k ≢ me = λ same. other (same ∙ sym posted.to) in
                       ⊎_elim
-                      (λ (same : k ≡ to). subst (λ (j : ℕ). passed_calls s (next_of (RaiseReady to)) j ≡ passed_calls s records j) (sym same)
-                      (ap (λ (rec : Record). rec.calls ++ passed_open s to rec.stage (next_of (RaiseReady to))) (put_there records me to (new_of (RaiseReady to)) apart)
-                      ∙ ap (λ (l : List DataCall). (records to).calls ++ l) (open_free s to (records to).stage records (next_of (RaiseReady to)) free (gathers_alike s me records (new_of (RaiseReady to)) refl bars to))))
-                      (λ (away : k ≢ to). passed_stays s me records (new_of (RaiseReady to)) refl bars k not_me (received_other k away))
+                      (λ (same : k ≡ to). subst (λ (j : ℕ). passed_calls s (next_of (RaiseSignal Ready to)) j ≡ passed_calls s records j) (sym same)
+                      (ap (λ (rec : Record). rec.calls ++ passed_open s to rec.stage (next_of (RaiseSignal Ready to))) (put_there records me to (new_of (RaiseSignal Ready to)) apart)
+                      ∙ ap (λ (l : List DataCall). (records to).calls ++ l) (open_free s to (records to).stage records (next_of (RaiseSignal Ready to)) free (gathers_alike s me records (new_of (RaiseSignal Ready to)) refl bars to))))
+                      (λ (away : k ≢ to). passed_stays s me records (new_of (RaiseSignal Ready to)) refl bars k not_me (received_other k away))
                       (equal_or_not k to)
 
-              by_post : (b : Bool) → taken.0 ≡ b → GrowsBy (RaiseReady to)
+              by_post : (b : Bool) → taken.0 ≡ b → GrowsBy (RaiseSignal Ready to)
               by_post false sends = a_pair sends
               by_post true posts = a_take posts
       by_stage Idle is = not_allowed Idle is refl

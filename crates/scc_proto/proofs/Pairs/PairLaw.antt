@@ -1,10 +1,11 @@
 -- Each pair of ranks stays in one phase, whatever move which rank makes.
 use Rattle.std.proofs.Common.{◌≡◌, ◌≢◌, ℕ, true, ◌==◌, [], None, option_map, unwrap_or, refl, sym, ◌∙◌, ap, subst}
 use Rattle.scc_base.specs.Setups.{SetupView}
+use Rattle.scc_base.specs.declared.signals.Signal.TheVariants.{Sent, Ready}
 use Rattle.scc_proto.specs.Tables.{put, put_two}
 use Rattle.scc_proto.specs.Messages.{note_word, sent_messages, received_messages}
 use Rattle.scc_proto.specs.Stages.{Record}
-use Rattle.scc_proto.specs.Moves.{Move, DraftHeader, DraftChunk, RaiseSent, LookSent, ReadHeader, ReadChunk, LowerSent, RaiseReady, LookReady, LowerReady, FlipGather, LookGather, WriteRelease, LookRelease, StoreHeap, NoMove, Misplaced, after, lower_sent}
+use Rattle.scc_proto.specs.Moves.{Move, DraftHeader, DraftChunk, RaiseSignal, LookSignal, ReadHeader, ReadChunk, LowerSignal, FlipGather, LookGather, WriteRelease, LookRelease, StoreHeap, NoMove, Misplaced, after, lower_sent}
 use Rattle.scc_proto.specs.Permission.{permits, may_take}
 use Rattle.scc_proto.specs.Words.{are_peers}
 use Rattle.scc_proto.specs.Records.{chunk_of}
@@ -35,22 +36,22 @@ module _ (s : SetupView) (me to : ℕ) (view : View) (rec other : Record) (singl
       rec.calls (taking_side me other.stage) (other.notes me) _ may phase
   of_sender (DraftChunk k v) told may = chunk_drafted (chunk_of s) to (view.sent me to) (view.ready me to) k v rec.stage rec.post (view.header me) (view.chunk me) (view.header me) (put_two view.chunk me k v me)
       rec.calls (taking_side me other.stage) (other.notes me) _ may phase
-  of_sender (RaiseSent j) told may = same_or_other (Phase (chunk_of s) (pair_of me to (shown me (RaiseSent j) view) (after (chunk_of s) (RaiseSent j) rec) other)) j to
+  of_sender (RaiseSignal Sent j) told may = same_or_other (Phase (chunk_of s) (pair_of me to (shown me (RaiseSignal Sent j) view) (after (chunk_of s) (RaiseSignal Sent j) rec) other)) j to
       (λ here e. sent_raised_here (chunk_of s) to (view.ready me to) j (view.header me) (view.chunk me) rec.calls (taking_side me other.stage) (other.notes me) _
       (view.sent me to) (put_two view.sent me j 1 me to) rec.stage rec.post may here (subst (λ x. put_two view.sent me j 1 me x ≡ 1) e (put_two_here view.sent me j 1)) phase)
       (λ there ne. let same : put_two view.sent me j 1 me to ≡ view.sent me to = put_two_second view.sent me j 1 me to (λ e. ne (sym e)) in
-      same_pair (chunk_of s) (pair_of me to (record view { sent = λ a b. view.sent a b }) (after (chunk_of s) (RaiseSent j) rec) other) _ same refl refl refl refl refl refl refl refl
+      same_pair (chunk_of s) (pair_of me to (record view { sent = λ a b. view.sent a b }) (after (chunk_of s) (RaiseSignal Sent j) rec) other) _ same refl refl refl refl refl refl refl refl
       (sent_raised_there (chunk_of s) to (view.ready me to) j (view.header me) (view.chunk me) rec.calls (taking_side me other.stage) (other.notes me) _
       (view.sent me to) rec.stage rec.post may there phase))
-  of_sender (LookSent is_set) told may = phase
+  of_sender (LookSignal Sent is_set) told may = phase
   of_sender (ReadHeader from k v) told may = phase
   of_sender (ReadChunk from k v) told may = same_pair (chunk_of s) (pair_of me to view rec other) _ refl refl (sending-read_chunk to rec.post from k v rec.stage) refl refl refl refl refl refl phase
-  of_sender (LowerSent from) told may = same_pair (chunk_of s) (pair_of me to view rec other) _ (sent_at from 0) refl (sending-lower_sent to rec.post from (unwrap_or (rec.notes from) []) rec.stage) refl refl refl refl refl refl phase
-  of_sender (RaiseReady i) told may = same_pair (chunk_of s) (pair_of me to view rec other) _ refl (ready_at i 1) (sending-raise_ready to rec.post (chunk_of s) rec.stage) refl refl refl refl
+  of_sender (LowerSignal Sent from) told may = same_pair (chunk_of s) (pair_of me to view rec other) _ (sent_at from 0) refl (sending-lower_sent to rec.post from (unwrap_or (rec.notes from) []) rec.stage) refl refl refl refl refl refl phase
+  of_sender (RaiseSignal Ready i) told may = same_pair (chunk_of s) (pair_of me to view rec other) _ refl (ready_at i 1) (sending-raise_ready to rec.post (chunk_of s) rec.stage) refl refl refl refl
       (sent-calls_received to rec.calls (chunk_of s) rec.stage) refl phase
-  of_sender (LookReady is_set) told may = ready_looked_at (chunk_of s) to (view.sent me to) (view.ready me to) is_set (view.header me) (view.chunk me) rec.calls (taking_side me other.stage) (other.notes me) _
+  of_sender (LookSignal Ready is_set) told may = ready_looked_at (chunk_of s) to (view.sent me to) (view.ready me to) is_set (view.header me) (view.chunk me) rec.calls (taking_side me other.stage) (other.notes me) _
       (told to) rec.stage rec.post phase
-  of_sender (LowerReady by) told may = ready_lowered (chunk_of s) to (view.sent me to) (view.ready me to) by (view.header me) (view.chunk me) rec.calls (taking_side me other.stage) (other.notes me) _
+  of_sender (LowerSignal Ready by) told may = ready_lowered (chunk_of s) to (view.sent me to) (view.ready me to) by (view.header me) (view.chunk me) rec.calls (taking_side me other.stage) (other.notes me) _
       (put_two view.ready me by 0 me to) rec.stage rec.post may (posted_last s me rec single)
       (λ here. subst (λ x. put_two view.ready me by 0 me x ≡ 0) (same_by_eqb by to here) (put_two_here view.ready me by 0))
       (λ there. put_two_second view.ready me by 0 me to (λ e. absurd (cc (sym there ∙ ap (λ x. by == x) e ∙ eqb_same by))))
@@ -76,9 +77,9 @@ module _ (s : SetupView) (from me : ℕ) (view : View) (other rec : Record) (sin
   pub of_taker : (move : Move) → IsMoveOf s me move → Tells me move view → permits (chunk_of s) move rec ≡ true → Phase (chunk_of s) (pair_of from me (shown me move view) other (after (chunk_of s) move rec))
   of_taker (DraftHeader k v) own told may = same_pair (chunk_of s) (pair_of from me view other rec) _ refl refl refl (taking-draft_header from k v rec.stage) refl (header_left me from view (DraftHeader k v) peers.apart) refl refl refl phase
   of_taker (DraftChunk k v) own told may = same_pair (chunk_of s) (pair_of from me view other rec) _ refl refl refl (taking-draft_chunk from k v rec.stage) refl refl (chunk_left me from view (DraftChunk k v) peers.apart) refl refl phase
-  of_taker (RaiseSent to) own told may = same_pair (chunk_of s) (pair_of from me view other rec) _ (put_two_first view.sent me to 1 from me peers.apart) refl refl (taking-raise_sent from to rec.stage) refl refl refl refl
+  of_taker (RaiseSignal Sent to) own told may = same_pair (chunk_of s) (pair_of from me view other rec) _ (put_two_first view.sent me to 1 from me peers.apart) refl refl (taking-raise_sent from to rec.stage) refl refl refl refl
       (received-calls_raised from rec.calls (chunk_of s) to rec.stage) phase
-  of_taker (LookSent is_set) own told may = sent_looked_at (chunk_of s) from (view.sent from me) (view.ready from me) (sending_side me other.stage other.post) rec.stage (rec.notes from) (view.header from) (view.chunk from) _ rec.calls
+  of_taker (LookSignal Sent is_set) own told may = sent_looked_at (chunk_of s) from (view.sent from me) (view.ready from me) (sending_side me other.stage other.post) rec.stage (rec.notes from) (view.header from) (view.chunk from) _ rec.calls
       (is_set from) (told from) phase
   of_taker (ReadHeader j k v) own told may = same_or_other (Phase (chunk_of s) (pair_of from me view other (after (chunk_of s) (ReadHeader j k v) rec))) from j
       (λ here e. same_pair (chunk_of s) (record (pair_of from me view other rec) { notes = option_map (note_word k v) (rec.notes from) }) _ refl refl refl refl
@@ -87,7 +88,7 @@ module _ (s : SetupView) (from me : ℕ) (view : View) (other rec : Record) (sin
       (λ there ne. same_pair (chunk_of s) (pair_of from me view other rec) _ refl refl refl refl (put_there rec.notes j (option_map (note_word k v) (rec.notes j)) from ne) refl refl refl refl phase)
   of_taker (ReadChunk j k v) own told may = chunk_read (chunk_of s) from (view.sent from me) (view.ready from me) (sending_side me other.stage other.post) (rec.notes from) (view.header from) (view.chunk from) _ rec.calls
       j k v rec.stage (λ e. subst (λ x. view.chunk x k ≡ v) e told) phase
-  of_taker (LowerSent j) own told may = same_or_other (Phase (chunk_of s) (pair_of from me (shown me (LowerSent j) view) other (after (chunk_of s) (LowerSent j) rec))) j from
+  of_taker (LowerSignal Sent j) own told may = same_or_other (Phase (chunk_of s) (pair_of from me (shown me (LowerSignal Sent j) view) other (after (chunk_of s) (LowerSignal Sent j) rec))) j from
       (λ here e. same_pair (chunk_of s) (record (pair_of from me view other rec) { sent_flag = put_two view.sent j me 0 from me; taking = taking_side from (lower_sent j (unwrap_or (rec.notes from) []) rec.stage); notes = None }) _
       refl refl refl (ap (λ x. taking_side from (lower_sent j (unwrap_or (rec.notes x) []) rec.stage)) e)
       (ap (λ x. put rec.notes x None from) e ∙ put_here rec.notes from None) refl refl refl refl
@@ -97,13 +98,13 @@ module _ (s : SetupView) (from me : ℕ) (view : View) (other rec : Record) (sin
       (λ there ne. same_pair (chunk_of s) (record (pair_of from me view other rec) { taking = taking_side from (lower_sent j (unwrap_or (rec.notes j) []) rec.stage) }) _
       (put_two_first view.sent j me 0 from me (λ e. ne (sym e))) refl refl refl (put_there rec.notes j None from (λ e. ne (sym e))) refl refl refl refl
       (sent_lowered_there s from (view.sent from me) (view.ready from me) j (sending_side me other.stage other.post) (view.header from) (view.chunk from) _ rec.calls rec.stage (rec.notes j) (rec.notes from) may there phase))
-  of_taker (RaiseReady j) own told may = same_or_other (Phase (chunk_of s) (pair_of from me (shown me (RaiseReady j) view) other (after (chunk_of s) (RaiseReady j) rec))) j from
+  of_taker (RaiseSignal Ready j) own told may = same_or_other (Phase (chunk_of s) (pair_of from me (shown me (RaiseSignal Ready j) view) other (after (chunk_of s) (RaiseSignal Ready j) rec))) j from
       (λ here e. ready_raised_here s from (view.sent from me) (view.ready from me) j (sending_side me other.stage other.post) (rec.notes from) (view.header from) (view.chunk from) _ rec.calls
       (put_two view.ready j me 1 from me) rec.stage may offered here (subst (λ x. put_two view.ready j me 1 x me ≡ 1) e (put_two_here view.ready j me 1)) phase)
-      (λ there ne. same_pair (chunk_of s) (pair_of from me view other (after (chunk_of s) (RaiseReady j) rec)) _ refl (put_two_first view.ready j me 1 from me (λ e. ne (sym e))) refl refl refl refl refl refl refl
+      (λ there ne. same_pair (chunk_of s) (pair_of from me view other (after (chunk_of s) (RaiseSignal Ready j) rec)) _ refl (put_two_first view.ready j me 1 from me (λ e. ne (sym e))) refl refl refl refl refl refl refl
       (ready_raised_there s from (view.sent from me) (view.ready from me) j (sending_side me other.stage other.post) (rec.notes from) (view.header from) (view.chunk from) _ rec.calls rec.stage may there phase))
-  of_taker (LookReady is_set) own told may = same_pair (chunk_of s) (pair_of from me view other rec) _ refl refl refl (taking-look_ready from is_set rec.stage) refl refl refl refl refl phase
-  of_taker (LowerReady by) own told may = same_pair (chunk_of s) (pair_of from me view other rec) _ refl (put_two_first view.ready me by 0 from me peers.apart) refl (taking-lower_ready from (chunk_of s) rec.stage) refl refl refl refl
+  of_taker (LookSignal Ready is_set) own told may = same_pair (chunk_of s) (pair_of from me view other rec) _ refl refl refl (taking-look_ready from is_set rec.stage) refl refl refl refl refl phase
+  of_taker (LowerSignal Ready by) own told may = same_pair (chunk_of s) (pair_of from me view other rec) _ refl (put_two_first view.ready me by 0 from me peers.apart) refl (taking-lower_ready from (chunk_of s) rec.stage) refl refl refl refl
       (received-calls_sent from rec.calls (chunk_of s) rec.stage) phase
   of_taker (FlipGather comm value last) own told may = same_pair (chunk_of s) (pair_of from me view other rec) _ refl refl refl (taking-flip_gather from comm last rec.stage) refl refl refl refl
       (received-finished_bar from rec.calls (last == 0) comm) phase
@@ -122,14 +123,13 @@ module _ (s : SetupView) (from me : ℕ) (view : View) (other rec : Record) (sin
 pub sent_left : (me from to : ℕ) (view : View) (move : Move) → from ≢ me → to ≢ me → (shown me move view).sent from to ≡ view.sent from to
 sent_left me from to view (DraftHeader k v) a b = refl
 sent_left me from to view (DraftChunk k v) a b = refl
-sent_left me from to view (RaiseSent j) a b = put_two_first view.sent me j 1 from to a
-sent_left me from to view (LookSent is_set) a b = refl
+sent_left me from to view (RaiseSignal Sent j) a b = put_two_first view.sent me j 1 from to a
+sent_left me from to view (LookSignal signal is_set) a b = refl
 sent_left me from to view (ReadHeader j k v) a b = refl
 sent_left me from to view (ReadChunk j k v) a b = refl
-sent_left me from to view (LowerSent j) a b = put_two_second view.sent j me 0 from to b
-sent_left me from to view (RaiseReady j) a b = refl
-sent_left me from to view (LookReady is_set) a b = refl
-sent_left me from to view (LowerReady by) a b = refl
+sent_left me from to view (LowerSignal Sent j) a b = put_two_second view.sent j me 0 from to b
+sent_left me from to view (RaiseSignal Ready j) a b = refl
+sent_left me from to view (LowerSignal Ready by) a b = refl
 sent_left me from to view (FlipGather comm value last) a b = refl
 sent_left me from to view (LookGather comm j place value) a b = refl
 sent_left me from to view (WriteRelease comm j place value last) a b = refl
@@ -141,14 +141,13 @@ sent_left me from to view Misplaced a b = refl
 pub ready_left : (me from to : ℕ) (view : View) (move : Move) → from ≢ me → to ≢ me → (shown me move view).ready from to ≡ view.ready from to
 ready_left me from to view (DraftHeader k v) a b = refl
 ready_left me from to view (DraftChunk k v) a b = refl
-ready_left me from to view (RaiseSent j) a b = refl
-ready_left me from to view (LookSent is_set) a b = refl
+ready_left me from to view (RaiseSignal Sent j) a b = refl
+ready_left me from to view (LookSignal signal is_set) a b = refl
 ready_left me from to view (ReadHeader j k v) a b = refl
 ready_left me from to view (ReadChunk j k v) a b = refl
-ready_left me from to view (LowerSent j) a b = refl
-ready_left me from to view (RaiseReady j) a b = put_two_second view.ready j me 1 from to b
-ready_left me from to view (LookReady is_set) a b = refl
-ready_left me from to view (LowerReady by) a b = put_two_first view.ready me by 0 from to a
+ready_left me from to view (LowerSignal Sent j) a b = refl
+ready_left me from to view (RaiseSignal Ready j) a b = put_two_second view.ready j me 1 from to b
+ready_left me from to view (LowerSignal Ready by) a b = put_two_first view.ready me by 0 from to a
 ready_left me from to view (FlipGather comm value last) a b = refl
 ready_left me from to view (LookGather comm j place value) a b = refl
 ready_left me from to view (WriteRelease comm j place value last) a b = refl

@@ -2,10 +2,11 @@
 use Rattle.std.proofs.Common.{◌≡◌, ◌≢◌, ℕ, zero, suc, ◌<◌, Bool, true, false, ◌&&◌, ◌==◌, if◌then◌else◌, [], Option, Some, None, is_none, option_map, unwrap_or, refl, sym, ◌∙◌, ap, subst, arith}
 use Rattle.std.proofs.lemmas.Bool.Decides.{nat_tests}
 use Rattle.scc_base.specs.Setups.{SetupView}
+use Rattle.scc_base.specs.declared.signals.Signal.TheVariants.{Sent, Ready}
 use Rattle.scc_proto.specs.Tables.{put_two}
 use Rattle.scc_proto.specs.Messages.{Notes, noted, StandsIn, has_all, begun, is_last, head_of, is_head, is_post_head}
 use Rattle.scc_proto.specs.Stages.{Filling, Raised, Answered, Stage, Idle, Drafting, Sending, Between, Taking, Barrier, OnItsWay, Record}
-use Rattle.scc_proto.specs.Moves.{Move, DraftHeader, DraftChunk, RaiseSent, LookSent, ReadHeader, ReadChunk, LowerSent, RaiseReady, LookReady, LowerReady, FlipGather, LookGather, WriteRelease, LookRelease, StoreHeap, NoMove, Misplaced, draft_header, draft_chunk, raise_sent, read_chunk, lower_sent, raise_ready, look_ready, lower_ready, flip_gather, look_gather, write_release, look_release, post_raised, post_answered, after, is_posted}
+use Rattle.scc_proto.specs.Moves.{Move, DraftHeader, DraftChunk, RaiseSignal, LookSignal, ReadHeader, ReadChunk, LowerSignal, FlipGather, LookGather, WriteRelease, LookRelease, StoreHeap, NoMove, Misplaced, draft_header, draft_chunk, raise_sent, read_chunk, lower_sent, raise_ready, look_ready, lower_ready, flip_gather, look_gather, write_release, look_release, post_raised, post_answered, after, is_posted}
 use Rattle.scc_proto.specs.Permission.{permits, drafts_header, drafts_chunk, may_raise, is_whole_header, is_post_word, is_drafted}
 use Rattle.scc_proto.specs.Records.{chunk_of}
 use Rattle.scc_proto.specs.Views.{View, shown}
@@ -179,14 +180,14 @@ module _ (s : SetupView) (me : ℕ) (view : View) (rec : Record) (old : BufferSt
         (both_second (is_none rec.post) (drafts_chunk rec.stage) may) old.draft;
     post = no_post (drafts_chunk rec.stage) rec.post (view.header me) (put_two view.chunk me k v me) may;
   }
-  sender_by (RaiseSent to) may = let r = raised_stands (chunk_of s) to (view.header me) (view.chunk me) rec.stage rec.post may old.draft in record { draft = r.0; post = r.1 }
-  sender_by (LookSent is_set) may = record { draft = old.draft; post = old.post }
+  sender_by (RaiseSignal Sent to) may = let r = raised_stands (chunk_of s) to (view.header me) (view.chunk me) rec.stage rec.post may old.draft in record { draft = r.0; post = r.1 }
+  sender_by (LookSignal Sent is_set) may = record { draft = old.draft; post = old.post }
   sender_by (ReadHeader from k v) may = record { draft = old.draft; post = old.post }
   sender_by (ReadChunk from k v) may = record { draft = draft-read_chunk (view.header me) (view.chunk me) from k v rec.stage old.draft; post = old.post }
-  sender_by (LowerSent from) may = record { draft = draft-lower_sent (view.header me) (view.chunk me) from (unwrap_or (rec.notes from) []) rec.stage old.draft; post = old.post }
-  sender_by (RaiseReady to) may = record { draft = draft-raise_ready (view.header me) (view.chunk me) (chunk_of s) rec.stage old.draft; post = old.post }
-  sender_by (LookReady is_set) may = record { draft = draft-look_ready (view.header me) (view.chunk me) is_set rec.stage old.draft; post = post-answered (view.header me) (view.chunk me) is_set rec.post old.post }
-  sender_by (LowerReady by) may = record { draft = draft-lower_ready (view.header me) (view.chunk me) (chunk_of s) rec.stage old.draft; post = tt }
+  sender_by (LowerSignal Sent from) may = record { draft = draft-lower_sent (view.header me) (view.chunk me) from (unwrap_or (rec.notes from) []) rec.stage old.draft; post = old.post }
+  sender_by (RaiseSignal Ready to) may = record { draft = draft-raise_ready (view.header me) (view.chunk me) (chunk_of s) rec.stage old.draft; post = old.post }
+  sender_by (LookSignal Ready is_set) may = record { draft = draft-look_ready (view.header me) (view.chunk me) is_set rec.stage old.draft; post = post-answered (view.header me) (view.chunk me) is_set rec.post old.post }
+  sender_by (LowerSignal Ready by) may = record { draft = draft-lower_ready (view.header me) (view.chunk me) (chunk_of s) rec.stage old.draft; post = tt }
   sender_by (FlipGather comm value last) may = record { draft = draft-flip_gather (view.header me) (view.chunk me) comm last rec.stage old.draft; post = old.post }
   sender_by (LookGather comm from place value) may = record { draft = draft-look_gather (view.header me) (view.chunk me) comm place value _ rec.stage old.draft; post = old.post }
   sender_by (WriteRelease comm to place value last) may = record { draft = draft-write_release (view.header me) (view.chunk me) last rec.stage old.draft; post = old.post }
@@ -203,14 +204,12 @@ sender_kept s me view rec move step old = sender_by s me view rec old move step.
 pub header_left : (me r : ℕ) (view : View) (move : Move) → r ≢ me → (shown me move view).header r ≡ view.header r
 header_left me r view (DraftHeader k v) ne = λ i j. put_two_first view.header me k v r j ne i
 header_left me r view (DraftChunk k v) ne = refl
-header_left me r view (RaiseSent to) ne = refl
-header_left me r view (LookSent is_set) ne = refl
+header_left me r view (RaiseSignal signal to) ne = refl
+header_left me r view (LookSignal signal is_set) ne = refl
 header_left me r view (ReadHeader from k v) ne = refl
 header_left me r view (ReadChunk from k v) ne = refl
-header_left me r view (LowerSent from) ne = refl
-header_left me r view (RaiseReady to) ne = refl
-header_left me r view (LookReady is_set) ne = refl
-header_left me r view (LowerReady by) ne = refl
+header_left me r view (LowerSignal Sent from) ne = refl
+header_left me r view (LowerSignal Ready by) ne = refl
 header_left me r view (FlipGather comm value last) ne = refl
 header_left me r view (LookGather comm from place value) ne = refl
 header_left me r view (WriteRelease comm to place value last) ne = refl
@@ -222,14 +221,12 @@ header_left me r view Misplaced ne = refl
 pub chunk_left : (me r : ℕ) (view : View) (move : Move) → r ≢ me → (shown me move view).chunk r ≡ view.chunk r
 chunk_left me r view (DraftHeader k v) ne = refl
 chunk_left me r view (DraftChunk k v) ne = λ i j. put_two_first view.chunk me k v r j ne i
-chunk_left me r view (RaiseSent to) ne = refl
-chunk_left me r view (LookSent is_set) ne = refl
+chunk_left me r view (RaiseSignal signal to) ne = refl
+chunk_left me r view (LookSignal signal is_set) ne = refl
 chunk_left me r view (ReadHeader from k v) ne = refl
 chunk_left me r view (ReadChunk from k v) ne = refl
-chunk_left me r view (LowerSent from) ne = refl
-chunk_left me r view (RaiseReady to) ne = refl
-chunk_left me r view (LookReady is_set) ne = refl
-chunk_left me r view (LowerReady by) ne = refl
+chunk_left me r view (LowerSignal Sent from) ne = refl
+chunk_left me r view (LowerSignal Ready by) ne = refl
 chunk_left me r view (FlipGather comm value last) ne = refl
 chunk_left me r view (LookGather comm from place value) ne = refl
 chunk_left me r view (WriteRelease comm to place value last) ne = refl

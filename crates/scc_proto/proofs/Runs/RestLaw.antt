@@ -8,11 +8,12 @@ use Rattle.scc_base.specs.Setups.{SetupView, place_of}
 use Rattle.scc_base.specs.declared.events.Access.{Access}
 use Rattle.scc_base.specs.declared.events.Access.TheVariants.{Load, Store, Take, Free}
 use Rattle.scc_base.specs.declared.events.Event.{Event}
+use Rattle.scc_base.specs.declared.signals.Signal.TheVariants.{Sent, Ready}
 use Rattle.scc_proto.specs.Messages.{note_word}
 use Rattle.scc_proto.specs.Stages.{Part, Filling, Raised, Answered, Stage, Idle, Drafting, Sending, Between, Taking, Barrier, OnItsWay, Record}
-use Rattle.scc_proto.specs.Moves.{Move, LookSent, ReadHeader, ReadChunk, LookReady, LookGather, LookRelease, NoMove, read_chunk, look_ready, look_gather, look_release, post_answered, calls_let_go, after}
-use Rattle.scc_proto.specs.Words.{Role, HeaderWord, ChunkWord, SentFlag, ReadyFlag, SentFlags, ReadyFlags, GatherFlag, ReleaseFlag, HeapWord, IdleWord, role_of}
-use Rattle.scc_proto.specs.Records.{chunk_of, leads, look_at, look_at_bits, load_by, Act, Moving, NotingSent, NotingReady, load_act, act_by, act_of, after_act, is_permitted, record_after, record_from}
+use Rattle.scc_proto.specs.Moves.{Move, LookSignal, ReadHeader, ReadChunk, LookGather, LookRelease, NoMove, read_chunk, look_ready, look_gather, look_release, post_answered, calls_let_go, after}
+use Rattle.scc_proto.specs.Words.{Role, HeaderWord, ChunkWord, SignalFlag, SignalFlags, GatherFlag, ReleaseFlag, HeapWord, IdleWord, role_of}
+use Rattle.scc_proto.specs.Records.{chunk_of, leads, look_at, look_at_bits, load_by, Act, Moving, NotingSignal, load_act, act_by, act_of, after_act, is_permitted, record_after, record_from}
 use Rattle.scc_proto.specs.Like.{unanswered, Like}
 use Rattle.scc_proto.specs.Resting.{is_resting_by, is_resting}
 use Rattle.scc_proto.proofs.Words.FlagsTold.{like_self, like_both}
@@ -109,10 +110,9 @@ answered_like is_set (Some post) = refl
 
 -- the moves that loads are
 abbrev is_look : Move → Bool
-is_look (LookSent is_set) = true
+is_look (LookSignal signal is_set) = true
 is_look (ReadHeader from k v) = true
 is_look (ReadChunk from k v) = true
-is_look (LookReady is_set) = true
 is_look (LookGather comm from place value) = true
 is_look (LookRelease comm value) = true
 is_look NoMove = true
@@ -125,10 +125,8 @@ if_looks false one other a b = b
 load_looks : (s : SetupView) (me value : ℕ) (role : Role) → is_look (load_by s me value role) ≡ true
 load_looks s me value (HeaderWord owner k) = refl
 load_looks s me value (ChunkWord owner k) = refl
-load_looks s me value (SentFlag from to) = if_looks (to == me) (LookSent (look_at from value)) NoMove refl refl
-load_looks s me value (ReadyFlag from to) = if_looks (from == me) (LookReady (look_at to value)) NoMove refl refl
-load_looks s me value (SentFlags owner) = if_looks (owner == me) (LookSent (look_at_bits s me value)) NoMove refl refl
-load_looks s me value (ReadyFlags owner) = if_looks (owner == me) (LookReady (look_at_bits s me value)) NoMove refl refl
+load_looks s me value (SignalFlag signal by at) = if_looks (at == me) (LookSignal signal (look_at by value)) NoMove refl refl
+load_looks s me value (SignalFlags signal at) = if_looks (at == me) (LookSignal signal (look_at_bits s me value)) NoMove refl refl
 load_looks s me value (GatherFlag comm owner) = if_looks (leads s comm me owner) (LookGather comm owner (place_of s comm owner) value) NoMove refl refl
 load_looks s me value (ReleaseFlag comm owner) = if_looks ((owner == me) && not (leads s comm me me)) (LookRelease comm value) NoMove refl refl
 load_looks s me value HeapWord = refl
@@ -136,14 +134,14 @@ load_looks s me value IdleWord = refl
 
 module _ (s : SetupView) (me : ℕ) where
   look_comes : (move : Move) → is_look move ≡ true → (rec : Record) → Comes rec (after (chunk_of s) move rec)
-  look_comes (LookSent is_set) looks rec = inl (record { stage = refl; post = refl; flips = λ comm. refl; calls = refl })
+  look_comes (LookSignal Sent is_set) looks rec = inl (record { stage = refl; post = refl; flips = λ comm. refl; calls = refl })
   look_comes (ReadHeader from k v) looks rec = inl (record { stage = refl; post = refl; flips = λ comm. refl; calls = refl })
   look_comes (ReadChunk from k v) looks rec =
       ⊎_elim
       (λ (same : rec.stage ≡ read_chunk from k v rec.stage). inl (record { stage = same; post = refl; flips = λ comm. refl; calls = refl }))
       (λ (more : progress rec.stage < progress (read_chunk from k v rec.stage)). inr (inr (refl, more)))
       (read_further from k v rec.stage)
-  look_comes (LookReady is_set) looks rec =
+  look_comes (LookSignal Ready is_set) looks rec =
       ⊎_elim
       (λ (same : rec.stage ≡ look_ready is_set rec.stage). inl (record { stage = same; post = answered_like is_set rec.post; flips = λ comm. refl; calls = refl }))
       (λ (more : progress rec.stage < progress (look_ready is_set rec.stage)). inr (inr (refl, more)))
@@ -169,16 +167,15 @@ module _ (s : SetupView) (me : ℕ) where
   load_comes : (rec : Record) (place : WordAt) (value : ℕ) (role : Role) → Comes rec (after_act (chunk_of s) (load_act s me rec place value role) rec)
   load_comes rec place value (HeaderWord owner k) = look_comes (load_by s me value (HeaderWord owner k)) refl rec
   load_comes rec place value (ChunkWord owner k) = look_comes (load_by s me value (ChunkWord owner k)) refl rec
-  load_comes rec place value (SentFlag from to) = look_comes (load_by s me value (SentFlag from to)) (load_looks s me value (SentFlag from to)) rec
-  load_comes rec place value (ReadyFlag from to) = look_comes (load_by s me value (ReadyFlag from to)) (load_looks s me value (ReadyFlag from to)) rec
-  load_comes rec place value (SentFlags owner) =
-      if_comes (is_some (rec.held place.core)) (NotingSent place.core value) (Moving (load_by s me value (SentFlags owner))) rec
+  load_comes rec place value (SignalFlag signal by at) = look_comes (load_by s me value (SignalFlag signal by at)) (load_looks s me value (SignalFlag signal by at)) rec
+  load_comes rec place value (SignalFlags Sent owner) =
+      if_comes (is_some (rec.held place.core)) (NotingSignal Sent place.core value) (Moving (load_by s me value (SignalFlags Sent owner))) rec
       (inl (record { stage = refl; post = refl; flips = λ comm. refl; calls = refl }))
-      (look_comes (load_by s me value (SentFlags owner)) (load_looks s me value (SentFlags owner)) rec)
-  load_comes rec place value (ReadyFlags owner) =
-      if_comes (is_some (rec.held place.core)) (NotingReady place.core value) (Moving (load_by s me value (ReadyFlags owner))) rec
+      (look_comes (load_by s me value (SignalFlags Sent owner)) (load_looks s me value (SignalFlags Sent owner)) rec)
+  load_comes rec place value (SignalFlags Ready owner) =
+      if_comes (is_some (rec.held place.core)) (NotingSignal Ready place.core value) (Moving (load_by s me value (SignalFlags Ready owner))) rec
       (inl (record { stage = refl; post = refl; flips = λ comm. refl; calls = refl }))
-      (look_comes (load_by s me value (ReadyFlags owner)) (load_looks s me value (ReadyFlags owner)) rec)
+      (look_comes (load_by s me value (SignalFlags Ready owner)) (load_looks s me value (SignalFlags Ready owner)) rec)
   load_comes rec place value (GatherFlag comm owner) = look_comes (load_by s me value (GatherFlag comm owner)) (load_looks s me value (GatherFlag comm owner)) rec
   load_comes rec place value (ReleaseFlag comm owner) = look_comes (load_by s me value (ReleaseFlag comm owner)) (load_looks s me value (ReleaseFlag comm owner)) rec
   load_comes rec place value HeapWord = look_comes NoMove refl rec

@@ -7,10 +7,11 @@ use Rattle.scc_base.specs.Setups.{SetupView, place_of}
 use Rattle.scc_base.specs.declared.events.Access.{Access}
 use Rattle.scc_base.specs.declared.events.Access.TheVariants.{Load, Store, Take, Free}
 use Rattle.scc_base.specs.declared.events.Event.{Event}
+use Rattle.scc_base.specs.declared.signals.Signal.TheVariants.{Sent, Ready}
 use Rattle.scc_proto.specs.Stages.{HeapStore, Record, blank}
-use Rattle.scc_proto.specs.Moves.{Move, DraftHeader, DraftChunk, RaiseSent, LookSent, LowerSent, RaiseReady, LookReady, LowerReady, FlipGather, LookGather, WriteRelease, LookRelease, NoMove, Misplaced, heap_after}
-use Rattle.scc_proto.specs.Words.{Memory, IsStep, Role, HeaderWord, ChunkWord, SentFlag, ReadyFlag, SentFlags, ReadyFlags, GatherFlag, ReleaseFlag, HeapWord, IdleWord, role_of}
-use Rattle.scc_proto.specs.Records.{chunk_of, last_of, leads, look_at, look_at_bits, load_by, lowered_below, raises_bit, move_at, change_at, sent_noted, ready_noted, store_by, Act, Moving, NotingSent, NotingReady, Holding, load_act, store_act, act_by, act_of, after_act, is_permitted, record_after, record_from, record_of}
+use Rattle.scc_proto.specs.Moves.{Move, DraftHeader, DraftChunk, RaiseSignal, LookSignal, LowerSignal, FlipGather, LookGather, WriteRelease, LookRelease, NoMove, Misplaced, heap_after}
+use Rattle.scc_proto.specs.Words.{Memory, IsStep, Role, HeaderWord, ChunkWord, SignalFlag, SignalFlags, GatherFlag, ReleaseFlag, HeapWord, IdleWord, role_of}
+use Rattle.scc_proto.specs.Records.{chunk_of, last_of, leads, look_at, look_at_bits, load_by, lowered_below, raises_bit, move_at, change_at, flags_noted, store_by, Act, Moving, NotingSignal, Holding, load_act, store_act, act_by, act_of, after_act, is_permitted, record_after, record_from, record_of}
 use Rattle.scc_proto.specs.Agreement.{WordAgrees, WasStored, Agrees}
 
 -- a move that stores nothing in the heap
@@ -25,10 +26,8 @@ module _ (s : SetupView) (me : ℕ) where
   load_quiet : (value : ℕ) (role : Role) → Quiet (load_by s me value role)
   load_quiet value (HeaderWord owner k) = λ heap. refl
   load_quiet value (ChunkWord owner k) = λ heap. refl
-  load_quiet value (SentFlag from to) = quiet_if (to == me) (LookSent (look_at from value)) NoMove (λ heap. refl) (λ heap. refl)
-  load_quiet value (ReadyFlag from to) = quiet_if (from == me) (LookReady (look_at to value)) NoMove (λ heap. refl) (λ heap. refl)
-  load_quiet value (SentFlags owner) = quiet_if (owner == me) (LookSent (look_at_bits s me value)) NoMove (λ heap. refl) (λ heap. refl)
-  load_quiet value (ReadyFlags owner) = quiet_if (owner == me) (LookReady (look_at_bits s me value)) NoMove (λ heap. refl) (λ heap. refl)
+  load_quiet value (SignalFlag signal by at) = quiet_if (at == me) (LookSignal signal (look_at by value)) NoMove (λ heap. refl) (λ heap. refl)
+  load_quiet value (SignalFlags signal at) = quiet_if (at == me) (LookSignal signal (look_at_bits s me value)) NoMove (λ heap. refl) (λ heap. refl)
   load_quiet value (GatherFlag comm owner) = quiet_if (leads s comm me owner) (LookGather comm owner (place_of s comm owner) value) NoMove (λ heap. refl) (λ heap. refl)
   load_quiet value (ReleaseFlag comm owner) = quiet_if ((owner == me) && not (leads s comm me me)) (LookRelease comm value) NoMove (λ heap. refl) (λ heap. refl)
   load_quiet value HeapWord = λ heap. refl
@@ -58,10 +57,9 @@ module _ (s : SetupView) (me : ℕ) where
       by : (role : Role) → Contains (heap_after (store_by s me rec place value role) heap) x → Contains heap x ⊎ (record { place = place; value = value } ≡ x)
       by (HeaderWord owner k) has = same _ (quiet_if (owner == me) (DraftHeader k value) Misplaced (λ h. refl) (λ h. refl)) has
       by (ChunkWord owner k) has = same _ (quiet_if (owner == me) (DraftChunk k value) Misplaced (λ h. refl) (λ h. refl)) has
-      by (SentFlag from to) has = same _ (quiet_if ((from == me) && (value == 1)) (RaiseSent to) _ (λ h. refl) (quiet_if ((to == me) && (value == 0)) (LowerSent from) Misplaced (λ h. refl) (λ h. refl))) has
-      by (ReadyFlag from to) has = same _ (quiet_if ((to == me) && (value == 1)) (RaiseReady from) _ (λ h. refl) (quiet_if ((from == me) && (value == 0)) (LowerReady to) Misplaced (λ h. refl) (λ h. refl))) has
-      by (SentFlags owner) has = same _ (change_quiet LowerSent RaiseSent owner value (sent_noted rec place.core) (λ j h. refl) (λ j h. refl)) has
-      by (ReadyFlags owner) has = same _ (change_quiet LowerReady RaiseReady owner value (ready_noted rec place.core) (λ j h. refl) (λ j h. refl)) has
+      by (SignalFlag Sent from to) has = same _ (quiet_if ((from == me) && (value == 1)) (RaiseSignal Sent to) _ (λ h. refl) (quiet_if ((to == me) && (value == 0)) (LowerSignal Sent from) Misplaced (λ h. refl) (λ h. refl))) has
+      by (SignalFlag Ready to from) has = same _ (quiet_if ((to == me) && (value == 1)) (RaiseSignal Ready from) _ (λ h. refl) (quiet_if ((from == me) && (value == 0)) (LowerSignal Ready to) Misplaced (λ h. refl) (λ h. refl))) has
+      by (SignalFlags signal at) has = same _ (change_quiet (LowerSignal signal) (RaiseSignal signal) at value (flags_noted signal rec place.core) (λ j h. refl) (λ j h. refl)) has
       by (GatherFlag comm owner) has = same _ (quiet_if (owner == me) (FlipGather comm value (last_of s comm me)) Misplaced (λ h. refl) (λ h. refl)) has
       by (ReleaseFlag comm owner) has = same _ (quiet_if (leads s comm me owner) (WriteRelease comm owner (place_of s comm owner) value (last_of s comm me)) Misplaced (λ h. refl) (λ h. refl)) has
       by HeapWord has = ⊎_elim (λ (c : Contains heap x). inl c) (λ (c : Contains (record { place = place; value = value } ∷ []) x). inr (one c)) (Contains-append_cases heap (record { place = place; value = value } ∷ []) x has)
@@ -80,12 +78,12 @@ module _ (s : SetupView) (me : ℕ) where
       by : (role : Role) → Contains (after_act (chunk_of s) (load_act s me rec place value role) rec).heap x → Contains rec.heap x
       by (HeaderWord owner k) has = has
       by (ChunkWord owner k) has = has
-      by (SentFlag from to) has = moving (load_by s me value (SentFlag from to)) (load_quiet value (SentFlag from to)) has
-      by (ReadyFlag from to) has = moving (load_by s me value (ReadyFlag from to)) (load_quiet value (ReadyFlag from to)) has
-      by (SentFlags owner) has = subst (λ (h : List HeapStore). Contains h x)
-          (noting (is_some (rec.held place.core)) (NotingSent place.core value) (Moving (load_by s me value (SentFlags owner))) refl (load_quiet value (SentFlags owner) rec.heap)) has
-      by (ReadyFlags owner) has = subst (λ (h : List HeapStore). Contains h x)
-          (noting (is_some (rec.held place.core)) (NotingReady place.core value) (Moving (load_by s me value (ReadyFlags owner))) refl (load_quiet value (ReadyFlags owner) rec.heap)) has
+      by (SignalFlag Sent from to) has = moving (load_by s me value (SignalFlag Sent from to)) (load_quiet value (SignalFlag Sent from to)) has
+      by (SignalFlag Ready to from) has = moving (load_by s me value (SignalFlag Ready to from)) (load_quiet value (SignalFlag Ready to from)) has
+      by (SignalFlags Sent owner) has = subst (λ (h : List HeapStore). Contains h x)
+          (noting (is_some (rec.held place.core)) (NotingSignal Sent place.core value) (Moving (load_by s me value (SignalFlags Sent owner))) refl (load_quiet value (SignalFlags Sent owner) rec.heap)) has
+      by (SignalFlags Ready owner) has = subst (λ (h : List HeapStore). Contains h x)
+          (noting (is_some (rec.held place.core)) (NotingSignal Ready place.core value) (Moving (load_by s me value (SignalFlags Ready owner))) refl (load_quiet value (SignalFlags Ready owner) rec.heap)) has
       by (GatherFlag comm owner) has = moving (load_by s me value (GatherFlag comm owner)) (load_quiet value (GatherFlag comm owner)) has
       by (ReleaseFlag comm owner) has = moving (load_by s me value (ReleaseFlag comm owner)) (load_quiet value (ReleaseFlag comm owner)) has
       by HeapWord has = has
@@ -94,10 +92,8 @@ module _ (s : SetupView) (me : ℕ) where
   store_act_heap : (rec : Record) (place : WordAt) (value : ℕ) (role : Role) → (after_act (chunk_of s) (store_act s me rec place value role) rec).heap ≡ heap_after (store_by s me rec place value role) rec.heap
   store_act_heap rec place value (HeaderWord owner k) = refl
   store_act_heap rec place value (ChunkWord owner k) = refl
-  store_act_heap rec place value (SentFlag from to) = refl
-  store_act_heap rec place value (ReadyFlag from to) = refl
-  store_act_heap rec place value (SentFlags owner) = refl
-  store_act_heap rec place value (ReadyFlags owner) = refl
+  store_act_heap rec place value (SignalFlag signal by at) = refl
+  store_act_heap rec place value (SignalFlags signal at) = refl
   store_act_heap rec place value (GatherFlag comm owner) = refl
   store_act_heap rec place value (ReleaseFlag comm owner) = refl
   store_act_heap rec place value HeapWord = refl

@@ -9,12 +9,13 @@ use Rattle.scc_base.specs.declared.layouts.Layout.TheVariants.{LineFlags, BitFla
 use Rattle.scc_base.specs.declared.events.Access.{Access}
 use Rattle.scc_base.specs.declared.events.Access.TheVariants.{Load, Store, Take, Free}
 use Rattle.scc_base.specs.declared.events.Event.{Event}
+use Rattle.scc_base.specs.declared.signals.Signal.TheVariants.{Sent, Ready}
 use Rattle.scc_proto.specs.Tables.{put}
 use Rattle.scc_proto.specs.Stages.{FlagWords, Record}
-use Rattle.scc_proto.specs.Moves.{Move, LowerSent, RaiseSent, LowerReady, RaiseReady, NoMove}
+use Rattle.scc_proto.specs.Moves.{Move, LowerSignal, RaiseSignal, NoMove}
 use Rattle.scc_proto.specs.Permission.{permits}
-use Rattle.scc_proto.specs.Words.{Memory, word_at, IsStep, IsStepBy, memory_by, memory_after, Role, HeaderWord, ChunkWord, SentFlag, ReadyFlag, SentFlags, ReadyFlags, GatherFlag, ReleaseFlag, HeapWord, IdleWord, role_of}
-use Rattle.scc_proto.specs.Records.{Moving, Holding, NotingSent, NotingReady, act_of, load_act, store_act, change_at, note_sent, note_ready, forget_sent, forget_ready, chunk_of, after_act, permits_act, permits_by, IsPermitted, record_after}
+use Rattle.scc_proto.specs.Words.{Memory, word_at, IsStep, IsStepBy, memory_by, memory_after, Role, HeaderWord, ChunkWord, SignalFlag, SignalFlags, GatherFlag, ReleaseFlag, HeapWord, IdleWord, role_of}
+use Rattle.scc_proto.specs.Records.{Moving, Holding, NotingSignal, act_of, load_act, store_act, change_at, note_flags, forget_flags, chunk_of, after_act, permits_act, permits_by, IsPermitted, record_after}
 use Rattle.scc_proto.specs.Registers.{Holder, Nobody, HeldBy, IsNotedWord, NotedFlags, RegisterAgrees}
 use Rattle.scc_proto.specs.Agreement.{RegistersAgree}
 use Rattle.scc_proto.proofs.Tests.{same_or_other, put_here, put_there, true_not_false}
@@ -104,12 +105,12 @@ same_quiet s memory held noted = record { register = λ core. refl; keeps = λ c
 
 -- ---- a load notes a word of flags under a register
 
-noting_sent : (layout : Layout) → layout ≡ BitFlags → (o : Option FlagWords) (words : ℕ → ℕ) (value : ℕ) → words 0 ≡ value → NotedFlags layout o words → NotedFlags layout (option_map (note_sent value) o) words
+noting_sent : (layout : Layout) → layout ≡ BitFlags → (o : Option FlagWords) (words : ℕ → ℕ) (value : ℕ) → words 0 ≡ value → NotedFlags layout o words → NotedFlags layout (option_map (note_flags Sent value) o) words
 noting_sent layout e None words value is noted = tt
 noting_sent LineFlags e (Some flags) words value is noted = absurd (cc)
 noting_sent BitFlags e (Some flags) words value is noted = (is, noted.1)
 
-noting_ready : (layout : Layout) → layout ≡ BitFlags → (o : Option FlagWords) (words : ℕ → ℕ) (value : ℕ) → words 1 ≡ value → NotedFlags layout o words → NotedFlags layout (option_map (note_ready value) o) words
+noting_ready : (layout : Layout) → layout ≡ BitFlags → (o : Option FlagWords) (words : ℕ → ℕ) (value : ℕ) → words 1 ≡ value → NotedFlags layout o words → NotedFlags layout (option_map (note_flags Ready value) o) words
 noting_ready layout e None words value is noted = tt
 noting_ready LineFlags e (Some flags) words value is noted = absurd (cc)
 noting_ready BitFlags e (Some flags) words value is noted = (noted.0, is)
@@ -133,27 +134,27 @@ module _ (s : SetupView) (memory : Memory) (rec : Record) (me : ℕ) (place : Wo
     others = λ core o none is. is;
   }
 
-  load_sent : (b : Bool) (move : Move) (owner : ℕ) → Stands s place (SentFlags owner) → IsQuiet s memory memory rec.held (after_act (chunk_of s) (if b then NotingSent place.core value else Moving move) rec).held
-  load_sent true move owner st = notes_quiet (note_sent value) (noting_sent s.layout st.1 (rec.held place.core) (memory.word place.core 1) value (word_read owner 0 st.0) (noted place.core))
+  load_sent : (b : Bool) (move : Move) (owner : ℕ) → Stands s place (SignalFlags Sent owner) → IsQuiet s memory memory rec.held (after_act (chunk_of s) (if b then NotingSignal Sent place.core value else Moving move) rec).held
+  load_sent true move owner st = notes_quiet (note_flags Sent value) (noting_sent s.layout st.1 (rec.held place.core) (memory.word place.core 1) value (word_read owner 0 st.0) (noted place.core))
   load_sent false move owner st = same_quiet s memory rec.held noted
 
-  load_ready : (b : Bool) (move : Move) (owner : ℕ) → Stands s place (ReadyFlags owner) → IsQuiet s memory memory rec.held (after_act (chunk_of s) (if b then NotingReady place.core value else Moving move) rec).held
-  load_ready true move owner st = notes_quiet (note_ready value) (noting_ready s.layout st.1 (rec.held place.core) (memory.word place.core 1) value (word_read owner 1 st.0) (noted place.core))
+  load_ready : (b : Bool) (move : Move) (owner : ℕ) → Stands s place (SignalFlags Ready owner) → IsQuiet s memory memory rec.held (after_act (chunk_of s) (if b then NotingSignal Ready place.core value else Moving move) rec).held
+  load_ready true move owner st = notes_quiet (note_flags Ready value) (noting_ready s.layout st.1 (rec.held place.core) (memory.word place.core 1) value (word_read owner 1 st.0) (noted place.core))
   load_ready false move owner st = same_quiet s memory rec.held noted
 
   load_quiet : (role : Role) → Stands s place role → IsQuiet s memory memory rec.held (after_act (chunk_of s) (load_act s me rec place value role) rec).held
-  load_quiet (SentFlags owner) st = load_sent (is_some (rec.held place.core)) _ owner st
-  load_quiet (ReadyFlags owner) st = load_ready (is_some (rec.held place.core)) _ owner st
+  load_quiet (SignalFlags Sent owner) st = load_sent (is_some (rec.held place.core)) _ owner st
+  load_quiet (SignalFlags Ready owner) st = load_ready (is_some (rec.held place.core)) _ owner st
   load_quiet role st = same_quiet s memory rec.held noted
 
 -- ---- a store of a word of flags forgets what was noted of it
 
-forgetting_sent : (layout : Layout) → layout ≡ BitFlags → (o : Option FlagWords) (words late : ℕ → ℕ) → late 1 ≡ words 1 → NotedFlags layout o words → NotedFlags layout (option_map forget_sent o) late
+forgetting_sent : (layout : Layout) → layout ≡ BitFlags → (o : Option FlagWords) (words late : ℕ → ℕ) → late 1 ≡ words 1 → NotedFlags layout o words → NotedFlags layout (option_map (forget_flags Sent) o) late
 forgetting_sent layout e None words late b noted = tt
 forgetting_sent LineFlags e (Some flags) words late b noted = absurd (cc)
 forgetting_sent BitFlags e (Some flags) words late b noted = (tt, word_same flags.ready b noted.1)
 
-forgetting_ready : (layout : Layout) → layout ≡ BitFlags → (o : Option FlagWords) (words late : ℕ → ℕ) → late 0 ≡ words 0 → NotedFlags layout o words → NotedFlags layout (option_map forget_ready o) late
+forgetting_ready : (layout : Layout) → layout ≡ BitFlags → (o : Option FlagWords) (words late : ℕ → ℕ) → late 0 ≡ words 0 → NotedFlags layout o words → NotedFlags layout (option_map (forget_flags Ready) o) late
 forgetting_ready layout e None words late b noted = tt
 forgetting_ready LineFlags e (Some flags) words late b noted = absurd (cc)
 forgetting_ready BitFlags e (Some flags) words late b noted = (word_same flags.sent b noted.0, tt)
@@ -189,11 +190,11 @@ module _ (s : SetupView) (memory : Memory) (rec : Record) (me : ℕ) (place : Wo
   }
 
   -- a change of a word of flags is a move only where the word was noted under its register
-  sent_held : (owner : ℕ) (o : Option FlagWords) → permits (chunk_of s) (change_at LowerSent RaiseSent s me owner value (option_and_then (λ (flags : FlagWords). flags.sent) o)) rec ≡ true → is_some o ≡ true
+  sent_held : (owner : ℕ) (o : Option FlagWords) → permits (chunk_of s) (change_at (LowerSignal Sent) (RaiseSignal Sent) s me owner value (option_and_then (λ (flags : FlagWords). flags.sent) o)) rec ≡ true → is_some o ≡ true
   sent_held owner None may = absurd (cc)
   sent_held owner (Some flags) may = refl
 
-  ready_held : (owner : ℕ) (o : Option FlagWords) → permits (chunk_of s) (change_at LowerReady RaiseReady s me owner value (option_and_then (λ (flags : FlagWords). flags.ready) o)) rec ≡ true → is_some o ≡ true
+  ready_held : (owner : ℕ) (o : Option FlagWords) → permits (chunk_of s) (change_at (LowerSignal Ready) (RaiseSignal Ready) s me owner value (option_and_then (λ (flags : FlagWords). flags.ready) o)) rec ≡ true → is_some o ≡ true
   ready_held owner None may = absurd (cc)
   ready_held owner (Some flags) may = refl
 
@@ -203,13 +204,13 @@ module _ (s : SetupView) (memory : Memory) (rec : Record) (me : ℕ) (place : Wo
   store_quiet : (role : Role) → Stands s place role → permits_act (chunk_of s) (store_act s me rec place value role) rec ≡ true → IsQuiet s memory stored rec.held (after_act (chunk_of s) (store_act s me rec place value role) rec).held
   store_quiet (HeaderWord owner k) st may = let line = st.at_line in plain_quiet (inr (λ e. absurd (omega (arith, line, e))))
   store_quiet (ChunkWord owner k) st may = let a = first_chunk-is s.layout in let b = first_gather-above s.layout in plain_quiet (inr (apart_line _ st.0.at_line (omega (arith, a, b))))
-  store_quiet (SentFlag from to) st may = plain_quiet (inl st.2)
-  store_quiet (ReadyFlag from to) st may = plain_quiet (inl st.2)
-  store_quiet (SentFlags owner) st may =
-      flag_quiet forget_sent (sent_held owner (rec.held place.core) may)
+  store_quiet (SignalFlag Sent from to) st may = plain_quiet (inl st.2)
+  store_quiet (SignalFlag Ready to from) st may = plain_quiet (inl st.2)
+  store_quiet (SignalFlags Sent owner) st may =
+      flag_quiet (forget_flags Sent) (sent_held owner (rec.held place.core) may)
       (forgetting_sent s.layout st.1 (rec.held place.core) (memory.word place.core 1) (stored.word place.core 1) (left place.core 1 (λ a b c. absurd (omega (arith, c, st.0.at_word)))) (noted place.core))
-  store_quiet (ReadyFlags owner) st may =
-      flag_quiet forget_ready (ready_held owner (rec.held place.core) may)
+  store_quiet (SignalFlags Ready owner) st may =
+      flag_quiet (forget_flags Ready) (ready_held owner (rec.held place.core) may)
       (forgetting_ready s.layout st.1 (rec.held place.core) (memory.word place.core 1) (stored.word place.core 1) (left place.core 0 (λ a b c. absurd (omega (arith, c, st.0.at_word)))) (noted place.core))
   store_quiet (GatherFlag comm owner) st may = let b = first_gather-above s.layout in plain_quiet (inr (apart_line _ st.0.at_line (omega (arith, b))))
   store_quiet (ReleaseFlag comm owner) st may = let a = first_release-is s.layout in let b = first_gather-above s.layout in plain_quiet (inr (apart_line _ st.0.at_line (omega (arith, a, b))))

@@ -9,12 +9,13 @@ use Rattle.scc_base.specs.Events.{IsAccess, IsEvent}
 use Rattle.scc_base.specs.declared.events.Access.{Access}
 use Rattle.scc_base.specs.declared.events.Access.TheVariants.{Load, Store, Take, Free}
 use Rattle.scc_base.specs.declared.events.Event.{Event}
+use Rattle.scc_base.specs.declared.signals.Signal.TheVariants.{Sent, Ready}
 use Rattle.scc_proto.specs.Tables.{put}
 use Rattle.scc_proto.specs.Stages.{HeapStore, Record}
-use Rattle.scc_proto.specs.Moves.{Move, LowerSent, RaiseSent, LowerReady, RaiseReady, StoreHeap, Misplaced, heap_after, after}
+use Rattle.scc_proto.specs.Moves.{Move, LowerSignal, RaiseSignal, StoreHeap, Misplaced, heap_after, after}
 use Rattle.scc_proto.specs.Permission.{permits}
-use Rattle.scc_proto.specs.Words.{Memory, word_at, IsStep, IsStepBy, memory_by, memory_after, Role, SentFlags, ReadyFlags, HeapWord, IdleWord, role_of, are_peers}
-use Rattle.scc_proto.specs.Records.{act_of, store_act, raises_bit, lowered_below, move_at, change_at, sent_noted, ready_noted, chunk_of, after_act, permits_act, permits_by, IsPermitted, record_after}
+use Rattle.scc_proto.specs.Words.{Memory, word_at, IsStep, IsStepBy, memory_by, memory_after, Role, SignalFlags, HeapWord, IdleWord, role_of, are_peers}
+use Rattle.scc_proto.specs.Records.{act_of, store_act, raises_bit, lowered_below, move_at, change_at, flags_noted, chunk_of, after_act, permits_act, permits_by, IsPermitted, record_after}
 use Rattle.scc_proto.specs.Registers.{NotedFlags}
 use Rattle.scc_proto.specs.Agreement.{WasStored, WordAgrees, WordsAgree, RegistersAgree}
 use Rattle.scc_proto.proofs.Tests.{same_or_other, put_here, put_there, peers_from, true_not_false}
@@ -43,8 +44,7 @@ module _ (s : SetupView) (records : ℕ → Record) (me : ℕ) (new : Record) (g
   word_stays : (role : Role) (place : WordAt) (word : ℕ) → WordAgrees s place word records role → WordAgrees s place word (put records me new) role
   word_stays HeapWord place word agrees = ⊎_elim (λ (zero : word ≡ 0). inl zero) (λ (was : WasStored s.nue records place word). inr (stored_stays place word was)) agrees
   word_stays IdleWord place word agrees = agrees
-  word_stays (SentFlags owner) place word agrees = agrees
-  word_stays (ReadyFlags owner) place word agrees = agrees
+  word_stays (SignalFlags signal at) place word agrees = agrees
   word_stays role place word agrees = tt
 
   -- the same words
@@ -97,12 +97,12 @@ module _ (s : SetupView) (memory : Memory) (records : ℕ → Record) (me : ℕ)
     stored = subst (λ (r : Record). Contains r.heap (record { place = place; value = value })) (sym (put_here records me (after (chunk_of s) (StoreHeap place value) (records me)))) (Contains-push (records me).heap (record { place = place; value = value }));
   })
   stored_agrees IdleWord st may agrees = absurd (cc)
-  stored_agrees (SentFlags owner) st may agrees =
-      let c = change_is s (records me) me below value LowerSent RaiseSent owner (sent_noted (records me) place.core) st.0.below may in
+  stored_agrees (SignalFlags Sent owner) st may agrees =
+      let c = change_is s (records me) me below value (LowerSignal Sent) (RaiseSignal Sent) owner (flags_noted Sent (records me) place.core) st.0.below may in
       let word : word_at memory place ≡ c.old = (λ i. memory.word place.core (st.0.at_line i) (st.0.at_word i)) ∙ sent_noted_is s.layout ((records me).held place.core) (memory.word place.core 1) c.old noted c.noted in
       λ b f. c.same b f ∙ ap (λ (w : ℕ). bit_at w b) (sym word) ∙ agrees b f
-  stored_agrees (ReadyFlags owner) st may agrees =
-      let c = change_is s (records me) me below value LowerReady RaiseReady owner (ready_noted (records me) place.core) st.0.below may in
+  stored_agrees (SignalFlags Ready owner) st may agrees =
+      let c = change_is s (records me) me below value (LowerSignal Ready) (RaiseSignal Ready) owner (flags_noted Ready (records me) place.core) st.0.below may in
       let word : word_at memory place ≡ c.old = (λ i. memory.word place.core (st.0.at_line i) (st.0.at_word i)) ∙ ready_noted_is s.layout ((records me).held place.core) (memory.word place.core 1) c.old noted c.noted in
       λ b f. c.same b f ∙ ap (λ (w : ℕ). bit_at w b) (sym word) ∙ agrees b f
   stored_agrees role st may agrees = tt

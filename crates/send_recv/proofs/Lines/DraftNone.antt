@@ -10,7 +10,7 @@ use Rattle.scc_base.specs.declared.layouts.Layout.TheVariants.{LineFlags, BitFla
 use Rattle.scc_base.specs.declared.signals.Signal.TheVariants.{Sent, Ready}
 use Rattle.scc_proto.specs.Words.{role_of, are_peers}
 use Rattle.scc_proto.specs.Ports.{Seat, Sight, Did}
-use Rattle.scc_proto.proofs.Layouts.Roles.{sent_role, ready_role, role_sent, role_ready}
+use Rattle.scc_proto.proofs.Layouts.Roles.{signal_role, role_sent, role_ready}
 use Rattle.write_combine.specs.declared.combiner.Out.{Out}
 use Rattle.put_get.specs.Accesses.{loads_of, stores_of}
 use Rattle.put_get.specs.Cores.{Private}
@@ -25,11 +25,11 @@ use Rattle.send_recv.specs.Turns.{is_no_draft}
 abbrev pub IsFlagWord : SetupView → ℕ → FlagPlace → Type 0
 IsFlagWord setup core flag = is_message_word (role_of setup (flag_word core flag)) ≡ false
 
-sent_no_message : (layout : Layout) (from to : ℕ) → is_message_word (sent_role layout from to) ≡ false
+sent_no_message : (layout : Layout) (from to : ℕ) → is_message_word (signal_role layout Sent from to) ≡ false
 sent_no_message LineFlags from to = refl
 sent_no_message BitFlags from to = refl
 
-ready_no_message : (layout : Layout) (from to : ℕ) → is_message_word (ready_role layout from to) ≡ false
+ready_no_message : (layout : Layout) (from to : ℕ) → is_message_word (signal_role layout Ready to from) ≡ false
 ready_no_message LineFlags from to = refl
 ready_no_message BitFlags from to = refl
 

@@ -8,14 +8,17 @@ use Rattle.scc_base.specs.Setups.{IsSetup}
 use Rattle.scc_base.specs.Events.{take_of, free_of}
 use Rattle.scc_base.specs.declared.events.Event.{Event}
 use Rattle.scc_base.specs.declared.layouts.Layout.TheVariants.{BitFlags}
+use Rattle.scc_base.specs.Layouts.{signal_word}
+use Rattle.scc_base.specs.declared.signals.Signal.{Signal}
+use Rattle.scc_base.specs.declared.signals.Signal.TheVariants.{Sent, Ready}
 use Rattle.scc_proto.specs.Tables.{put}
 use Rattle.scc_proto.specs.Stages.{FlagWords, Record}
 use Rattle.scc_proto.specs.Moves.{Move, after}
-use Rattle.scc_proto.specs.Records.{chunk_of, change_held, note_sent, note_ready, sent_noted, ready_noted}
+use Rattle.scc_proto.specs.Records.{chunk_of, change_held, note_flags, flags_noted}
 use Rattle.scc_proto.specs.Ports.{Seat, record_next, record_on}
 use Rattle.scc_proto.proofs.Tests.{put_here}
 use Rattle.scc_proto.proofs.Layouts.Roles.{own_word, role_spare_bits, if_no}
-use Rattle.scc_proto.proofs.Layouts.PlaceMoves.{idle_loaded, register_taken, register_freed, sent_bits_noted, ready_bits_noted}
+use Rattle.scc_proto.proofs.Layouts.PlaceMoves.{idle_loaded, register_taken, register_freed, signal_bits_noted}
 use Rattle.put_get.specs.Accesses.{loads_of}
 use Rattle.sync_flags.specs.Flags.{with_bit}
 use Rattle.send_recv.specs.Steps.{core_of, line_at}
@@ -52,17 +55,16 @@ line_noted seat rec r words valid bits below free =
     let two : FlagWords = both_noted (slice_index words 0) (slice_index words 1) in
     ap (λ (x : Record). record_on seat x (loads_of (line_at seat r 1) words)) (register_taken seat rec valid core free).becomes
     ∙ on_four seat (with_hold rec core none) (with_hold rec core one) (with_hold rec core two) (with_hold rec core two) (with_hold rec core two) _ _ _ _
-    ((sent_bits_noted seat (with_hold rec core none) valid bits r (slice_index words 0) below (is_held rec core none)).becomes ∙ change_hold (note_sent (slice_index words 0)) rec core none)
-    ((ready_bits_noted seat (with_hold rec core one) valid bits r (slice_index words 1) below (is_held rec core one)).becomes ∙ change_hold (note_ready (slice_index words 1)) rec core one)
+    ((signal_bits_noted seat (with_hold rec core none) valid bits Sent r (slice_index words 0) below (is_held rec core none)).becomes ∙ change_hold (note_flags Sent (slice_index words 0)) rec core none)
+    ((signal_bits_noted seat (with_hold rec core one) valid bits Ready r (slice_index words 1) below (is_held rec core one)).becomes ∙ change_hold (note_flags Ready (slice_index words 1)) rec core one)
     (idle_loaded seat (with_hold rec core two) (own_word seat.setup r 1 2) (slice_index words 2) (role_spare_bits seat.setup valid bits r 2 below (omega arith))).becomes
     (idle_loaded seat (with_hold rec core two) (own_word seat.setup r 1 3) (slice_index words 3) (role_spare_bits seat.setup valid bits r 3 below (omega arith))).becomes
 
 -- the words noted under the register
-pub sent_is_noted : (rec : Record) (core sent ready : ℕ) → sent_noted (with_hold rec core (both_noted sent ready)) core ≡ Some sent
-sent_is_noted rec core sent ready = ap (λ (o : Option FlagWords). option_and_then (λ (flags : FlagWords). flags.sent) o) (held_here rec core (both_noted sent ready))
-
-pub ready_is_noted : (rec : Record) (core sent ready : ℕ) → ready_noted (with_hold rec core (both_noted sent ready)) core ≡ Some ready
-ready_is_noted rec core sent ready = ap (λ (o : Option FlagWords). option_and_then (λ (flags : FlagWords). flags.ready) o) (held_here rec core (both_noted sent ready))
+pub is_noted : (signal : Signal) (rec : Record) (core : ℕ) (words : List ℕ)
+    → flags_noted signal (with_hold rec core (both_noted (slice_index words 0) (slice_index words 1))) core ≡ Some (slice_index words (signal_word signal))
+is_noted Sent rec core words = ap (λ (o : Option FlagWords). option_and_then (λ (flags : FlagWords). flags.sent) o) (held_here rec core (both_noted (slice_index words 0) (slice_index words 1)))
+is_noted Ready rec core words = ap (λ (o : Option FlagWords). option_and_then (λ (flags : FlagWords). flags.ready) o) (held_here rec core (both_noted (slice_index words 0) (slice_index words 1)))
 
 -- after the store and the free the record is that after the move, with the register free
 pub move_made : (seat : Seat) (rec : Record) (core : ℕ) (flags : FlagWords) (f : FlagWords → FlagWords) (move : Move) (store : Event) → IsSetup seat.setup → rec.held core ≡ None

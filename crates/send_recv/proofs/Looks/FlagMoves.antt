@@ -2,7 +2,8 @@
 use Rattle.std.proofs.Common.{◌≡◌, ℕ, ◌<◌, Bool, true, false, if◌then◌else◌, List, [], ◌∷◌, ◌++◌, Option, Some, None, refl, sym, ◌∙◌, ap, subst, arith, slice_index}
 use Rattle.std.specs.Int.{bit_at}
 use Rattle.scc_base.specs.Places.{FlagPlace, flag_word, line_of_word}
-use Rattle.scc_base.specs.Layouts.{signal_at}
+use Rattle.scc_base.specs.Layouts.{signal_at, signal_word}
+use Rattle.scc_base.specs.declared.signals.Signal.{Signal}
 use Rattle.scc_base.specs.declared.signals.Signal.TheVariants.{Sent, Ready}
 use Rattle.scc_base.specs.Setups.{IsSetup}
 use Rattle.scc_base.specs.Events.{store_of, take_of, free_of}
@@ -11,15 +12,15 @@ use Rattle.scc_base.specs.declared.layouts.Layout.{Layout}
 use Rattle.scc_base.specs.declared.layouts.Layout.TheVariants.{LineFlags, BitFlags}
 use Rattle.scc_proto.specs.Messages.{Notes}
 use Rattle.scc_proto.specs.Stages.{FlagWords, Record}
-use Rattle.scc_proto.specs.Moves.{Move, RaiseSent, LowerSent, RaiseReady, LowerReady, after}
+use Rattle.scc_proto.specs.Moves.{Move, RaiseSignal, LowerSignal, after}
 use Rattle.scc_proto.specs.Permission.{permits}
 use Rattle.scc_proto.specs.Soundness.{IsSound, is_drafting, is_taking, is_answered}
 use Rattle.scc_proto.specs.Words.{are_peers}
-use Rattle.scc_proto.specs.Records.{chunk_of, change_held, forget_sent, forget_ready}
+use Rattle.scc_proto.specs.Records.{chunk_of, change_held, forget_flags}
 use Rattle.scc_proto.specs.Ports.{Seat, Sight, Did, MayMake, MayMakeAll, IsSoundPort, record_in, record_on}
 use Rattle.scc_proto.proofs.Tests.{peers_are}
 use Rattle.scc_proto.proofs.PortLaws.{record_did, record_did_one, record_on-append, seat_kept}
-use Rattle.scc_proto.proofs.Layouts.PlaceMoves.{Makes, sent_lowered, ready_raised, ready_lowered, sent_bit_raised, sent_bit_lowered, ready_bit_raised, ready_bit_lowered}
+use Rattle.scc_proto.proofs.Layouts.PlaceMoves.{Makes, signal_lowered, signal_raised, signal_bit_raised, signal_bit_lowered}
 use Rattle.write_combine.specs.declared.combiner.Out.{Out}
 use Rattle.write_combine.specs.Combining.{handed_out}
 use Rattle.put_get.specs.Accesses.{loads_of, stores_of}
@@ -28,7 +29,7 @@ use Rattle.sync_flags.specs.Flags.{with_bit}
 use Rattle.send_recv.specs.Flags.{Changes, ChangesBy, Missed, Changed, MayChange, MayChangeBy}
 use Rattle.send_recv.specs.Steps.{own_core, core_of, line_at}
 use Rattle.send_recv.specs.Turns.{HoldsNoneBy, HoldsNone}
-use Rattle.send_recv.proofs.Looks.ChangeLemmas.{with_hold, both_noted, line_noted, sent_is_noted, ready_is_noted, move_made, bit_taken, bit_given}
+use Rattle.send_recv.proofs.Looks.ChangeLemmas.{with_hold, both_noted, line_noted, is_noted, move_made, bit_taken, bit_given}
 
 -- with an empty buffer a line flag's store is the one event
 empty_other : (out : Option Out) (core : ℕ) (flag : FlagPlace) → out ≡ None → handed_out out (line_of_word (flag_word core flag)) ≡ out
@@ -116,81 +117,89 @@ pub flag_moved : (s t : Sight) (c d : Private) (r : ℕ) (flag : FlagPlace) (set
     → MovesFlag s.seat.setup.layout s.seat (record_in s) r flag set move → Changes s c (core_of s.seat r) flag set true t d → record_in t ≡ after (chunk_of s.seat.setup) move (record_in s)
 flag_moved s t c d r flag set move valid hands empty moves changes = flag_moved_by s.seat.setup.layout s t c d r flag set move refl valid hands empty moves changes
 
--- ---- the four changes of a message's flags
+-- ---- the two changes of a signal's flag
 
--- a receiver lowers `sent` at its own core
-pub sent_lowers : (layout : Layout) (s : Sight) (from : ℕ) (header : Notes) → s.seat.setup.layout ≡ layout → IsSetup s.seat.setup → are_peers s.seat.setup s.seat.rank from ≡ true
-    → (record_in s).notes from ≡ Some header → permits (chunk_of s.seat.setup) (LowerSent from) (record_in s) ≡ true
-    → MovesFlag layout s.seat (record_in s) s.seat.rank (signal_at layout Sent from) false (LowerSent from)
-sent_lowers LineFlags s from header lines valid peers seen may = (omega arith, sent_lowered s.seat (record_in s) valid lines from peers may)
-sent_lowers BitFlags s from header bits valid peers seen may =
-    let p = peers_are s.seat.setup s.seat.rank from peers in
-    record {
-      below = p.one;
-      on_line = refl;
-      forget = forget_sent;
-      apart = λ flags. refl;
-      turns = λ words sound. sound.sent_set from (slice_index words 0) header (sent_is_noted (record_in s) (own_core s.seat) (slice_index words 0) (slice_index words 1)) seen;
-      stored = λ words set.
-          sent_bit_lowered s.seat (noted_under s.seat (record_in s) s.seat.rank words) valid bits from (slice_index words 0) (with_bit from false (slice_index words 0)) peers
-          (sent_is_noted (record_in s) (own_core s.seat) (slice_index words 0) (slice_index words 1)) set (bit_taken (slice_index words 0) from set) may;
-    }
+-- lowering and raising ask nothing of a register that is held, and leave it
+lower_apart : (size : ℕ) (signal : Signal) (by : ℕ) (rec : Record) (core : ℕ) (flags : FlagWords) → after size (LowerSignal signal by) (with_hold rec core flags) ≡ with_hold (after size (LowerSignal signal by) rec) core flags
+lower_apart size Sent by rec core flags = refl
+lower_apart size Ready by rec core flags = refl
 
--- a sender lowers `ready` at its own core, by a send or by the slot
-pub ready_lowers : (layout : Layout) (s : Sight) (by : ℕ) → s.seat.setup.layout ≡ layout → IsSetup s.seat.setup → are_peers s.seat.setup s.seat.rank by ≡ true
-    → is_answered by (record_in s).stage (record_in s).post ≡ true → permits (chunk_of s.seat.setup) (LowerReady by) (record_in s) ≡ true
-    → MovesFlag layout s.seat (record_in s) s.seat.rank (signal_at layout Ready by) false (LowerReady by)
-ready_lowers LineFlags s by lines valid peers seen may = (omega arith, ready_lowered s.seat (record_in s) valid lines by peers may)
-ready_lowers BitFlags s by bits valid peers seen may =
+lower_permits : (size : ℕ) (signal : Signal) (by : ℕ) (rec : Record) (core : ℕ) (flags : FlagWords) → permits size (LowerSignal signal by) rec ≡ true → permits size (LowerSignal signal by) (with_hold rec core flags) ≡ true
+lower_permits size Sent by rec core flags may = may
+lower_permits size Ready by rec core flags may = may
+
+raise_apart : (size : ℕ) (signal : Signal) (at : ℕ) (rec : Record) (core : ℕ) (flags : FlagWords) → after size (RaiseSignal signal at) (with_hold rec core flags) ≡ with_hold (after size (RaiseSignal signal at) rec) core flags
+raise_apart size Sent at rec core flags = refl
+raise_apart size Ready at rec core flags = refl
+
+raise_permits : (size : ℕ) (signal : Signal) (at : ℕ) (rec : Record) (core : ℕ) (flags : FlagWords) → permits size (RaiseSignal signal at) rec ≡ true → permits size (RaiseSignal signal at) (with_hold rec core flags) ≡ true
+raise_permits size Sent at rec core flags may = may
+raise_permits size Ready at rec core flags may = may
+
+-- a rank lowers the flag of a signal at its own core, where what it noted of it says that it is set
+pub signal_lowers : (layout : Layout) (s : Sight) (signal : Signal) (by : ℕ) → s.seat.setup.layout ≡ layout → IsSetup s.seat.setup → are_peers s.seat.setup s.seat.rank by ≡ true
+    → ((words : List ℕ) → IsSound s.seat.setup s.seat.rank (noted_under s.seat (record_in s) s.seat.rank words) → bit_at (slice_index words (signal_word signal)) by ≡ 1)
+    → permits (chunk_of s.seat.setup) (LowerSignal signal by) (record_in s) ≡ true
+    → MovesFlag layout s.seat (record_in s) s.seat.rank (signal_at layout signal by) false (LowerSignal signal by)
+signal_lowers LineFlags s signal by lines valid peers set may = (omega arith, signal_lowered s.seat (record_in s) valid lines signal by peers may)
+signal_lowers BitFlags s signal by bits valid peers set may =
     let p = peers_are s.seat.setup s.seat.rank by peers in
+    let core = own_core s.seat in
     record {
       below = p.one;
       on_line = refl;
-      forget = forget_ready;
-      apart = λ flags. refl;
-      turns = λ words sound. sound.ready_set by (slice_index words 1) (ready_is_noted (record_in s) (own_core s.seat) (slice_index words 0) (slice_index words 1)) seen;
-      stored = λ words set.
-          ready_bit_lowered s.seat (noted_under s.seat (record_in s) s.seat.rank words) valid bits by (slice_index words 1) (with_bit by false (slice_index words 1)) peers
-          (ready_is_noted (record_in s) (own_core s.seat) (slice_index words 0) (slice_index words 1)) set (bit_taken (slice_index words 1) by set) may;
+      forget = forget_flags signal;
+      apart = lower_apart (chunk_of s.seat.setup) signal by (record_in s) core;
+      turns = set;
+      stored = λ words is_set.
+          let word = slice_index words (signal_word signal) in
+          signal_bit_lowered s.seat (noted_under s.seat (record_in s) s.seat.rank words) valid bits signal by word (with_bit by false word) peers
+          (is_noted signal (record_in s) core words) is_set (bit_taken word by is_set)
+          (lower_permits (chunk_of s.seat.setup) signal by (record_in s) core (both_noted (slice_index words 0) (slice_index words 1)) may);
     }
 
--- a receiver raises `ready` at the core of the sender
-pub ready_raises : (layout : Layout) (s : Sight) (to : ℕ) → s.seat.setup.layout ≡ layout → IsSetup s.seat.setup → are_peers s.seat.setup s.seat.rank to ≡ true
-    → is_taking to (record_in s).stage ≡ true → permits (chunk_of s.seat.setup) (RaiseReady to) (record_in s) ≡ true
-    → MovesFlag layout s.seat (record_in s) to (signal_at layout Ready s.seat.rank) true (RaiseReady to)
-ready_raises LineFlags s to lines valid peers taking may = (omega arith, ready_raised s.seat (record_in s) valid lines to peers may)
-ready_raises BitFlags s to bits valid peers taking may =
-    let p = peers_are s.seat.setup s.seat.rank to peers in
-    let core = core_of s.seat to in
+-- a rank raises its flag of a signal at the core of another rank, where what it noted of it says that it is clear
+pub signal_raises : (layout : Layout) (s : Sight) (signal : Signal) (at : ℕ) → s.seat.setup.layout ≡ layout → IsSetup s.seat.setup → are_peers s.seat.setup s.seat.rank at ≡ true
+    → ((words : List ℕ) → IsSound s.seat.setup s.seat.rank (noted_under s.seat (record_in s) at words) → bit_at (slice_index words (signal_word signal)) s.seat.rank ≡ 0)
+    → permits (chunk_of s.seat.setup) (RaiseSignal signal at) (record_in s) ≡ true
+    → MovesFlag layout s.seat (record_in s) at (signal_at layout signal s.seat.rank) true (RaiseSignal signal at)
+signal_raises LineFlags s signal at lines valid peers clear may = (omega arith, signal_raised s.seat (record_in s) valid lines signal at peers may)
+signal_raises BitFlags s signal at bits valid peers clear may =
+    let p = peers_are s.seat.setup s.seat.rank at peers in
+    let core = core_of s.seat at in
     record {
       below = p.other;
       on_line = refl;
-      forget = forget_ready;
-      apart = λ flags. refl;
-      turns = λ words sound. sound.ready_clear to (slice_index words 1) (ready_is_noted (record_in s) core (slice_index words 0) (slice_index words 1)) taking;
-      stored = λ words clear.
-          let rec : Record = noted_under s.seat (record_in s) to words in
-          subst (λ v. Makes s.seat rec (store_of (flag_word core (signal_at BitFlags Ready s.seat.rank)) v) (change_held forget_ready core (after (chunk_of s.seat.setup) (RaiseReady to) rec)))
-          (sym (bit_given (slice_index words 1) s.seat.rank clear))
-          (ready_bit_raised s.seat rec valid bits to (slice_index words 1) peers (ready_is_noted (record_in s) core (slice_index words 0) (slice_index words 1)) clear may);
+      forget = forget_flags signal;
+      apart = raise_apart (chunk_of s.seat.setup) signal at (record_in s) core;
+      turns = clear;
+      stored = λ words is_clear.
+          let rec : Record = noted_under s.seat (record_in s) at words in
+          let word = slice_index words (signal_word signal) in
+          subst (λ v. Makes s.seat rec (store_of (flag_word core (signal_at BitFlags signal s.seat.rank)) v) (change_held (forget_flags signal) core (after (chunk_of s.seat.setup) (RaiseSignal signal at) rec)))
+          (sym (bit_given word s.seat.rank is_clear))
+          (signal_bit_raised s.seat rec valid bits signal at word peers (is_noted signal (record_in s) core words) is_clear
+          (raise_permits (chunk_of s.seat.setup) signal at (record_in s) core (both_noted (slice_index words 0) (slice_index words 1)) may));
     }
 
--- a sender raises `sent` at the core of the receiver, with bit flags; with line flags it stores first what waits
-pub sent_raises : (s : Sight) (to : ℕ) → s.seat.setup.layout ≡ BitFlags → IsSetup s.seat.setup → are_peers s.seat.setup s.seat.rank to ≡ true
-    → is_drafting (record_in s).stage (record_in s).post ≡ true → permits (chunk_of s.seat.setup) (RaiseSent to) (record_in s) ≡ true
-    → MovesFlag BitFlags s.seat (record_in s) to (signal_at BitFlags Sent s.seat.rank) true (RaiseSent to)
-sent_raises s to bits valid peers drafting may =
-    let p = peers_are s.seat.setup s.seat.rank to peers in
-    let core = core_of s.seat to in
-    record {
-      below = p.other;
-      on_line = refl;
-      forget = forget_sent;
-      apart = λ flags. refl;
-      turns = λ words sound. sound.sent_clear to (slice_index words 0) peers (sent_is_noted (record_in s) core (slice_index words 0) (slice_index words 1)) drafting;
-      stored = λ words clear.
-          let rec : Record = noted_under s.seat (record_in s) to words in
-          subst (λ v. Makes s.seat rec (store_of (flag_word core (signal_at BitFlags Sent s.seat.rank)) v) (change_held forget_sent core (after (chunk_of s.seat.setup) (RaiseSent to) rec)))
-          (sym (bit_given (slice_index words 0) s.seat.rank clear))
-          (sent_bit_raised s.seat rec valid bits to (slice_index words 0) peers (sent_is_noted (record_in s) core (slice_index words 0) (slice_index words 1)) clear may);
-    }
+-- ---- what a sound record says of them
+
+-- a receiver has noted what it saw of `sent`
+pub sent_turns : (s : Sight) (from : ℕ) (header : Notes) → (record_in s).notes from ≡ Some header
+    → (words : List ℕ) → IsSound s.seat.setup s.seat.rank (noted_under s.seat (record_in s) s.seat.rank words) → bit_at (slice_index words 0) from ≡ 1
+sent_turns s from header seen words sound = sound.sent_set from (slice_index words 0) header (is_noted Sent (record_in s) (own_core s.seat) words) seen
+
+-- a sender has seen `ready`
+pub ready_turns : (s : Sight) (by : ℕ) → is_answered by (record_in s).stage (record_in s).post ≡ true
+    → (words : List ℕ) → IsSound s.seat.setup s.seat.rank (noted_under s.seat (record_in s) s.seat.rank words) → bit_at (slice_index words 1) by ≡ 1
+ready_turns s by seen words sound = sound.ready_set by (slice_index words 1) (is_noted Ready (record_in s) (own_core s.seat) words) seen
+
+-- a receiver takes the chunk
+pub ready_is_clear : (s : Sight) (to : ℕ) → is_taking to (record_in s).stage ≡ true
+    → (words : List ℕ) → IsSound s.seat.setup s.seat.rank (noted_under s.seat (record_in s) to words) → bit_at (slice_index words 1) s.seat.rank ≡ 0
+ready_is_clear s to taking words sound = sound.ready_clear to (slice_index words 1) (is_noted Ready (record_in s) (core_of s.seat to) words) taking
+
+-- no chunk of the sender is raised
+pub sent_is_clear : (s : Sight) (to : ℕ) → are_peers s.seat.setup s.seat.rank to ≡ true → is_drafting (record_in s).stage (record_in s).post ≡ true
+    → (words : List ℕ) → IsSound s.seat.setup s.seat.rank (noted_under s.seat (record_in s) to words) → bit_at (slice_index words 0) s.seat.rank ≡ 0
+sent_is_clear s to peers drafting words sound = sound.sent_clear to (slice_index words 0) peers (is_noted Sent (record_in s) (core_of s.seat to) words) drafting

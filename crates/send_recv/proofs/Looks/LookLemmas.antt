@@ -10,14 +10,14 @@ use Rattle.scc_base.specs.declared.events.Event.{Event}
 use Rattle.scc_base.specs.declared.layouts.Layout.{Layout}
 use Rattle.scc_base.specs.declared.layouts.Layout.TheVariants.{LineFlags, BitFlags}
 use Rattle.scc_proto.specs.Stages.{Filling, Raised, Answered, Stage, Idle, Drafting, Sending, Between, Taking, Barrier, OnItsWay, Record}
-use Rattle.scc_proto.specs.Moves.{LookSent, LookReady, look_ready, post_answered, after}
+use Rattle.scc_proto.specs.Moves.{LookSignal, look_ready, post_answered, after}
 use Rattle.scc_proto.specs.Words.{are_peers}
 use Rattle.scc_proto.specs.Records.{look_at, look_at_bits, chunk_of}
 use Rattle.scc_proto.specs.Ports.{Seat, Sight, Did, record_in, record_next, record_on}
 use Rattle.scc_proto.proofs.PortLaws.{record_did}
 use Rattle.scc_proto.proofs.Tests.{eqb_same, peers_are}
 use Rattle.scc_proto.proofs.Layouts.Roles.{own_word, role_spare_line, role_spare_bits}
-use Rattle.scc_proto.proofs.Layouts.PlaceMoves.{idle_loaded, sent_loaded, ready_loaded, sent_bits_loaded, ready_bits_loaded}
+use Rattle.scc_proto.proofs.Layouts.PlaceMoves.{idle_loaded, signal_loaded, signal_bits_loaded}
 use Rattle.put_get.specs.Accesses.{loads_of}
 use Rattle.put_get.specs.Cores.{Private}
 use Rattle.send_recv.specs.Flags.{is_set, Looks}
@@ -35,7 +35,7 @@ on_four seat a b c d last e0 e1 e2 e3 p q r t =
 -- a record was looked with: of each signal some flags were seen
 pub record IsLooked (size : ℕ) (rec new : Record) : Type 0 where
   pub seen : Signal → ℕ → Bool
-  pub is : new ≡ after size (LookReady (seen Ready)) (after size (LookSent (seen Sent)) rec)
+  pub is : new ≡ after size (LookSignal Ready (seen Ready)) (after size (LookSignal Sent (seen Sent)) rec)
 
 -- no flag was seen
 abbrev pub none_set : ℕ → Bool
@@ -63,8 +63,8 @@ answered_none None = refl
 answered_none (Some post) = refl
 
 -- a look at `sent` flags alone
-looked_sent_alone : (size : ℕ) (rec : Record) (p : ℕ → Bool) → after size (LookSent p) rec ≡ after size (LookReady none_set) (after size (LookSent p) rec)
-looked_sent_alone size rec p = λ i. record (after size (LookSent p) rec) { stage = sym (seen_none rec.stage) i; post = sym (answered_none rec.post) i }
+looked_sent_alone : (size : ℕ) (rec : Record) (p : ℕ → Bool) → after size (LookSignal Sent p) rec ≡ after size (LookSignal Ready none_set) (after size (LookSignal Sent p) rec)
+looked_sent_alone size rec p = λ i. record (after size (LookSignal Sent p) rec) { stage = sym (seen_none rec.stage) i; post = sym (answered_none rec.post) i }
 
 -- ---- line flags
 
@@ -78,12 +78,12 @@ four_of_line seat rec last line words valid lines below low high first =
     = λ word other. (idle_loaded seat last (own_word seat.setup seat.rank line word) (slice_index words word) (role_spare_line seat.setup valid lines seat.rank line word below low high2 other)).becomes in
     on_four seat rec last last last last _ _ _ _ first (idle 1 (omega arith)) (idle 2 (omega arith)) (idle 3 (omega arith))
 
-signal_loaded : (signal : Signal) (seat : Seat) (rec : Record) (j : ℕ) (words : List ℕ) → IsSetup seat.setup → seat.setup.layout ≡ LineFlags → are_peers seat.setup seat.rank j ≡ true
+line_loaded : (signal : Signal) (seat : Seat) (rec : Record) (j : ℕ) (words : List ℕ) → IsSetup seat.setup → seat.setup.layout ≡ LineFlags → are_peers seat.setup seat.rank j ≡ true
     → record_next seat rec (load_of (own_word seat.setup seat.rank (first_signal signal + j) 0) (slice_index words 0))
-    ≡ after (chunk_of seat.setup) (LookReady (seen_alone signal (look_at j (slice_index words 0)) Ready)) (after (chunk_of seat.setup) (LookSent (seen_alone signal (look_at j (slice_index words 0)) Sent)) rec)
-signal_loaded Sent seat rec j words valid lines peers =
-    (sent_loaded seat rec valid lines j (slice_index words 0) peers).becomes ∙ looked_sent_alone (chunk_of seat.setup) rec (look_at j (slice_index words 0))
-signal_loaded Ready seat rec j words valid lines peers = (ready_loaded seat rec valid lines j (slice_index words 0) peers).becomes
+    ≡ after (chunk_of seat.setup) (LookSignal Ready (seen_alone signal (look_at j (slice_index words 0)) Ready)) (after (chunk_of seat.setup) (LookSignal Sent (seen_alone signal (look_at j (slice_index words 0)) Sent)) rec)
+line_loaded Sent seat rec j words valid lines peers =
+    (signal_loaded seat rec valid lines Sent j (slice_index words 0) peers).becomes ∙ looked_sent_alone (chunk_of seat.setup) rec (look_at j (slice_index words 0))
+line_loaded Ready seat rec j words valid lines peers = (signal_loaded seat rec valid lines Ready j (slice_index words 0) peers).becomes
 
 lines_end : (signal : Signal) (j n : ℕ) → j < n → n ≤ 48 → first_signal signal + j < 97
 lines_end Sent j n low most = omega (arith, low, most)
@@ -95,23 +95,23 @@ lines_begin Ready j = omega arith
 
 signal_line : (signal : Signal) (seat : Seat) (rec : Record) (j : ℕ) (words : List ℕ) → IsSetup seat.setup → seat.setup.layout ≡ LineFlags → are_peers seat.setup seat.rank j ≡ true
     → record_on seat rec (loads_of (line_at seat seat.rank (first_signal signal + j)) words)
-    ≡ after (chunk_of seat.setup) (LookReady (seen_alone signal (look_at j (slice_index words 0)) Ready)) (after (chunk_of seat.setup) (LookSent (seen_alone signal (look_at j (slice_index words 0)) Sent)) rec)
+    ≡ after (chunk_of seat.setup) (LookSignal Ready (seen_alone signal (look_at j (slice_index words 0)) Ready)) (after (chunk_of seat.setup) (LookSignal Sent (seen_alone signal (look_at j (slice_index words 0)) Sent)) rec)
 signal_line signal seat rec j words valid lines peers =
     let p = peers_are seat.setup seat.rank j peers in
     four_of_line seat rec _ (first_signal signal + j) words valid lines p.one (lines_begin signal j) (lines_end signal j seat.setup.nue p.other valid.ranks_within)
-    (signal_loaded signal seat rec j words valid lines peers)
+    (line_loaded signal seat rec j words valid lines peers)
 
 -- ---- bit flags: the line has the flags of all ranks
 
 bits_line : (seat : Seat) (rec : Record) (words : List ℕ) → IsSetup seat.setup → seat.setup.layout ≡ BitFlags → seat.rank < seat.setup.nue → rec.held (own_core seat) ≡ None
     → record_on seat rec (loads_of (line_at seat seat.rank 1) words)
-    ≡ after (chunk_of seat.setup) (LookReady (look_at_bits seat.setup seat.rank (slice_index words 1))) (after (chunk_of seat.setup) (LookSent (look_at_bits seat.setup seat.rank (slice_index words 0))) rec)
+    ≡ after (chunk_of seat.setup) (LookSignal Ready (look_at_bits seat.setup seat.rank (slice_index words 1))) (after (chunk_of seat.setup) (LookSignal Sent (look_at_bits seat.setup seat.rank (slice_index words 0))) rec)
 bits_line seat rec words valid bits below free =
-    let a : Record = after (chunk_of seat.setup) (LookSent (look_at_bits seat.setup seat.rank (slice_index words 0))) rec in
-    let b : Record = after (chunk_of seat.setup) (LookReady (look_at_bits seat.setup seat.rank (slice_index words 1))) a in
+    let a : Record = after (chunk_of seat.setup) (LookSignal Sent (look_at_bits seat.setup seat.rank (slice_index words 0))) rec in
+    let b : Record = after (chunk_of seat.setup) (LookSignal Ready (look_at_bits seat.setup seat.rank (slice_index words 1))) a in
     on_four seat rec a b b b _ _ _ _
-    (sent_bits_loaded seat rec valid bits (slice_index words 0) below free).becomes
-    (ready_bits_loaded seat a valid bits (slice_index words 1) below free).becomes
+    (signal_bits_loaded seat rec valid bits Sent (slice_index words 0) below free).becomes
+    (signal_bits_loaded seat a valid bits Ready (slice_index words 1) below free).becomes
     (idle_loaded seat b (own_word seat.setup seat.rank 1 2) (slice_index words 2) (role_spare_bits seat.setup valid bits seat.rank 2 below (omega arith))).becomes
     (idle_loaded seat b (own_word seat.setup seat.rank 1 3) (slice_index words 3) (role_spare_bits seat.setup valid bits seat.rank 3 below (omega arith))).becomes
 

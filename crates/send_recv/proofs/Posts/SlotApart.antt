@@ -6,13 +6,14 @@ use Rattle.scc_base.specs.Setups.{SetupView, place_of}
 use Rattle.scc_base.specs.declared.events.Access.{Access}
 use Rattle.scc_base.specs.declared.events.Access.TheVariants.{Load, Store, Take, Free}
 use Rattle.scc_base.specs.declared.events.Event.{Event}
+use Rattle.scc_base.specs.declared.signals.Signal.TheVariants.{Sent, Ready}
 use Rattle.scc_proto.specs.Messages.{Notes, note_word, Progress, is_last, with_chunk}
 use Rattle.scc_proto.specs.Stages.{Filling, Raised, Answered, Stage, Idle, Drafting, Sending, Between, Taking, Barrier, OnItsWay, Record, blank}
-use Rattle.scc_proto.specs.Moves.{Move, DraftHeader, DraftChunk, RaiseSent, LookSent, ReadHeader, ReadChunk, LowerSent, RaiseReady, LookReady, LowerReady, FlipGather, LookGather, WriteRelease, LookRelease, StoreHeap, NoMove, Misplaced, after, is_posted, read_chunk, lower_sent, raise_ready, look_ready, flip_gather, look_gather, write_release, look_release}
+use Rattle.scc_proto.specs.Moves.{Move, DraftHeader, DraftChunk, RaiseSignal, LookSignal, ReadHeader, ReadChunk, LowerSignal, FlipGather, LookGather, WriteRelease, LookRelease, StoreHeap, NoMove, Misplaced, after, is_posted, read_chunk, lower_sent, raise_ready, look_ready, flip_gather, look_gather, write_release, look_release}
 use Rattle.scc_proto.specs.Permission.{permits, may_raise}
 use Rattle.scc_proto.specs.Singles.{is_free}
-use Rattle.scc_proto.specs.Words.{Role, HeaderWord, ChunkWord, SentFlag, ReadyFlag, SentFlags, ReadyFlags, GatherFlag, ReleaseFlag, HeapWord, IdleWord, role_of}
-use Rattle.scc_proto.specs.Records.{look_at, look_at_bits, leads, Act, Moving, NotingSent, NotingReady, ChangingSent, ChangingReady, Holding, Freeing, load_by, load_act, store_act, act_by, act_of, after_act, permits_act, permits_by, is_permitted, record_after, record_from, record_of, chunk_of}
+use Rattle.scc_proto.specs.Words.{Role, HeaderWord, ChunkWord, SignalFlag, SignalFlags, GatherFlag, ReleaseFlag, HeapWord, IdleWord, role_of}
+use Rattle.scc_proto.specs.Records.{look_at, look_at_bits, leads, Act, Moving, NotingSignal, ChangingSignal, Holding, Freeing, load_by, load_act, store_act, act_by, act_of, after_act, permits_act, permits_by, is_permitted, record_after, record_from, record_of, chunk_of}
 use Rattle.scc_proto.specs.Ports.{Sight, record_in}
 
 -- no message is on its way, or no other one is drafted or raised
@@ -117,7 +118,7 @@ posted_apart true post stage = refl
 posted_apart false post stage = refl
 
 raised_apart : (size to : ℕ) (rec : Record) (post : Option OnItsWay) (stage : Stage) → (is_none post && may_raise size to stage) ≡ true
-    → IsApart (after size (RaiseSent to) (record rec { post = post; stage = stage }))
+    → IsApart (after size (RaiseSignal Sent to) (record rec { post = post; stage = stage }))
 raised_apart size to rec (Some post) stage may = absurd (cc)
 raised_apart size to rec None Idle may = refl
 raised_apart size to rec None (Drafting header chunk) may = posted_apart (is_posted header) _ _
@@ -129,14 +130,14 @@ raised_apart size to rec None (Barrier comm seen released) may = refl
 move_apart : (size : ℕ) (move : Move) (rec : Record) → permits size move rec ≡ true → IsApart rec → IsApart (after size move rec)
 move_apart size (DraftHeader k v) rec may h = none_apart rec.post _ _ may
 move_apart size (DraftChunk k v) rec may h = none_apart rec.post _ _ may
-move_apart size (RaiseSent to) rec may h = raised_apart size to rec rec.post rec.stage may
-move_apart size (LookSent q) rec may h = h
+move_apart size (RaiseSignal Sent to) rec may h = raised_apart size to rec rec.post rec.stage may
+move_apart size (LookSignal Sent q) rec may h = h
 move_apart size (ReadHeader from k v) rec may h = h
 move_apart size (ReadChunk from k v) rec may h = free_kept rec.post rec.stage _ (read_free from k v rec.stage) h
-move_apart size (LowerSent from) rec may h = free_kept rec.post rec.stage _ (lower_free from (unwrap_or (rec.notes from) []) rec.stage) h
-move_apart size (RaiseReady to) rec may h = free_kept rec.post rec.stage _ (ready_free size rec.stage) h
-move_apart size (LookReady q) rec may h = answered_apart q rec.post rec.stage h
-move_apart size (LowerReady by) rec may h = refl
+move_apart size (LowerSignal Sent from) rec may h = free_kept rec.post rec.stage _ (lower_free from (unwrap_or (rec.notes from) []) rec.stage) h
+move_apart size (RaiseSignal Ready to) rec may h = free_kept rec.post rec.stage _ (ready_free size rec.stage) h
+move_apart size (LookSignal Ready q) rec may h = answered_apart q rec.post rec.stage h
+move_apart size (LowerSignal Ready by) rec may h = refl
 move_apart size (FlipGather comm value last) rec may h = free_kept rec.post rec.stage _ (flip_free comm last rec.stage) h
 move_apart size (LookGather comm from place value) rec may h = free_kept rec.post rec.stage _ (gather_free comm place value _ rec.stage) h
 move_apart size (WriteRelease comm to place value last) rec may h = free_kept rec.post rec.stage _ (write_free last rec.stage) h
@@ -155,10 +156,8 @@ permitted_if size rec false one other a c = c
 load_permitted : (s : SetupView) (me size : ℕ) (rec : Record) (value : ℕ) (role : Role) → permits size (load_by s me value role) rec ≡ true
 load_permitted s me size rec value (HeaderWord owner k) = refl
 load_permitted s me size rec value (ChunkWord owner k) = refl
-load_permitted s me size rec value (SentFlag from to) = permitted_if size rec (to == me) (LookSent (look_at from value)) NoMove refl refl
-load_permitted s me size rec value (ReadyFlag from to) = permitted_if size rec (from == me) (LookReady (look_at to value)) NoMove refl refl
-load_permitted s me size rec value (SentFlags owner) = permitted_if size rec (owner == me) (LookSent (look_at_bits s me value)) NoMove refl refl
-load_permitted s me size rec value (ReadyFlags owner) = permitted_if size rec (owner == me) (LookReady (look_at_bits s me value)) NoMove refl refl
+load_permitted s me size rec value (SignalFlag signal by at) = permitted_if size rec (at == me) (LookSignal signal (look_at by value)) NoMove refl refl
+load_permitted s me size rec value (SignalFlags signal at) = permitted_if size rec (at == me) (LookSignal signal (look_at_bits s me value)) NoMove refl refl
 load_permitted s me size rec value (GatherFlag comm owner) = permitted_if size rec (leads s comm me owner) (LookGather comm owner (place_of s comm owner) value) NoMove refl refl
 load_permitted s me size rec value (ReleaseFlag comm owner) = permitted_if size rec ((owner == me) && not (leads s comm me me)) (LookRelease comm value) NoMove refl refl
 load_permitted s me size rec value HeapWord = refl
@@ -171,10 +170,8 @@ act_if size rec false one other a c = c
 load_act_permitted : (s : SetupView) (me size : ℕ) (rec : Record) (place : WordAt) (value : ℕ) (role : Role) → permits_act size (load_act s me rec place value role) rec ≡ true
 load_act_permitted s me size rec place value (HeaderWord owner k) = refl
 load_act_permitted s me size rec place value (ChunkWord owner k) = refl
-load_act_permitted s me size rec place value (SentFlag from to) = load_permitted s me size rec value (SentFlag from to)
-load_act_permitted s me size rec place value (ReadyFlag from to) = load_permitted s me size rec value (ReadyFlag from to)
-load_act_permitted s me size rec place value (SentFlags owner) = act_if size rec (is_some (rec.held place.core)) (NotingSent place.core value) _ refl (load_permitted s me size rec value (SentFlags owner))
-load_act_permitted s me size rec place value (ReadyFlags owner) = act_if size rec (is_some (rec.held place.core)) (NotingReady place.core value) _ refl (load_permitted s me size rec value (ReadyFlags owner))
+load_act_permitted s me size rec place value (SignalFlag signal by at) = load_permitted s me size rec value (SignalFlag signal by at)
+load_act_permitted s me size rec place value (SignalFlags signal at) = act_if size rec (is_some (rec.held place.core)) (NotingSignal signal place.core value) _ refl (load_permitted s me size rec value (SignalFlags signal at))
 load_act_permitted s me size rec place value (GatherFlag comm owner) = load_permitted s me size rec value (GatherFlag comm owner)
 load_act_permitted s me size rec place value (ReleaseFlag comm owner) = load_permitted s me size rec value (ReleaseFlag comm owner)
 load_act_permitted s me size rec place value HeapWord = refl
@@ -182,10 +179,8 @@ load_act_permitted s me size rec place value IdleWord = refl
 
 act_apart : (size : ℕ) (act : Act) (rec : Record) → permits_act size act rec ≡ true → IsApart rec → IsApart (after_act size act rec)
 act_apart size (Moving move) rec may h = move_apart size move rec may h
-act_apart size (NotingSent core value) rec may h = h
-act_apart size (NotingReady core value) rec may h = h
-act_apart size (ChangingSent core move) rec may h = move_apart size move rec may h
-act_apart size (ChangingReady core move) rec may h = move_apart size move rec may h
+act_apart size (NotingSignal signal core value) rec may h = h
+act_apart size (ChangingSignal signal core move) rec may h = move_apart size move rec may h
 act_apart size (Holding core) rec may h = h
 act_apart size (Freeing core) rec may h = h
 

@@ -13,7 +13,7 @@ use Rattle.scc_base.specs.declared.events.Turn.TheVariants.{Moved, Waiting, Done
 use Rattle.scc_base.specs.declared.layouts.Layout.{Layout}
 use Rattle.scc_base.specs.declared.layouts.Layout.TheVariants.{LineFlags, BitFlags}
 use Rattle.scc_proto.specs.Stages.{Stage, Idle, Drafting, Sending, Between, Taking, Barrier, OnItsWay, Record}
-use Rattle.scc_proto.specs.Moves.{LowerReady, look_ready, lower_ready, calls_sent, post_answered}
+use Rattle.scc_proto.specs.Moves.{LowerSignal, look_ready, lower_ready, calls_sent, post_answered}
 use Rattle.scc_proto.specs.Permission.{may_go_on, is_answered_by}
 use Rattle.scc_proto.specs.Singles.{is_free}
 use Rattle.scc_proto.specs.Soundness.{is_answered}
@@ -36,7 +36,7 @@ use Rattle.send_recv.specs.Turns.{HoldsNone, OnlyTries, NoLoad, waits_at}
 use Rattle.send_recv.specs.Ranks.{SlotHolder, with_slot}
 use Rattle.send_recv.proofs.Posts.SlotApart.{is_apart, apart_in}
 use Rattle.send_recv.proofs.Lines.DraftNone.{ready_is_flag, look_drafts_none, change_drafts_none}
-use Rattle.send_recv.proofs.Looks.FlagMoves.{MovesFlag, may_change, flag_moved, ready_lowers}
+use Rattle.send_recv.proofs.Looks.FlagMoves.{MovesFlag, may_change, flag_moved, signal_lowers, ready_turns}
 use Rattle.send_recv.proofs.Looks.LookLemmas.{looks_at}
 use Rattle.send_recv.proofs.Receiving.LookTurn.{looked_post, looked_rest, looked_calls}
 use Rattle.send_recv.proofs.Receiving.HeadTurn.{post_kept, post_itself}
@@ -246,16 +246,16 @@ answered_is s slot to h full seen =
 
 -- lowering the flag is this move
 lowers_ready : (s : Sight) (slot : SlotAt) (to : ℕ) → IsSetup s.seat.setup → SlotStands s.seat (record_in s) slot → slot.to ≡ Some to → slot.seen ≡ true
-    → MovesFlag s.seat.setup.layout s.seat (record_in s) s.seat.rank (signal_flag s.seat Ready to) false (LowerReady to)
+    → MovesFlag s.seat.setup.layout s.seat (record_in s) s.seat.rank (signal_flag s.seat Ready to) false (LowerSignal Ready to)
 lowers_ready s slot to valid h full seen =
     let f = is_full s slot to h full in
     let peers : are_peers s.seat.setup s.seat.rank to ≡ true = subst (λ (o : Option ℕ). IfSome o (λ j. are_peers s.seat.setup s.seat.rank j ≡ true)) full h.peers in
     let may = goes_on_free to (record_in s).stage (record_in s).post f.free (answered_is s slot to h full seen) in
-    ready_lowers s.seat.setup.layout s to refl valid peers may.1 may.0
+    signal_lowers s.seat.setup.layout s Ready to refl valid peers (ready_turns s to may.1) may.0
 
 pub may_lower_slot : (s : Sight) (c : Private) (slot : SlotAt) (to : ℕ) → IsSetup s.seat.setup → SlotStands s.seat (record_in s) slot → c.out ≡ None → HoldsNone s.seat.setup.layout (record_in s)
     → slot.to ≡ Some to → slot.seen ≡ true → MayChange s c (own_core s.seat) (signal_flag s.seat Ready to) false
-may_lower_slot s c slot to valid h empty hands full seen = may_change s c s.seat.rank (signal_flag s.seat Ready to) false (LowerReady to) valid hands empty (lowers_ready s slot to valid h full seen)
+may_lower_slot s c slot to valid h empty hands full seen = may_change s c s.seat.rank (signal_flag s.seat Ready to) false (LowerSignal Ready to) valid hands empty (lowers_ready s slot to valid h full seen)
 
 spot_lines : (layout : Layout) (own to : ℕ) → layout ≡ LineFlags → slot_spot_by layout own (Some to) true ≡ None
 spot_lines LineFlags own to e = refl
@@ -277,7 +277,7 @@ lower_goes s t c d slot to valid h empty hands full seen changes =
     let own = own_core s.seat in
     let f = is_full s slot to h full in
     let peers : are_peers s.seat.setup s.seat.rank to ≡ true = subst (λ (o : Option ℕ). IfSome o (λ j. are_peers s.seat.setup s.seat.rank j ≡ true)) full h.peers in
-    let is = flag_moved s t c d s.seat.rank (signal_flag s.seat Ready to) false (LowerReady to) valid hands empty (lowers_ready s slot to valid h full seen) changes in
+    let is = flag_moved s t c d s.seat.rank (signal_flag s.seat Ready to) false (LowerSignal Ready to) valid hands empty (lowers_ready s slot to valid h full seen) changes in
     let facts = change_facts layout s t c d own (signal_flag s.seat Ready to) false true empty changes in
     let before : slot_left slot ≡ 1 = ap (λ (o : Option ℕ). slot_left_by o slot.seen) full ∙ ap (λ b. if b then 1 else 2) seen in
     record {

@@ -9,7 +9,7 @@ use Rattle.scc_base.specs.declared.layouts.Layout.TheVariants.{LineFlags, BitFla
 use Rattle.scc_base.specs.declared.signals.Signal.TheVariants.{Sent}
 use Rattle.scc_proto.specs.Messages.{Notes, head_of, has_all}
 use Rattle.scc_proto.specs.Stages.{Stage, Idle, Between, Taking, Record}
-use Rattle.scc_proto.specs.Moves.{LowerSent, lower_sent, after}
+use Rattle.scc_proto.specs.Moves.{LowerSignal, lower_sent, after}
 use Rattle.scc_proto.specs.Permission.{permits, may_take, says_head}
 use Rattle.scc_proto.specs.Records.{chunk_of}
 use Rattle.scc_proto.specs.Ports.{Seat, Sight, record_in}
@@ -32,7 +32,7 @@ use Rattle.send_recv.specs.Turns.{KeepsAllButMessages}
 use Rattle.send_recv.specs.Ranks.{receiving}
 use Rattle.send_recv.proofs.Receiving.LookTurn.{recv_does, Turns, stands_after}
 use Rattle.send_recv.proofs.Receiving.HeadTurn.{post_kept}
-use Rattle.send_recv.proofs.Looks.FlagMoves.{MovesFlag, may_change, flag_moved, sent_lowers}
+use Rattle.send_recv.proofs.Looks.FlagMoves.{MovesFlag, may_change, flag_moved, signal_lowers, sent_turns}
 use Rattle.send_recv.proofs.Looks.ChangeFacts.{change_facts}
 use Rattle.send_recv.proofs.Lines.DraftNone.{sent_is_flag, change_drafts_none}
 
@@ -54,7 +54,7 @@ take_by : (b : Bool) (from : ℕ) (header : Notes) (later : Stage) → (b ≡ tr
 take_by true from header later says may = says refl
 take_by false from header later says may = may
 
-pub lower_permitted : (size : ℕ) (rec : Record) (op : RecvAt) (bytes : List ℕ) → IsLowering size rec op bytes → permits size (LowerSent op.from) rec ≡ true
+pub lower_permitted : (size : ℕ) (rec : Record) (op : RecvAt) (bytes : List ℕ) → IsLowering size rec op bytes → permits size (LowerSignal Sent op.from) rec ≡ true
 lower_permitted size rec op bytes l =
     ap (λ (o : Option Notes). may_take op.from o rec.stage) l.seen
     ∙ ap (λ (st : Stage). may_take op.from (Some l.header) st) l.stage
@@ -66,14 +66,14 @@ lower_permitted size rec op bytes l =
 
 -- lowering the flag is this move
 lowers_sent : (s : Sight) (c : Private) (op : RecvAt) (bytes : List ℕ) → IsSetup s.seat.setup → RecvStands s c op bytes → op.stage ≡ Lower
-    → MovesFlag s.seat.setup.layout s.seat (record_in s) s.seat.rank (signal_flag s.seat Sent op.from) false (LowerSent op.from)
+    → MovesFlag s.seat.setup.layout s.seat (record_in s) s.seat.rank (signal_flag s.seat Sent op.from) false (LowerSignal Sent op.from)
 lowers_sent s c op bytes valid r lower =
     let l = is_lowering s.seat (record_in s) c op bytes r lower in
-    sent_lowers s.seat.setup.layout s op.from l.header refl valid r.peers l.seen (lower_permitted (chunk_of s.seat.setup) (record_in s) op bytes l)
+    signal_lowers s.seat.setup.layout s Sent op.from refl valid r.peers (sent_turns s op.from l.header l.seen) (lower_permitted (chunk_of s.seat.setup) (record_in s) op bytes l)
 
 -- the flag may be lowered
 pub may_lower_turn : (s : Sight) (c : Private) (op : RecvAt) (bytes : List ℕ) → IsSetup s.seat.setup → RecvStands s c op bytes → op.stage ≡ Lower → MayChange s c (own_core s.seat) (signal_flag s.seat Sent op.from) false
-may_lower_turn s c op bytes valid r lower = may_change s c s.seat.rank (signal_flag s.seat Sent op.from) false (LowerSent op.from) valid r.hands r.empty (lowers_sent s c op bytes valid r lower)
+may_lower_turn s c op bytes valid r lower = may_change s c s.seat.rank (signal_flag s.seat Sent op.from) false (LowerSignal Sent op.from) valid r.hands r.empty (lowers_sent s c op bytes valid r lower)
 
 -- the stage after the lowering
 begins : (size : ℕ) (op : RecvAt) (bytes : List ℕ) (header : Notes) (b : Bool) → (op.chunk == 0) ≡ b → (op.chunk ≡ 0 → SaysHead header op.head)
@@ -86,7 +86,7 @@ begins size op bytes header true first says =
     λ i. Taking op.from (record { head = head i; chunks = sym zero_is i; bytes = front i }) []
 begins size op bytes header false first says = refl
 
-pub lowered_stage : (size : ℕ) (rec new : Record) (op : RecvAt) (bytes : List ℕ) → IsLowering size rec op bytes → new ≡ after size (LowerSent op.from) rec → new.stage ≡ Taking op.from (progress_at size op.head op.chunk bytes) []
+pub lowered_stage : (size : ℕ) (rec new : Record) (op : RecvAt) (bytes : List ℕ) → IsLowering size rec op bytes → new ≡ after size (LowerSignal Sent op.from) rec → new.stage ≡ Taking op.from (progress_at size op.head op.chunk bytes) []
 lowered_stage size rec new op bytes l is =
     ap (λ (r : Record). r.stage) is
     ∙ ap (λ (o : Option Notes). lower_sent op.from (unwrap_or o []) rec.stage) l.seen
@@ -186,7 +186,7 @@ lower_goes b s t c d op bytes lines valid r lower changes =
     let layout = s.seat.setup.layout in
     let now : RecvAt = record op { stage = taken_stage b } in
     let l = is_lowering s.seat (record_in s) c op bytes r lower in
-    let is = flag_moved s t c d s.seat.rank (signal_flag s.seat Sent op.from) false (LowerSent op.from) valid r.hands r.empty (lowers_sent s c op bytes valid r lower) changes in
+    let is = flag_moved s t c d s.seat.rank (signal_flag s.seat Sent op.from) false (LowerSignal Sent op.from) valid r.hands r.empty (lowers_sent s c op bytes valid r lower) changes in
     let facts = change_facts layout s t c d (own_core s.seat) (signal_flag s.seat Sent op.from) false true r.empty changes in
     let rest : KeepsAllButMessages (record_in s) (record_in t) = record {
       flips = ap (λ (x : Record). x.flips) is;

@@ -12,7 +12,7 @@ use Rattle.scc_base.specs.declared.layouts.Layout.TheVariants.{LineFlags, BitFla
 use Rattle.scc_base.specs.declared.signals.Signal.TheVariants.{Ready}
 use Rattle.scc_proto.specs.Messages.{Notes, byte_at, bytes_from, is_last, with_chunk}
 use Rattle.scc_proto.specs.Stages.{Stage, Idle, Between, Record}
-use Rattle.scc_proto.specs.Moves.{RaiseReady, raise_ready, calls_received, finished_if, after}
+use Rattle.scc_proto.specs.Moves.{RaiseSignal, raise_ready, calls_received, finished_if, after}
 use Rattle.scc_proto.specs.Permission.{permits, has_taken}
 use Rattle.scc_proto.specs.Soundness.{is_taking}
 use Rattle.scc_proto.specs.Records.{chunk_of}
@@ -27,7 +27,7 @@ use Rattle.send_recv.specs.Flags.{Changes, MayChange}
 use Rattle.send_recv.specs.Ops.{RecvAt}
 use Rattle.send_recv.specs.Receiving.{IsAtStage, IsReceiving, RecvStands, IsRead, IsTakingLines, between, progress_at, lines_now, flag_lines}
 use Rattle.send_recv.specs.Steps.{core_of, signal_flag}
-use Rattle.send_recv.proofs.Looks.FlagMoves.{MovesFlag, may_change, flag_moved, ready_raises}
+use Rattle.send_recv.proofs.Looks.FlagMoves.{MovesFlag, may_change, flag_moved, signal_raises, ready_is_clear}
 
 -- what a receive that is to raise `ready` has of the record
 pub record IsRaising (size : ℕ) (rec : Record) (op : RecvAt) (bytes : List ℕ) : Type 0 where
@@ -39,7 +39,7 @@ is_raising seat rec c op bytes r raise =
     let at : IsAtStage seat rec c op bytes Raise = subst (λ (st : RecvStage). IsAtStage seat rec c op bytes st) raise r.at in
     record { chunk = at.0; taking = at.1 }
 
-pub raise_permitted : (size : ℕ) (rec : Record) (op : RecvAt) (bytes : List ℕ) → IsRaising size rec op bytes → permits size (RaiseReady op.from) rec ≡ true
+pub raise_permitted : (size : ℕ) (rec : Record) (op : RecvAt) (bytes : List ℕ) → IsRaising size rec op bytes → permits size (RaiseSignal Ready op.from) rec ≡ true
 raise_permitted size rec op bytes r = ap (λ (st : Stage). has_taken size op.from st) r.taking.stage ∙ (λ i. eqb_same op.from i && r.taking.read.loaded i)
 
 pub raise_takes : (size : ℕ) (rec : Record) (op : RecvAt) (bytes : List ℕ) → IsRaising size rec op bytes → is_taking op.from rec.stage ≡ true
@@ -47,21 +47,21 @@ raise_takes size rec op bytes r = ap (λ (st : Stage). is_taking op.from st) r.t
 
 -- raising the flag is this move
 raises_ready : (s : Sight) (c : Private) (op : RecvAt) (bytes : List ℕ) → IsSetup s.seat.setup → RecvStands s c op bytes → op.stage ≡ Raise
-    → MovesFlag s.seat.setup.layout s.seat (record_in s) op.from (signal_flag s.seat Ready s.seat.rank) true (RaiseReady op.from)
+    → MovesFlag s.seat.setup.layout s.seat (record_in s) op.from (signal_flag s.seat Ready s.seat.rank) true (RaiseSignal Ready op.from)
 raises_ready s c op bytes valid r raise =
     let l = is_raising s.seat (record_in s) c op bytes r raise in
-    ready_raises s.seat.setup.layout s op.from refl valid r.peers (raise_takes (chunk_of s.seat.setup) (record_in s) op bytes l) (raise_permitted (chunk_of s.seat.setup) (record_in s) op bytes l)
+    signal_raises s.seat.setup.layout s Ready op.from refl valid r.peers (ready_is_clear s op.from (raise_takes (chunk_of s.seat.setup) (record_in s) op bytes l)) (raise_permitted (chunk_of s.seat.setup) (record_in s) op bytes l)
 
 -- the flag may be raised
 pub may_raise_turn : (s : Sight) (c : Private) (op : RecvAt) (bytes : List ℕ) → IsSetup s.seat.setup → RecvStands s c op bytes → op.stage ≡ Raise
     → MayChange s c (core_of s.seat op.from) (signal_flag s.seat Ready s.seat.rank) true
-may_raise_turn s c op bytes valid r raise = may_change s c op.from (signal_flag s.seat Ready s.seat.rank) true (RaiseReady op.from) valid r.hands r.empty (raises_ready s c op bytes valid r raise)
+may_raise_turn s c op bytes valid r raise = may_change s c op.from (signal_flag s.seat Ready s.seat.rank) true (RaiseSignal Ready op.from) valid r.hands r.empty (raises_ready s c op bytes valid r raise)
 
 -- and then the record is
 pub ready_is_raised : (s t : Sight) (c d : Private) (op : RecvAt) (bytes : List ℕ) → IsSetup s.seat.setup → RecvStands s c op bytes → op.stage ≡ Raise
-    → Changes s c (core_of s.seat op.from) (signal_flag s.seat Ready s.seat.rank) true true t d → record_in t ≡ after (chunk_of s.seat.setup) (RaiseReady op.from) (record_in s)
+    → Changes s c (core_of s.seat op.from) (signal_flag s.seat Ready s.seat.rank) true true t d → record_in t ≡ after (chunk_of s.seat.setup) (RaiseSignal Ready op.from) (record_in s)
 ready_is_raised s t c d op bytes valid r raise changes =
-    flag_moved s t c d op.from (signal_flag s.seat Ready s.seat.rank) true (RaiseReady op.from) valid r.hands r.empty (raises_ready s c op bytes valid r raise) changes
+    flag_moved s t c d op.from (signal_flag s.seat Ready s.seat.rank) true (RaiseSignal Ready op.from) valid r.hands r.empty (raises_ready s c op bytes valid r raise) changes
 
 -- ---- the bytes of the chunk
 
@@ -149,7 +149,7 @@ pub last_is : (size : ℕ) (op : RecvAt) (bytes : List ℕ) (b : Bool) → is_la
 last_is size op bytes b h = ap (λ n. nat_le op.head.len (size * n)) (let e : suc op.chunk ≡ op.chunk + 1 = omega arith in e) ∙ h
 
 pub raised_calls : (layout : Layout) (rec new : Record) (op : RecvAt) (bytes : List ℕ) (l : IsRaising (chunk_size layout) rec op bytes) → length bytes ≡ op.head.len → op.chunk < chunk_count (chunk_size layout) op.head.len
-    → is_last_chunk (chunk_size layout) op.head.len op.chunk ≡ true → new ≡ after (chunk_size layout) (RaiseReady op.from) rec → (new.stage ≡ Idle) × (new.calls ≡ rec.calls ++ Recv op.from op.head bytes ∷ [])
+    → is_last_chunk (chunk_size layout) op.head.len op.chunk ≡ true → new ≡ after (chunk_size layout) (RaiseSignal Ready op.from) rec → (new.stage ≡ Idle) × (new.calls ≡ rec.calls ++ Recv op.from op.head bytes ∷ [])
 raised_calls layout rec new op bytes l long below last is =
     let size = chunk_size layout in
     let message = progress_at size op.head op.chunk bytes in
@@ -161,7 +161,7 @@ raised_calls layout rec new op bytes l long below last is =
     )
 
 pub raised_stage : (layout : Layout) (rec new : Record) (op : RecvAt) (bytes : List ℕ) (l : IsRaising (chunk_size layout) rec op bytes) → length bytes ≡ op.head.len → op.chunk < chunk_count (chunk_size layout) op.head.len
-    → is_last_chunk (chunk_size layout) op.head.len op.chunk ≡ false → new ≡ after (chunk_size layout) (RaiseReady op.from) rec
+    → is_last_chunk (chunk_size layout) op.head.len op.chunk ≡ false → new ≡ after (chunk_size layout) (RaiseSignal Ready op.from) rec
     → (new.stage ≡ between (chunk_size layout) (record op { chunk = op.chunk + 1; stage = Look }) bytes) × (new.calls ≡ rec.calls)
 raised_stage layout rec new op bytes l long below more is =
     let size = chunk_size layout in

@@ -11,7 +11,7 @@ use Rattle.scc_base.specs.declared.layouts.Layout.TheVariants.{LineFlags, BitFla
 use Rattle.scc_base.specs.declared.signals.Signal.TheVariants.{Ready}
 use Rattle.scc_proto.specs.Messages.{bytes_from, is_last, with_chunk}
 use Rattle.scc_proto.specs.Stages.{Filling, Answered, Stage, Idle, Sending, OnItsWay, Record}
-use Rattle.scc_proto.specs.Moves.{LowerReady, lower_ready, calls_sent, finished_if, after}
+use Rattle.scc_proto.specs.Moves.{LowerSignal, lower_ready, calls_sent, finished_if, after}
 use Rattle.scc_proto.specs.Permission.{may_go_on}
 use Rattle.scc_proto.specs.Soundness.{is_answered}
 use Rattle.scc_proto.specs.Words.{are_peers}
@@ -38,7 +38,7 @@ use Rattle.send_recv.proofs.Receiving.LookTurn.{holds_kept}
 use Rattle.send_recv.proofs.Looks.ChangeFacts.{change_facts}
 use Rattle.send_recv.proofs.Receiving.FlagTurns.{went_on}
 use Rattle.send_recv.proofs.Receiving.RaiseTurn.{whole, longer, last_is, next_below}
-use Rattle.send_recv.proofs.Looks.FlagMoves.{MovesFlag, may_change, flag_moved, ready_lowers}
+use Rattle.send_recv.proofs.Looks.FlagMoves.{MovesFlag, may_change, flag_moved, signal_lowers, ready_turns}
 use Rattle.send_recv.proofs.Lines.DraftNone.{ready_is_flag, change_drafts_none}
 use Rattle.send_recv.proofs.Lines.DraftNotes.{no_lines}
 use Rattle.send_recv.proofs.Lines.DraftWhole.{AreBytes, as_receive, drafted_read}
@@ -50,20 +50,20 @@ use Rattle.send_recv.proofs.Sending.SendWaits.{no_stores, register_waits, next_a
 
 -- lowering the flag is this move
 lowers_ready : (s : Sight) (op : SendAt) (bytes : List ℕ) → IsSetup s.seat.setup → are_peers s.seat.setup s.seat.rank op.to ≡ true → IsUp (chunk_of s.seat.setup) (record_in s).stage op bytes Answered
-    → MovesFlag s.seat.setup.layout s.seat (record_in s) s.seat.rank (signal_flag s.seat Ready op.to) false (LowerReady op.to)
+    → MovesFlag s.seat.setup.layout s.seat (record_in s) s.seat.rank (signal_flag s.seat Ready op.to) false (LowerSignal Ready op.to)
 lowers_ready s op bytes valid peers up =
-    ready_lowers s.seat.setup.layout s op.to refl valid peers (ap (λ (st : Stage). is_answered op.to st (record_in s).post) up.stage_is ∙ eqb_same op.to)
+    signal_lowers s.seat.setup.layout s Ready op.to refl valid peers (ready_turns s op.to (ap (λ (st : Stage). is_answered op.to st (record_in s).post) up.stage_is ∙ eqb_same op.to))
     (ap (λ (st : Stage). may_go_on op.to st (record_in s).post) up.stage_is ∙ eqb_same op.to)
 
 pub may_lower_turn : (s : Sight) (c : Private) (op : SendAt) (slot : SlotAt) (bytes : List ℕ) → IsSetup s.seat.setup → SendStands s c op slot bytes → op.stage ≡ Lower → MayChange s c (own_core s.seat) (signal_flag s.seat Ready op.to) false
 may_lower_turn s c op slot bytes valid r lower =
     let at = at_stage s.seat (record_in s) c op slot bytes Lower r lower in
-    may_change s c s.seat.rank (signal_flag s.seat Ready op.to) false (LowerReady op.to) valid r.hands at.2 (lowers_ready s op bytes valid r.peers at.3)
+    may_change s c s.seat.rank (signal_flag s.seat Ready op.to) false (LowerSignal Ready op.to) valid r.hands at.2 (lowers_ready s op bytes valid r.peers at.3)
 
 -- ---- the record after it
 
 through_last : (layout : Layout) (rec new : Record) (op : SendAt) (bytes : List ℕ) → AreBytes bytes → IsUp (chunk_size layout) rec.stage op bytes Answered → length bytes ≡ op.head.len → op.chunk < chunk_count (chunk_size layout) op.head.len
-    → is_last_chunk (chunk_size layout) op.head.len op.chunk ≡ true → new ≡ after (chunk_size layout) (LowerReady op.to) rec → (new.stage ≡ Idle) × (new.calls ≡ rec.calls ++ Send op.to op.head bytes ∷ [])
+    → is_last_chunk (chunk_size layout) op.head.len op.chunk ≡ true → new ≡ after (chunk_size layout) (LowerSignal Ready op.to) rec → (new.stage ≡ Idle) × (new.calls ≡ rec.calls ++ Send op.to op.head bytes ∷ [])
 through_last layout rec new op bytes small up long below last is =
     let size = chunk_size layout in
     let message = progress_at size op.head op.chunk bytes in
@@ -76,7 +76,7 @@ through_last layout rec new op bytes small up long below last is =
     )
 
 through_next : (layout : Layout) (rec new : Record) (op : SendAt) (bytes : List ℕ) → AreBytes bytes → IsUp (chunk_size layout) rec.stage op bytes Answered → length bytes ≡ op.head.len → op.chunk < chunk_count (chunk_size layout) op.head.len
-    → is_last_chunk (chunk_size layout) op.head.len op.chunk ≡ false → new ≡ after (chunk_size layout) (LowerReady op.to) rec
+    → is_last_chunk (chunk_size layout) op.head.len op.chunk ≡ false → new ≡ after (chunk_size layout) (LowerSignal Ready op.to) rec
     → (new.stage ≡ Sending op.to Filling (progress_at (chunk_size layout) op.head (op.chunk + 1) bytes) []) × (new.calls ≡ rec.calls)
 through_next layout rec new op bytes small up long below more is =
     let size = chunk_size layout in
@@ -119,7 +119,7 @@ abbrev next_op : Bool → SendAt → SendAt
 next_op b op = if b then record op { stage = Finished } else record op { chunk = op.chunk + 1; stage = Lines 0 }
 
 lower_stands : (b : Bool) (seat : Seat) (rec new : Record) (c d : Private) (op : SendAt) (slot : SlotAt) (bytes : List ℕ) → AreBytes bytes → is_last_chunk (chunk_of seat.setup) op.head.len op.chunk ≡ b → IsSending seat rec c op slot bytes
-    → op.stage ≡ Lower → new ≡ after (chunk_of seat.setup) (LowerReady op.to) rec → d.out ≡ None → IsSending seat new d (next_op b op) slot bytes
+    → op.stage ≡ Lower → new ≡ after (chunk_of seat.setup) (LowerSignal Ready op.to) rec → d.out ≡ None → IsSending seat new d (next_op b op) slot bytes
 lower_stands true seat rec new c d op slot bytes small last r lower is out =
     let at = at_stage seat rec c op slot bytes Lower r lower in
     let ends = through_last seat.setup.layout rec new op bytes small at.3 r.long r.in_hand last is in
@@ -151,7 +151,7 @@ lower_stands false seat rec new c d op slot bytes small more r lower is out =
 
 lower_means : (b : Bool) (s t : Sight) (c d : Private) (op : SendAt) (slot : SlotAt) (bytes : List ℕ) → AreBytes bytes → is_last_chunk (chunk_of s.seat.setup) op.head.len op.chunk ≡ b
     → IsUp (chunk_of s.seat.setup) (record_in s).stage op bytes Answered → length bytes ≡ op.head.len → op.chunk < chunk_count (chunk_of s.seat.setup) op.head.len → op.stage ≡ Lower → op.posted ≡ false → slot.to ≡ None
-    → record_in t ≡ after (chunk_of s.seat.setup) (LowerReady op.to) (record_in s) → SendMeans (sending s c op slot bytes) (sending t d (next_op b op) slot bytes) (next_answer b)
+    → record_in t ≡ after (chunk_of s.seat.setup) (LowerSignal Ready op.to) (record_in s) → SendMeans (sending s c op slot bytes) (sending t d (next_op b op) slot bytes) (next_answer b)
 lower_means true s t c d op slot bytes small last up long below lower plain none is =
     let ends = through_last s.seat.setup.layout (record_in s) (record_in t) op bytes small up long below last is in
     let sent : is_sent op.stage ≡ false = ap is_sent lower in (
@@ -185,7 +185,7 @@ lower_goes b s t c d op slot bytes last valid small r lower changes =
     let layout = s.seat.setup.layout in
     let own = own_core s.seat in
     let at = at_stage s.seat (record_in s) c op slot bytes Lower r lower in
-    let is = flag_moved s t c d s.seat.rank (signal_flag s.seat Ready op.to) false (LowerReady op.to) valid r.hands at.2 (lowers_ready s op bytes valid r.peers at.3) changes in
+    let is = flag_moved s t c d s.seat.rank (signal_flag s.seat Ready op.to) false (LowerSignal Ready op.to) valid r.hands at.2 (lowers_ready s op bytes valid r.peers at.3) changes in
     let facts = change_facts layout s t c d own (signal_flag s.seat Ready op.to) false true at.2 changes in
     record {
       stands = subst (λ (x : Seat). IsSending x (record_in t) d (next_op b op) slot bytes) (sym (seat_kept s facts.events t facts.did))

@@ -11,14 +11,14 @@ use Rattle.scc_base.specs.declared.layouts.Layout.{Layout}
 use Rattle.scc_base.specs.declared.layouts.Layout.TheVariants.{LineFlags, BitFlags}
 use Rattle.scc_proto.specs.Messages.{head_of, Progress, begun}
 use Rattle.scc_proto.specs.Stages.{Stage, OnItsWay, Record}
-use Rattle.scc_proto.specs.Moves.{RaiseSent, after}
+use Rattle.scc_proto.specs.Moves.{RaiseSignal, after}
 use Rattle.scc_proto.specs.Permission.{permits, may_raise, is_drafted}
 use Rattle.scc_proto.specs.Soundness.{is_drafting}
 use Rattle.scc_proto.specs.Records.{chunk_of}
 use Rattle.scc_proto.specs.Ports.{Seat, Sight, Did, MayMakeAll, record_in, record_next}
 use Rattle.scc_proto.proofs.Tests.{peers_are, eqb_same, eqb_other}
 use Rattle.scc_proto.proofs.PortLaws.{record_did, record_on-append, may-append}
-use Rattle.scc_proto.proofs.Layouts.PlaceMoves.{sent_raised}
+use Rattle.scc_proto.proofs.Layouts.PlaceMoves.{signal_raised}
 use Rattle.scc_proto.proofs.Layouts.Roles.{if_no}
 use Rattle.write_combine.specs.declared.combiner.Out.{Out}
 use Rattle.write_combine.specs.Combining.{handed_out}
@@ -32,7 +32,7 @@ use Rattle.send_recv.specs.Ops.{SendAt, SlotAt}
 use Rattle.send_recv.specs.Sending.{HasDrafted, First, Later, IsBeforeRaise, IsSending, SendStands, lines_in_hand, own_line, header_words, waiting}
 use Rattle.send_recv.specs.Steps.{own_core, core_of, signal_flag}
 use Rattle.send_recv.specs.Turns.{HoldsNoneBy}
-use Rattle.send_recv.proofs.Looks.FlagMoves.{MovesFlag, may_change_by, flag_moved_by, sent_raises}
+use Rattle.send_recv.proofs.Looks.FlagMoves.{MovesFlag, may_change_by, flag_moved_by, signal_raises, sent_is_clear}
 use Rattle.send_recv.proofs.Lines.DraftWhole.{AreBytes, drafted_is, head_drafted, header_whole, begun_is}
 use Rattle.send_recv.proofs.Lines.WaitingOut.{waiting_out}
 use Rattle.send_recv.proofs.Sending.SendFacts.{at_stage}
@@ -40,7 +40,7 @@ use Rattle.send_recv.proofs.Sending.SendFacts.{at_stage}
 -- ---- the record permits it once all lines are drafted
 
 permitted_by : (seat : Seat) (rec : Record) (c : Private) (stage : Stage) (op : SendAt) (slot : SlotAt) (bytes : List ℕ) → AreBytes bytes → IsSending seat rec c op slot bytes → rec.post ≡ None
-    → HasDrafted (chunk_of seat.setup) stage op bytes (lines_in_hand (chunk_of seat.setup) op) → permits (chunk_of seat.setup) (RaiseSent op.to) (record rec { stage = stage }) ≡ true
+    → HasDrafted (chunk_of seat.setup) stage op bytes (lines_in_hand (chunk_of seat.setup) op) → permits (chunk_of seat.setup) (RaiseSignal Sent op.to) (record rec { stage = stage }) ≡ true
 permitted_by seat rec c stage op slot bytes small r none (First header chunk first at words lines) =
     let size = chunk_of seat.setup in
     let head : head_of header ≡ op.head = head_drafted header op words in
@@ -86,11 +86,11 @@ flag_other seat op bytes core (suc i) lines below =
 
 -- with bit flags all lines are drafted before the raise, which is one move
 raises_bit : (s : Sight) (c : Private) (op : SendAt) (slot : SlotAt) (bytes : List ℕ) → s.seat.setup.layout ≡ BitFlags → IsSetup s.seat.setup → AreBytes bytes → SendStands s c op slot bytes → (record_in s).post ≡ None
-    → HasDrafted (chunk_of s.seat.setup) (record_in s).stage op bytes (lines_in_hand (chunk_of s.seat.setup) op) → MovesFlag BitFlags s.seat (record_in s) op.to (signal_at BitFlags Sent s.seat.rank) true (RaiseSent op.to)
+    → HasDrafted (chunk_of s.seat.setup) (record_in s).stage op bytes (lines_in_hand (chunk_of s.seat.setup) op) → MovesFlag BitFlags s.seat (record_in s) op.to (signal_at BitFlags Sent s.seat.rank) true (RaiseSignal Sent op.to)
 raises_bit s c op slot bytes bits valid small r none drafted =
     let drafting : is_drafting (record_in s).stage (record_in s).post ≡ true = ap (λ (o : Option OnItsWay). is_drafting (record_in s).stage o) none
     ∙ drafting_by (chunk_of s.seat.setup) (record_in s).stage op bytes (lines_in_hand (chunk_of s.seat.setup) op) drafted in
-    sent_raises s op.to bits valid r.peers drafting (permitted_by s.seat (record_in s) c (record_in s).stage op slot bytes small r none drafted)
+    signal_raises BitFlags s Sent op.to bits valid r.peers (sent_is_clear s op.to r.peers drafting) (permitted_by s.seat (record_in s) c (record_in s).stage op slot bytes small r none drafted)
 
 may_by : (layout : Layout) (s : Sight) (c : Private) (op : SendAt) (slot : SlotAt) (bytes : List ℕ) → s.seat.setup.layout ≡ layout → IsSetup s.seat.setup → AreBytes bytes → SendStands s c op slot bytes
     → HoldsNoneBy layout (record_in s).held → (record_in s).post ≡ None → IsBeforeRaise layout s.seat (record_in s).stage c op bytes → MayChangeBy layout s c (core_of s.seat op.to) (signal_at layout Sent s.seat.rank) true
@@ -104,7 +104,7 @@ may_by LineFlags s c op slot bytes layout valid small r hands none before =
     let one = p.one in
     let l = waiting_out s.seat (record_in s) op bytes lines valid p.one none (omega arith) before.1 in
     let may = permitted_by s.seat (record_in s) c l.new op slot bytes small r none l.drafted in
-    let raised = sent_raised s.seat (record (record_in s) { stage = l.new }) valid layout op.to r.peers may in
+    let raised = signal_raised s.seat (record (record_in s) { stage = l.new }) valid layout Sent op.to r.peers may in
     record {
       word_below = omega arith;
       other = subst (λ (o : Option Out). handed_out o (line_of_word (flag_word (core_of s.seat op.to) (signal_at LineFlags Sent s.seat.rank))) ≡ o) (sym out)
@@ -114,7 +114,7 @@ may_by LineFlags s c op slot bytes layout valid small r hands none before =
           (subst (λ (x : Record). MayMakeAll s.seat x (store ∷ [])) (sym l.becomes) (raised.may, tt)));
     }
 may_by BitFlags s c op slot bytes bits valid small r hands none before =
-    may_change_by BitFlags s c op.to (signal_at BitFlags Sent s.seat.rank) true (RaiseSent op.to) bits valid hands before.0 (raises_bit s c op slot bytes bits valid small r none before.1)
+    may_change_by BitFlags s c op.to (signal_at BitFlags Sent s.seat.rank) true (RaiseSignal Sent op.to) bits valid hands before.0 (raises_bit s c op slot bytes bits valid small r none before.1)
 
 pub may_raise_sent : (s : Sight) (c : Private) (op : SendAt) (slot : SlotAt) (bytes : List ℕ) → IsSetup s.seat.setup → AreBytes bytes → SendStands s c op slot bytes → op.stage ≡ Raise
     → MayChange s c (core_of s.seat op.to) (signal_flag s.seat Sent s.seat.rank) true
@@ -128,7 +128,7 @@ may_raise_sent s c op slot bytes valid small r raise =
 pub record SentRaised (s t : Sight) (op : SendAt) (bytes : List ℕ) : Type 0 where
   pub new : Stage
   pub drafted : HasDrafted (chunk_of s.seat.setup) new op bytes (lines_in_hand (chunk_of s.seat.setup) op)
-  pub is : record_in t ≡ after (chunk_of s.seat.setup) (RaiseSent op.to) (record (record_in s) { stage = new })
+  pub is : record_in t ≡ after (chunk_of s.seat.setup) (RaiseSignal Sent op.to) (record (record_in s) { stage = new })
 
 raised_by : (layout : Layout) (s t : Sight) (c d : Private) (op : SendAt) (slot : SlotAt) (bytes : List ℕ) → s.seat.setup.layout ≡ layout → IsSetup s.seat.setup → AreBytes bytes → SendStands s c op slot bytes
     → HoldsNoneBy layout (record_in s).held → (record_in s).post ≡ None → IsBeforeRaise layout s.seat (record_in s).stage c op bytes
@@ -146,12 +146,12 @@ raised_by LineFlags s t c d op slot bytes layout valid small r hands none before
       is = record_did s (stores_of (waiting s.seat op bytes lines) ++ store ∷ []) t (subst (λ (o : Option Out). Did s (stores_of o ++ store ∷ []) t) out writes.did)
           ∙ record_on-append s.seat (record_in s) (stores_of (waiting s.seat op bytes lines)) (store ∷ [])
           ∙ ap (λ (x : Record). record_next s.seat x store) l.becomes
-          ∙ (sent_raised s.seat (record (record_in s) { stage = l.new }) valid layout op.to r.peers may).becomes;
+          ∙ (signal_raised s.seat (record (record_in s) { stage = l.new }) valid layout Sent op.to r.peers may).becomes;
     }
 raised_by BitFlags s t c d op slot bytes bits valid small r hands none before tries = record {
   new = (record_in s).stage;
   drafted = before.1;
-  is = flag_moved_by BitFlags s t c d op.to (signal_at BitFlags Sent s.seat.rank) true (RaiseSent op.to) bits valid hands before.0 (raises_bit s c op slot bytes bits valid small r none before.1) tries;
+  is = flag_moved_by BitFlags s t c d op.to (signal_at BitFlags Sent s.seat.rank) true (RaiseSignal Sent op.to) bits valid hands before.0 (raises_bit s c op slot bytes bits valid small r none before.1) tries;
 }
 
 pub sent_is_raised : (s t : Sight) (c d : Private) (op : SendAt) (slot : SlotAt) (bytes : List ℕ) → IsSetup s.seat.setup → AreBytes bytes → SendStands s c op slot bytes → op.stage ≡ Raise

@@ -5,9 +5,10 @@ use Rattle.scc_base.specs.Heads.{MessageHead, IsPostHead}
 use Rattle.scc_base.specs.Layouts.{chunk_size}
 use Rattle.scc_base.specs.declared.layouts.Layout.{Layout}
 use Rattle.scc_base.specs.declared.layouts.Layout.TheVariants.{LineFlags, BitFlags}
+use Rattle.scc_base.specs.declared.signals.Signal.TheVariants.{Sent}
 use Rattle.scc_proto.specs.Messages.{Notes, head_of, Progress, begun, with_chunk, message_of, post_to}
 use Rattle.scc_proto.specs.Stages.{Raised, Stage, Idle, Sending, OnItsWay, Record}
-use Rattle.scc_proto.specs.Moves.{RaiseSent, raise_sent, post_raised, calls_raised, finished_if, is_posted, after}
+use Rattle.scc_proto.specs.Moves.{RaiseSignal, raise_sent, post_raised, calls_raised, finished_if, is_posted, after}
 use Rattle.scc_proto.proofs.Layouts.Roles.{if_yes, if_no}
 use Rattle.send_recv.specs.Chunks.{chunk_count, chunk_start}
 use Rattle.send_recv.specs.Ops.{SendAt}
@@ -25,7 +26,7 @@ pub record IsOffered (size : ℕ) (rec new : Record) (op : SendAt) (bytes : List
   pub post : new.post ≡ rec.post
   pub calls : new.calls ≡ rec.calls
 
-pub offered : (size : ℕ) (rec new : Record) (stage : Stage) (op : SendAt) (bytes : List ℕ) → op.posted ≡ false → HasDrafted size stage op bytes (lines_in_hand size op) → new ≡ after size (RaiseSent op.to) (record rec { stage = stage })
+pub offered : (size : ℕ) (rec new : Record) (stage : Stage) (op : SendAt) (bytes : List ℕ) → op.posted ≡ false → HasDrafted size stage op bytes (lines_in_hand size op) → new ≡ after size (RaiseSignal Sent op.to) (record rec { stage = stage })
     → IsOffered size rec new op bytes
 offered size rec new stage op bytes plain (First header chunk first at words lines) is =
     let not_posted : is_posted header ≡ false = posted_is header op words ∙ plain in
@@ -65,7 +66,7 @@ one_whole LineFlags len chunk within = omega (arith, within)
 one_whole BitFlags len chunk within = omega (arith, within)
 
 pub posted_now : (layout : Layout) (rec new : Record) (stage : Stage) (op : SendAt) (bytes : List ℕ) → AreBytes bytes → op.posted ≡ true → IsPostHead op.head → length bytes ≡ op.head.len → op.chunk < chunk_count (chunk_size layout) op.head.len
-    → HasDrafted (chunk_size layout) stage op bytes (lines_in_hand (chunk_size layout) op) → new ≡ after (chunk_size layout) (RaiseSent op.to) (record rec { stage = stage }) → IsPostedNow rec new op bytes
+    → HasDrafted (chunk_size layout) stage op bytes (lines_in_hand (chunk_size layout) op) → new ≡ after (chunk_size layout) (RaiseSignal Sent op.to) (record rec { stage = stage }) → IsPostedNow rec new op bytes
 posted_now layout rec new stage op bytes small posts head long below (First header chunk first at words lines) is =
     let size = chunk_size layout in
     let posted : is_posted header ≡ true = posted_is header op words ∙ posts in
