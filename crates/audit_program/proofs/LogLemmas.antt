@@ -13,7 +13,7 @@ use Rattle.scc_base.specs.Calls.{DataCall, Send, Recv, Post, Bar, HasItsBytes, c
 use Rattle.record_machine.specs.Following.{moved_by}
 use Rattle.script_reader.specs.Script.{Script}
 use Rattle.script_plain.specs.Meaning.{State, plain_end}
-use Rattle.script_plain.proofs.PlainLaws.{length-plain_end}
+use Rattle.script_plain.proofs.Runs.PlainLaws.{length-plain_end}
 use Rattle.rcce_audit.specs.declared.held.CallList.{CallList}
 use Rattle.rcce_audit.specs.Held.{bytes_in, data_by, held_calls, with_bytes}
 use Rattle.rcce_audit.proofs.ListLemmas.{get_or-map_within}

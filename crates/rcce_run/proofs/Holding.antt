@@ -10,8 +10,8 @@ use Rattle.script_plain.specs.declared.posts.Posted.{Posted}
 use Rattle.script_plain.specs.Next.{Next}
 use Rattle.script_plain.specs.Next.Next.{Ends}
 use Rattle.script_plain.specs.Step.{Configuration, next_at, slot_at, with_cell, with_slot, by_rank}
-use Rattle.script_plain.proofs.OrderLaws.{get_set}
-use Rattle.script_plain.proofs.RunLaws.{get-by_rank}
+use Rattle.script_plain.proofs.Orders.OrderLaws.{get_set}
+use Rattle.script_plain.proofs.Runs.RunLaws.{get-by_rank}
 use Rattle.rcce_run.specs.Sweep.{outgoing, at_rank, Holds}
 
 pub lt_true : (a b : ℕ) → a < b → nat_lt a b ≡ true

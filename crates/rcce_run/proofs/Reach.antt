@@ -20,9 +20,9 @@ use Rattle.script_plain.specs.Next.Next.{Goes, Posts, Sends, Recvs, Bars}
 use Rattle.script_plain.specs.Paths.{Did}
 use Rattle.script_plain.specs.Paths.Did.{Here, Own, Left, Sent, Got, Met}
 use Rattle.script_plain.specs.Step.{Configuration, IsStep, next_at, slot_at, same_head, with_cell, with_slot, by_rank, past_if}
-use Rattle.script_plain.proofs.RunLaws as runs
-use Rattle.script_plain.proofs.StepLaws as steps
-use Rattle.script_plain.proofs.StepLaws.Takes.{Alone, Left as Leaving, Met as Meets, Fetched, Passed as Passing}
+use Rattle.script_plain.proofs.Runs.RunLaws as runs
+use Rattle.script_plain.proofs.Runs.StepLaws as steps
+use Rattle.script_plain.proofs.Runs.StepLaws.Takes.{Alone, Left as Leaving, Met as Meets, Fetched, Passed as Passing}
 use Rattle.rcce_run.specs.Sweep.{keep, outgoing, Holds}
 use Rattle.rcce_run.proofs.Holding.{lt_true, some_at, put_each, put_both, posted_there, mixed, mixed_here, mixed_next, rank_after_rank, holds_same, holds_cell, holds_slot, holds_all, next_held, slot_held}
 

@@ -27,9 +27,9 @@ use Rattle.script_plain.specs.Next.Next.{Ends, Goes, Posts, Sends, Recvs, Bars}
 use Rattle.script_plain.specs.Paths.{Did}
 use Rattle.script_plain.specs.Paths.Did.{Here}
 use Rattle.script_plain.specs.Step.{Configuration, IsStep, next_at, slot_at, same_head, with_cell}
-use Rattle.script_plain.proofs.MessageLaws.{same_heads}
-use Rattle.script_plain.proofs.StepLaws as steps
-use Rattle.script_plain.proofs.StepLaws.Takes.{RefusedPost, RefusedSend}
+use Rattle.script_plain.proofs.Messages.MessageLaws.{same_heads}
+use Rattle.script_plain.proofs.Runs.StepLaws as steps
+use Rattle.script_plain.proofs.Runs.StepLaws.Takes.{RefusedPost, RefusedSend}
 use Rattle.chip_run.specs.Waiting.{IsLooking, BarWaits, AtRoot, AtMember}
 use Rattle.rcce_run.specs.Sweep.{Refused, Stood, Running, Stopped, Vain, Swept, keep, slots_by, outgoing, Holds}
 use Rattle.rcce_run.proofs.Holding.{posted_there, mixed, mixed_here, mixed_next, rank_after_rank, holds_same, holds_cell, next_held, slot_held}

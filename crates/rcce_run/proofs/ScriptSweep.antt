@@ -21,9 +21,9 @@ use Rattle.script_plain.specs.Collectives.{started}
 use Rattle.script_plain.specs.Meaning.{IsPlainStep, State, keys_of, next_of, plain_end, start_of, steps_left}
 use Rattle.script_plain.specs.Next.Next.{Recvs}
 use Rattle.script_plain.specs.Step.{IsStep}
-use Rattle.script_plain.proofs.CameDid.{did_matched, logged}
-use Rattle.script_plain.proofs.EndLaws.{is_still, reached}
-use Rattle.script_plain.proofs.PlainLaws.{plain_end_still}
+use Rattle.script_plain.proofs.OwnWays.CameDid.{did_matched, logged}
+use Rattle.script_plain.proofs.Orders.EndLaws.{is_still, reached}
+use Rattle.script_plain.proofs.Runs.PlainLaws.{plain_end_still}
 use Rattle.rcce_run.specs.Scripts.{IsSwept}
 use Rattle.chip_run.specs.Waiting.{SlotWaits}
 use Rattle.rcce_run.specs.Sweep.{Stood, Running, Stopped, keep, slots_by, outgoing, at_rank, Holds}

@@ -21,10 +21,10 @@ use Rattle.script_plain.specs.Next.Next.{Ends, Goes, Posts, Sends, Recvs, Bars}
 use Rattle.script_plain.specs.Paths.{Came}
 use Rattle.script_plain.specs.Paths.Came.{Began, Went, Leaves, Passed, Took, Joined}
 use Rattle.script_plain.specs.Ready.{IsReady}
-use Rattle.script_plain.proofs.CameDid.{logged}
-use Rattle.script_plain.proofs.Costs.{Lowers}
-use Rattle.script_plain.proofs.PlainLaws.{state_lowers}
-use Rattle.script_plain.proofs.ReadyLemmas.{ready-law}
+use Rattle.script_plain.proofs.OwnWays.CameDid.{logged}
+use Rattle.script_plain.proofs.Runs.Costs.{Lowers}
+use Rattle.script_plain.proofs.Runs.PlainLaws.{state_lowers}
+use Rattle.script_plain.proofs.Lengths.ReadyLemmas.{ready-law}
 use Rattle.rcce_ue.specs.Standing as ue
 use Rattle.rcce_ue.specs.Standing.{Tied, bytes_sent}
 use Rattle.rcce_ue.specs.Ues.{UeView, is_sending}

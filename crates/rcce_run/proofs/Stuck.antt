@@ -15,9 +15,9 @@ use Rattle.script_plain.specs.declared.posts.Posted.{Posted}
 use Rattle.script_plain.specs.Next.{Next, is_at_barrier}
 use Rattle.script_plain.specs.Next.Next.{Ends, Goes, Posts, Sends, Recvs, Bars}
 use Rattle.script_plain.specs.Step.{Configuration, IsStep, next_at, slot_at, all_at_barrier}
-use Rattle.script_plain.proofs.RunLaws.{stands_there}
-use Rattle.script_plain.proofs.StepLaws as steps
-use Rattle.script_plain.proofs.StepLaws.Takes.{Alone, Left, Met, Fetched, RefusedPost, RefusedSend, Passed}
+use Rattle.script_plain.proofs.Runs.RunLaws.{stands_there}
+use Rattle.script_plain.proofs.Runs.StepLaws as steps
+use Rattle.script_plain.proofs.Runs.StepLaws.Takes.{Alone, Left, Met, Fetched, RefusedPost, RefusedSend, Passed}
 use Rattle.chip_run.specs.Waiting.{SlotWaits, RaiseWaits, BarWaits}
 use Rattle.rcce_run.specs.Sweep.{Vain, Swept, slots_by, outgoing, Holds}
 use Rattle.rcce_run.proofs.Holding.{at_below, stands_below, full_below, slot_held}

@@ -8,7 +8,7 @@ use Rattle.scc_proto.specs.Words.{Memory}
 use Rattle.script_plain.specs.declared.posts.Posted.{Posted}
 use Rattle.script_plain.specs.Next.{Next}
 use Rattle.script_plain.specs.Step.{Configuration, IsStep}
-use Rattle.script_plain.proofs.EndLaws.{one_end}
+use Rattle.script_plain.proofs.Orders.EndLaws.{one_end}
 use Rattle.rcce_run.specs.Sweep.{Holds, Swept, slots_by}
 use Rattle.rcce_run.proofs.Refusals.{leads, told}
 use Rattle.rcce_run.proofs.Stuck.{still}

@@ -25,8 +25,8 @@ use Rattle.script_plain.specs.Meaning.{State, next_of, plain_end, plain_ends, re
 use Rattle.script_plain.specs.Moves.{is_stopped}
 use Rattle.script_plain.specs.Next.{Next, call_of, is_going}
 use Rattle.script_plain.specs.Next.Next.{Ends, Goes, Posts, Sends, Recvs, Bars}
-use Rattle.script_plain.proofs.CollectiveLaws.{plain_end_collectives}
-use Rattle.script_plain.proofs.OrderLaws.{list_same}
+use Rattle.script_plain.proofs.Collectives.CollectiveLaws.{plain_end_collectives}
+use Rattle.script_plain.proofs.Orders.OrderLaws.{list_same}
 use Rattle.send_recv.specs.Ops.{SlotAt}
 use Rattle.rcce_ue.specs.Standing.{Tied}
 use Rattle.rcce_ue.specs.Ues.{UeView, in_slot}

@@ -18,9 +18,9 @@ use Rattle.script_plain.specs.Meaning.{State, next_of, recorded}
 use Rattle.script_plain.specs.Next.{Next}
 use Rattle.script_plain.specs.Next.Next.{Recvs}
 use Rattle.script_plain.specs.Ready.{IsReady}
-use Rattle.script_plain.proofs.CameDid.{came_matched}
-use Rattle.script_plain.proofs.ReadyLemmas.{ready-law}
-use Rattle.script_plain.proofs.StoppedLaws.{stopped_ends}
+use Rattle.script_plain.proofs.OwnWays.CameDid.{came_matched}
+use Rattle.script_plain.proofs.Lengths.ReadyLemmas.{ready-law}
+use Rattle.script_plain.proofs.OwnWays.StoppedLaws.{stopped_ends}
 use Rattle.rcce_ue.specs.Standing as ue
 use Rattle.rcce_ue.specs.Ues.{UeView}
 use Rattle.rcce_run.specs.Sweep.{Stood, Running, Stopped}

@@ -23,7 +23,7 @@ use Rattle.script_plain.specs.Local.{Local, local_next}
 use Rattle.script_plain.specs.Moves.{is_ended, is_stopped, went}
 use Rattle.script_plain.specs.Next.{Next, is_going}
 use Rattle.script_plain.specs.Next.Next.{Ends, Goes, Posts, Sends, Recvs, Bars}
-use Rattle.script_plain.proofs.StoppedLaws.{stopped_ends}
+use Rattle.script_plain.proofs.OwnWays.StoppedLaws.{stopped_ends}
 use Rattle.rcce_ue.specs.Left.{left_of, rest_of}
 use Rattle.rcce_ue.specs.Standing.{IsFree, IsNoCall, Tied, keeping}
 use Rattle.rcce_ue.specs.Turns.{AloneDoes, Behind, IsStill, Turns, Within, slot_aim}

@@ -13,8 +13,8 @@ use Rattle.script_plain.specs.Moves.{is_stopped}
 use Rattle.script_plain.specs.Next.Next.{Ends, Goes, Posts, Sends, Recvs, Bars}
 use Rattle.script_plain.specs.Paths.{Came}
 use Rattle.script_plain.specs.Paths.Came.{Went, Leaves, Passed, Took, Joined}
-use Rattle.script_plain.proofs.StoppedLaws.{refused_stops}
-pub use Rattle.script_plain.proofs.StoppedLaws.{stopped_ends}
+use Rattle.script_plain.proofs.OwnWays.StoppedLaws.{refused_stops}
+pub use Rattle.script_plain.proofs.OwnWays.StoppedLaws.{stopped_ends}
 use Rattle.rcce_ue.specs.Standing.{Stood, state_at}
 use Rattle.rcce_ue.specs.Standing.Stood.{Runs, Refused}
 

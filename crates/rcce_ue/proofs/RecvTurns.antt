@@ -27,7 +27,7 @@ use Rattle.script_plain.specs.Local.{Local, local_next}
 use Rattle.script_plain.specs.Moves.{is_ended, is_stopped, length_in, refused, taken}
 use Rattle.script_plain.specs.Next.{Next, is_going}
 use Rattle.script_plain.specs.Next.Next.{Ends, Goes, Posts, Sends, Recvs, Bars}
-use Rattle.script_plain.proofs.StoppedLaws.{refused_stops}
+use Rattle.script_plain.proofs.OwnWays.StoppedLaws.{refused_stops}
 use Rattle.rcce_ue.specs.Left.{left_of, next_bound, rest_of, unless}
 use Rattle.rcce_ue.specs.Standing.{IsFree, IsRecvOf, Tied, bytes_sent, keeping}
 use Rattle.rcce_ue.specs.Turns.{Behind, IsStill, Turns, Within}

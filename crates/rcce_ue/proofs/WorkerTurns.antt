@@ -24,7 +24,7 @@ use Rattle.script_plain.specs.Local.{Local, local_next}
 use Rattle.script_plain.specs.Moves.{bytes_out, is_ended, is_stopped, length_in}
 use Rattle.script_plain.specs.Next.{Next}
 use Rattle.script_plain.specs.Next.Next.{Ends, Goes, Posts, Sends, Recvs, Bars}
-use Rattle.script_plain.proofs.StoppedLaws.{stopped_ends}
+use Rattle.script_plain.proofs.OwnWays.StoppedLaws.{stopped_ends}
 use Rattle.rcce_ue.specs.Standing.{IsBarOf, IsRecvOf, IsSendOf, OpStands, Tied}
 use Rattle.rcce_ue.specs.Stretches.{MovedOn, MovedOnce, UeMoves}
 use Rattle.rcce_ue.specs.Turns.{UeTurned, aim_by, ue_aim}

@@ -22,14 +22,14 @@ use Rattle.script_plain.specs.Next.{Next, is_at_barrier, past_barrier}
 use Rattle.script_plain.specs.Next.Next.{Ends, Goes, Posts, Sends, Recvs, Bars}
 use Rattle.script_plain.specs.Program.{Act, Prim}
 use Rattle.script_plain.specs.Step.{Configuration, all_at_barrier, by_rank, lowest, lowest_step, next_at, past_if, run_on, slot_at, step_of}
-use Rattle.script_plain.proofs.CameDid.{logged}
-use Rattle.script_plain.proofs.KeptLaws.{AllKept, KeepsNext, kept_runs}
-use Rattle.script_plain.proofs.MessageLaws.{Logs, cell_other, empty_slot, logs}
-use Rattle.script_plain.proofs.OwnWayLaws.{stands, start_cell}
-use Rattle.script_plain.proofs.RunLaws.{stands_there}
-use Rattle.script_plain.proofs.StepLaws as steps
-use Rattle.script_plain.proofs.StepLaws.Takes.{Alone, Left, Met, Fetched, RefusedPost, RefusedSend, Passed}
-use Rattle.script_plain.proofs.ViewLaws.{sum_by-map}
+use Rattle.script_plain.proofs.OwnWays.CameDid.{logged}
+use Rattle.script_plain.proofs.Messages.KeptLaws.{AllKept, KeepsNext, kept_runs}
+use Rattle.script_plain.proofs.Messages.MessageLaws.{Logs, cell_other, empty_slot, logs}
+use Rattle.script_plain.proofs.OwnWays.OwnWayLaws.{stands, start_cell}
+use Rattle.script_plain.proofs.Runs.RunLaws.{stands_there}
+use Rattle.script_plain.proofs.Runs.StepLaws as steps
+use Rattle.script_plain.proofs.Runs.StepLaws.Takes.{Alone, Left, Met, Fetched, RefusedPost, RefusedSend, Passed}
+use Rattle.script_plain.proofs.Runs.ViewLaws.{sum_by-map}
 use Rattle.script_gen.specs.Outcome.{all_sends, all_sent_bytes, message_bytes, sends_of, sent_bytes_of}
 use Rattle.script_gen.proofs.Usual.{AreQuiet, AreUsual, IsQuiet, quiet_program}
 

@@ -4,6 +4,7 @@ use Rattle.std.specs.Prelude.{nat_lt}
 use Rattle.std.specs.Int.{bit_at}
 use Rattle.scc_base.specs.Places.{WordAt, flag_word}
 use Rattle.scc_base.specs.Layouts.{signal_at, gather_at, release_at, first_gather, first_release, first_chunk, chunk_lines}
+use Rattle.scc_base.specs.declared.signals.Signal.{Signal}
 use Rattle.scc_base.specs.declared.signals.Signal.TheVariants.{Sent, Ready}
 use Rattle.scc_base.specs.Setups.{SetupView, IsSetup, host_of}
 use Rattle.scc_base.specs.declared.layouts.Layout.{Layout}
@@ -16,14 +17,30 @@ use Rattle.scc_proto.proofs.Layouts.MoveFacts.{SameView}
 use Rattle.scc_proto.proofs.Tests.{same_or_other, eqb_same, eqb_other, put_two_here, put_two_first, put_two_second}
 use Rattle.scc_proto.proofs.Layouts.Roles.{if_yes, if_no, lt_yes, lt_no, lt_is, lt_not, own_word, own_is, Stands, role_stands, signal_role, role_header, role_chunk, role_sent, role_ready, role_gather, role_release}
 
+-- the flags `sent`, and the flags `ready`, with this signal's flag from a rank to another stored
+abbrev sent_put : Signal → (by at v : ℕ) → (ℕ → ℕ → ℕ) → ℕ → ℕ → ℕ
+sent_put Sent by at v sent = put_two sent by at v
+sent_put Ready by at v sent = sent
+
+abbrev ready_put : Signal → (by at v : ℕ) → (ℕ → ℕ → ℕ) → ℕ → ℕ → ℕ
+ready_put Sent by at v ready = ready
+ready_put Ready by at v ready = put_two ready at by v
+
+-- the same with a word of this signal's bits at a rank stored
+abbrev sent_bits_put : Signal → (at v : ℕ) → (ℕ → ℕ → ℕ) → ℕ → ℕ → ℕ
+sent_bits_put Sent at v sent = λ from to. if to == at then bit_at v from else sent from to
+sent_bits_put Ready at v sent = sent
+
+abbrev ready_bits_put : Signal → (at v : ℕ) → (ℕ → ℕ → ℕ) → ℕ → ℕ → ℕ
+ready_bits_put Sent at v ready = ready
+ready_bits_put Ready at v ready = λ from to. if from == at then bit_at v to else ready from to
+
 -- the view with a word of this use stored
 abbrev pub view_stored : Role → ℕ → View → View
 view_stored (HeaderWord owner k) v view = record view { header = put_two view.header owner k v }
 view_stored (ChunkWord owner k) v view = record view { chunk = put_two view.chunk owner k v }
-view_stored (SignalFlag Sent from to) v view = record view { sent = put_two view.sent from to v }
-view_stored (SignalFlag Ready to from) v view = record view { ready = put_two view.ready from to v }
-view_stored (SignalFlags Sent owner) v view = record view { sent = λ from to. if to == owner then bit_at v from else view.sent from to }
-view_stored (SignalFlags Ready owner) v view = record view { ready = λ from to. if from == owner then bit_at v to else view.ready from to }
+view_stored (SignalFlag signal by at) v view = record view { sent = sent_put signal by at v view.sent; ready = ready_put signal by at v view.ready }
+view_stored (SignalFlags signal at) v view = record view { sent = sent_bits_put signal at v view.sent; ready = ready_bits_put signal at v view.ready }
 view_stored (GatherFlag comm owner) v view = record view { gather = put_two view.gather comm owner v }
 view_stored (ReleaseFlag comm owner) v view = record view { release = put_two view.release comm owner v }
 view_stored HeapWord v view = view

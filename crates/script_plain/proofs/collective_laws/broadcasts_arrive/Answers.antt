@@ -1,9 +1,9 @@
-use Rattle.script_plain.proofs.BroadcastLaws.{broadcast}
-use Rattle.script_plain.proofs.CollectiveFits.{are_fit}
-use Rattle.script_plain.proofs.MessageLaws.{cells_kept, delivered}
-use Rattle.script_plain.proofs.OthersCame.{root_came}
-use Rattle.script_plain.proofs.OwnWayLaws.{own_ways}
-use Rattle.script_plain.proofs.UntouchedLaws.{untouched}
+use Rattle.script_plain.proofs.Collectives.BroadcastLaws.{broadcast}
+use Rattle.script_plain.proofs.Collectives.CollectiveFits.{are_fit}
+use Rattle.script_plain.proofs.Messages.MessageLaws.{cells_kept, delivered}
+use Rattle.script_plain.proofs.Arrivals.OthersCame.{root_came}
+use Rattle.script_plain.proofs.OwnWays.OwnWayLaws.{own_ways}
+use Rattle.script_plain.proofs.Collectives.UntouchedLaws.{untouched}
 use Rattle.script_plain.proofs.collective_laws.broadcasts_arrive.Goals as goal
 
 pub returns-clause-law : goal.returns-clause-law

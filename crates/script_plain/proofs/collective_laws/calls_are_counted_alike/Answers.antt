@@ -1,4 +1,4 @@
-use Rattle.script_plain.proofs.CountLaws.{counted}
+use Rattle.script_plain.proofs.Arrivals.CountLaws.{counted}
 use Rattle.script_plain.proofs.collective_laws.calls_are_counted_alike.Goals as goal
 
 pub returns : goal.returns

@@ -1,4 +1,4 @@
-use Rattle.script_plain.proofs.MessageLaws.{delivered, received_as_sent}
+use Rattle.script_plain.proofs.Messages.MessageLaws.{delivered, received_as_sent}
 use Rattle.script_plain.proofs.collective_laws.messages_arrive_as_sent.Goals as goal
 
 pub returns-clause-delivered : goal.returns-clause-delivered

@@ -1,4 +1,4 @@
-use Rattle.script_plain.proofs.OwnWayLaws.{own_ways}
+use Rattle.script_plain.proofs.OwnWays.OwnWayLaws.{own_ways}
 use Rattle.script_plain.proofs.collective_laws.ranks_go_their_own_ways.Goals as goal
 
 pub returns : goal.returns

@@ -1,9 +1,9 @@
-use Rattle.script_plain.proofs.CollectiveFits.{are_fit}
-use Rattle.script_plain.proofs.MessageLaws.{cells_kept, delivered}
-use Rattle.script_plain.proofs.OthersCame.{all_came, others_gave, others_gave_to_all}
-use Rattle.script_plain.proofs.OwnWayLaws.{own_ways}
-use Rattle.script_plain.proofs.ReductionLaws.{all_reduced, all_told, reduced}
-use Rattle.script_plain.proofs.UntouchedLaws.{untouched}
+use Rattle.script_plain.proofs.Collectives.CollectiveFits.{are_fit}
+use Rattle.script_plain.proofs.Messages.MessageLaws.{cells_kept, delivered}
+use Rattle.script_plain.proofs.Arrivals.OthersCame.{all_came, others_gave, others_gave_to_all}
+use Rattle.script_plain.proofs.OwnWays.OwnWayLaws.{own_ways}
+use Rattle.script_plain.proofs.Collectives.ReductionLaws.{all_reduced, all_told, reduced}
+use Rattle.script_plain.proofs.Collectives.UntouchedLaws.{untouched}
 use Rattle.script_plain.proofs.collective_laws.reductions_fold.Goals as goal
 
 pub returns-clause-root : goal.returns-clause-root

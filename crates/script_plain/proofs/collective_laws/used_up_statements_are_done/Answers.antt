@@ -1,4 +1,4 @@
-use Rattle.script_plain.proofs.DoneLaws.{are_done}
+use Rattle.script_plain.proofs.OwnWays.DoneLaws.{are_done}
 use Rattle.script_plain.proofs.collective_laws.used_up_statements_are_done.Goals as goal
 
 pub returns : goal.returns

@@ -1,5 +1,5 @@
 use Rattle.std.proofs.Common.{◌∙◌, sym}
-use Rattle.script_plain.proofs.WalkLaws.{as_many_prims, one_mark}
+use Rattle.script_plain.proofs.Walks.WalkLaws.{as_many_prims, one_mark}
 use Rattle.script_plain.proofs.course.count_at.Goals as goal
 
 pub returns-then-ends_pass : goal.returns-then-ends_pass

@@ -3,8 +3,8 @@ use Rattle.std.proofs.lemmas.Option.{slice_get_within}
 use Rattle.script_reader.specs.Script.{has_rank}
 use Rattle.script_plain.specs.Depths.{depth_after, depth_at}
 use Rattle.script_plain.specs.Program.{nesting_at}
-use Rattle.script_plain.proofs.DepthLaws.{deepest_end, deepest_more, depth_more, depth_next}
-use Rattle.script_plain.proofs.IdleLaws.{idle_more}
+use Rattle.script_plain.proofs.Walks.DepthLaws.{deepest_end, deepest_more, depth_more, depth_next}
+use Rattle.script_plain.proofs.Walks.IdleLaws.{idle_more}
 use Rattle.script_plain.proofs.course.reach_of.Goals as goal
 use Rattle.script_plain.proofs.course.reach_of.Goals.{then-has, else-has, then-most-depth, else-most-depth}
 

@@ -1,9 +1,9 @@
 use Rattle.std.proofs.Common.{◌≡◌, ◌≤◌, ◌∙◌, arith, length, sym}
 use Rattle.std.specs.VecDeque.{deque_capacity}
 use Rattle.script_plain.specs.Program.{marks_of}
-use Rattle.script_plain.proofs.DepthLaws.{deep_entered, room_entered}
-use Rattle.script_plain.proofs.IdleLaws.{deep-idle, left-idle, nothing_left}
-use Rattle.script_plain.proofs.WalkLaws.{none_there, open-past, over_open, over_same, some_there}
+use Rattle.script_plain.proofs.Walks.DepthLaws.{deep_entered, room_entered}
+use Rattle.script_plain.proofs.Walks.IdleLaws.{deep-idle, left-idle, nothing_left}
+use Rattle.script_plain.proofs.Walks.WalkLaws.{none_there, open-past, over_open, over_same, some_there}
 use Rattle.script_plain.proofs.course.settled.Goals as goal
 
 pub enter-requires-clause-room : goal.enter-requires-clause-room

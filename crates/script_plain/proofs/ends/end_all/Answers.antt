@@ -1,5 +1,5 @@
 use Rattle.std.proofs.Common.{arith}
-use Rattle.script_plain.proofs.RestLaws.{ends_more, rest_more}
+use Rattle.script_plain.proofs.Messages.RestLaws.{ends_more, rest_more}
 use Rattle.script_plain.proofs.ends.end_all.Goals as goal
 
 pub loop-i-preserved : goal.loop-i-preserved

@@ -1,4 +1,4 @@
-use Rattle.script_plain.proofs.HeldUpLaws.{explained}
+use Rattle.script_plain.proofs.Messages.HeldUpLaws.{explained}
 use Rattle.script_plain.proofs.held_laws.ends_are_explained.Goals as goal
 
 pub returns : goal.returns

@@ -1,4 +1,4 @@
-use Rattle.script_plain.proofs.BarrierLaws.{met}
+use Rattle.script_plain.proofs.Orders.BarrierLaws.{met}
 use Rattle.script_plain.proofs.laws.barriers_meet.Goals as goal
 
 pub returns : goal.returns

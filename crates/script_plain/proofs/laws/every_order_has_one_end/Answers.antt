@@ -1,6 +1,6 @@
 use Rattle.script_plain.specs.Meaning.{keys_of, next_of, start_of, steps_left}
-use Rattle.script_plain.proofs.EndLaws.{one_end, reached}
-use Rattle.script_plain.proofs.PlainLaws.{plain_end_still}
+use Rattle.script_plain.proofs.Orders.EndLaws.{one_end, reached}
+use Rattle.script_plain.proofs.Runs.PlainLaws.{plain_end_still}
 use Rattle.script_plain.proofs.laws.every_order_has_one_end.Goals as goal
 
 pub returns-clause-law : goal.returns-clause-law

@@ -1,8 +1,8 @@
 use Rattle.script_plain.specs.Local.{cost_of}
 use Rattle.script_plain.specs.Meaning.{State, next_of}
-use Rattle.script_plain.proofs.EndLaws.{most_steps}
-use Rattle.script_plain.proofs.PlainLaws.{state_lowers}
-use Rattle.script_plain.proofs.RunLaws.{falls}
+use Rattle.script_plain.proofs.Orders.EndLaws.{most_steps}
+use Rattle.script_plain.proofs.Runs.PlainLaws.{state_lowers}
+use Rattle.script_plain.proofs.Runs.RunLaws.{falls}
 use Rattle.script_plain.proofs.laws.every_order_is_finite.Goals as goal
 
 pub returns-clause-lowers : goal.returns-clause-lowers

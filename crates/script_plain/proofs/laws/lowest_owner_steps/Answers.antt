@@ -1,5 +1,5 @@
 use Rattle.script_plain.specs.Meaning.{next_of}
-use Rattle.script_plain.proofs.EndLaws.{is_still, taken}
+use Rattle.script_plain.proofs.Orders.EndLaws.{is_still, taken}
 use Rattle.script_plain.proofs.laws.lowest_owner_steps.Goals as goal
 
 pub returns-clause-taken : goal.returns-clause-taken

@@ -1,5 +1,5 @@
 use Rattle.script_plain.specs.Meaning.{next_of}
-use Rattle.script_plain.proofs.OrderLaws.{either_order}
+use Rattle.script_plain.proofs.Orders.OrderLaws.{either_order}
 use Rattle.script_plain.proofs.laws.steps_commute.Goals as goal
 
 pub returns : goal.returns

@@ -1,4 +1,4 @@
-use Rattle.script_plain.proofs.CameDid.{came_matched}
+use Rattle.script_plain.proofs.OwnWays.CameDid.{came_matched}
 use Rattle.script_plain.proofs.laws.ways_tell_calls.Goals as goal
 
 pub returns : goal.returns

@@ -1,11 +1,11 @@
 use Rattle.std.proofs.Common.{◌≡◌, ◌∙◌, ℕ, Bool, true, false, Option, None, IfSome, ap, refl, subst, sum_by, sym}
 use Rattle.std.specs.Prelude.{is_some}
 use Rattle.scc_base.specs.Setups.{setup_key}
-use Rattle.script_plain.proofs.FacingLaws.{none_came}
-use Rattle.script_plain.proofs.MatchLaws.{comes_to_rest, goes_on, was_stepped}
-use Rattle.script_plain.proofs.PlainLaws.{local_lowers}
-use Rattle.script_plain.proofs.RunLaws.{falls_lowest, sound}
-use Rattle.script_plain.proofs.WayLaws.{further, run_ended}
+use Rattle.script_plain.proofs.Orders.FacingLaws.{none_came}
+use Rattle.script_plain.proofs.Messages.MatchLaws.{comes_to_rest, goes_on, was_stepped}
+use Rattle.script_plain.proofs.Runs.PlainLaws.{local_lowers}
+use Rattle.script_plain.proofs.Runs.RunLaws.{falls_lowest, sound}
+use Rattle.script_plain.proofs.Orders.WayLaws.{further, run_ended}
 use Rattle.script_plain.specs.Code.{BringsLowest, config}
 use Rattle.script_plain.specs.Facing.{IsStillTo}
 use Rattle.script_plain.specs.Local.{Local, cost_of, local_next}

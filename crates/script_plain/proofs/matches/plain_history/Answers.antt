@@ -7,9 +7,9 @@ use Rattle.script_plain.specs.Matches.{line_of, matches_on}
 use Rattle.script_plain.specs.Meaning.{ends_at, keys_of, locals_of, plain_end, seen_of, start_of}
 use Rattle.script_plain.specs.Step.{run_on}
 use Rattle.script_plain.specs.declared.posts.Posted.{Posted}
-use Rattle.script_plain.proofs.MatchLaws.{seen_matches}
-use Rattle.script_plain.proofs.RestLaws.{ends_length}
-use Rattle.script_plain.proofs.PlainLaws.{length-plain_end, seen_of-plain_end}
+use Rattle.script_plain.proofs.Messages.MatchLaws.{seen_matches}
+use Rattle.script_plain.proofs.Messages.RestLaws.{ends_length}
+use Rattle.script_plain.proofs.Runs.PlainLaws.{length-plain_end, seen_of-plain_end}
 use Rattle.script_plain.proofs.matches.plain_history.Goals as goal
 
 pub history_of-requires : goal.history_of-requires

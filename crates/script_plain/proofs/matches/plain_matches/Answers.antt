@@ -6,7 +6,7 @@ use Rattle.script_plain.specs.Local.{Local, cost_of, local_next}
 use Rattle.script_plain.specs.Matches.{line_of, matches_on}
 use Rattle.script_plain.specs.Meaning.{keys_of, locals_of, start_of}
 use Rattle.script_plain.specs.declared.posts.Posted.{Posted}
-use Rattle.script_plain.proofs.MatchLaws.{seen_matches}
+use Rattle.script_plain.proofs.Messages.MatchLaws.{seen_matches}
 use Rattle.script_plain.proofs.matches.plain_matches.Goals as goal
 
 pub match_on-requires : goal.match_on-requires

@@ -6,7 +6,7 @@ use Rattle.script_plain.specs.Facing.{AreAside, facing_at}
 use Rattle.script_plain.specs.Local.{Local, local_next}
 use Rattle.script_plain.specs.Matches.{line_of, step_brought}
 use Rattle.script_plain.specs.Step.{Configuration, lowest_step}
-use Rattle.script_plain.proofs.FacingLaws.{none_lowest, still_on, took_lowest}
+use Rattle.script_plain.proofs.Orders.FacingLaws.{none_lowest, still_on, took_lowest}
 use Rattle.script_plain.proofs.matches.step_lowest.Goals as goal
 
 pub returns-then-branch-clause-brings : goal.returns-then-branch-clause-brings

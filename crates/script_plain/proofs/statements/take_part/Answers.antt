@@ -1,7 +1,7 @@
 use Rattle.std.proofs.Common.{◌∙◌, ap, sym, Some}
 use Rattle.script_plain.specs.Program.{part_of}
-use Rattle.script_plain.proofs.BegunLaws.{steps_made}
-use Rattle.script_plain.proofs.WalkLaws.{part_called}
+use Rattle.script_plain.proofs.Lengths.BegunLaws.{steps_made}
+use Rattle.script_plain.proofs.Walks.WalkLaws.{part_called}
 use Rattle.script_plain.proofs.statements.take_part.Goals as goal
 
 pub begins-begun-requires : goal.begins-begun-requires

@@ -1,6 +1,6 @@
 use Rattle.std.proofs.Common.{◌∙◌}
 use Rattle.scc_base.specs.Setups.{setup_key}
-use Rattle.script_plain.proofs.WayLaws.{further, rests, step_less}
+use Rattle.script_plain.proofs.Orders.WayLaws.{further, rests, step_less}
 use Rattle.script_plain.specs.Code.{config}
 use Rattle.script_plain.proofs.steps.go_on.Goals as goal
 

@@ -1,6 +1,6 @@
-use Rattle.script_plain.proofs.BarrierLaws.{plain_end_met}
-use Rattle.script_plain.proofs.CollectiveLaws.{plain_end_collectives}
-use Rattle.script_plain.proofs.PlainLaws.{plain_end_still}
+use Rattle.script_plain.proofs.Orders.BarrierLaws.{plain_end_met}
+use Rattle.script_plain.proofs.Collectives.CollectiveLaws.{plain_end_collectives}
+use Rattle.script_plain.proofs.Runs.PlainLaws.{plain_end_still}
 use Rattle.script_plain.proofs.steps.plain_run.Goals as goal
 
 pub returns-clause-end : goal.returns-clause-end

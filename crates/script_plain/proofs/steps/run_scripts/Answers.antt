@@ -6,8 +6,8 @@ use Rattle.script_plain.specs.Local.{Local, cost_of, local_next}
 use Rattle.script_plain.specs.Meaning.{ends_at, keys_of, locals_of, plain_end, seen_of, start_of}
 use Rattle.script_plain.specs.Step.{run_on}
 use Rattle.script_plain.specs.declared.posts.Posted.{Posted}
-use Rattle.script_plain.proofs.RestLaws.{ends_length}
-use Rattle.script_plain.proofs.PlainLaws.{length-plain_end, seen_of-plain_end}
+use Rattle.script_plain.proofs.Messages.RestLaws.{ends_length}
+use Rattle.script_plain.proofs.Runs.PlainLaws.{length-plain_end, seen_of-plain_end}
 use Rattle.script_plain.proofs.steps.run_scripts.Goals as goal
 
 pub run_to_end-requires : goal.run_to_end-requires

@@ -1,6 +1,6 @@
 use Rattle.std.proofs.Common.{◌≡◌, ◌∙◌, ◌+◌, ℕ, Bool, arith, subst, sym}
 use Rattle.scc_base.specs.Setups.{setup_key}
-use Rattle.script_plain.proofs.WayLaws.{swept_on, swept_past}
+use Rattle.script_plain.proofs.Orders.WayLaws.{swept_on, swept_past}
 use Rattle.script_plain.specs.Code.{Sweeps, config}
 use Rattle.script_plain.proofs.steps.sweep.Goals as goal
 use Rattle.script_plain.proofs.steps.sweep.Goals.{then-branch, else-branch}

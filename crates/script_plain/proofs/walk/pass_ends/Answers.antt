@@ -1,7 +1,7 @@
 use Rattle.std.proofs.Common.{◌≡◌, ◌∙◌, true, ap, sym, arith, slice_get, drop, length}
 use Rattle.script_plain.specs.Program.{prims_in}
 use Rattle.script_plain.specs.Walk.{CourseView, is_end}
-use Rattle.script_plain.proofs.MarkLaws.{first_prim, less_marks, same_prims}
+use Rattle.script_plain.proofs.Walks.MarkLaws.{first_prim, less_marks, same_prims}
 use Rattle.script_plain.proofs.walk.pass_ends.Goals as goal
 
 pub loop-course-preserved : goal.loop-course-preserved

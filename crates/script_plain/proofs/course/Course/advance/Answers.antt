@@ -2,8 +2,8 @@ use Rattle.std.proofs.Common.{◌≡◌, ◌∙◌, [], ap, sym, arith, length, 
 use Rattle.std.proofs.lemmas.List.{drop-drop}
 use Rattle.script_plain.specs.Program.{Prim, marks_of}
 use Rattle.script_plain.specs.Walk.{CourseView, left_at}
-use Rattle.script_plain.proofs.DepthLaws.{deep_passed}
-use Rattle.script_plain.proofs.WalkLaws.{behind_open, behind_same, last_done, nothing_past, stands_there}
+use Rattle.script_plain.proofs.Walks.DepthLaws.{deep_passed}
+use Rattle.script_plain.proofs.Walks.WalkLaws.{behind_open, behind_same, last_done, nothing_past, stands_there}
 use Rattle.script_plain.proofs.course.Course.advance.Goals as goal
 
 pub returns-then-at-len : goal.returns-then-at-len

@@ -1,8 +1,8 @@
 use Rattle.std.proofs.Common.{◌≤◌, ◌∙◌, [], ap, arith, length, List, Option}
 use Rattle.script_plain.specs.Program.{Prim}
 use Rattle.script_plain.specs.Walk.{CourseView}
-use Rattle.script_plain.proofs.DepthLaws.{deep_start}
-use Rattle.script_plain.proofs.WalkLaws.{none_there, nothing_past, open-past}
+use Rattle.script_plain.proofs.Walks.DepthLaws.{deep_start}
+use Rattle.script_plain.proofs.Walks.WalkLaws.{none_there, nothing_past, open-past}
 use Rattle.script_plain.proofs.course.Course.finish.Goals as goal
 
 pub invariant_of-self : goal.invariant_of-self

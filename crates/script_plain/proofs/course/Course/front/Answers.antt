@@ -1,7 +1,7 @@
 use Rattle.std.proofs.Common.{◌∙◌, ap, sym, arith, slice_get, List, Option}
 use Rattle.script_plain.specs.Program.{Prim}
 use Rattle.script_plain.specs.Walk.{CourseView, act_meant, prim_of}
-use Rattle.script_plain.proofs.WalkLaws.{act_there, front_end, front_is, nothing_past, stands_there}
+use Rattle.script_plain.proofs.Walks.WalkLaws.{act_there, front_end, front_is, nothing_past, stands_there}
 use Rattle.script_plain.proofs.course.Course.front.Goals as goal
 
 pub returns-then-self-len-clause-same : goal.returns-then-self-len-clause-same

@@ -1,7 +1,7 @@
 use Rattle.std.proofs.Common.{◌∙◌, ap, sym, arith, slice_get, List, Option}
 use Rattle.script_plain.specs.Program.{Prim}
 use Rattle.script_plain.specs.Walk.{CourseView, is_end}
-use Rattle.script_plain.proofs.WalkLaws.{at_end, nothing_past, stands_there}
+use Rattle.script_plain.proofs.Walks.WalkLaws.{at_end, nothing_past, stands_there}
 use Rattle.script_plain.proofs.course.Course.is_at_end.Goals as goal
 
 pub returns-then-self-len : goal.returns-then-self-len

@@ -1,8 +1,8 @@
 use Rattle.std.proofs.Common.{◌∙◌, ap, sym, subst, List}
 use Rattle.script_plain.specs.declared.course.Open.{Open}
 use Rattle.script_plain.specs.Walk.{AreOpenAt, left_at}
-use Rattle.script_plain.proofs.IdleLaws.{left-first}
-use Rattle.script_plain.proofs.WalkLaws.{all_left, none_open, marked_by_script}
+use Rattle.script_plain.proofs.Walks.IdleLaws.{left-first}
+use Rattle.script_plain.proofs.Walks.WalkLaws.{all_left, none_open, marked_by_script}
 use Rattle.script_plain.proofs.course.Course.new.Goals as goal
 
 pub settled-place-requires-clause-opens : goal.settled-place-requires-clause-opens

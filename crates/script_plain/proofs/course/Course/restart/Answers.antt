@@ -3,9 +3,9 @@ use Rattle.script_reader.specs.Script.{rules_of}
 use Rattle.script_plain.specs.declared.course.Open.{Open}
 use Rattle.script_plain.specs.Program.{Prim, marks_in}
 use Rattle.script_plain.specs.Walk.{AreOpenAt, CourseView, left_at}
-use Rattle.script_plain.proofs.DepthLaws.{deep_start}
-use Rattle.script_plain.proofs.IdleLaws.{left-first}
-use Rattle.script_plain.proofs.WalkLaws.{all_left, none_open, marked_by_script}
+use Rattle.script_plain.proofs.Walks.DepthLaws.{deep_start}
+use Rattle.script_plain.proofs.Walks.IdleLaws.{left-first}
+use Rattle.script_plain.proofs.Walks.WalkLaws.{all_left, none_open, marked_by_script}
 use Rattle.script_plain.proofs.course.Course.restart.Goals as goal
 
 pub settled-self-inside-requires-clause-opens : goal.settled-self-inside-requires-clause-opens

@@ -1,7 +1,7 @@
 use Rattle.std.proofs.Common.{◌∙◌, ap, drop}
 use Rattle.script_plain.specs.Program.{prims_in}
 use Rattle.script_plain.specs.Walk.{CourseView, WalkView}
-use Rattle.script_plain.proofs.MarkLaws.{more_prims}
+use Rattle.script_plain.proofs.Walks.MarkLaws.{more_prims}
 use Rattle.script_plain.proofs.walk.Walk.advance.Goals as goal
 
 pub returns : goal.returns

@@ -1,7 +1,7 @@
 use Rattle.std.proofs.Common.{◌∙◌, ap}
 use Rattle.script_plain.specs.Program.{prims_in}
 use Rattle.script_plain.specs.Walk.{CourseView}
-use Rattle.script_plain.proofs.MarkLaws.{program_is}
+use Rattle.script_plain.proofs.Walks.MarkLaws.{program_is}
 use Rattle.script_plain.proofs.walk.Walk.new.Goals as goal
 
 pub returns : goal.returns

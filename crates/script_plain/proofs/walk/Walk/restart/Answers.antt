@@ -2,7 +2,7 @@ use Rattle.std.proofs.Common.{◌∙◌, ap, sym}
 use Rattle.script_reader.specs.Script.{rules_of}
 use Rattle.script_plain.specs.Program.{prims_in, program_of}
 use Rattle.script_plain.specs.Walk.{CourseView, WalkView}
-use Rattle.script_plain.proofs.MarkLaws.{program_is}
+use Rattle.script_plain.proofs.Walks.MarkLaws.{program_is}
 use Rattle.script_plain.proofs.walk.Walk.restart.Goals as goal
 
 pub restart-requires-clause-ranks : goal.restart-requires-clause-ranks
