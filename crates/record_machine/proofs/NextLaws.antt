@@ -72,20 +72,27 @@ module _ (size : ℕ) (notes : ℕ → Option Notes) (flips : ℕ → ℕ) (held
 
   idle_named : (post : Option OnItsWay) (move : Move) → Named Idle post (store_allowed size Idle post notes) move
   idle_named None (DraftHeader k v) t u = refl
+  idle_named None (RaiseSignal Sent to) t u = cc
+  idle_named None (LowerSignal Sent from) t u = cc
   idle_named None move t u = cc
   idle_named (Some p) (LowerSignal Ready by) t u = lowers_posted p by t
+  idle_named (Some p) (RaiseSignal Sent to) t u = cc
   idle_named (Some p) move t u = cc
 
   drafting_named : (h c : Notes) (post : Option OnItsWay) (b : Bool) (move : Move) → Named (Drafting h c) post (if b then may.Raise else may.Draft) move
   drafting_named h c None true (LowerSignal Sent from) t u = absurd (none_taken (Drafting h c) from (λ header e. true_not_false (sym e)) t)
+  drafting_named h c None true (RaiseSignal Sent to) t u = cc
   drafting_named h c None true move t u = cc
   drafting_named h c None false (LowerSignal Sent from) t u = absurd (none_taken (Drafting h c) from (λ header e. true_not_false (sym e)) t)
+  drafting_named h c None false (RaiseSignal Sent to) t u = cc
   drafting_named h c None false move t u = cc
   drafting_named h c (Some p) true (LowerSignal Ready by) t u = lowers_posted p by t
   drafting_named h c (Some p) true (LowerSignal Sent from) t u = absurd (none_taken (Drafting h c) from (λ header e. true_not_false (sym e)) t)
+  drafting_named h c (Some p) true (RaiseSignal Sent to) t u = cc
   drafting_named h c (Some p) true move t u = cc
   drafting_named h c (Some p) false (LowerSignal Ready by) t u = lowers_posted p by t
   drafting_named h c (Some p) false (LowerSignal Sent from) t u = absurd (none_taken (Drafting h c) from (λ header e. true_not_false (sym e)) t)
+  drafting_named h c (Some p) false (RaiseSignal Sent to) t u = cc
   drafting_named h c (Some p) false move t u = cc
 
   fill_first_named : (j : ℕ) (message : Progress) (post : Option OnItsWay) (move : Move) → Named (Sending j Filling message []) post (may.FillFirst j) move
@@ -93,6 +100,7 @@ module _ (size : ℕ) (notes : ℕ → Option Notes) (flips : ℕ → ℕ) (held
   fill_first_named j message None (LowerSignal Sent from) t u = absurd (none_taken (Sending j Filling message []) from (λ header e. true_not_false (sym e)) t)
   fill_first_named j message None move t u = cc
   fill_first_named j message (Some p) (LowerSignal Sent from) t u = absurd (none_taken (Sending j Filling message []) from (λ header e. true_not_false (sym e)) t)
+  fill_first_named j message (Some p) (RaiseSignal Sent to) t u = cc
   fill_first_named j message (Some p) move t u = cc
 
   fill_named : (j : ℕ) (message : Progress) (n : Note) (ns : Notes) (post : Option OnItsWay) (b : Bool) (move : Move) → Named (Sending j Filling message (n ∷ ns)) post (if b then may.RaiseMore j else may.Fill j) move
@@ -103,34 +111,44 @@ module _ (size : ℕ) (notes : ℕ → Option Notes) (flips : ℕ → ℕ) (held
   fill_named j message n ns None false (LowerSignal Sent from) t u = absurd (none_taken (Sending j Filling message (n ∷ ns)) from (λ header e. true_not_false (sym e)) t)
   fill_named j message n ns None false move t u = cc
   fill_named j message n ns (Some p) true (LowerSignal Sent from) t u = absurd (none_taken (Sending j Filling message (n ∷ ns)) from (λ header e. true_not_false (sym e)) t)
+  fill_named j message n ns (Some p) true (RaiseSignal Sent to) t u = cc
   fill_named j message n ns (Some p) true move t u = cc
   fill_named j message n ns (Some p) false (LowerSignal Sent from) t u = absurd (none_taken (Sending j Filling message (n ∷ ns)) from (λ header e. true_not_false (sym e)) t)
+  fill_named j message n ns (Some p) false (RaiseSignal Sent to) t u = cc
   fill_named j message n ns (Some p) false move t u = cc
 
   raised_named : (j : ℕ) (message : Progress) (c : Notes) (post : Option OnItsWay) (move : Move) → Named (Sending j Raised message c) post (may.SeeReady j) move
   raised_named j message c None (LowerSignal Sent from) t u = absurd (none_taken (Sending j Raised message c) from (λ header e. true_not_false (sym e)) t)
+  raised_named j message c None (RaiseSignal Sent to) t u = cc
   raised_named j message c None move t u = cc
   raised_named j message c (Some p) (LowerSignal Sent from) t u = absurd (none_taken (Sending j Raised message c) from (λ header e. true_not_false (sym e)) t)
+  raised_named j message c (Some p) (RaiseSignal Sent to) t u = cc
   raised_named j message c (Some p) move t u = cc
 
   answered_named : (j : ℕ) (message : Progress) (c : Notes) (post : Option OnItsWay) (move : Move) → Named (Sending j Answered message c) post (may.LowerReady j) move
   answered_named j message c None (LowerSignal Ready by) t u = or_first (j == by) _ t
   answered_named j message c None (LowerSignal Sent from) t u = absurd (none_taken (Sending j Answered message c) from (λ header e. true_not_false (sym e)) t)
+  answered_named j message c None (RaiseSignal Sent to) t u = cc
   answered_named j message c None move t u = cc
   answered_named j message c (Some p) (LowerSignal Ready by) t u = or_first (j == by) _ t
   answered_named j message c (Some p) (LowerSignal Sent from) t u = absurd (none_taken (Sending j Answered message c) from (λ header e. true_not_false (sym e)) t)
+  answered_named j message c (Some p) (RaiseSignal Sent to) t u = cc
   answered_named j message c (Some p) move t u = cc
 
   between_named : (i : ℕ) (message : Progress) (post : Option OnItsWay) (b : Bool) (move : Move) → Named (Between i message) post (if b then may.LowerSent i else may.SeeSent i) move
   between_named i message None true (LowerSignal Sent from) t u = or_first (i == from) _ (taken_of from i (notes from) message t)
+  between_named i message None true (RaiseSignal Sent to) t u = cc
   between_named i message None true move t u = cc
   between_named i message None false (LowerSignal Sent from) t u = or_first (i == from) _ (taken_of from i (notes from) message t)
+  between_named i message None false (RaiseSignal Sent to) t u = cc
   between_named i message None false move t u = cc
   between_named i message (Some p) true (LowerSignal Sent from) t u = or_first (i == from) _ (taken_of from i (notes from) message t)
   between_named i message (Some p) true (LowerSignal Ready by) t u = lowers_posted p by t
+  between_named i message (Some p) true (RaiseSignal Sent to) t u = cc
   between_named i message (Some p) true move t u = cc
   between_named i message (Some p) false (LowerSignal Sent from) t u = or_first (i == from) _ (taken_of from i (notes from) message t)
   between_named i message (Some p) false (LowerSignal Ready by) t u = lowers_posted p by t
+  between_named i message (Some p) false (RaiseSignal Sent to) t u = cc
   between_named i message (Some p) false move t u = cc
 
   taking_named : (i : ℕ) (message : Progress) (c : Notes) (post : Option OnItsWay) (b : Bool) (move : Move) → Named (Taking i message c) post (if b then may.RaiseReady i else may.ReadChunk i) move
@@ -152,10 +170,12 @@ module _ (size : ℕ) (notes : ℕ → Option Notes) (flips : ℕ → ℕ) (held
   barrier_named : (c seen released : ℕ) (post : Option OnItsWay) (move : Move) → Named (Barrier c seen released) post (may.Meet c) move
   barrier_named c seen released None (WriteRelease comm to place value last) t u = or_first (c == comm) _ (both_first (c == comm) _ t)
   barrier_named c seen released None (LowerSignal Sent from) t u = absurd (none_taken (Barrier c seen released) from (λ header e. true_not_false (sym e)) t)
+  barrier_named c seen released None (RaiseSignal Sent to) t u = cc
   barrier_named c seen released None move t u = cc
   barrier_named c seen released (Some p) (WriteRelease comm to place value last) t u = or_first (c == comm) _ (both_first (c == comm) _ t)
   barrier_named c seen released (Some p) (LowerSignal Ready by) t u = lowers_posted p by t
   barrier_named c seen released (Some p) (LowerSignal Sent from) t u = absurd (none_taken (Barrier c seen released) from (λ header e. true_not_false (sym e)) t)
+  barrier_named c seen released (Some p) (RaiseSignal Sent to) t u = cc
   barrier_named c seen released (Some p) move t u = cc
 
   pub store_named : (st : Stage) (post : Option OnItsWay) (move : Move) → Named st post (store_allowed size st post notes) move
