@@ -1,6 +1,6 @@
 //! The lines so far, and what a line adds to them.
 
-use crate::checks::{can_have, has_no_parent, is_new_split, is_too_long, is_unknown, refuses_by};
+use crate::checks::{can_have, has_no_parent, is_new_split, is_unknown, refuses_by};
 use crate::effect::{Effect, effect_of};
 use crate::ends::tell_ends;
 use crate::fault::{FaultKind, LineStop};
@@ -11,6 +11,7 @@ use crate::repeats::{
 use crate::run::Run;
 use crate::script::{Item, Scripts, Stmt, Who, rules_of};
 use crate::tally::{Tally, no_tallies, note_item};
+use crate::uses::is_too_long;
 use crate::version::Version;
 use arrayvec::ArrayVec;
 use std::alloc::{AllocError, Global};
