@@ -2,13 +2,13 @@
 
 ghost use Rattle.std.specs.Prelude.{◌≡◌, ◌<◌, ◌≤◌};
 ghost use Rattle.script_reader.specs.Checks.{cost_of, differs_from, has_no_parent, has_no_root, is_badly_split, is_div_of, is_mod_of, is_not_split, is_overworked, is_to_self, is_unknown, last_comm};
-ghost use Rattle.script_reader.specs.Tally.{can_have, is_new_split, refuses_by, split_in};
+ghost use Rattle.script_reader.specs.Tally.{is_new_split, refuses_by, split_in};
 
 use crate::effect::{Cost, Effect, Group, parent_of};
 use crate::fault::FaultKind;
 use crate::run::Run;
 use crate::tally::{MOST_OPERATIONS, Tally};
-use crate::uses::{is_misshapen, is_unset, posts_too_much, prints_too_much, reads};
+use crate::uses::{is_misshapen, is_unset, posts_too_much, prints_too_much};
 use crate::version::Version;
 use scc_base::{CommRule, Rank};
 
@@ -149,32 +149,6 @@ fn is_overworked(run: &Run, tally: &Tally, turns: u32, cost: Cost, rank: u8) -> 
 {
     let operations = (turns as u64).saturating_mul(cost_of(run, cost, rank) as u64);
     tally.operations.saturating_add(operations) > MOST_OPERATIONS
-}
-
-/// Whether a statement can have this fault for some rank. Where it can't, no rank needs a look.
-pub(crate) fn can_have(kind: FaultKind, effect: &Effect) -> bool
-    ensures { result ≡ can_have kind effect.now }
-{
-    match kind {
-        FaultKind::RankRange => effect.root.is_some(),
-        FaultKind::SelfMessage => effect.peer.is_some(),
-        FaultKind::NotSplit => effect.group.needed() != 0,
-        FaultKind::Unset => reads(effect.uses),
-        FaultKind::Shape => reads(effect.uses) || effect.sets.is_some(),
-        FaultKind::TooManyOps | FaultKind::TooLong => true,
-        FaultKind::NotText
-        | FaultKind::UnknownStatement
-        | FaultKind::WrongCount
-        | FaultKind::BadNumber
-        | FaultKind::BadHex
-        | FaultKind::BadName
-        | FaultKind::UnknownComm
-        | FaultKind::NoSection
-        | FaultKind::UnclosedRepeat
-        | FaultKind::StrayEnd
-        | FaultKind::TooDeep
-        | FaultKind::TooManyNames => false,
-    }
 }
 
 /// Whether a statement has this fault for a rank, which has this tally.
