@@ -216,14 +216,20 @@ fn count_at(setup: &Setup, rank: Rank, item: &Item) -> u32
     count_prims(setup, rank, item)
 }
 
-/// What an item does to the repeats of a rank.
+/// What an item does to the repeats of a rank. Whose item it is, is asked only of one that opens or closes a repeat.
 fn nesting_at(rank: Rank, item: &Item) -> Nesting
     ensures { result ≡ nesting_at rank item.now }
 {
-    if item.who.has(rank.number()) {
-        effect_of(&item.stmt).nesting
-    } else {
-        Nesting::Stays
+    let nesting = effect_of(&item.stmt).nesting;
+    match nesting {
+        Nesting::Stays => Nesting::Stays,
+        Nesting::Opens(_) | Nesting::Closes(_) => {
+            if item.who.has(rank.number()) {
+                nesting
+            } else {
+                Nesting::Stays
+            }
+        }
     }
 }
 
