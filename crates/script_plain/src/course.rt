@@ -3,14 +3,15 @@
 ghost use Rattle.std.specs.Prelude.{◌≡◌, ◌<◌, ◌≤◌, ◌+◌, drop, length, slice_get, IfOk};
 ghost use Rattle.std.specs.VecDeque.{deque_capacity};
 ghost use Rattle.script_reader.specs.Script.{IsSized};
-ghost use Rattle.script_plain.specs.Depths.{HasRoom, IsDeep, IsIdleFrom, IsIdleTo, depth_after};
+ghost use Rattle.script_plain.specs.Depths.{HasRoom, IsDeep, IsIdleFrom, IsIdleTo};
 ghost use Rattle.script_plain.specs.Program.{marks_of, nesting_at, prims_of};
-ghost use Rattle.script_plain.specs.Walk.{AreOpenAt, StandsAt, closed, closed_to, is_closing, left_at, opened, passed, passed_to};
+ghost use Rattle.script_plain.specs.Walk.{AreOpenAt, StandsAt, closed, closed_to, left_at, opened, passed, passed_to};
 
+use crate::nestings::{depth_behind, ends_pass, nesting_at};
 use crate::prims::Primitive;
 use crate::statements::{action_of, count};
 use scc_base::{Rank, Setup};
-use script_reader::{Item, Nesting, Scripts, effect_of};
+use script_reader::{Item, Nesting, Scripts};
 use std::alloc::{AllocError, Global};
 use std::collections::VecDeque;
 use std::marker::Model;
@@ -214,45 +215,6 @@ fn count_at(setup: &Setup, rank: Rank, item: &Item) -> u32
         return 1;
     }
     count_prims(setup, rank, item)
-}
-
-/// What an item does to the repeats of a rank. Whose item it is, is asked only of one that opens or closes a repeat.
-fn nesting_at(rank: Rank, item: &Item) -> Nesting
-    ensures { result ≡ nesting_at rank item.now }
-{
-    let nesting = effect_of(&item.stmt).nesting;
-    match nesting {
-        Nesting::Stays => Nesting::Stays,
-        Nesting::Opens(_) | Nesting::Closes(_) => {
-            if item.who.has(rank.number()) {
-                nesting
-            } else {
-                Nesting::Stays
-            }
-        }
-    }
-}
-
-/// Whether a pass of a rank's repeat ends with an item.
-fn ends_pass(rank: Rank, item: &Item) -> bool
-    ensures { result ≡ is_closing (nesting_at rank item.now) }
-{
-    match nesting_at(rank, item) {
-        Nesting::Closes(_) => true,
-        Nesting::Opens(_) | Nesting::Stays => false,
-    }
-}
-
-/// How many repeats are open behind an item.
-fn depth_behind(nesting: Nesting, depth: usize) -> usize
-    requires { depth < usize.MAX }
-    ensures { result ≡ depth_after nesting depth }
-{
-    match nesting {
-        Nesting::Opens(_) => depth + 1,
-        Nesting::Closes(_) => depth.saturating_sub(1),
-        Nesting::Stays => depth,
-    }
 }
 
 /// The place of the first item of a rank, or the end.

@@ -15,6 +15,7 @@ mod held_laws;
 mod laws;
 mod machines;
 mod matches;
+mod nestings;
 mod posts;
 mod prims;
 mod prints;

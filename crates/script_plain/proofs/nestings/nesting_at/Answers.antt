@@ -4,7 +4,7 @@ use Rattle.script_reader.specs.Script.{has_rank}
 use Rattle.script_reader.specs.declared.effect.Effect.{Effect}
 use Rattle.script_reader.specs.declared.effect.Nesting.{Nesting}
 use Rattle.script_reader.specs.declared.effect.Nesting.TheVariants as nesting
-use Rattle.script_plain.proofs.course.nesting_at.Goals as goal
+use Rattle.script_plain.proofs.nestings.nesting_at.Goals as goal
 
 -- what does nothing to the repeats does nothing at any rank
 stays_there : (b : Bool) (n : Nesting) → n ≡ nesting.Stays → nesting.Stays ≡ cond b n nesting.Stays
