@@ -7,7 +7,7 @@ ghost use Rattle.script_plain.specs.Depths.{HasRoom, IsDeep, IsIdleFrom, IsIdleT
 ghost use Rattle.script_plain.specs.Program.{marks_of, nesting_at, prims_of};
 ghost use Rattle.script_plain.specs.Walk.{AreOpenAt, StandsAt, closed, closed_to, left_at, opened, passed, passed_to};
 
-use crate::nestings::{depth_behind, ends_pass, nesting_at};
+use crate::nestings::{depth_behind, end_passes, ends_pass, flat_passes, nesting_at};
 use crate::prims::Primitive;
 use crate::statements::{action_of, count};
 use scc_base::{Rank, Setup};
@@ -62,9 +62,10 @@ impl<'s> Model for Course<'s> {
 }
 
 impl<'s> Course<'s> {
-    ghost use Rattle.std.specs.Prelude.{◌≡◌, ◌<◌, [], drop, slice_get, IfOk, IfSome};
+    ghost use Rattle.std.specs.Prelude.{◌≡◌, ◌<◌, [], drop, slice_get, true, IfOk, IfSome};
     ghost use Rattle.std.specs.Option.{option_map};
     ghost use Rattle.script_reader.specs.Script.{rules_of};
+    ghost use Rattle.script_plain.specs.Passes.{HasPasses, LeavesOut};
     ghost use Rattle.script_plain.specs.Program.{marks_in};
     ghost use Rattle.script_plain.specs.Walk.{IsShort, is_end, prim_meant, prim_of};
 
@@ -187,6 +188,26 @@ impl<'s> Course<'s> {
             &mut self.repeats,
         );
         self.step = 0;
+    }
+
+    /// How many passes come after the one that ends next, where no other repeat stands in theirs, and else 0.
+    pub(crate) fn passes(&self) -> u32
+        requires { is_end (slice_get self.now.left 0) ≡ true }
+        ensures { HasPasses self.now.left result }
+    {
+        flat_passes(self.scripts, self.rank, self.place, &self.repeats)
+    }
+
+    /// Leaves these passes out.
+    pub(crate) fn leave(&mut self)
+        requires { is_end (slice_get self.old.left 0) ≡ true }
+        ensures leaves { LeavesOut self.old.left self.new.left }
+        ensures same { self.new ≡ record self.old { left = self.new.left } }
+    {
+        if flat_passes(self.scripts, self.rank, self.place, &self.repeats) == 0 {
+            return;
+        }
+        end_passes(&mut self.repeats);
     }
 }
 
@@ -330,6 +351,7 @@ fn close(at: usize, end: usize, repeats: &mut VecDeque<Open>) -> usize
 }
 
 /// The place behind an item that has marks.
+#[inline(always)]
 fn pass_item(rank: Rank, item: &Item, at: usize, end: usize, repeats: &mut VecDeque<Open>) -> usize
     requires below { at < usize.MAX }
     requires room { length repeats.old.items ≤ deque_capacity repeats.old }

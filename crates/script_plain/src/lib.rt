@@ -24,6 +24,7 @@ mod registers;
 mod rooms;
 mod statements;
 mod steps;
+mod trials;
 mod ues;
 mod walk;
 
