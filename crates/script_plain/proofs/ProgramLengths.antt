@@ -1,6 +1,7 @@
 -- The lengths of registers: what fits, and that each call that a rank comes to can be made.
 pub mod LengthLemmas
 pub mod RoomLaws
+pub mod StretchLaws
 pub mod HoldLaws
 pub mod LengthPaths
 pub mod LengthPrograms

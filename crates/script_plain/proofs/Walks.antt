@@ -3,5 +3,6 @@ pub mod WalkLaws
 pub mod DepthLaws
 pub mod IdleLaws
 pub mod MarkLaws
+pub mod FlatLaws
 pub mod RepeatCounts
 pub mod OperationCounts

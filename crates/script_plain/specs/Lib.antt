@@ -24,3 +24,4 @@ pub mod Printed
 pub mod Ready
 pub mod CallLists
 pub mod Reached
+pub mod Passes

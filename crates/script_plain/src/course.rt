@@ -3,14 +3,15 @@
 ghost use Rattle.std.specs.Prelude.{◌≡◌, ◌<◌, ◌≤◌, ◌+◌, drop, length, slice_get, IfOk};
 ghost use Rattle.std.specs.VecDeque.{deque_capacity};
 ghost use Rattle.script_reader.specs.Script.{IsSized};
-ghost use Rattle.script_plain.specs.Depths.{HasRoom, IsDeep, IsIdleFrom, IsIdleTo, depth_after};
+ghost use Rattle.script_plain.specs.Depths.{HasRoom, IsDeep, IsIdleFrom, IsIdleTo};
 ghost use Rattle.script_plain.specs.Program.{marks_of, nesting_at, prims_of};
-ghost use Rattle.script_plain.specs.Walk.{AreOpenAt, StandsAt, closed, closed_to, is_closing, left_at, opened, passed, passed_to};
+ghost use Rattle.script_plain.specs.Walk.{AreOpenAt, StandsAt, closed, closed_to, left_at, opened, passed, passed_to};
 
+use crate::nestings::{depth_behind, end_passes, ends_pass, flat_passes, nesting_at};
 use crate::prims::Primitive;
 use crate::statements::{action_of, count};
 use scc_base::{Rank, Setup};
-use script_reader::{Item, Nesting, Scripts, effect_of};
+use script_reader::{Item, Nesting, Scripts};
 use std::alloc::{AllocError, Global};
 use std::collections::VecDeque;
 use std::marker::Model;
@@ -61,9 +62,10 @@ impl<'s> Model for Course<'s> {
 }
 
 impl<'s> Course<'s> {
-    ghost use Rattle.std.specs.Prelude.{◌≡◌, ◌<◌, [], drop, slice_get, IfOk, IfSome};
+    ghost use Rattle.std.specs.Prelude.{◌≡◌, ◌<◌, [], drop, slice_get, true, IfOk, IfSome};
     ghost use Rattle.std.specs.Option.{option_map};
     ghost use Rattle.script_reader.specs.Script.{rules_of};
+    ghost use Rattle.script_plain.specs.Passes.{HasPasses, LeavesOut};
     ghost use Rattle.script_plain.specs.Program.{marks_in};
     ghost use Rattle.script_plain.specs.Walk.{IsShort, is_end, prim_meant, prim_of};
 
@@ -187,6 +189,26 @@ impl<'s> Course<'s> {
         );
         self.step = 0;
     }
+
+    /// How many passes come after the one that ends next, where no other repeat stands in theirs, and else 0.
+    pub(crate) fn passes(&self) -> u32
+        requires { is_end (slice_get self.now.left 0) ≡ true }
+        ensures { HasPasses self.now.left result }
+    {
+        flat_passes(self.scripts, self.rank, self.place, &self.repeats)
+    }
+
+    /// Leaves these passes out.
+    pub(crate) fn leave(&mut self)
+        requires { is_end (slice_get self.old.left 0) ≡ true }
+        ensures leaves { LeavesOut self.old.left self.new.left }
+        ensures same { self.new ≡ record self.old { left = self.new.left } }
+    {
+        if flat_passes(self.scripts, self.rank, self.place, &self.repeats) == 0 {
+            return;
+        }
+        end_passes(&mut self.repeats);
+    }
 }
 
 /// How many primitives an item is for a rank.
@@ -214,39 +236,6 @@ fn count_at(setup: &Setup, rank: Rank, item: &Item) -> u32
         return 1;
     }
     count_prims(setup, rank, item)
-}
-
-/// What an item does to the repeats of a rank.
-fn nesting_at(rank: Rank, item: &Item) -> Nesting
-    ensures { result ≡ nesting_at rank item.now }
-{
-    if item.who.has(rank.number()) {
-        effect_of(&item.stmt).nesting
-    } else {
-        Nesting::Stays
-    }
-}
-
-/// Whether a pass of a rank's repeat ends with an item.
-fn ends_pass(rank: Rank, item: &Item) -> bool
-    ensures { result ≡ is_closing (nesting_at rank item.now) }
-{
-    match nesting_at(rank, item) {
-        Nesting::Closes(_) => true,
-        Nesting::Opens(_) | Nesting::Stays => false,
-    }
-}
-
-/// How many repeats are open behind an item.
-fn depth_behind(nesting: Nesting, depth: usize) -> usize
-    requires { depth < usize.MAX }
-    ensures { result ≡ depth_after nesting depth }
-{
-    match nesting {
-        Nesting::Opens(_) => depth + 1,
-        Nesting::Closes(_) => depth.saturating_sub(1),
-        Nesting::Stays => depth,
-    }
 }
 
 /// The place of the first item of a rank, or the end.
@@ -362,6 +351,7 @@ fn close(at: usize, end: usize, repeats: &mut VecDeque<Open>) -> usize
 }
 
 /// The place behind an item that has marks.
+#[inline(always)]
 fn pass_item(rank: Rank, item: &Item, at: usize, end: usize, repeats: &mut VecDeque<Open>) -> usize
     requires below { at < usize.MAX }
     requires room { length repeats.old.items ≤ deque_capacity repeats.old }

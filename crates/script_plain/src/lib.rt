@@ -15,6 +15,7 @@ mod held_laws;
 mod laws;
 mod machines;
 mod matches;
+mod nestings;
 mod posts;
 mod prims;
 mod prints;
@@ -23,6 +24,7 @@ mod registers;
 mod rooms;
 mod statements;
 mod steps;
+mod trials;
 mod ues;
 mod walk;
 

@@ -13,7 +13,7 @@ use crate::held::Held;
 use crate::posts::OnItsWay;
 use crate::prims::{Action, Primitive, Source, Standing};
 use crate::prints::{PrintedItem, Prints};
-use crate::reckoning::{Reckoned, reckon};
+use crate::trials::{Reckoned, reckon};
 use crate::walk::Walk;
 use scc_base::{Call, Head, PostHead, Rank, Setup};
 use script_reader::Scripts;

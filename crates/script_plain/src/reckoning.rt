@@ -1,15 +1,12 @@
-//! What memory the program of a rank takes: a walk through it over the lengths alone.
+//! The lengths of what a rank holds, and the greatest ones that its program has brought so far.
 
-ghost use Rattle.std.specs.Prelude.{◌≡◌, ◌≤◌, length, IfOk};
-ghost use Rattle.script_reader.specs.Script.{rules_of};
-ghost use Rattle.script_plain.specs.Program.{program_of};
-ghost use Rattle.script_plain.specs.Rooms.{AreWithin, greater, nothing_held, rooms_of};
+ghost use Rattle.std.specs.Prelude.{◌≡◌, ◌≤◌, length};
+ghost use Rattle.script_plain.specs.Rooms.{greater};
 ghost use Rattle.script_plain.specs.Walk.{content_of};
 ghost use Rattle.scc_base.specs.Heads.{most_message};
 
 use crate::prims::{Action, Content};
 use crate::rooms::Length;
-use crate::walk::Walk;
 use groups::Ty;
 use std::alloc::{AllocError, Global};
 use std::marker::Model;
@@ -34,7 +31,7 @@ impl Model for Lengths {
 
 /// The lengths at a point of a program, and the greatest so far.
 #[derive(Drop)]
-struct Reckoning {
+pub(crate) struct Reckoning {
     here: Lengths,
     most: Lengths,
     spare: Length,
@@ -63,8 +60,9 @@ impl Model for Reckoning {
 }
 
 impl Lengths {
-    ghost use Rattle.std.specs.Prelude.{◌≡◌, ◌+◌, IfOk, OnOk};
+    ghost use Rattle.std.specs.Prelude.{◌≡◌, ◌+◌, true, IfOk, OnOk};
     ghost use Rattle.script_plain.specs.Lengths.{length_at, lengths_after, with_register};
+    ghost use Rattle.script_plain.specs.Passes.{KeepsRegisters};
     ghost use Rattle.script_plain.specs.Rooms.{greater, nothing_held};
     ghost use Rattle.script_plain.specs.Walk.{IsShort, act_meant};
 
@@ -116,7 +114,7 @@ impl Lengths {
         self.accumulator
     }
 
-    fn received(&self) -> Length
+    pub(crate) fn received(&self) -> Length
         ensures { result ≡ self.now.received }
     {
         self.received
@@ -164,6 +162,30 @@ impl Lengths {
         Ok(())
     }
 
+    /// Whether a register stays as long as it is where it becomes this long.
+    fn stays(&self, reg: u8, len: Length) -> bool
+        ensures { result ≡ true → KeepsRegisters self.now (with_register self.now reg len) }
+    {
+        self.len(reg).get() == len.get()
+    }
+
+    /// Whether a primitive prints nothing, and leaves the lengths of the registers. Those of the work buffers may change.
+    pub(crate) fn keeps(&self, action: &Action) -> bool
+        requires { IsShort action.now }
+        ensures { result ≡ true → KeepsRegisters self.now (lengths_after self.now (act_meant action.now)) }
+    {
+        match action {
+            Action::Set { reg, content } => self.stays(*reg, content_len(content)),
+            Action::Recv { reg, head, .. } => self.stays(*reg, Length::of(head.len())),
+            Action::Accept { reg } => self.stays(*reg, self.received()),
+            Action::Finish { reg } => self.stays(*reg, self.accumulator()),
+            Action::Print { .. } => false,
+            Action::Gather { .. } | Action::Begin { .. } | Action::Fold { .. } => true,
+            Action::Apply { .. } | Action::Send { .. } | Action::Post { .. } => true,
+            Action::Bar { .. } => true,
+        }
+    }
+
     /// Applies a primitive to the lengths.
     pub fn go(&mut self, action: &Action) -> Result<(), AllocError>
         requires { IsShort action.now }
@@ -206,7 +228,7 @@ impl Reckoning {
     ghost use Rattle.script_plain.specs.Walk.{IsShort, act_meant};
 
     /// The reckoning of a rank that holds nothing and has `count` registers.
-    fn new(alloc: Global, count: usize) -> Result<Reckoning, AllocError>
+    pub(crate) fn new(alloc: Global, count: usize) -> Result<Reckoning, AllocError>
         ensures { IfOk result (λ r. r.lengths ≡ nothing_held count) }
     {
         let here = Lengths::none(alloc, count)?;
@@ -272,14 +294,14 @@ impl Reckoning {
     }
 
     /// No length is above the greatest one.
-    fn within_law(&self)
+    pub(crate) fn within_law(&self)
         ensures { IsWithin self.now.lengths self.now.most.lengths }
     {
         let _spare = self.spare;
     }
 
     /// The room for what the program brought.
-    fn needs(self) -> Needs
+    pub(crate) fn needs(self) -> Needs
         ensures { rooms_of result ≡ self.most }
     {
         let spare = self.spare;
@@ -298,8 +320,15 @@ impl Reckoning {
         }
     }
 
+    /// The lengths so far.
+    pub(crate) fn lengths(&self) -> &Lengths
+        ensures { result.now ≡ self.now.lengths }
+    {
+        &self.here
+    }
+
     /// Applies a primitive to the lengths.
-    fn go(&mut self, action: &Action) -> Result<(), AllocError>
+    pub(crate) fn go(&mut self, action: &Action) -> Result<(), AllocError>
         requires { IsShort action.now }
         ensures after { OnOk result (self.new.lengths ≡ lengths_after self.old.lengths (act_meant action.now)) }
         ensures wider { OnOk result (IsWider self.old.most self.new.most) }
@@ -359,34 +388,4 @@ fn content_len(content: &Content) -> Length
         Content::Filling { len, .. } => Length::of(*len),
         Content::Number { ty, .. } => Length::of(ty.width() as u32),
     }
-}
-
-/// What a walk needs, and the walk at its first primitive again.
-#[derive(Drop)]
-pub struct Reckoned<'s> {
-    pub needs: Needs,
-    pub walk: Walk<'s>,
-}
-
-/// The greatest lengths on a walk, begun with this many registers of which none is set.
-pub fn reckon<'s>(
-    alloc: Global,
-    count: usize,
-    mut walk: Walk<'s>,
-) -> Result<Reckoned<'s>, AllocError>
-    requires ranks { walk.setup.nue ≡ walk.script.nue }
-    requires communicators { walk.setup.comms ≡ rules_of walk.script.items }
-    ensures holds { IfOk result (λ r. AreWithin (rooms_of r.needs) (nothing_held count) walk.entry.left) }
-    ensures again { IfOk result (λ r. r.walk ≡ record walk.entry { left = program_of walk.entry.script walk.entry.rank }) }
-{
-    let mut reckoning = Reckoning::new(alloc, count)?;
-    while let Some(prim) = walk.front_lent() {
-        reckoning.within_law();
-        reckoning.go(&prim.action)?;
-        walk.advance();
-    }
-    reckoning.within_law();
-    walk.restart();
-    let needs = reckoning.needs();
-    Ok(Reckoned { needs, walk })
 }

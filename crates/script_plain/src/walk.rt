@@ -39,6 +39,7 @@ impl<'s> Walk<'s> {
     ghost use Rattle.std.specs.Prelude.{◌≡◌, ◌<◌, [], drop, slice_get, IfOk, IfSome};
     ghost use Rattle.std.specs.Option.{option_map};
     ghost use Rattle.script_reader.specs.Script.{rules_of};
+    ghost use Rattle.script_plain.specs.Passes.{walk_of};
     ghost use Rattle.script_plain.specs.Program.{program_of};
     ghost use Rattle.script_plain.specs.Walk.{IsShort, prim_meant};
 
@@ -57,6 +58,21 @@ impl<'s> Walk<'s> {
         let mut course = Course::new(alloc, scripts, setup, rank)?;
         let next = pass_ends(&mut course);
         Ok(Walk { course, next })
+    }
+
+    /// The walk over the primitives of a course.
+    pub(crate) fn of(mut course: Course<'s>) -> Walk<'s>
+        ensures { result ≡ walk_of course.entry }
+    {
+        let next = pass_ends(&mut course);
+        Walk { course, next }
+    }
+
+    /// The course of the walk.
+    pub(crate) fn into_course(self) -> Course<'s>
+        ensures { walk_of result ≡ self.entry }
+    {
+        self.course
     }
 
     /// The rank whose primitives these are.

@@ -11,14 +11,14 @@ use Rattle.script_plain.specs.Program.{Act, Prim, Unrolled, acts_of, copies, in_
 use Rattle.script_plain.specs.Walk.{is_end, prim_of}
 use Rattle.script_plain.proofs.Walks.WalkLaws.{end_prim}
 
-some_prims : (prims : List Prim) → prims_in (map Some prims) ≡ prims
+pub some_prims : (prims : List Prim) → prims_in (map Some prims) ≡ prims
 some_prims [] = refl
 some_prims (prim ∷ prims) = ap (λ (l : List Prim). prim ∷ l) (some_prims prims)
 
-both_prims : (one more : List (Option Prim)) → prims_in (one ++ more) ≡ prims_in one ++ prims_in more
+pub both_prims : (one more : List (Option Prim)) → prims_in (one ++ more) ≡ prims_in one ++ prims_in more
 both_prims one more = filter_map-append (λ (mark : Option Prim). mark) one more
 
-copied_prims : (n : ℕ) (marks : List (Option Prim)) → prims_in (copies n marks) ≡ copies n (prims_in marks)
+pub copied_prims : (n : ℕ) (marks : List (Option Prim)) → prims_in (copies n marks) ≡ copies n (prims_in marks)
 copied_prims zero marks = refl
 copied_prims (suc n) marks = both_prims marks (copies n marks) ∙ ap (λ (l : List Prim). prims_in marks ++ l) (copied_prims n marks)
 

@@ -174,7 +174,7 @@ get_within (x ∷ marks) rest zero mark here = here
 get_within (x ∷ marks) rest (suc step) mark here = get_within marks rest step mark here
 
 -- what closes a repeat, and what does not
-closing : (n : Nesting) → is_closing n ≡ true → (place : ℕ) × (n ≡ nesting.Closes place)
+pub closing : (n : Nesting) → is_closing n ≡ true → (place : ℕ) × (n ≡ nesting.Closes place)
 closing (nesting.Opens times) is = absurd (cc)
 closing (nesting.Closes start) is = (start, refl)
 closing nesting.Stays is = absurd (cc)
