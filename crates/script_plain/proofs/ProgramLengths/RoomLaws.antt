@@ -6,6 +6,8 @@ use Rattle.std.proofs.lemmas.List.{drop-append-le, length-append, length-drop, l
 use Rattle.std.proofs.lemmas.List.Sums.{sum_by-append}
 use Rattle.std.proofs.lemmas.Option.{slice_get-map, slice_get_read}
 use Rattle.std.specs.Option.{option_map}
+use Rattle.script_reader.specs.declared.script.OwnStmt.{OwnStmt}
+use Rattle.script_reader.specs.declared.script.OwnStmt.TheVariants as own
 use Rattle.script_plain.specs.declared.prims.Action.{Action}
 use Rattle.script_plain.specs.declared.prims.Primitive.{Primitive}
 use Rattle.script_plain.specs.Printed.{Printed}
@@ -19,12 +21,12 @@ use Rattle.groups.specs.declared.operations.Op.{Op}
 use Rattle.groups.specs.declared.operations.Ty.{Ty}
 use Rattle.groups.proofs.FoldLemmas.{fold_length}
 use Rattle.script_plain.specs.Lengths.{Lengths, length_at, lengths_after, lengths_of, printed_bytes, with_register}
-use Rattle.script_plain.specs.Local.{Local, folded, local_next, local_start, next_by_act, next_by_prim, next_prim, prim_by_standing, register_at}
+use Rattle.script_plain.specs.Local.{Local, folded, local_next, local_start, next_by_act, next_by_prim, next_prim, own_registers, prim_by_standing, register_at}
 use Rattle.script_plain.specs.Moves.{length_in}
 use Rattle.script_plain.specs.Next.{Next}
 use Rattle.script_plain.specs.Next.Next.{Ends, Goes, Posts, Sends, Recvs, Bars}
 use Rattle.script_plain.specs.Program.{Act, Prim}
-use Rattle.script_plain.specs.Program.Act.{Set, Apply, Print, Send, Post, Recv, Gather, Bar, Begin, Fold, Accept, Finish}
+use Rattle.script_plain.specs.Program.Act.{Set, Own, Send, Post, Recv, Gather, Bar, Begin, Fold, Accept, Finish}
 use Rattle.script_plain.specs.Rooms.{AreBelow, AreCut, AreWithin, IsWider, IsWithin, RoomView, Rooms, cut, greater, nothing_held, spare_length}
 use Rattle.script_plain.specs.Walk.{act_meant, prim_meant}
 use Rattle.script_plain.proofs.Runs.StepLaws as steps
@@ -243,6 +245,11 @@ length_put registers reg n bytes same = map-set length registers reg bytes ∙ a
 pub length_same : (u v : Local) → (lengths_of v).registers ≡ (lengths_of u).registers → (reg : ℕ) → length (register_at v reg) ≡ length (register_at u reg)
 length_same u v same reg = length_index v.registers reg ∙ ap (λ (l : List ℕ). slice_index_or l reg 0) same ∙ sym (length_index u.registers reg)
 
+-- a statement of the rank's own leaves each register as long as it is
+pub own_even : (u : Local) (o : OwnStmt) → map length (own_registers u o) ≡ map length u.registers
+own_even u (own.Apply op ty dst src) = length_kept u.registers dst (folded op ty (register_at u dst) (register_at u src)) (folded_length op ty (register_at u dst) (register_at u src))
+own_even u (own.Print reg form) = refl
+
 pub lengths_unset : (count : ℕ) (empty : List ℕ) → length empty ≡ 0 → map length (replicate count empty) ≡ replicate count 0
 lengths_unset zero empty none = refl
 lengths_unset (suc count) empty none = λ i. none i ∷ lengths_unset count empty none i
@@ -262,10 +269,8 @@ after (Bars comm next) bytes u = next
 -- the lengths after a primitive are those that it brings
 pub lengths_next : (u : Local) (line : ℕ) (act : Act) (bytes : List ℕ) → length bytes ≡ length_in (next_by_act u line act) → lengths_of (after (next_by_act u line act) bytes u) ≡ lengths_after (lengths_of u) act
 lengths_next u line (Set reg content) bytes same = ap (λ (l : List ℕ). record (lengths_of u) { registers = l }) (length_put u.registers reg (length content) content refl)
-lengths_next u line (Apply op ty dst src) bytes same =
-    ap (λ (l : List ℕ). record (lengths_of u) { registers = l })
-    (length_kept u.registers dst (folded op ty (register_at u dst) (register_at u src)) (folded_length op ty (register_at u dst) (register_at u src)))
-lengths_next u line (Print reg form) bytes same =
+lengths_next u line (Own (own.Apply op ty dst src)) bytes same = ap (λ (l : List ℕ). record (lengths_of u) { registers = l }) (own_even u (own.Apply op ty dst src))
+lengths_next u line (Own (own.Print reg form)) bytes same =
     let item : Printed = record { reg = reg; form = form; bytes = register_at u reg } in
     let items = length-append u.printed (item ∷ []) in
     let printed = printed_more u.printed item ∙ ap (λ (n : ℕ). printed_bytes u.printed + n) (length_index u.registers reg) in
