@@ -7,6 +7,7 @@ use Rattle.groups.specs.declared.operations.Ty.TheVariants as ty
 use Rattle.script_reader.specs.declared.fault.ReadFault.{ReadFault}
 use Rattle.script_reader.specs.declared.script.Form.TheVariants as form
 use Rattle.script_reader.specs.declared.script.Item.{Item}
+use Rattle.script_reader.specs.declared.script.OwnStmt.TheVariants as own
 use Rattle.script_reader.specs.declared.script.Stmt.TheVariants as stmt
 use Rattle.script_reader.specs.declared.script.Who.{Who}
 use Rattle.script_reader.specs.declared.script.Who.TheVariants as who
@@ -52,13 +53,13 @@ lone_said s t =
     item_of 4 who.Even (stmt.Repeat t 0) ∷
     item_of 5 who.Even (stmt.Allreduce 0 op.Sum ty.Long 1 1) ∷
     item_of 6 who.Even (stmt.End 2) ∷
-    item_of 7 who.Even (stmt.Print 1 (form.Decimal ty.Long)) ∷
+    item_of 7 who.Even (stmt.Own (own.Print 1 (form.Decimal ty.Long))) ∷
     item_of 9 who.Odd (stmt.Fill 0 s s) ∷
     item_of 10 who.Odd (stmt.RankOf 1 ty.Long) ∷
     item_of 11 who.Odd (stmt.Repeat t 0) ∷
     item_of 12 who.Odd (stmt.Allreduce 0 op.Sum ty.Long 1 1) ∷
     item_of 13 who.Odd (stmt.End 8) ∷
-    item_of 14 who.Odd (stmt.Print 1 (form.Decimal ty.Long)) ∷
+    item_of 14 who.Odd (stmt.Own (own.Print 1 (form.Decimal ty.Long))) ∷
     []
 
 -- the statements before one, and those behind it; the lines behind one; and where the reader stands then
@@ -184,7 +185,7 @@ module _ (s t : ℕ) (small : s ≤ 65535) (least : 1 ≤ t) (few : t ≤ 10) wh
         (simp even (omega (arith, small))) check;
   }
 
-  pass_5 : Passes 1 (past s t 5) who.Even (stmt.Print 1 (form.Decimal ty.Long))
+  pass_5 : Passes 1 (past s t 5) who.Even (stmt.Own (own.Print 1 (form.Decimal ty.Long)))
   pass_5 = record {
     known = refl;
     parented = refl;
@@ -194,8 +195,8 @@ module _ (s t : ℕ) (small : s ≤ 65535) (least : 1 ≤ t) (few : t ≤ 10) wh
     short = refl;
     clear = λ check rank below has.
         let even : (rank % 2 == 0) ≡ true = has in
-        clears 1 (past s t 5) (stmt.Print 1 (form.Decimal ty.Long)) rank refl refl refl (simp even) (simp even) refl
-        (spent rank (more s t 6) (past s t 5) (item_of 7 who.Even (stmt.Print 1 (form.Decimal ty.Long))) refl (omega arith))
+        clears 1 (past s t 5) (stmt.Own (own.Print 1 (form.Decimal ty.Long))) rank refl refl refl (simp even) (simp even) refl
+        (spent rank (more s t 6) (past s t 5) (item_of 7 who.Even (stmt.Own (own.Print 1 (form.Decimal ty.Long)))) refl (omega arith))
         (simp even (omega (arith, small))) check;
   }
 
@@ -254,7 +255,7 @@ module _ (s t : ℕ) (small : s ≤ 65535) (least : 1 ≤ t) (few : t ≤ 10) wh
     clear = λ check rank below has. absurd (none_odd rank below has);
   }
 
-  pass_11 : Passes 1 (past s t 11) who.Odd (stmt.Print 1 (form.Decimal ty.Long))
+  pass_11 : Passes 1 (past s t 11) who.Odd (stmt.Own (own.Print 1 (form.Decimal ty.Long)))
   pass_11 = record {
     known = refl;
     parented = refl;
@@ -320,7 +321,7 @@ module _ (s t : ℕ) (small : s ≤ 65535) (least : 1 ≤ t) (few : t ≤ 10) wh
       (placed 1 (take 4 (lone_said s t)) names_2 who.Even (stmt.End 2) pass_4 6 refl)
       (go 6 (at 1 s t 5 names_2 who.Even) (at 1 s t 6 names_2 who.Even) (codes "print") (codes "long" ∷ codes "me" ∷ [])
       (rest s t 7) _ printme_are
-      (placed 1 (take 5 (lone_said s t)) names_2 who.Even (stmt.Print 1 (form.Decimal ty.Long)) pass_5 7 refl)
+      (placed 1 (take 5 (lone_said s t)) names_2 who.Even (stmt.Own (own.Print 1 (form.Decimal ty.Long))) pass_5 7 refl)
       (go 7 (at 1 s t 6 names_2 who.Even) (at 1 s t 6 names_2 who.Odd) (codes "odd") []
       (rest s t 8) _ odd_are
       refl
@@ -341,7 +342,7 @@ module _ (s t : ℕ) (small : s ≤ 65535) (least : 1 ≤ t) (few : t ≤ 10) wh
       (placed 1 (take 10 (lone_said s t)) names_2 who.Odd (stmt.End 8) pass_10 13 refl)
       (go 13 (at 1 s t 11 names_2 who.Odd) (at 1 s t 12 names_2 who.Odd) (codes "print") (codes "long" ∷ codes "me" ∷ [])
       (rest s t 14) _ printme_are
-      (placed 1 (take 11 (lone_said s t)) names_2 who.Odd (stmt.Print 1 (form.Decimal ty.Long)) pass_11 14 refl)
+      (placed 1 (take 11 (lone_said s t)) names_2 who.Odd (stmt.Own (own.Print 1 (form.Decimal ty.Long))) pass_11 14 refl)
       refl))))))))))))))
 
   fits : nat_lt most_script_bytes (length (text_of_lines (map line_of (lone_words s t)))) ≡ false

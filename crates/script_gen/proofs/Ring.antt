@@ -6,6 +6,7 @@ use Rattle.groups.specs.declared.operations.Op.TheVariants as op
 use Rattle.groups.specs.declared.operations.Ty.TheVariants as ty
 use Rattle.script_reader.specs.declared.fault.ReadFault.{ReadFault}
 use Rattle.script_reader.specs.declared.script.Form.TheVariants as form
+use Rattle.script_reader.specs.declared.script.OwnStmt.TheVariants as own
 use Rattle.script_reader.specs.declared.script.Stmt.TheVariants as stmt
 use Rattle.script_reader.specs.declared.script.Who.TheVariants as who
 use Rattle.script_reader.specs.declared.version.Version.TheVariants as version
@@ -93,10 +94,10 @@ module _ (nue s t : ℕ) (some : 2 ≤ nue) (most : nue ≤ 48) (small : s ≤ 6
       (placed nue (take 6 (ring_said s t)) names_3 who.Even (stmt.End 2) (pass_6 nue s t some most small least few) 8 refl)
       (go 8 (at nue s t 7 names_3 who.Even) (at nue s t 8 names_3 who.Even) (codes "print") (codes "g" ∷ [])
       (rest s t 9) _ printg_are
-      (placed nue (take 7 (ring_said s t)) names_3 who.Even (stmt.Print 2 form.Hex) (pass_7 nue s t some most small least few) 9 refl)
+      (placed nue (take 7 (ring_said s t)) names_3 who.Even (stmt.Own (own.Print 2 form.Hex)) (pass_7 nue s t some most small least few) 9 refl)
       (go 9 (at nue s t 8 names_3 who.Even) (at nue s t 9 names_3 who.Even) (codes "print") (codes "long" ∷ codes "me" ∷ [])
       (rest s t 10) _ printme_are
-      (placed nue (take 8 (ring_said s t)) names_3 who.Even (stmt.Print 1 (form.Decimal ty.Long)) (pass_8 nue s t some most small least few) 10 refl)
+      (placed nue (take 8 (ring_said s t)) names_3 who.Even (stmt.Own (own.Print 1 (form.Decimal ty.Long))) (pass_8 nue s t some most small least few) 10 refl)
       (go 10 (at nue s t 9 names_3 who.Even) (at nue s t 9 names_3 who.Odd) (codes "odd") []
       (rest s t 11) _ odd_are
       refl
@@ -123,10 +124,10 @@ module _ (nue s t : ℕ) (some : 2 ≤ nue) (most : nue ≤ 48) (small : s ≤ 6
       (placed nue (take 15 (ring_said s t)) names_3 who.Odd (stmt.End 11) (pass_15 nue s t some most small least few) 18 refl)
       (go 18 (at nue s t 16 names_3 who.Odd) (at nue s t 17 names_3 who.Odd) (codes "print") (codes "g" ∷ [])
       (rest s t 19) _ printg_are
-      (placed nue (take 16 (ring_said s t)) names_3 who.Odd (stmt.Print 2 form.Hex) (pass_16 nue s t some most small least few) 19 refl)
+      (placed nue (take 16 (ring_said s t)) names_3 who.Odd (stmt.Own (own.Print 2 form.Hex)) (pass_16 nue s t some most small least few) 19 refl)
       (go 19 (at nue s t 17 names_3 who.Odd) (at nue s t 18 names_3 who.Odd) (codes "print") (codes "long" ∷ codes "me" ∷ [])
       (rest s t 20) _ printme_are
-      (placed nue (take 17 (ring_said s t)) names_3 who.Odd (stmt.Print 1 (form.Decimal ty.Long)) (pass_17 nue s t some most small least few) 20 refl)
+      (placed nue (take 17 (ring_said s t)) names_3 who.Odd (stmt.Own (own.Print 1 (form.Decimal ty.Long))) (pass_17 nue s t some most small least few) 20 refl)
       refl))))))))))))))))))))
 
   fits : nat_lt most_script_bytes (length (text_of_lines (map line_of (ring_words s t)))) ≡ false

@@ -5,6 +5,7 @@ use Rattle.groups.specs.declared.operations.Op.TheVariants as op
 use Rattle.groups.specs.declared.operations.Ty.TheVariants as ty
 use Rattle.script_reader.specs.declared.script.Form.TheVariants as form
 use Rattle.script_reader.specs.declared.script.Item.{Item}
+use Rattle.script_reader.specs.declared.script.OwnStmt.TheVariants as own
 use Rattle.script_reader.specs.declared.script.Stmt.TheVariants as stmt
 use Rattle.script_reader.specs.declared.script.Who.TheVariants as who
 use Rattle.script_reader.specs.Checks.{cost_of, differs, is_ragged, length_at, open_of, operations, printed, run_of, turns_in}
@@ -204,7 +205,7 @@ module _ (nue s t : ℕ) (some : 2 ≤ nue) (most : nue ≤ 48) (small : s ≤ 6
         (simp even (omega (arith, small))) check;
   }
 
-  pub pass_7 : Passes nue (past s t 7) who.Even (stmt.Print 2 form.Hex)
+  pub pass_7 : Passes nue (past s t 7) who.Even (stmt.Own (own.Print 2 form.Hex))
   pass_7 = record {
     known = refl;
     parented = refl;
@@ -214,12 +215,12 @@ module _ (nue s t : ℕ) (some : 2 ≤ nue) (most : nue ≤ 48) (small : s ≤ 6
     short = refl;
     clear = λ check rank below has.
         let even : (rank % 2 == 0) ≡ true = has in
-        clears nue (past s t 7) (stmt.Print 2 form.Hex) rank refl refl refl (simp even) refl refl
-        (spent rank (more s t 8) (past s t 7) (item_of 9 who.Even (stmt.Print 2 form.Hex)) refl (omega arith))
+        clears nue (past s t 7) (stmt.Own (own.Print 2 form.Hex)) rank refl refl refl (simp even) refl refl
+        (spent rank (more s t 8) (past s t 7) (item_of 9 who.Even (stmt.Own (own.Print 2 form.Hex))) refl (omega arith))
         (simp even (omega (arith, small))) check;
   }
 
-  pub pass_8 : Passes nue (past s t 8) who.Even (stmt.Print 1 (form.Decimal ty.Long))
+  pub pass_8 : Passes nue (past s t 8) who.Even (stmt.Own (own.Print 1 (form.Decimal ty.Long)))
   pass_8 = record {
     known = refl;
     parented = refl;
@@ -229,8 +230,8 @@ module _ (nue s t : ℕ) (some : 2 ≤ nue) (most : nue ≤ 48) (small : s ≤ 6
     short = refl;
     clear = λ check rank below has.
         let even : (rank % 2 == 0) ≡ true = has in
-        clears nue (past s t 8) (stmt.Print 1 (form.Decimal ty.Long)) rank refl refl refl (simp even) (simp even) refl
-        (spent rank (more s t 9) (past s t 8) (item_of 10 who.Even (stmt.Print 1 (form.Decimal ty.Long))) refl (omega arith))
+        clears nue (past s t 8) (stmt.Own (own.Print 1 (form.Decimal ty.Long))) rank refl refl refl (simp even) (simp even) refl
+        (spent rank (more s t 9) (past s t 8) (item_of 10 who.Even (stmt.Own (own.Print 1 (form.Decimal ty.Long)))) refl (omega arith))
         (simp even (omega (arith, small))) check;
   }
 
@@ -332,7 +333,7 @@ module _ (nue s t : ℕ) (some : 2 ≤ nue) (most : nue ≤ 48) (small : s ≤ 6
         (still_within (printed nue (past s t 15) rank) (turns_in (open_of (past s t 15))) (quiet_15 rank has)) check;
   }
 
-  pub pass_16 : Passes nue (past s t 16) who.Odd (stmt.Print 2 form.Hex)
+  pub pass_16 : Passes nue (past s t 16) who.Odd (stmt.Own (own.Print 2 form.Hex))
   pass_16 = record {
     known = refl;
     parented = refl;
@@ -341,13 +342,13 @@ module _ (nue s t : ℕ) (some : 2 ≤ nue) (most : nue ≤ 48) (small : s ≤ 6
     turning = refl;
     short = refl;
     clear = λ check rank below has.
-        clears nue (past s t 16) (stmt.Print 2 form.Hex) rank refl refl refl (ap is_none (length_16 nue s t rank (past s t 9) has (none_of rank has))) refl refl
-        (spent rank (more s t 17) (past s t 16) (item_of 19 who.Odd (stmt.Print 2 form.Hex)) refl (omega arith))
+        clears nue (past s t 16) (stmt.Own (own.Print 2 form.Hex)) rank refl refl refl (ap is_none (length_16 nue s t rank (past s t 9) has (none_of rank has))) refl refl
+        (spent rank (more s t 17) (past s t 16) (item_of 19 who.Odd (stmt.Own (own.Print 2 form.Hex))) refl (omega arith))
         (print_within (printed nue (past s t 16) rank) (turns_in (open_of (past s t 16))) (length_at nue (past s t 16) rank 2) 0 s
         (omega (arith, quiet_16 rank has)) refl (length_16 nue s t rank (past s t 9) has (none_of rank has)) (omega (arith, small))) check;
   }
 
-  pub pass_17 : Passes nue (past s t 17) who.Odd (stmt.Print 1 (form.Decimal ty.Long))
+  pub pass_17 : Passes nue (past s t 17) who.Odd (stmt.Own (own.Print 1 (form.Decimal ty.Long)))
   pass_17 = record {
     known = refl;
     parented = refl;
@@ -356,8 +357,8 @@ module _ (nue s t : ℕ) (some : 2 ≤ nue) (most : nue ≤ 48) (small : s ≤ 6
     turning = refl;
     short = refl;
     clear = λ check rank below has.
-        clears nue (past s t 17) (stmt.Print 1 (form.Decimal ty.Long)) rank refl refl refl (ap is_none (length_17 nue s t rank (past s t 9) has (none_of rank has))) (ap (λ (o : Option ℕ). false || is_ragged ty.Long o) (length_17 nue s t rank (past s t 9) has (none_of rank has))) refl
-        (spent rank (more s t 18) (past s t 17) (item_of 20 who.Odd (stmt.Print 1 (form.Decimal ty.Long))) refl (omega arith))
+        clears nue (past s t 17) (stmt.Own (own.Print 1 (form.Decimal ty.Long))) rank refl refl refl (ap is_none (length_17 nue s t rank (past s t 9) has (none_of rank has))) (ap (λ (o : Option ℕ). false || is_ragged ty.Long o) (length_17 nue s t rank (past s t 9) has (none_of rank has))) refl
+        (spent rank (more s t 18) (past s t 17) (item_of 20 who.Odd (stmt.Own (own.Print 1 (form.Decimal ty.Long)))) refl (omega arith))
         (print_within (printed nue (past s t 17) rank) (turns_in (open_of (past s t 17))) (length_at nue (past s t 17) rank 1) s 8
         (shown_17 rank has) refl (length_17 nue s t rank (past s t 9) has (none_of rank has)) (omega (arith, small))) check;
   }

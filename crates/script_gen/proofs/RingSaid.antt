@@ -5,6 +5,7 @@ use Rattle.groups.specs.declared.operations.Op.TheVariants as op
 use Rattle.groups.specs.declared.operations.Ty.TheVariants as ty
 use Rattle.script_reader.specs.declared.script.Form.TheVariants as form
 use Rattle.script_reader.specs.declared.script.Item.{Item}
+use Rattle.script_reader.specs.declared.script.OwnStmt.TheVariants as own
 use Rattle.script_reader.specs.declared.script.Stmt.TheVariants as stmt
 use Rattle.script_reader.specs.declared.script.Who.{Who}
 use Rattle.script_reader.specs.declared.script.Who.TheVariants as who
@@ -53,8 +54,8 @@ ring_said s t =
     item_of 6 who.Even (recv_last s) ∷
     item_of 7 who.Even (stmt.Allreduce 0 op.Sum ty.Long 1 1) ∷
     item_of 8 who.Even (stmt.End 2) ∷
-    item_of 9 who.Even (stmt.Print 2 form.Hex) ∷
-    item_of 10 who.Even (stmt.Print 1 (form.Decimal ty.Long)) ∷
+    item_of 9 who.Even (stmt.Own (own.Print 2 form.Hex)) ∷
+    item_of 10 who.Even (stmt.Own (own.Print 1 (form.Decimal ty.Long))) ∷
     item_of 12 who.Odd (stmt.Fill 0 s s) ∷
     item_of 13 who.Odd (stmt.RankOf 1 ty.Long) ∷
     item_of 14 who.Odd (stmt.Repeat t 0) ∷
@@ -62,8 +63,8 @@ ring_said s t =
     item_of 16 who.Odd send_next ∷
     item_of 17 who.Odd (stmt.Allreduce 0 op.Sum ty.Long 1 1) ∷
     item_of 18 who.Odd (stmt.End 11) ∷
-    item_of 19 who.Odd (stmt.Print 2 form.Hex) ∷
-    item_of 20 who.Odd (stmt.Print 1 (form.Decimal ty.Long)) ∷
+    item_of 19 who.Odd (stmt.Own (own.Print 2 form.Hex)) ∷
+    item_of 20 who.Odd (stmt.Own (own.Print 1 (form.Decimal ty.Long))) ∷
     []
 
 -- the statements before one, and those behind it; the lines behind one; and where the reader stands then
@@ -96,5 +97,5 @@ module _ (nue s t rank : ℕ) (base : List Item) (odd : (rank % 2 == 1) ≡ true
   pub length_16 : length_at nue (item_of 18 who.Odd (stmt.End 11) ∷ item_of 17 who.Odd (stmt.Allreduce 0 op.Sum ty.Long 1 1) ∷ item_of 16 who.Odd send_next ∷ item_of 15 who.Odd (recv_last s) ∷ item_of 14 who.Odd (stmt.Repeat t 0) ∷ item_of 13 who.Odd (stmt.RankOf 1 ty.Long) ∷ item_of 12 who.Odd (stmt.Fill 0 s s) ∷ base) rank 2 ≡ Some s
   length_16 = simp (odd, none)
 
-  pub length_17 : length_at nue (item_of 19 who.Odd (stmt.Print 2 form.Hex) ∷ item_of 18 who.Odd (stmt.End 11) ∷ item_of 17 who.Odd (stmt.Allreduce 0 op.Sum ty.Long 1 1) ∷ item_of 16 who.Odd send_next ∷ item_of 15 who.Odd (recv_last s) ∷ item_of 14 who.Odd (stmt.Repeat t 0) ∷ item_of 13 who.Odd (stmt.RankOf 1 ty.Long) ∷ item_of 12 who.Odd (stmt.Fill 0 s s) ∷ base) rank 1 ≡ Some 8
+  pub length_17 : length_at nue (item_of 19 who.Odd (stmt.Own (own.Print 2 form.Hex)) ∷ item_of 18 who.Odd (stmt.End 11) ∷ item_of 17 who.Odd (stmt.Allreduce 0 op.Sum ty.Long 1 1) ∷ item_of 16 who.Odd send_next ∷ item_of 15 who.Odd (recv_last s) ∷ item_of 14 who.Odd (stmt.Repeat t 0) ∷ item_of 13 who.Odd (stmt.RankOf 1 ty.Long) ∷ item_of 12 who.Odd (stmt.Fill 0 s s) ∷ base) rank 1 ≡ Some 8
   length_17 = simp (odd, none)

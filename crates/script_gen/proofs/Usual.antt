@@ -31,7 +31,7 @@ IsUsual (stmt.Send peer reg) = Unit {0}
 IsUsual (stmt.Recv peer reg len) = Unit {0}
 IsUsual (stmt.Allreduce comm op ty dst src) = comm ≡ 0
 IsUsual (stmt.End start) = Unit {0}
-IsUsual (stmt.Print reg form) = Unit {0}
+IsUsual (stmt.Own own) = Unit {0}
 IsUsual _ = ⊥
 
 abbrev pub AreUsual : List Item → Type 0
@@ -118,7 +118,7 @@ quiet_acts s rank (stmt.Fill reg len start) usual = (tt, tt)
 quiet_acts s rank (stmt.RankOf reg ty) usual = (tt, tt)
 quiet_acts s rank (stmt.Send peer reg) usual = (tt, tt)
 quiet_acts s rank (stmt.Recv peer reg len) usual = (tt, tt)
-quiet_acts s rank (stmt.Print reg form) usual = (tt, tt)
+quiet_acts s rank (stmt.Own own) usual = (tt, tt)
 quiet_acts s rank (stmt.Allreduce comm op ty dst src) usual =
     let steps = call_steps s rank (coll.Allreduce comm 0) in
     quiet_parts (record { op = op; ty = ty; dst = dst; src = src; sized = Some src }) (begins steps) steps
@@ -211,7 +211,7 @@ acts_short s rank (stmt.Fill reg len start) few usual = omega arith
 acts_short s rank (stmt.RankOf reg ty) few usual = omega arith
 acts_short s rank (stmt.Send peer reg) few usual = omega arith
 acts_short s rank (stmt.Recv peer reg len) few usual = omega arith
-acts_short s rank (stmt.Print reg form) few usual = omega arith
+acts_short s rank (stmt.Own own) few usual = omega arith
 acts_short s rank (stmt.Allreduce comm op ty dst src) few usual =
     let o : Operands = record { op = op; ty = ty; dst = dst; src = src; sized = Some src } in
     let steps = call_steps s rank (coll.Allreduce comm 0) in

@@ -5,6 +5,7 @@ use Rattle.groups.specs.declared.operations.Ty.TheVariants as ty
 use Rattle.script_reader.specs.declared.script.Form.TheVariants as form
 use Rattle.script_reader.specs.declared.script.Item.{Item}
 use Rattle.script_reader.specs.declared.script.Peer.TheVariants as peer
+use Rattle.script_reader.specs.declared.script.OwnStmt.TheVariants as own
 use Rattle.script_reader.specs.declared.script.Stmt.{Stmt}
 use Rattle.script_reader.specs.declared.script.Stmt.TheVariants as stmt
 use Rattle.script_reader.specs.declared.script.Who.{Who}
@@ -28,8 +29,8 @@ ring_items ranks line first s one other =
     item_of (line + 5) ranks other ∷
     item_of (line + 6) ranks (stmt.Allreduce 0 op.Sum ty.Long 1 1) ∷
     item_of (line + 7) ranks (stmt.End (first + 2)) ∷
-    item_of (line + 8) ranks (stmt.Print 2 form.Hex) ∷
-    item_of (line + 9) ranks (stmt.Print 1 (form.Decimal ty.Long)) ∷ []
+    item_of (line + 8) ranks (stmt.Own (own.Print 2 form.Hex)) ∷
+    item_of (line + 9) ranks (stmt.Own (own.Print 1 (form.Decimal ty.Long))) ∷ []
 
 -- and with none
 abbrev pub lone_items : Who → ℕ → ℕ → ℕ → List Item
@@ -39,7 +40,7 @@ lone_items ranks line first s =
     item_of (line + 3) ranks (stmt.Repeat (turns_of s) (first + 4)) ∷
     item_of (line + 4) ranks (stmt.Allreduce 0 op.Sum ty.Long 1 1) ∷
     item_of (line + 5) ranks (stmt.End (first + 2)) ∷
-    item_of (line + 6) ranks (stmt.Print 1 (form.Decimal ty.Long)) ∷ []
+    item_of (line + 6) ranks (stmt.Own (own.Print 1 (form.Decimal ty.Long))) ∷ []
 
 -- a send of the first register to the next rank of the ring
 abbrev pub send_next : Stmt

@@ -1,5 +1,6 @@
 -- The lengths of registers: what fits, and that each call that a rank comes to can be made.
 pub mod LengthLemmas
+pub mod NextLengths
 pub mod RoomLaws
 pub mod StretchLaws
 pub mod HoldLaws

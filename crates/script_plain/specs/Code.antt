@@ -16,7 +16,7 @@ use Rattle.script_plain.specs.Matches.{brought, line_of, step_brought}
 use Rattle.script_plain.specs.Next.{Next, call_of, is_going}
 use Rattle.script_plain.specs.Next.Next.{Ends, Posts, Sends, Recvs}
 use Rattle.script_plain.specs.Program.{Act}
-use Rattle.script_plain.specs.Program.Act.{Set, Apply, Print, Begin, Fold, Accept, Finish}
+use Rattle.script_plain.specs.Program.Act.{Set, Own, Begin, Fold, Accept, Finish}
 use Rattle.script_plain.specs.Walk.{act_meant}
 use Rattle.script_plain.specs.Step.{Configuration, same_head, all_at_barrier, step_of, lowest_step, run_on}
 
@@ -73,8 +73,7 @@ HasRefused _ sent new = ⊥
 -- whether a primitive is one of the rank alone
 abbrev pub is_own_act : Act → Bool
 is_own_act (Set reg content) = true
-is_own_act (Apply op ty dst src) = true
-is_own_act (Print reg form) = true
+is_own_act (Own own) = true
 is_own_act (Begin reg) = true
 is_own_act (Fold op ty) = true
 is_own_act (Accept reg) = true

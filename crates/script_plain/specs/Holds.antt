@@ -1,5 +1,6 @@
 -- What the machine of a rank holds, and what a statement of the rank alone does to it.
 use Rattle.std.specs.Prelude.{ℕ, ◌+◌, ◌<◌, ◌≤◌, List, [], ◌∷◌, ◌++◌, length, replicate, slice_index_or, slice_set}
+use Rattle.script_reader.specs.declared.script.OwnStmt.TheVariants as own
 use Rattle.script_plain.specs.declared.held.Held.{Held}
 use Rattle.script_plain.specs.declared.prims.Action.{Action}
 use Rattle.script_plain.specs.declared.prims.Action.TheVariants as action
@@ -35,8 +36,8 @@ empty room =
 -- the rooms are great enough for what a statement brings
 abbrev pub HasRoomFor : Action → Held → Type 0
 HasRoomFor (action.Set reg content) h = reg < length h.registers.rooms → length (content_of content) ≤ slice_index_or h.registers.rooms reg 0
-HasRoomFor (action.Apply op ty dst src) h = length (held_at h src) ≤ h.spare.room
-HasRoomFor (action.Print reg form) h =
+HasRoomFor (action.Own (own.Apply op ty dst src)) h = length (held_at h src) ≤ h.spare.room
+HasRoomFor (action.Own (own.Print reg form)) h =
     (length h.prints.items < h.prints.room) × (printed_bytes h.prints.items + length (held_at h reg) ≤ h.prints.bytes)
 HasRoomFor (action.Begin reg) h = length (held_at h reg) ≤ h.folded.room
 HasRoomFor (action.Accept reg) h = reg < length h.registers.rooms → length h.taken.bytes ≤ slice_index_or h.registers.rooms reg 0
@@ -50,12 +51,16 @@ held_with h reg bytes = record h { registers = record { registers = slice_set h.
 -- what is held after a statement of the rank alone
 abbrev pub worked : Action → Held → Held
 worked (action.Set reg content) h = held_with h reg (content_of content)
-worked (action.Apply op ty dst src) h =
+worked (action.Own (own.Apply op ty dst src)) h =
     record (held_with h dst (folded op ty (held_at h dst) (held_at h src))) { spare = record { bytes = held_at h src; room = h.spare.room } }
-worked (action.Print reg form) h =
+worked (action.Own (own.Print reg form)) h =
     record h { prints = record { items = h.prints.items ++ record { reg = reg; form = form; bytes = held_at h reg } ∷ []; room = h.prints.room; bytes = h.prints.bytes } }
 worked (action.Begin reg) h = record h { folded = record { bytes = held_at h reg; room = h.folded.room } }
 worked (action.Fold op ty) h = record h { folded = record { bytes = folded op ty h.folded.bytes h.taken.bytes; room = h.folded.room } }
 worked (action.Accept reg) h = held_with h reg h.taken.bytes
 worked (action.Finish reg) h = held_with h reg h.folded.bytes
-worked _ h = h
+worked (action.Send to head source) h = h
+worked (action.Post to reg) h = h
+worked (action.Recv from reg head) h = h
+worked (action.Gather from head sized) h = h
+worked (action.Bar comm) h = h

@@ -2,12 +2,13 @@
 -- program before it runs (this project's profile).
 use Rattle.std.specs.Prelude.{ℕ, ◌+◌, List, map, length, slice_index_or, slice_set, sum_by, Option, Some, None}
 use Rattle.scc_base.specs.Heads.{MessageHead}
+use Rattle.script_reader.specs.declared.script.OwnStmt.TheVariants as own
 use Rattle.script_plain.specs.Printed.{Printed}
 use Rattle.script_plain.specs.declared.prims.Source.{Source}
 use Rattle.script_plain.specs.declared.prims.Source.TheVariants as source
 use Rattle.script_plain.specs.Local.{Local}
 use Rattle.script_plain.specs.Program.{Act}
-use Rattle.script_plain.specs.Program.Act.{Set, Apply, Print, Send, Post, Recv, Gather, Bar, Begin, Fold, Accept, Finish}
+use Rattle.script_plain.specs.Program.Act.{Set, Own, Send, Post, Recv, Gather, Bar, Begin, Fold, Accept, Finish}
 
 -- how many bytes each register, the accumulator and the buffer of received bytes have, how many items are printed so far,
 -- and how many bytes these have
@@ -54,8 +55,8 @@ with_register l reg len = record l { registers = slice_set l.registers reg len }
 -- the lengths after a primitive: what is folded into stays as long as it is, and a receive takes as much as it asks for
 abbrev pub lengths_after : Lengths → Act → Lengths
 lengths_after l (Set reg content) = with_register l reg (length content)
-lengths_after l (Apply op ty dst src) = l
-lengths_after l (Print reg form) = record l { items = l.items + 1; printed = l.printed + length_at l reg }
+lengths_after l (Own (own.Apply op ty dst src)) = l
+lengths_after l (Own (own.Print reg form)) = record l { items = l.items + 1; printed = l.printed + length_at l reg }
 lengths_after l (Send to head source) = l
 lengths_after l (Post to reg) = l
 lengths_after l (Recv from reg head) = with_register l reg head.len
@@ -65,8 +66,3 @@ lengths_after l (Begin reg) = record l { accumulator = length_at l reg }
 lengths_after l (Fold op ty) = l
 lengths_after l (Accept reg) = with_register l reg l.received
 lengths_after l (Finish reg) = with_register l reg l.accumulator
-
--- how many bytes a primitive prints, if it prints
-abbrev pub printed_length : Lengths → Act → Option ℕ
-printed_length l (Print reg form) = Some (length_at l reg)
-printed_length l _ = None

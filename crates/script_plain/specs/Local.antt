@@ -7,7 +7,8 @@ use Rattle.scc_base.specs.declared.calls.Call.TheVariants as call
 use Rattle.groups.specs.declared.operations.Op.{Op}
 use Rattle.groups.specs.declared.operations.Ty.{Ty}
 use Rattle.groups.specs.Folds.{bytes_in, fold_values}
-use Rattle.script_reader.specs.declared.script.Form.{Form}
+use Rattle.script_reader.specs.declared.script.OwnStmt.{OwnStmt}
+use Rattle.script_reader.specs.declared.script.OwnStmt.TheVariants as own
 use Rattle.script_reader.specs.Script.{Script}
 use Rattle.script_plain.specs.declared.ends.UeEnd.{UeEnd}
 use Rattle.script_plain.specs.declared.ends.UeEnd.TheVariants as ue_end
@@ -20,7 +21,7 @@ use Rattle.script_plain.specs.declared.prims.Standing.TheVariants as standing
 use Rattle.script_plain.specs.Next.{Next, call_of}
 use Rattle.script_plain.specs.Next.Next.{Ends, Goes, Posts, Sends, Recvs, Bars}
 use Rattle.script_plain.specs.Program.{Act, Prim, program_of}
-use Rattle.script_plain.specs.Program.Act.{Set, Apply, Print, Send, Post, Recv, Gather, Bar, Begin, Fold, Accept, Finish}
+use Rattle.script_plain.specs.Program.Act.{Set, Own, Send, Post, Recv, Gather, Bar, Begin, Fold, Accept, Finish}
 
 -- the registers by number, the two work buffers of collective calls (the accumulator and the received bytes), the
 -- primitives left, the items printed so far, and whether the rank is running
@@ -56,11 +57,6 @@ gone_on u = record u { left = drop 1 u.left }
 abbrev pub gone_on_with : Local → ℕ → List ℕ → Local
 gone_on_with u reg bytes = record u { left = drop 1 u.left; registers = slice_set u.registers reg bytes }
 
--- a rank past its next primitive, which printed a register
-abbrev pub gone_on_printing : Local → ℕ → Form → Local
-gone_on_printing u reg form =
-    record u { left = drop 1 u.left; printed = u.printed ++ record { reg = reg; form = form; bytes = register_at u reg } ∷ [] }
-
 -- a rank past its next primitive, which set the accumulator
 abbrev pub gone_on_folding : Local → List ℕ → Local
 gone_on_folding u bytes = record u { left = drop 1 u.left; accumulator = bytes }
@@ -77,6 +73,20 @@ stopped_at u line from asked sent = record u { standing = standing.Mismatched li
 abbrev pub folded : Op → Ty → List ℕ → List ℕ → List ℕ
 folded op ty acc more =
     if (length acc == length more) && (length acc % bytes_in ty == 0) then fold_values op ty acc more else acc
+
+-- the registers behind a statement of the rank's own: dst becomes dst op src, value by value
+abbrev pub own_registers : Local → OwnStmt → List (List ℕ)
+own_registers u (own.Apply op ty dst src) = slice_set u.registers dst (folded op ty (register_at u dst) (register_at u src))
+own_registers u (own.Print reg form) = u.registers
+
+-- the items that are printed behind a statement of the rank's own
+abbrev pub own_printed : Local → OwnStmt → List Printed
+own_printed u (own.Apply op ty dst src) = u.printed
+own_printed u (own.Print reg form) = u.printed ++ record { reg = reg; form = form; bytes = register_at u reg } ∷ []
+
+-- a rank past its next primitive, which was a statement of its own
+abbrev pub gone_on_alone : Local → OwnStmt → Local
+gone_on_alone u own = record u { left = drop 1 u.left; registers = own_registers u own; printed = own_printed u own }
 
 -- the bytes that a send takes
 abbrev pub source_bytes : Local → Source → List ℕ
@@ -100,8 +110,7 @@ message_of u line to reg =
 -- what an action is to a rank: a step of its own with what it holds afterwards, or a call
 abbrev pub next_by_act : Local → ℕ → Act → Next Local
 next_by_act u line (Set reg content) = Goes (gone_on_with u reg content)
-next_by_act u line (Apply op ty dst src) = Goes (gone_on_with u dst (folded op ty (register_at u dst) (register_at u src)))
-next_by_act u line (Print reg form) = Goes (gone_on_printing u reg form)
+next_by_act u line (Own own) = Goes (gone_on_alone u own)
 next_by_act u line (Send to head source) = Sends to (with_length head (length (source_bytes u source))) (source_bytes u source) (gone_on u)
 next_by_act u line (Post to reg) = Posts (message_of u line to reg) (gone_on u)
 next_by_act u line (Recv from reg head) = Recvs from head (gone_on_with u reg) (stopped_at u line from head)

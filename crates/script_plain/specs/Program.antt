@@ -25,8 +25,8 @@ use Rattle.script_plain.specs.declared.prims.Source.{Source}
 use Rattle.script_plain.specs.declared.prims.Source.TheVariants as source
 use Rattle.script_reader.specs.Checks.{has_root, is_absent}
 use Rattle.script_reader.specs.Effects.{effect_of, parent_of}
-use Rattle.script_reader.specs.declared.script.Form.{Form}
 use Rattle.script_reader.specs.declared.script.Item.{Item}
+use Rattle.script_reader.specs.declared.script.OwnStmt.{OwnStmt}
 use Rattle.script_reader.specs.declared.script.Stmt.{Stmt}
 use Rattle.script_reader.specs.declared.script.Stmt.TheVariants as stmt
 use Rattle.script_reader.specs.Script.{Script, has_rank, peer_of, rules_of}
@@ -35,9 +35,8 @@ use Rattle.script_reader.specs.Script.{Script, has_rank, peer_of, rules_of}
 pub data Act : Type 0 where
   -- the register becomes these bytes
   Set : (reg : ℕ) → (content : List ℕ) → Act
-  -- dst becomes dst op src, value by value
-  Apply : (op : Op) → (ty : Ty) → (dst : ℕ) → (src : ℕ) → Act
-  Print : (reg : ℕ) → (form : Form) → Act
+  -- a statement of the rank's own
+  Own : (own : OwnStmt) → Act
   -- a send of the source's bytes: the head has their length
   Send : (to : ℕ) → (head : MessageHead) → (source : Source) → Act
   -- a plain send of the register's bytes for which the rank does not wait
@@ -70,11 +69,10 @@ abbrev pub single_of : ℕ → ℕ → Stmt → Option Act
 single_of nue rank (stmt.Bytes reg bytes) = Some (Set reg bytes)
 single_of nue rank (stmt.Fill reg len start) = Some (Set reg (filling len start))
 single_of nue rank (stmt.RankOf reg ty) = Some (Set reg (bytes_of ty (pos rank)))
-single_of nue rank (stmt.Apply op ty dst src) = Some (Apply op ty dst src)
+single_of nue rank (stmt.Own own) = Some (Own own)
 single_of nue rank (stmt.Send peer reg) = Some (Send (peer_of nue peer rank) (plain_head 0) (source.Own reg))
 single_of nue rank (stmt.Post peer reg) = Some (Post (peer_of nue peer rank) reg)
 single_of nue rank (stmt.Recv peer reg len) = Some (Recv (peer_of nue peer rank) reg (plain_head len))
-single_of nue rank (stmt.Print reg form) = Some (Print reg form)
 single_of nue rank (stmt.Barrier comm) = Some (Bar comm)
 single_of nue rank (stmt.Split comm rule) = Some (Bar (parent_of rule))
 single_of nue rank (stmt.Bcast comm root reg len) = None
@@ -95,11 +93,10 @@ collective_of (stmt.Allreduce comm op ty dst src) =
 collective_of (stmt.Bytes reg bytes) = None
 collective_of (stmt.Fill reg len start) = None
 collective_of (stmt.RankOf reg ty) = None
-collective_of (stmt.Apply op ty dst src) = None
+collective_of (stmt.Own own) = None
 collective_of (stmt.Send peer reg) = None
 collective_of (stmt.Post peer reg) = None
 collective_of (stmt.Recv peer reg len) = None
-collective_of (stmt.Print reg form) = None
 collective_of (stmt.Barrier comm) = None
 collective_of (stmt.Split comm rule) = None
 collective_of (stmt.Repeat times end) = None

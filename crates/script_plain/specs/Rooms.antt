@@ -1,5 +1,6 @@
 -- The rooms of a machine that takes all its memory at the start: what is in them, and that they hold what the program brings.
 use Rattle.std.specs.Prelude.{ℕ, ◌+◌, ◌≤◌, nat_lt, if◌then◌else◌, List, [], ◌∷◌, take, drop, replicate}
+use Rattle.script_reader.specs.declared.script.OwnStmt.TheVariants as own
 use Rattle.script_plain.specs.Printed.{Printed}
 use Rattle.script_plain.specs.declared.prims.Standing.{Standing}
 use Rattle.script_plain.specs.declared.prints.Entry.{Entry}
@@ -7,7 +8,7 @@ use Rattle.script_plain.specs.declared.reckoning.Needs.{Needs}
 use Rattle.script_plain.specs.Lengths.{Lengths, length_at, lengths_after}
 use Rattle.script_plain.specs.Local.{Local}
 use Rattle.script_plain.specs.Program.{Act, Prim}
-use Rattle.script_plain.specs.Program.Act.{Apply}
+use Rattle.script_plain.specs.Program.Act.{Own}
 use Rattle.script_plain.specs.Walk.{WalkView}
 
 -- bytes, and for how many there is room
@@ -57,7 +58,7 @@ pub record Rooms : Type 0 where
 
 -- how many bytes the copy of a register takes that is applied to one
 abbrev pub spare_length : Lengths → Act → ℕ
-spare_length l (Apply op ty dst src) = length_at l src
+spare_length l (Own (own.Apply op ty dst src)) = length_at l src
 spare_length l _ = 0
 
 -- the rooms hold what the primitives bring, one after the other

@@ -13,7 +13,7 @@ use Rattle.script_plain.specs.declared.course.Open.{Open}
 use Rattle.script_reader.specs.declared.script.Item.{Item}
 use Rattle.script_reader.specs.Script.{Script}
 use Rattle.script_plain.specs.Program.{Act, Prim, Unrolled, copies, filling, marked, marks_of, prims_in}
-use Rattle.script_plain.specs.Program.Act.{Set, Apply, Print, Send, Post, Recv, Gather, Bar, Begin, Fold, Accept, Finish}
+use Rattle.script_plain.specs.Program.Act.{Set, Own, Send, Post, Recv, Gather, Bar, Begin, Fold, Accept, Finish}
 use Rattle.groups.specs.Folds.{bytes_of}
 use Rattle.std.specs.Prelude.{pos}
 use Rattle.scc_base.specs.Heads.{most_message}
@@ -32,8 +32,7 @@ IsShort _ = Unit {0}
 -- the primitive that is meant
 abbrev pub act_meant : Action → Act
 act_meant (action.Set reg content) = Set reg (content_of content)
-act_meant (action.Apply op ty dst src) = Apply op ty dst src
-act_meant (action.Print reg form) = Print reg form
+act_meant (action.Own own) = Own own
 act_meant (action.Send to head source) = Send to head source
 act_meant (action.Post to reg) = Post to reg
 act_meant (action.Recv from reg head) = Recv from reg head

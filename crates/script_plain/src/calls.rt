@@ -57,8 +57,7 @@ impl<'s> Machine<'s> {
             }),
             Action::Bar { comm } => Some(Call::Bar { comm: *comm }),
             Action::Set { .. }
-            | Action::Apply { .. }
-            | Action::Print { .. }
+            | Action::Own(_)
             | Action::Begin { .. }
             | Action::Fold { .. }
             | Action::Accept { .. }
@@ -79,8 +78,7 @@ impl<'s> Machine<'s> {
             Action::Gather { from, .. } => Facing::One { rank: *from },
             Action::Bar { .. } => Facing::Group,
             Action::Set { .. }
-            | Action::Apply { .. }
-            | Action::Print { .. }
+            | Action::Own(_)
             | Action::Post { .. }
             | Action::Begin { .. }
             | Action::Fold { .. }
@@ -214,8 +212,7 @@ impl Lengths {
             Action::Gather { head, sized, .. } => Some(self.asked(*head, *sized).get()),
             Action::Bar { .. } => Some(0),
             Action::Set { .. }
-            | Action::Apply { .. }
-            | Action::Print { .. }
+            | Action::Own(_)
             | Action::Begin { .. }
             | Action::Fold { .. }
             | Action::Accept { .. }
@@ -230,8 +227,7 @@ fn is_own(action: &Action) -> bool
 {
     match action {
         Action::Set { .. }
-        | Action::Apply { .. }
-        | Action::Print { .. }
+        | Action::Own(_)
         | Action::Begin { .. }
         | Action::Fold { .. }
         | Action::Accept { .. }

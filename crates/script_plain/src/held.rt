@@ -4,6 +4,7 @@ use crate::prims::Action;
 use crate::prints::Prints;
 use crate::reckoning::Needs;
 use crate::rooms::{Registers, Room};
+use script_reader::OwnStmt;
 use std::alloc::{AllocError, Global};
 
 /// What a rank holds: its registers, the two work buffers of collective calls, and what it printed; and a room for the copy
@@ -57,11 +58,11 @@ impl Held {
     {
         match *action {
             Action::Set { reg, content } => self.registers.set(reg, &content),
-            Action::Apply { op, ty, dst, src } => {
+            Action::Own(OwnStmt::Apply { op, ty, dst, src }) => {
                 self.spare.write(self.registers.bytes(src));
                 self.registers.fold(op, ty, dst, self.spare.bytes());
             }
-            Action::Print { reg, form } => {
+            Action::Own(OwnStmt::Print { reg, form }) => {
                 self.prints.print(reg, form, self.registers.bytes(reg));
             }
             Action::Begin { reg } => self.folded.write(self.registers.bytes(reg)),

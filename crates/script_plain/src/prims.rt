@@ -2,7 +2,7 @@
 
 use groups::{Coll, Op, Step, Ty};
 use scc_base::{Head, Rank};
-use script_reader::Form;
+use script_reader::OwnStmt;
 use texts::Bytes;
 
 /// The bytes that a register is set to.
@@ -29,16 +29,8 @@ pub enum Action<'s> {
         reg: u8,
         content: Content<'s>,
     },
-    Apply {
-        op: Op,
-        ty: Ty,
-        dst: u8,
-        src: u8,
-    },
-    Print {
-        reg: u8,
-        form: Form,
-    },
+    /// A statement of the rank's own.
+    Own(OwnStmt),
     Send {
         to: Rank,
         head: Head,
@@ -116,16 +108,7 @@ impl<'s> Action<'s> {
                 reg: *reg,
                 content: content.copy(),
             },
-            Action::Apply { op, ty, dst, src } => Action::Apply {
-                op: *op,
-                ty: *ty,
-                dst: *dst,
-                src: *src,
-            },
-            Action::Print { reg, form } => Action::Print {
-                reg: *reg,
-                form: *form,
-            },
+            Action::Own(own) => Action::Own(*own),
             Action::Send { to, head, source } => Action::Send {
                 to: *to,
                 head: *head,

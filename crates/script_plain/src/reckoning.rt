@@ -8,6 +8,7 @@ ghost use Rattle.scc_base.specs.Heads.{most_message};
 use crate::prims::{Action, Content};
 use crate::rooms::Length;
 use groups::Ty;
+use script_reader::OwnStmt;
 use std::alloc::{AllocError, Global};
 use std::marker::Model;
 
@@ -193,7 +194,8 @@ impl Lengths {
     {
         match action {
             Action::Set { reg, content } => self.set(*reg, content_len(content)),
-            Action::Print { reg, .. } => return self.print_register(*reg),
+            Action::Own(OwnStmt::Apply { .. }) => {}
+            Action::Own(OwnStmt::Print { reg, .. }) => return self.print_register(*reg),
             Action::Recv { reg, head, .. } => self.set(*reg, Length::of(head.len())),
             Action::Gather { head, sized, .. } => {
                 let len = self.asked(*head, *sized);
@@ -211,11 +213,8 @@ impl Lengths {
                 let len = self.accumulator();
                 self.set(*reg, len);
             }
-            Action::Apply { .. }
-            | Action::Send { .. }
-            | Action::Post { .. }
-            | Action::Bar { .. }
-            | Action::Fold { .. } => {}
+            Action::Send { .. } | Action::Post { .. } | Action::Bar { .. } | Action::Fold { .. } =>
+                {}
         }
         Ok(())
     }
@@ -336,11 +335,11 @@ impl Reckoning {
     {
         match action {
             Action::Set { reg, content } => self.set(*reg, content_len(content)),
-            Action::Apply { src, .. } => {
+            Action::Own(OwnStmt::Apply { src, .. }) => {
                 let len = self.here.len(*src);
                 self.copy(len);
             }
-            Action::Print { reg, .. } => return self.print(*reg),
+            Action::Own(OwnStmt::Print { reg, .. }) => return self.print(*reg),
             Action::Recv { reg, head, .. } => self.set(*reg, Length::of(head.len())),
             Action::Gather { head, sized, .. } => {
                 let len = self.here.asked(*head, *sized);

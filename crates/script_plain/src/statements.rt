@@ -42,12 +42,7 @@ fn single_of<'s>(nue: u8, rank: Rank, stmt: &'s Stmt) -> Option<Action<'s>>
                 number: rank.number(),
             },
         }),
-        Stmt::Apply { op, ty, dst, src } => Some(Action::Apply {
-            op: *op,
-            ty: *ty,
-            dst: *dst,
-            src: *src,
-        }),
+        Stmt::Own(own) => Some(Action::Own(*own)),
         Stmt::Send { peer, reg } => Some(Action::Send {
             to: peer.rank(nue, rank),
             head: plain_message(0),
@@ -61,10 +56,6 @@ fn single_of<'s>(nue: u8, rank: Rank, stmt: &'s Stmt) -> Option<Action<'s>>
             from: peer.rank(nue, rank),
             reg: *reg,
             head: plain_message(*len),
-        }),
-        Stmt::Print { reg, form } => Some(Action::Print {
-            reg: *reg,
-            form: *form,
         }),
         Stmt::Barrier { comm } => Some(Action::Bar { comm: *comm }),
         Stmt::Split { rule, .. } => Some(Action::Bar {
@@ -146,11 +137,10 @@ fn collective_of(stmt: &Stmt) -> Option<Collective>
         Stmt::Bytes { .. }
         | Stmt::Fill { .. }
         | Stmt::RankOf { .. }
-        | Stmt::Apply { .. }
+        | Stmt::Own(_)
         | Stmt::Send { .. }
         | Stmt::Post { .. }
         | Stmt::Recv { .. }
-        | Stmt::Print { .. }
         | Stmt::Barrier { .. }
         | Stmt::Split { .. }
         | Stmt::Repeat { .. }
@@ -200,11 +190,10 @@ fn count_single(stmt: &Stmt) -> u32
         Stmt::Bytes { .. }
         | Stmt::Fill { .. }
         | Stmt::RankOf { .. }
-        | Stmt::Apply { .. }
+        | Stmt::Own(_)
         | Stmt::Send { .. }
         | Stmt::Post { .. }
         | Stmt::Recv { .. }
-        | Stmt::Print { .. }
         | Stmt::Barrier { .. }
         | Stmt::Split { .. } => 1,
         Stmt::Bcast { .. }

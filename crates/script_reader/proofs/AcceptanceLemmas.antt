@@ -21,6 +21,7 @@ use Rattle.script_reader.specs.declared.fault.FaultKind.TheVariants as kind
 use Rattle.script_reader.specs.declared.repeats.Open.{Open}
 use Rattle.script_reader.specs.declared.script.Form.TheVariants as form
 use Rattle.script_reader.specs.declared.script.Item.{Item}
+use Rattle.script_reader.specs.declared.script.OwnStmt.TheVariants as own
 use Rattle.script_reader.specs.declared.script.Stmt.{Stmt}
 use Rattle.script_reader.specs.declared.script.Stmt.TheVariants as stmt
 use Rattle.script_reader.specs.declared.tally.Setting.{Setting}
@@ -116,13 +117,13 @@ some-value (Some x) some = refl
 -- a statement that no check of unset registers refuses reads registers that are set
 readable : (s : Stmt) (nue : ℕ) (past : List Item) (comms : List CommRule) (rank : ℕ) → Extends (rules_of (reverse past)) comms → (rule_of (rules_of (reverse past)) (comm_needed (effect_of s).group) ≡ rule.Absent → ⊥)
     → is_unset (run_of nue past) (length_at nue past rank) (effect_of s) rank ≡ false → IsReadable (run_with nue comms) (length_at nue past rank) (effect_of s) rank
-readable (stmt.Apply op ty dst src) nue past comms rank e there set =
+readable (stmt.Own (own.Apply op ty dst src)) nue past comms rank e there set =
     let to = is_none (length_at nue past rank dst) in
     let from = is_none (length_at nue past rank src) in
     (some-is (length_at nue past rank dst) (false-left to from set), some-is (length_at nue past rank src) (false-right to from set))
 readable (stmt.Send peer reg) nue past comms rank e there set = some-is (length_at nue past rank reg) set
 readable (stmt.Post peer reg) nue past comms rank e there set = some-is (length_at nue past rank reg) set
-readable (stmt.Print reg form) nue past comms rank e there set = some-is (length_at nue past rank reg) set
+readable (stmt.Own (own.Print reg form)) nue past comms rank e there set = some-is (length_at nue past rank reg) set
 readable (stmt.Bcast comm root reg len) nue past comms rank e there set = λ is.
     some-is (length_at nue past rank reg) (and-false (is_at (run_of nue past) comm rank root) (is_none (length_at nue past rank reg)) (at-root nue past comms comm rank root e there is) set)
 readable (stmt.Reduce comm root op ty dst src) nue past comms rank e there set = some-is (length_at nue past rank src) set
@@ -182,7 +183,7 @@ fitting (stmt.Recv peer reg len) nue past comms rank after e there set shaped st
   given = stays reg len (set-once (length_at nue past rank reg) reg len (false-left (differs (length_at nue past rank reg) len) false shaped));
   needed = tt;
 }
-fitting (stmt.Apply op ty dst src) nue past comms rank after e there set shaped stays =
+fitting (stmt.Own (own.Apply op ty dst src)) nue past comms rank after e there set shaped stays =
     let had = length_at nue past rank in
     let size = unwrap_or (had src) 0 in
     let from = some-value (had src) (false-right (is_none (had dst)) (is_none (had src)) set) in
@@ -192,12 +193,12 @@ fitting (stmt.Apply op ty dst src) nue past comms rank after e there set shaped 
       given = tt;
       needed = (stays dst size (or_some (had dst) None size to) ∙ sym from-after, whole-of ty (had src) (after src) size from from-after (false-right (differs (had dst) size) (is_ragged ty (had src)) shaped));
     }
-fitting (stmt.Print reg (form.Decimal ty)) nue past comms rank after e there set shaped stays =
+fitting (stmt.Own (own.Print reg (form.Decimal ty))) nue past comms rank after e there set shaped stays =
     let had = length_at nue past rank in
     let size = unwrap_or (had reg) 0 in
     let is = some-value (had reg) set in
     record { given = tt; needed = whole-of ty (had reg) (after reg) size is (stays reg size (or_some (had reg) None size is)) shaped }
-fitting (stmt.Print reg form.Hex) nue past comms rank after e there set shaped stays = record { given = tt; needed = tt }
+fitting (stmt.Own (own.Print reg form.Hex)) nue past comms rank after e there set shaped stays = record { given = tt; needed = tt }
 fitting (stmt.Bcast comm root reg len) nue past comms rank after e there set shaped stays =
     let is = stays reg len (bcast-once (is_at (run_of nue past) comm rank root) (length_at nue past rank) reg len shaped set) in
     record { given = λ other. is; needed = λ here. is }

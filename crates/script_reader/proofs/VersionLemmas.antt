@@ -1,12 +1,10 @@
 -- What the lines of a version say: a repeat is done at least once, and each split of version 1 takes apart the world.
-use Rattle.std.proofs.Common.{◌≡◌, ◌≤◌, ℕ, zero, suc, Bool, true, false, cond, List, [], ◌∷◌, Some, Result, Ok, Err, length, refl, sym, ap, ◌∙◌, arith, subst, inl, inr}
+use Rattle.std.proofs.Common.{◌≡◌, ◌≤◌, ℕ, zero, suc, Bool, true, false, cond, List, [], ◌∷◌, Option, Some, None, Result, Ok, Err, length, refl, sym, ap, ◌∙◌, arith, subst, inl, inr}
 use Rattle.std.proofs.lemmas.Bool.{and_parts, cases_lt, leb-true}
 use Rattle.std.proofs.lemmas.List.{get_or_past}
 use Rattle.std.proofs.lemmas.List.FromFn.{length-map-range_with_len}
 use Rattle.std.specs.Prelude.{◌+◌, ◌==◌, ◌&&◌, IfOk, codes, drop, nat_le, nat_lt, take}
 use Rattle.std.specs.Str.{bytes_eq}
-use Rattle.groups.specs.declared.operations.Ty.{Ty}
-use Rattle.groups.specs.declared.operations.Ty.TheVariants as ty
 use Rattle.scc_base.specs.Communicators.{rule_of}
 use Rattle.scc_base.specs.declared.communicators.CommRule.{CommRule}
 use Rattle.scc_base.specs.declared.communicators.CommRule.TheVariants as rule
@@ -21,6 +19,7 @@ use Rattle.script_reader.specs.declared.said.Colour.{Colour}
 use Rattle.script_reader.specs.declared.said.Colour.TheVariants as colour
 use Rattle.script_reader.specs.declared.said.Local.{Local}
 use Rattle.script_reader.specs.declared.said.Local.TheVariants as local
+use Rattle.script_reader.specs.declared.said.LocalWord.{LocalWord}
 use Rattle.script_reader.specs.declared.said.Message.{Message}
 use Rattle.script_reader.specs.declared.said.Message.TheVariants as message
 use Rattle.script_reader.specs.declared.said.Said.{Said}
@@ -35,11 +34,12 @@ use Rattle.script_reader.specs.declared.script.Who.TheVariants as who
 use Rattle.script_reader.specs.declared.version.Version.{Version}
 use Rattle.script_reader.specs.declared.version.Version.TheVariants as version
 use Rattle.script_reader.specs.Checks.{innermost, open_of}
+use Rattle.script_reader.specs.Counts.{of_five_words, of_four_words, of_six_words, of_three_words, of_two_words}
 use Rattle.script_reader.specs.Effects.{effect_of, parent_of, split_rule}
 use Rattle.script_reader.specs.Faults.{◌>>=◌, Gives}
 use Rattle.script_reader.specs.Progress.{Progress, after, after_group, after_local, after_message, after_section, checked, local_numbered, named, open_section, past, peer_in, place, rank_said, register_of, rule_said, small, start}
 use Rattle.script_reader.specs.Reading.{at_end, at_line, begun, most_script_bytes, read_all_lines, read_as, read_line, read_lines, read_words, script_of}
-use Rattle.script_reader.specs.Said.{allreduce_said, allreduce_words, alone, apply_said, apply_words, barrier_said, bcast_said, bcast_words, bytes_said, colour_said, dash_of, fill_said, fill_words, group_said, hex_said, name_said, number_said, numbers_said, of_five_words, of_four_words, of_said, of_six_words, of_three_words, of_two_words, operation_said, peer_said, post_said, post_words, print_said, range_said, rank_of_said, ranks_said, rcce_said, recv_said, recv_words, reduce_said, reduce_words, register_said, repeat_said, said_of, section_said, send_said, send_words, span_said, split_said, type_said, ue_said, values_named, values_said, version_number}
+use Rattle.script_reader.specs.Said.{allreduce_said, allreduce_words, alone, barrier_said, bcast_said, bcast_words, colour_said, dash_of, group_said, local_said, local_word, name_said, number_said, of_said, operation_said, peer_said, post_said, post_words, range_said, ranks_said, rcce_said, recv_said, recv_words, reduce_said, reduce_words, register_said, register_said_by, repeat_said, said_of, section_said, send_said, send_words, span_said, split_said, type_said, ue_said, version_number}
 use Rattle.script_reader.specs.Script.{Script, first_split, rules_of}
 use Rattle.script_reader.specs.Settled.{SplitsWorldAlone}
 use Rattle.texts.specs.Cuts.{is_text, line_count, lines_of, words_of}
@@ -100,37 +100,6 @@ module _ (v : Version) where
   ue-plain [] = tt
   ue-plain (a ∷ []) = ranks-plain a
   ue-plain (a ∷ b ∷ rest) = tt
-
-  bytes-plain : (words : List (List ℕ)) → IfOk (bytes_said words) (IsPlain v)
-  bytes-plain [] = tt
-  bytes-plain (a ∷ []) = tt
-  bytes-plain (a ∷ b ∷ []) = then (IsPlain v) (hex_said b) _ (λ x1. then (IsPlain v) (name_said a) _ (λ x2. tt))
-  bytes-plain (a ∷ b ∷ c ∷ rest) = tt
-
-  named-plain : (ty : Ty) (name : List ℕ) (values : List (List ℕ)) → IfOk (values_named ty name values) (IsPlain v)
-  named-plain ty name values = then (IsPlain v) (values_said ty [] values) _ (λ x1. then (IsPlain v) (name_said name) _ (λ x2. tt))
-
-  numbers-plain : (ty : Ty) (words : List (List ℕ)) → IfOk (numbers_said ty words) (IsPlain v)
-  numbers-plain ty [] = tt
-  numbers-plain ty (name ∷ values) = either (IsPlain v) (length values == 0) _ _ tt (named-plain ty name values)
-
-  fill-plain : (words : List (List ℕ)) → IfOk (fill_said words) (IsPlain v)
-  fill-plain words = three-plain fill_words (λ a b c. then (IsPlain v) (number_said b) _ (λ x1. then (IsPlain v) (range_said 0 65535 c) _ (λ x2. then (IsPlain v) (name_said a) _ (λ x3. tt)))) words
-
-  rank-plain : (words : List (List ℕ)) → IfOk (rank_of_said words) (IsPlain v)
-  rank-plain [] = tt
-  rank-plain (a ∷ []) = tt
-  rank-plain (a ∷ b ∷ []) = then (IsPlain v) (type_said b) _ (λ x1. then (IsPlain v) (name_said a) _ (λ x2. tt))
-  rank-plain (a ∷ b ∷ c ∷ rest) = tt
-
-  apply-plain : (words : List (List ℕ)) → IfOk (apply_said words) (IsPlain v)
-  apply-plain words = four-plain apply_words (λ a b c d. then (IsPlain v) (operation_said a) _ (λ x1. then (IsPlain v) (type_said b) _ (λ x2. then (IsPlain v) (name_said c) _ (λ x3. then (IsPlain v) (name_said d) _ (λ x4. tt))))) words
-
-  print-plain : (words : List (List ℕ)) → IfOk (print_said words) (IsPlain v)
-  print-plain [] = tt
-  print-plain (a ∷ []) = then (IsPlain v) (name_said a) _ (λ x1. tt)
-  print-plain (a ∷ b ∷ []) = then (IsPlain v) (type_said a) _ (λ x1. then (IsPlain v) (name_said b) _ (λ x2. tt))
-  print-plain (a ∷ b ∷ c ∷ rest) = tt
 
   send-plain : (words : List (List ℕ)) → IfOk (send_said words) (IsPlain v)
   send-plain words = two-plain send_words (λ a b. then (IsPlain v) (peer_said a) _ (λ x1. then (IsPlain v) (name_said b) _ (λ x2. tt))) words
@@ -200,16 +169,13 @@ module _ (v : Version) where
       (either (IsPlain v) (bytes_eq first (codes "allreduce")) _ _ (allreduce-plain words)
       (section-plain first words)))))
 
+  -- a statement that a rank does by itself is plain, whatever its words are
+  register-by : (first : List ℕ) (words : List (List ℕ)) (o : Option LocalWord) → IfOk (register_said_by v first words o) (IsPlain v)
+  register-by first words None = group-plain first words
+  register-by first words (Some word) = then (IsPlain v) (local_said word words) _ (λ l. tt)
+
   register-plain : (first : List ℕ) (words : List (List ℕ)) → IfOk (register_said v first words) (IsPlain v)
-  register-plain first words =
-      either (IsPlain v) (bytes_eq first (codes "bytes")) _ _ (bytes-plain words)
-      (either (IsPlain v) (bytes_eq first (codes "ints")) _ _ (numbers-plain ty.Int words)
-      (either (IsPlain v) (bytes_eq first (codes "longs")) _ _ (numbers-plain ty.Long words)
-      (either (IsPlain v) (bytes_eq first (codes "fill")) _ _ (fill-plain words)
-      (either (IsPlain v) (bytes_eq first (codes "rank")) _ _ (rank-plain words)
-      (either (IsPlain v) (bytes_eq first (codes "apply")) _ _ (apply-plain words)
-      (either (IsPlain v) (bytes_eq first (codes "print")) _ _ (print-plain words)
-      (group-plain first words)))))))
+  register-plain first words = register-by first words (local_word first)
 
   pub said-plain : (opening : Bool) (first : List ℕ) (words : List (List ℕ)) → IfOk (said_of v opening first words) (IsPlain v)
   said-plain opening first words =

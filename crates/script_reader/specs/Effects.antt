@@ -21,6 +21,8 @@ use Rattle.script_reader.specs.declared.effect.Uses.{Uses}
 use Rattle.script_reader.specs.declared.effect.Uses.TheVariants as uses
 use Rattle.script_reader.specs.declared.script.Form.{Form}
 use Rattle.script_reader.specs.declared.script.Form.TheVariants as form
+use Rattle.script_reader.specs.declared.script.OwnStmt.{OwnStmt}
+use Rattle.script_reader.specs.declared.script.OwnStmt.TheVariants as own
 use Rattle.script_reader.specs.declared.script.Stmt.{Stmt}
 use Rattle.script_reader.specs.declared.script.Stmt.TheVariants as stmt
 use Rattle.scc_base.specs.Heads.{most_message}
@@ -52,16 +54,25 @@ abbrev pub fit_of : Form → Fit
 fit_of form.Hex = fit.Any
 fit_of (form.Decimal ty) = fit.Whole ty
 
+-- the registers that a statement of the rank's own reads
+abbrev pub own_uses : OwnStmt → Uses
+own_uses (own.Apply op ty dst src) = uses.Two (use_all dst (fit.Like src)) (use_all src (fit.Whole ty))
+own_uses (own.Print reg form) = uses.One (use_all reg (fit_of form))
+
+-- the register that a statement of the rank's own prints
+abbrev pub own_prints : OwnStmt → Option ℕ
+own_prints (own.Apply op ty dst src) = None
+own_prints (own.Print reg form) = Some reg
+
 -- what a statement needs and does
 abbrev pub effect_of : Stmt → Effect
 effect_of (stmt.Bytes reg bytes) = record plain_effect { sets = target_of reg at.All (size.Bytes (length bytes)) }
 effect_of (stmt.Fill reg len start) = record plain_effect { sets = target_of reg at.All (size.Bytes len) }
 effect_of (stmt.RankOf reg ty) = record plain_effect { sets = target_of reg at.All (size.Bytes (bytes_in ty)) }
-effect_of (stmt.Apply op ty dst src) = record plain_effect { uses = uses.Two (use_all dst (fit.Like src)) (use_all src (fit.Whole ty)) }
+effect_of (stmt.Own own) = record plain_effect { uses = own_uses own; prints = own_prints own }
 effect_of (stmt.Send peer reg) = record plain_effect { peer = Some peer; uses = uses.One (use_all reg fit.Any) }
 effect_of (stmt.Post peer reg) = record plain_effect { peer = Some peer; uses = uses.One (use_all reg fit.Any); posts = Some reg }
 effect_of (stmt.Recv peer reg len) = record plain_effect { peer = Some peer; sets = target_of reg at.All (size.Bytes len) }
-effect_of (stmt.Print reg form) = record plain_effect { uses = uses.One (use_all reg (fit_of form)); prints = Some reg }
 effect_of (stmt.Barrier comm) = record plain_effect { group = group.Of comm }
 effect_of (stmt.Split comm rule) = record plain_effect { group = group.Split comm rule }
 effect_of (stmt.Bcast comm root reg len) = record plain_effect {

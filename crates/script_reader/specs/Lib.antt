@@ -1,6 +1,7 @@
 pub mod Acceptance
 pub mod Checks
 pub mod Closed
+pub mod Counts
 pub mod Effects
 pub mod Ends
 pub mod Faults

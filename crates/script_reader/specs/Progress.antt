@@ -23,6 +23,7 @@ use Rattle.script_reader.specs.declared.said.Said.TheVariants as said
 use Rattle.script_reader.specs.declared.said.Section.{Section}
 use Rattle.script_reader.specs.declared.said.Section.TheVariants as section
 use Rattle.script_reader.specs.declared.script.Item.{Item}
+use Rattle.script_reader.specs.declared.script.OwnStmt.TheVariants as own
 use Rattle.script_reader.specs.declared.script.Peer.{Peer}
 use Rattle.script_reader.specs.declared.script.Peer.TheVariants as to
 use Rattle.script_reader.specs.declared.script.Stmt.{Stmt}
@@ -168,8 +169,8 @@ abbrev pub local_numbered : List (List ℕ) → Local → NumberedStmt
 local_numbered names (local.Bytes name bytes) = naming_one names name (λ reg. stmt.Bytes reg bytes)
 local_numbered names (local.Fill name len start) = naming_one names name (λ reg. stmt.Fill reg len start)
 local_numbered names (local.RankOf name ty) = naming_one names name (λ reg. stmt.RankOf reg ty)
-local_numbered names (local.Apply op ty dst src) = naming_two names dst src (stmt.Apply op ty)
-local_numbered names (local.Print name form) = naming_one names name (λ reg. stmt.Print reg form)
+local_numbered names (local.Apply op ty dst src) = naming_two names dst src (λ dst src. stmt.Own (own.Apply op ty dst src))
+local_numbered names (local.Print name form) = naming_one names name (λ reg. stmt.Own (own.Print reg form))
 
 -- what is read after a statement of the rank's own: its item, or why it is refused
 abbrev pub after_local : ℕ → Progress → Local → Result Progress FaultKind

@@ -1,6 +1,6 @@
 -- The second layer of the grammar: what a line says by its words alone (this project's profile). In a line the number of
 -- words is checked first, then words that are fixed, then numbers, then bytes, then names.
-use Rattle.std.specs.Prelude.{ℕ, ◌+◌, ◌&&◌, ◌++◌, ◌==◌, nat_le, Bool, true, length, if◌then◌else◌, List, [], ◌∷◌, codes, drop, take, slice_index, Result, Ok, Err}
+use Rattle.std.specs.Prelude.{ℕ, ◌+◌, ◌&&◌, ◌++◌, ◌==◌, nat_le, Bool, true, length, if◌then◌else◌, List, [], ◌∷◌, codes, drop, take, slice_index, Option, Some, None, Result, Ok, Err}
 use Rattle.std.specs.List.{position_or_len}
 use Rattle.std.specs.Option.{ok_or}
 use Rattle.std.specs.Str.{bytes_eq}
@@ -13,7 +13,10 @@ use Rattle.script_reader.specs.declared.fault.FaultKind.TheVariants as kind
 use Rattle.script_reader.specs.declared.said.Collective.TheVariants as group
 use Rattle.script_reader.specs.declared.said.Colour.{Colour}
 use Rattle.script_reader.specs.declared.said.Colour.TheVariants as colour
+use Rattle.script_reader.specs.declared.said.Local.{Local}
 use Rattle.script_reader.specs.declared.said.Local.TheVariants as local
+use Rattle.script_reader.specs.declared.said.LocalWord.{LocalWord}
+use Rattle.script_reader.specs.declared.said.LocalWord.TheVariants as first_word
 use Rattle.script_reader.specs.declared.said.Message.TheVariants as message
 use Rattle.script_reader.specs.declared.said.PeerSaid.{PeerSaid}
 use Rattle.script_reader.specs.declared.said.PeerSaid.TheVariants as peer
@@ -23,6 +26,7 @@ use Rattle.script_reader.specs.declared.said.Section.TheVariants as section
 use Rattle.script_reader.specs.declared.script.Form.TheVariants as form
 use Rattle.script_reader.specs.declared.version.Version.{Version}
 use Rattle.script_reader.specs.declared.version.Version.TheVariants as version
+use Rattle.script_reader.specs.Counts.{of_five_words, of_four_words, of_six_words, of_three_words, of_two_words}
 use Rattle.script_reader.specs.Faults.{◌>>=◌}
 use Rattle.script_reader.specs.Words.{bytes_of, is_name, value_of_word}
 use Rattle.script_reader.specs.Limits.{most_operations}
@@ -91,33 +95,6 @@ abbrev pub values_said : Ty → List ℕ → List (List ℕ) → Result (List �
 values_said type front [] = Ok front
 values_said type front (word ∷ words) = value_behind type front word >>= λ bytes. values_said type bytes words
 
--- a statement of two words behind its first one, by what they say
-abbrev pub of_two_words : (List ℕ → List ℕ → Result Said FaultKind) → List (List ℕ) → Result Said FaultKind
-of_two_words says (a ∷ b ∷ []) = says a b
-of_two_words says _ = Err kind.WrongCount
-
--- a statement of three words behind its first one, by what they say
-abbrev pub of_three_words : (List ℕ → List ℕ → List ℕ → Result Said FaultKind) → List (List ℕ) → Result Said FaultKind
-of_three_words says (a ∷ b ∷ c ∷ []) = says a b c
-of_three_words says _ = Err kind.WrongCount
-
--- a statement of four words behind its first one, by what they say
-abbrev pub of_four_words : (List ℕ → List ℕ → List ℕ → List ℕ → Result Said FaultKind) → List (List ℕ) → Result Said FaultKind
-of_four_words says (a ∷ b ∷ c ∷ d ∷ []) = says a b c d
-of_four_words says _ = Err kind.WrongCount
-
--- a statement of five words behind its first one, by what they say
-abbrev pub of_five_words : (List ℕ → List ℕ → List ℕ → List ℕ → List ℕ → Result Said FaultKind)
-    → List (List ℕ) → Result Said FaultKind
-of_five_words says (a ∷ b ∷ c ∷ d ∷ e ∷ []) = says a b c d e
-of_five_words says _ = Err kind.WrongCount
-
--- a statement of six words behind its first one, by what they say
-abbrev pub of_six_words : (List ℕ → List ℕ → List ℕ → List ℕ → List ℕ → List ℕ → Result Said FaultKind)
-    → List (List ℕ) → Result Said FaultKind
-of_six_words says (a ∷ b ∷ c ∷ d ∷ e ∷ f ∷ []) = says a b c d e f
-of_six_words says _ = Err kind.WrongCount
-
 -- a line of one word: `all`, `even`, `odd`, `end`
 abbrev pub alone : Said → List (List ℕ) → Result Said FaultKind
 alone said [] = Ok said
@@ -146,73 +123,73 @@ ue_said (ranks ∷ []) = ranks_said ranks
 ue_said _ = Err kind.WrongCount
 
 -- `bytes NAME HEX`
-abbrev pub bytes_said : List (List ℕ) → Result Said FaultKind
+abbrev pub bytes_said : List (List ℕ) → Result Local FaultKind
 bytes_said (name ∷ hex ∷ []) = do
   bytes ← hex_said hex
   name ← name_said name
-  Ok (said.Local (local.Bytes name bytes))
+  Ok (local.Bytes name bytes)
 bytes_said _ = Err kind.WrongCount
 
 -- `ints NAME V ..` and `longs NAME V ..`
-abbrev pub values_named : Ty → List ℕ → List (List ℕ) → Result Said FaultKind
+abbrev pub values_named : Ty → List ℕ → List (List ℕ) → Result Local FaultKind
 values_named type name values = do
   bytes ← values_said type [] values
   name ← name_said name
-  Ok (said.Local (local.Bytes name bytes))
+  Ok (local.Bytes name bytes)
 
 -- the words behind `ints` or `longs`: a name, and one value at least
-abbrev pub numbers_said : Ty → List (List ℕ) → Result Said FaultKind
+abbrev pub numbers_said : Ty → List (List ℕ) → Result Local FaultKind
 numbers_said type [] = Err kind.WrongCount
 numbers_said type (name ∷ values) = if length values == 0 then Err kind.WrongCount else values_named type name values
 
 -- `fill NAME LEN START`
-abbrev pub fill_words : List ℕ → List ℕ → List ℕ → Result Said FaultKind
+abbrev pub fill_words : List ℕ → List ℕ → List ℕ → Result Local FaultKind
 fill_words name len start = do
   len ← number_said len
   start ← range_said 0 65535 start
   name ← name_said name
-  Ok (said.Local (local.Fill name len start))
+  Ok (local.Fill name len start)
 
 -- the words behind `fill`
-abbrev pub fill_said : List (List ℕ) → Result Said FaultKind
+abbrev pub fill_said : List (List ℕ) → Result Local FaultKind
 fill_said words = of_three_words fill_words words
 
 -- `rank NAME TYPE`
-abbrev pub rank_of_said : List (List ℕ) → Result Said FaultKind
+abbrev pub rank_of_said : List (List ℕ) → Result Local FaultKind
 rank_of_said (name ∷ type ∷ []) = do
   type ← type_said type
   name ← name_said name
-  Ok (said.Local (local.RankOf name type))
+  Ok (local.RankOf name type)
 rank_of_said _ = Err kind.WrongCount
 
 -- `apply OP TYPE DST SRC`
-abbrev pub apply_words : List ℕ → List ℕ → List ℕ → List ℕ → Result Said FaultKind
+abbrev pub apply_words : List ℕ → List ℕ → List ℕ → List ℕ → Result Local FaultKind
 apply_words operation type dst src = do
   operation ← operation_said operation
   type ← type_said type
   dst ← name_said dst
   src ← name_said src
-  Ok (said.Local (local.Apply operation type dst src))
+  Ok (local.Apply operation type dst src)
 
 -- the words behind `apply`
-abbrev pub apply_said : List (List ℕ) → Result Said FaultKind
+abbrev pub apply_said : List (List ℕ) → Result Local FaultKind
 apply_said words = of_four_words apply_words words
 
 -- `print NAME` and `print TYPE NAME`
-abbrev pub hex_print_said : List ℕ → Result Said FaultKind
+abbrev pub hex_print_said : List ℕ → Result Local FaultKind
 hex_print_said name = do
   name ← name_said name
-  Ok (said.Local (local.Print name form.Hex))
+  Ok (local.Print name form.Hex)
 
 -- the words behind `print`, with a type
-abbrev pub typed_print_said : List ℕ → List ℕ → Result Said FaultKind
+abbrev pub typed_print_said : List ℕ → List ℕ → Result Local FaultKind
 typed_print_said type name = do
   type ← type_said type
   name ← name_said name
-  Ok (said.Local (local.Print name (form.Decimal type)))
+  Ok (local.Print name (form.Decimal type))
 
 -- the words behind `print`: a name, with a type before it or none
-abbrev pub print_said : List (List ℕ) → Result Said FaultKind
+abbrev pub print_said : List (List ℕ) → Result Local FaultKind
 print_said (name ∷ []) = hex_print_said name
 print_said (type ∷ name ∷ []) = typed_print_said type name
 print_said _ = Err kind.WrongCount
@@ -365,17 +342,38 @@ group_said version first words =
     else if bytes_eq first (codes "allreduce") then allreduce_said words
     else section_said first words
 
+-- the statement that a word begins, if a rank does it by itself
+abbrev pub local_word : List ℕ → Option LocalWord
+local_word first =
+    if bytes_eq first (codes "bytes") then Some first_word.Bytes
+    else if bytes_eq first (codes "ints") then Some first_word.Ints
+    else if bytes_eq first (codes "longs") then Some first_word.Longs
+    else if bytes_eq first (codes "fill") then Some first_word.Fill
+    else if bytes_eq first (codes "rank") then Some first_word.Rank
+    else if bytes_eq first (codes "apply") then Some first_word.Apply
+    else if bytes_eq first (codes "print") then Some first_word.Print
+    else None
+
+-- a statement that a rank does by itself, by its first word
+abbrev pub local_said : LocalWord → List (List ℕ) → Result Local FaultKind
+local_said first_word.Bytes words = bytes_said words
+local_said first_word.Ints words = numbers_said ty.Int words
+local_said first_word.Longs words = numbers_said ty.Long words
+local_said first_word.Fill words = fill_said words
+local_said first_word.Rank words = rank_of_said words
+local_said first_word.Apply words = apply_said words
+local_said first_word.Print words = print_said words
+
+-- a line by the statement that its first word begins: one that a rank does by itself, or else another line
+abbrev pub register_said_by : Version → List ℕ → List (List ℕ) → Option LocalWord → Result Said FaultKind
+register_said_by version first words None = group_said version first words
+register_said_by version first words (Some word) = do
+  statement ← local_said word words
+  Ok (said.Local statement)
+
 -- a statement of registers, by its first word, or else another line
 abbrev pub register_said : Version → List ℕ → List (List ℕ) → Result Said FaultKind
-register_said version first words =
-    if bytes_eq first (codes "bytes") then bytes_said words
-    else if bytes_eq first (codes "ints") then numbers_said ty.Int words
-    else if bytes_eq first (codes "longs") then numbers_said ty.Long words
-    else if bytes_eq first (codes "fill") then fill_said words
-    else if bytes_eq first (codes "rank") then rank_of_said words
-    else if bytes_eq first (codes "apply") then apply_said words
-    else if bytes_eq first (codes "print") then print_said words
-    else group_said version first words
+register_said version first words = register_said_by version first words (local_word first)
 
 -- what a line says that has these words behind its first one. `opening` is whether no line before it has words: `rcce`
 -- stands there alone

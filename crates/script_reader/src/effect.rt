@@ -3,7 +3,7 @@
 ghost use Rattle.std.specs.Prelude.{◌≡◌};
 ghost use Rattle.script_reader.specs.Effects.{effect_of, fit_of, parent_of, plain_effect};
 
-use crate::script::{Form, Peer, Stmt};
+use crate::script::{Form, OwnStmt, Peer, Stmt};
 use groups::{Coll, Ty};
 use scc_base::CommRule;
 
@@ -155,6 +155,36 @@ fn fit_of(form: Form) -> Fit
     }
 }
 
+impl OwnStmt {
+    ghost use Rattle.std.specs.Prelude.{◌≡◌};
+    ghost use Rattle.script_reader.specs.Effects.{own_prints, own_uses};
+
+    /// The registers that it reads.
+    #[inline(always)]
+    fn uses(self) -> Uses
+        ensures { result ≡ own_uses self }
+    {
+        match self {
+            OwnStmt::Apply { ty, dst, src, .. } => Uses::Two(
+                Use::all(dst, Fit::Like(src)),
+                Use::all(src, Fit::Whole(ty)),
+            ),
+            OwnStmt::Print { reg, form } => Uses::One(Use::all(reg, fit_of(form))),
+        }
+    }
+
+    /// The register that it prints.
+    #[inline(always)]
+    fn prints(self) -> Option<u8>
+        ensures { result ≡ own_prints self }
+    {
+        match self {
+            OwnStmt::Apply { .. } => None,
+            OwnStmt::Print { reg, .. } => Some(reg),
+        }
+    }
+}
+
 /// The communicator that a rule takes apart.
 pub fn parent_of(rule: CommRule) -> u8
     ensures { result ≡ parent_of rule }
@@ -183,11 +213,9 @@ pub fn effect_of(stmt: &Stmt) -> Effect
             sets: Target::of(*reg, At::All, Size::Bytes(ty.width() as u64)),
             ..PLAIN
         },
-        Stmt::Apply { ty, dst, src, .. } => Effect {
-            uses: Uses::Two(
-                Use::all(*dst, Fit::Like(*src)),
-                Use::all(*src, Fit::Whole(*ty)),
-            ),
+        Stmt::Own(own) => Effect {
+            uses: own.uses(),
+            prints: own.prints(),
             ..PLAIN
         },
         Stmt::Send { peer, reg } => Effect {
@@ -204,11 +232,6 @@ pub fn effect_of(stmt: &Stmt) -> Effect
         Stmt::Recv { peer, reg, len } => Effect {
             peer: Some(*peer),
             sets: Target::of(*reg, At::All, Size::Bytes(*len as u64)),
-            ..PLAIN
-        },
-        Stmt::Print { reg, form } => Effect {
-            uses: Uses::One(Use::all(*reg, fit_of(*form))),
-            prints: Some(*reg),
             ..PLAIN
         },
         Stmt::Barrier { comm } => Effect {

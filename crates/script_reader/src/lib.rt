@@ -27,5 +27,5 @@ pub use effect::{
 pub use fault::{FaultKind, ReadFault, ReadStop};
 pub use laws::{script_law, version_law};
 pub use reading::{MOST_SCRIPT_BYTES, read_script};
-pub use script::{Form, Item, Peer, Scripts, Stmt, Who};
+pub use script::{Form, Item, OwnStmt, Peer, Scripts, Stmt, Who};
 pub use version::Version;

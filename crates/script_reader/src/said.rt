@@ -2,7 +2,7 @@
 
 ghost use Rattle.std.specs.Prelude.{◌≡◌, map};
 ghost use Rattle.script_reader.specs.Faults.{LineGives};
-ghost use Rattle.script_reader.specs.Said.{dash_of, ranks_said, alone, group_said, rcce_said, register_said, repeat_said, said_of, section_said, span_said, ue_said};
+ghost use Rattle.script_reader.specs.Said.{dash_of, ranks_said, alone, group_said, local_said, local_word, rcce_said, register_said, repeat_said, said_of, section_said, span_said, ue_said};
 
 use crate::fault::{FaultKind, LineStop};
 use crate::name::Name;
@@ -67,6 +67,18 @@ pub(crate) enum Local {
         name: Name,
         form: Form,
     },
+}
+
+/// The first word of a statement that a rank does by itself.
+#[derive(Clone, Copy)]
+pub(crate) enum LocalWord {
+    Bytes,
+    Ints,
+    Longs,
+    Fill,
+    Rank,
+    Apply,
+    Print,
 }
 
 /// The other rank of a message: a rank, or a distance from the caller.
@@ -250,6 +262,51 @@ fn widened(said: Result<Said, FaultKind>) -> Result<Said, LineStop>
     Ok(said?)
 }
 
+/// The statement that a word begins, if a rank does it by itself.
+fn local_word(first: &[u8]) -> Option<LocalWord>
+    ensures { result ≡ local_word first.now }
+{
+    if is_word(first, b"bytes") {
+        Some(LocalWord::Bytes)
+    } else if is_word(first, b"ints") {
+        Some(LocalWord::Ints)
+    } else if is_word(first, b"longs") {
+        Some(LocalWord::Longs)
+    } else if is_word(first, b"fill") {
+        Some(LocalWord::Fill)
+    } else if is_word(first, b"rank") {
+        Some(LocalWord::Rank)
+    } else if is_word(first, b"apply") {
+        Some(LocalWord::Apply)
+    } else if is_word(first, b"print") {
+        Some(LocalWord::Print)
+    } else {
+        None
+    }
+}
+
+/// A statement that a rank does by itself and that takes no memory, for a reading that can stop for want of it.
+fn widened_local(said: Result<Local, FaultKind>) -> Result<Local, LineStop>
+    ensures { LineGives (λ said. said) result said }
+{
+    Ok(said?)
+}
+
+/// A statement that a rank does by itself, by its first word.
+fn local_said(alloc: Global, first: LocalWord, words: &[&[u8]]) -> Result<Local, LineStop>
+    ensures { LineGives (λ said. said) result (local_said first (map (λ word. word.now) words.now)) }
+{
+    match first {
+        LocalWord::Bytes => bytes_said(alloc, words),
+        LocalWord::Ints => numbers_said(alloc, Ty::Int, words),
+        LocalWord::Longs => numbers_said(alloc, Ty::Long, words),
+        LocalWord::Fill => widened_local(fill_said(words)),
+        LocalWord::Rank => widened_local(rank_of_said(words)),
+        LocalWord::Apply => widened_local(apply_said(words)),
+        LocalWord::Print => widened_local(print_said(words)),
+    }
+}
+
 fn register_said(
     alloc: Global,
     version: Version,
@@ -258,22 +315,9 @@ fn register_said(
 ) -> Result<Said, LineStop>
     ensures { LineGives (λ said. said) result (register_said version first.now (map (λ word. word.now) words.now)) }
 {
-    if is_word(first, b"bytes") {
-        bytes_said(alloc, words)
-    } else if is_word(first, b"ints") {
-        numbers_said(alloc, Ty::Int, words)
-    } else if is_word(first, b"longs") {
-        numbers_said(alloc, Ty::Long, words)
-    } else if is_word(first, b"fill") {
-        widened(fill_said(words))
-    } else if is_word(first, b"rank") {
-        widened(rank_of_said(words))
-    } else if is_word(first, b"apply") {
-        widened(apply_said(words))
-    } else if is_word(first, b"print") {
-        widened(print_said(words))
-    } else {
-        widened(group_said(version, first, words))
+    match local_word(first) {
+        Some(word) => Ok(Said::Local(local_said(alloc, word, words)?)),
+        None => widened(group_said(version, first, words)),
     }
 }
 

@@ -13,15 +13,15 @@ use crate::words::{
 use groups::Ty;
 use std::alloc::Global;
 
-fn bytes_words(alloc: Global, name: &[u8], hex: &[u8]) -> Result<Said, LineStop>
+fn bytes_words(alloc: Global, name: &[u8], hex: &[u8]) -> Result<Local, LineStop>
     ensures { LineGives (λ said. said) result (bytes_said (name.now ∷ hex.now ∷ [])) }
 {
     let bytes = hex_said(alloc, hex)?;
     let name = name_said(name)?;
-    Ok(Said::Local(Local::Bytes { name, bytes }))
+    Ok(Local::Bytes { name, bytes })
 }
 
-pub(crate) fn bytes_said(alloc: Global, words: &[&[u8]]) -> Result<Said, LineStop>
+pub(crate) fn bytes_said(alloc: Global, words: &[&[u8]]) -> Result<Local, LineStop>
     ensures { LineGives (λ said. said) result (bytes_said (map (λ word. word.now) words.now)) }
 {
     match words {
@@ -30,15 +30,15 @@ pub(crate) fn bytes_said(alloc: Global, words: &[&[u8]]) -> Result<Said, LineSto
     }
 }
 
-fn values_named(alloc: Global, ty: Ty, name: &[u8], values: &[&[u8]]) -> Result<Said, LineStop>
+fn values_named(alloc: Global, ty: Ty, name: &[u8], values: &[&[u8]]) -> Result<Local, LineStop>
     ensures { LineGives (λ said. said) result (values_named ty name.now (map (λ word. word.now) values.now)) }
 {
     let bytes = values_said(alloc, ty, values)?;
     let name = name_said(name)?;
-    Ok(Said::Local(Local::Bytes { name, bytes }))
+    Ok(Local::Bytes { name, bytes })
 }
 
-pub(crate) fn numbers_said(alloc: Global, ty: Ty, words: &[&[u8]]) -> Result<Said, LineStop>
+pub(crate) fn numbers_said(alloc: Global, ty: Ty, words: &[&[u8]]) -> Result<Local, LineStop>
     ensures { LineGives (λ said. said) result (numbers_said ty (map (λ word. word.now) words.now)) }
 {
     match words {
@@ -52,16 +52,16 @@ pub(crate) fn numbers_said(alloc: Global, ty: Ty, words: &[&[u8]]) -> Result<Sai
     }
 }
 
-fn fill_words(name: &[u8], len: &[u8], start: &[u8]) -> Result<Said, FaultKind>
+fn fill_words(name: &[u8], len: &[u8], start: &[u8]) -> Result<Local, FaultKind>
     ensures { result ≡ fill_words name.now len.now start.now }
 {
     let len = number_said(len)?;
     let start = range_said(start, 0, 65_535)?;
     let name = name_said(name)?;
-    Ok(Said::Local(Local::Fill { name, len, start }))
+    Ok(Local::Fill { name, len, start })
 }
 
-pub(crate) fn fill_said(words: &[&[u8]]) -> Result<Said, FaultKind>
+pub(crate) fn fill_said(words: &[&[u8]]) -> Result<Local, FaultKind>
     ensures { result ≡ fill_said (map (λ word. word.now) words.now) }
 {
     match words {
@@ -70,15 +70,15 @@ pub(crate) fn fill_said(words: &[&[u8]]) -> Result<Said, FaultKind>
     }
 }
 
-fn rank_of_words(name: &[u8], ty: &[u8]) -> Result<Said, FaultKind>
+fn rank_of_words(name: &[u8], ty: &[u8]) -> Result<Local, FaultKind>
     ensures { result ≡ rank_of_said (name.now ∷ ty.now ∷ []) }
 {
     let ty = type_said(ty)?;
     let name = name_said(name)?;
-    Ok(Said::Local(Local::RankOf { name, ty }))
+    Ok(Local::RankOf { name, ty })
 }
 
-pub(crate) fn rank_of_said(words: &[&[u8]]) -> Result<Said, FaultKind>
+pub(crate) fn rank_of_said(words: &[&[u8]]) -> Result<Local, FaultKind>
     ensures { result ≡ rank_of_said (map (λ word. word.now) words.now) }
 {
     match words {
@@ -87,17 +87,17 @@ pub(crate) fn rank_of_said(words: &[&[u8]]) -> Result<Said, FaultKind>
     }
 }
 
-fn apply_words(op: &[u8], ty: &[u8], dst: &[u8], src: &[u8]) -> Result<Said, FaultKind>
+fn apply_words(op: &[u8], ty: &[u8], dst: &[u8], src: &[u8]) -> Result<Local, FaultKind>
     ensures { result ≡ apply_words op.now ty.now dst.now src.now }
 {
     let op = operation_said(op)?;
     let ty = type_said(ty)?;
     let dst = name_said(dst)?;
     let src = name_said(src)?;
-    Ok(Said::Local(Local::Apply { op, ty, dst, src }))
+    Ok(Local::Apply { op, ty, dst, src })
 }
 
-pub(crate) fn apply_said(words: &[&[u8]]) -> Result<Said, FaultKind>
+pub(crate) fn apply_said(words: &[&[u8]]) -> Result<Local, FaultKind>
     ensures { result ≡ apply_said (map (λ word. word.now) words.now) }
 {
     match words {
@@ -106,24 +106,24 @@ pub(crate) fn apply_said(words: &[&[u8]]) -> Result<Said, FaultKind>
     }
 }
 
-fn hex_print_said(name: &[u8]) -> Result<Said, FaultKind>
+fn hex_print_said(name: &[u8]) -> Result<Local, FaultKind>
     ensures { result ≡ hex_print_said name.now }
 {
     let name = name_said(name)?;
     let form = Form::Hex;
-    Ok(Said::Local(Local::Print { name, form }))
+    Ok(Local::Print { name, form })
 }
 
-fn typed_print_said(ty: &[u8], name: &[u8]) -> Result<Said, FaultKind>
+fn typed_print_said(ty: &[u8], name: &[u8]) -> Result<Local, FaultKind>
     ensures { result ≡ typed_print_said ty.now name.now }
 {
     let ty = type_said(ty)?;
     let name = name_said(name)?;
     let form = Form::Decimal(ty);
-    Ok(Said::Local(Local::Print { name, form }))
+    Ok(Local::Print { name, form })
 }
 
-pub(crate) fn print_said(words: &[&[u8]]) -> Result<Said, FaultKind>
+pub(crate) fn print_said(words: &[&[u8]]) -> Result<Local, FaultKind>
     ensures { result ≡ print_said (map (λ word. word.now) words.now) }
 {
     match words {

@@ -85,6 +85,15 @@ pub enum Form {
     Decimal(Ty),
 }
 
+/// A statement that a rank does by itself, with what its registers have. Each register stays as long as it is.
+#[derive(Clone, Copy)]
+pub enum OwnStmt {
+    /// DST becomes `DST op SRC`, value by value.
+    Apply { op: Op, ty: Ty, dst: u8, src: u8 },
+    /// Prints the register.
+    Print { reg: u8, form: Form },
+}
+
 /// A statement. Registers are numbered from 0 in the order of their first appearance in the file, and lengths count
 /// bytes.
 #[derive(Drop)]
@@ -105,13 +114,8 @@ pub enum Stmt {
         reg: u8,
         ty: Ty,
     },
-    /// DST becomes `DST op SRC`, value by value.
-    Apply {
-        op: Op,
-        ty: Ty,
-        dst: u8,
-        src: u8,
-    },
+    /// A statement of the rank's own.
+    Own(OwnStmt),
     /// A plain message with the register's bytes.
     Send {
         peer: Peer,
@@ -127,11 +131,6 @@ pub enum Stmt {
         peer: Peer,
         reg: u8,
         len: u32,
-    },
-    /// Prints the register.
-    Print {
-        reg: u8,
-        form: Form,
     },
     /// A barrier of the communicator.
     Barrier {

@@ -12,7 +12,7 @@ use crate::fault::{FaultKind, LineStop};
 use crate::name::Name;
 use crate::reader::{Pair, Reader};
 use crate::said::{Collective, Colour, Local, Message, PeerSaid, Said, Section};
-use crate::script::{Peer, Stmt, Who};
+use crate::script::{OwnStmt, Peer, Stmt, Who};
 use crate::words::Parts;
 use groups::{Op, Ty};
 use scc_base::{CommRule, Rank};
@@ -110,11 +110,11 @@ fn take_local(reader: &mut Reader, line: u32, local: Local) -> Result<(), LineSt
         }
         Local::Apply { op, ty, dst, src } => {
             let Pair { dst, src } = reader.registers(dst, src)?;
-            reader.place(line, Stmt::Apply { op, ty, dst, src })
+            reader.place(line, Stmt::Own(OwnStmt::Apply { op, ty, dst, src }))
         }
         Local::Print { name, form } => {
             let reg = reader.register(name)?;
-            reader.place(line, Stmt::Print { reg, form })
+            reader.place(line, Stmt::Own(OwnStmt::Print { reg, form }))
         }
     }
 }

@@ -1,5 +1,6 @@
 -- What the machine of a rank holds has room for what comes, and comes to what the rank comes to.
 use Rattle.std.proofs.Common.{◌≡◌, ℕ, true, List, [], length, drop, Option, Some, refl, ap, arith}
+use Rattle.script_reader.specs.declared.script.OwnStmt.TheVariants as own
 use Rattle.script_plain.specs.declared.held.Held.{Held}
 use Rattle.script_plain.specs.declared.prims.Action.{Action}
 use Rattle.script_plain.specs.declared.prims.Action.TheVariants as action
@@ -11,20 +12,21 @@ use Rattle.script_plain.specs.Moves.{length_in, went}
 use Rattle.script_plain.specs.Next.{Next, is_going}
 use Rattle.script_plain.specs.Next.Next.{Ends, Goes, Posts, Sends, Recvs, Bars}
 use Rattle.script_plain.specs.Program.{Prim}
-use Rattle.script_plain.specs.Program.Act.{Set, Apply, Print, Begin, Accept, Finish}
+use Rattle.script_plain.specs.Program.Act.{Set, Own, Begin, Accept, Finish}
 use Rattle.script_plain.specs.Rooms.{AreWithin}
 use Rattle.script_plain.specs.Walk.{WalkView, act_meant, content_of}
-use Rattle.script_plain.proofs.ProgramLengths.RoomLaws.{after, fits_next, length_index, put_fits}
+use Rattle.script_plain.proofs.ProgramLengths.NextLengths.{after, length_index}
+use Rattle.script_plain.proofs.ProgramLengths.RoomLaws.{fits_next, put_fits}
 
 module _ (h : Held) (walk : WalkView) (state : Standing) (line : ℕ) where
   -- the rooms have room for the statement that stands next
   pub room_for : (a : Action) → next_prim (local_with h walk state) ≡ Some (record { line = line; act = act_meant a }) → AreWithin (rooms_with h) (lengths_of (local_with h walk state)) walk.left → HasRoomFor a h
   room_for (action.Set reg content) here within = λ there.
       put_fits (rooms_with h) (local_with h walk state) (record { line = line; act = Set reg (content_of content) }) reg (length (content_of content)) here refl within there
-  room_for (action.Apply op ty dst src) here within =
-      omega (arith, (fits_next (rooms_with h) (local_with h walk state) (record { line = line; act = Apply op ty dst src }) here within).0, length_index h.registers.registers src)
-  room_for (action.Print reg form) here within =
-      let fits = (fits_next (rooms_with h) (local_with h walk state) (record { line = line; act = Print reg form }) here within).1 in
+  room_for (action.Own (own.Apply op ty dst src)) here within =
+      omega (arith, (fits_next (rooms_with h) (local_with h walk state) (record { line = line; act = Own (own.Apply op ty dst src) }) here within).0, length_index h.registers.registers src)
+  room_for (action.Own (own.Print reg form)) here within =
+      let fits = (fits_next (rooms_with h) (local_with h walk state) (record { line = line; act = Own (own.Print reg form) }) here within).1 in
       (omega (arith, fits.items), omega (arith, fits.printed, length_index h.registers.registers reg))
   room_for (action.Begin reg) here within =
       omega (arith, (fits_next (rooms_with h) (local_with h walk state) (record { line = line; act = Begin reg }) here within).1.accumulator, length_index h.registers.registers reg)
@@ -42,11 +44,12 @@ module _ (h : Held) (walk : WalkView) (state : Standing) (line : ℕ) where
   worked_local (action.Recv from reg head) on going left = absurd (cc)
   worked_local (action.Gather from head sized) on going left = absurd (cc)
   worked_local (action.Bar comm) on going left = absurd (cc)
+  worked_local (action.Own (own.Print reg form)) on going left = ap (λ (l : List Prim). record (local_with (worked (action.Own (own.Print reg form)) h) walk state) { left = l }) left
   worked_local a on going left = ap (λ (l : List Prim). record (local_with (worked a h) walk state) { left = l }) left
 
 -- no room is another one
 pub worked_rooms : (a : Action) (h : Held) → rooms_with (worked a h) ≡ rooms_with h
-worked_rooms (action.Set reg content) h = refl
+worked_rooms (action.Own (own.Print reg form)) h = refl
 worked_rooms _ h = refl
 
 -- a statement of the rank alone asks for no bytes

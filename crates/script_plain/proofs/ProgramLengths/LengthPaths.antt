@@ -11,14 +11,14 @@ use Rattle.script_plain.specs.declared.prims.Standing.TheVariants as standing
 use Rattle.script_plain.specs.Collectives.{gone_by, gone_through}
 use Rattle.script_plain.specs.Kept.{Fits, FitsNext, Holds, Keeps, Sets, folding, gathering, sized_by}
 use Rattle.script_plain.specs.Lengths.{Lengths}
-use Rattle.script_plain.specs.Local.{Local, asked_head, local_next, next_by_act, next_by_prim, prim_by_standing, register_at}
+use Rattle.script_plain.specs.Local.{Local, asked_head, gone_on_alone, local_next, next_by_act, next_by_prim, prim_by_standing, register_at}
 use Rattle.script_plain.specs.Meaning.{State, next_of, recorded}
 use Rattle.script_plain.specs.Next.{Next}
 use Rattle.script_plain.specs.Next.Next.{Ends, Goes, Posts, Sends, Recvs, Bars}
 use Rattle.script_plain.specs.Program.{Act, Prim}
 use Rattle.script_plain.proofs.Collectives.CollectivePaths.{grows}
 use Rattle.script_plain.proofs.Messages.MessageLaws.{Logs, logs}
-use Rattle.script_plain.proofs.ProgramLengths.RoomLaws.{after, length_same, lengths_next}
+use Rattle.script_plain.proofs.ProgramLengths.NextLengths.{after, length_same, lengths_next, own_even}
 
 -- a register is written
 holds_set : (had : ℕ → Option ℕ) (registers : List (List ℕ)) (reg : ℕ) (bytes : List ℕ) → Holds (had reg) (length bytes) → ((r : ℕ) → Holds (had r) (length (get_or registers r []))) → (r : ℕ) → Holds (had r) (length (get_or (set registers reg bytes) r []))
@@ -45,6 +45,14 @@ module _ (had : ℕ → Option ℕ) (u : Local) (line : ℕ) (acc got : Option �
     (all : Keeps had acc got u.left) where
   fits_act : (a : Act) → Sets had acc got a → Keeps had (folding had acc a) (gathering had got a) (drop 1 u.left) → FitsNext had (next_by_act u line a)
   fits_act (Act.Set reg content) sets on = record { acc = acc; got = got; registers = holds_set had u.registers reg content (inr sets) registers; accumulator = accumulator; received = received; keeps = on }
+  fits_act (Act.Own own) sets on = record {
+    acc = acc;
+    got = got;
+    registers = λ reg. subst (λ (n : ℕ). Holds (had reg) n) (sym (length_same u (gone_on_alone u own) (own_even u own) reg)) (registers reg);
+    accumulator = accumulator;
+    received = received;
+    keeps = on;
+  }
   fits_act (Act.Send to head source) sets on = (record { acc = acc; got = got; registers = registers; accumulator = accumulator; received = received; keeps = on }, refl)
   fits_act (Act.Post to reg) sets on = (
     record { acc = acc; got = got; registers = registers; accumulator = accumulator; received = received; keeps = on },

@@ -13,12 +13,12 @@ use Rattle.script_plain.specs.declared.prims.Source.TheVariants as source_of
 use Rattle.script_plain.specs.declared.prims.Standing.{Standing}
 use Rattle.script_plain.specs.declared.prims.Standing.TheVariants as standing
 use Rattle.script_plain.specs.Lengths.{Lengths}
-use Rattle.script_plain.specs.Local.{Local, asked_head, local_next, next_by_act, next_by_prim, prim_by_standing, register_at, source_bytes, with_length}
+use Rattle.script_plain.specs.Local.{Local, asked_head, gone_on_alone, local_next, next_by_act, next_by_prim, prim_by_standing, register_at, source_bytes, with_length}
 use Rattle.script_plain.specs.Next.{Next}
 use Rattle.script_plain.specs.Next.Next.{Ends, Goes, Posts, Sends, Recvs, Bars}
 use Rattle.script_plain.specs.Program.{Act, Prim}
 use Rattle.script_plain.proofs.ProgramLengths.AimLemmas.{AreAimed, IsAimedAct}
-use Rattle.script_plain.proofs.ProgramLengths.RoomLaws.{after, length_same, lengths_next}
+use Rattle.script_plain.proofs.ProgramLengths.NextLengths.{after, length_same, lengths_next, own_even}
 
 -- a register is written
 short_set : (registers : List (List ℕ)) (reg : ℕ) (bytes : List ℕ) → length bytes ≤ 65536 → ((r : ℕ) → length (get_or registers r []) ≤ 65536) → (r : ℕ) → length (get_or (set registers reg bytes) r []) ≤ 65536
@@ -68,6 +68,12 @@ module _ (script : Script) (rank : ℕ) where
 
     sane_act : (a : Act) → IsAimedAct script rank a → AreAimed script rank (drop 1 u.left) → SaneNext (λ (v : Local). v) (next_by_act u line a)
     sane_act (Act.Set reg content) aim on = record { registers = short_set u.registers reg content aim sane.registers; accumulator = sane.accumulator; received = sane.received; left = on }
+    sane_act (Act.Own own) aim on = record {
+      registers = λ reg. subst (λ (n : ℕ). n ≤ 65536) (sym (length_same u (gone_on_alone u own) (own_even u own) reg)) (sane.registers reg);
+      accumulator = sane.accumulator;
+      received = sane.received;
+      left = on;
+    }
     sane_act (Act.Send to head source) aim on = (
       record { registers = sane.registers; accumulator = sane.accumulator; received = sane.received; left = on },
       aim.0,
