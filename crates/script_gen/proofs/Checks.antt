@@ -38,14 +38,10 @@ none_below (suc n) who test clear =
     one true is = ap (λ (b : Bool). b && test n) is ∙ clear n (omega arith) is
     one false is = ap (λ (b : Bool). b && test n) is
 
--- kinds of which the test fails
-abbrev AreAbsent : (FaultKind → Bool) → List FaultKind → Type 0
-AreAbsent test [] = Unit {0}
-AreAbsent test (kind ∷ kinds) = (test kind ≡ false) × AreAbsent test kinds
-
-none_found : (test : FaultKind → Bool) (kinds : List FaultKind) → AreAbsent test kinds → find test kinds ≡ None
-none_found test [] absent = refl
-none_found test (kind ∷ kinds) absent = ap (λ (b : Bool). cond b (Some kind) (find test kinds)) absent.0 ∙ none_found test kinds absent.1
+-- a test that each kind fails finds none, whatever the list and its order
+none_found : (test : FaultKind → Bool) → ((kind : FaultKind) → test kind ≡ false) → (kinds : List FaultKind) → find test kinds ≡ None
+none_found test fails [] = refl
+none_found test fails (kind ∷ kinds) = ap (λ (b : Bool). cond b (Some kind) (find test kinds)) (fails kind) ∙ none_found test fails kinds
 
 -- what the checks ask of a statement behind others
 pub record Passes (nue : ℕ) (past : List Item) (who : Who) (s : Stmt) : Type 0 where
@@ -65,15 +61,23 @@ module _ (nue : ℕ) (items : List Item) (names : List (List ℕ)) (who : Who) (
   not_refused : (kind : FaultKind) → is_refused kind (stage nue items names who) (effect_of s) ≡ false
   not_refused kind = none_below nue who (refuses kind nue (reverse items) (effect_of s)) (p.clear kind)
 
-  -- no fault of the table, in its order
+  -- no fault of any kind: each behind its test, and the kinds of a line's words are none of a statement's
+  absent : nat_lt 64 (length names) ≡ false → (kind : FaultKind) → has_fault (stage nue items names who) (effect_of s) kind ≡ false
+  absent few kind.RankRange = not_refused kind.RankRange
+  absent few kind.SelfMessage = not_refused kind.SelfMessage
+  absent few kind.UnknownComm = p.known
+  absent few kind.NotSplit = or_false _ _ p.parented (not_refused kind.NotSplit)
+  absent few kind.Unset = not_refused kind.Unset
+  absent few kind.Shape = not_refused kind.Shape
+  absent few kind.StrayEnd = p.closed
+  absent few kind.TooDeep = p.flat
+  absent few kind.TooManyOps = or_false _ _ p.turning (not_refused kind.TooManyOps)
+  absent few kind.TooLong = or_false _ _ p.short (not_refused kind.TooLong)
+  absent few kind.TooManyNames = few
+  absent few _ = refl
+
   sound : nat_lt 64 (length names) ≡ false → first_fault (stage nue items names who) (effect_of s) ≡ None
-  sound few =
-      let test = has_fault (stage nue items names who) (effect_of s) in
-      let last : AreAbsent test (kind.StrayEnd ∷ kind.TooDeep ∷ kind.TooManyOps ∷ kind.TooLong ∷ kind.TooManyNames ∷ []) =
-      (p.closed, (p.flat, (or_false _ _ p.turning (not_refused kind.TooManyOps), (or_false _ _ p.short (not_refused kind.TooLong), (few, tt))))) in
-      let first : AreAbsent test (kind.NotSplit ∷ kind.Unset ∷ kind.Shape ∷ kind.NoSection ∷ kind.StrayEnd ∷ kind.TooDeep ∷ kind.TooManyOps ∷ kind.TooLong ∷ kind.TooManyNames ∷ []) =
-      (or_false _ _ p.parented (not_refused kind.NotSplit), (not_refused kind.Unset, (not_refused kind.Shape, (refl, last)))) in
-      none_found test fault_table (not_refused kind.RankRange, (not_refused kind.SelfMessage, (p.known, first)))
+  sound few = none_found (has_fault (stage nue items names who) (effect_of s)) (absent few) fault_table
 
   pub placed : (line : ℕ) → nat_lt 64 (length names) ≡ false → place line (stage nue items names who) s ≡ Ok (stage nue (items ++ item_of line who s ∷ []) names who)
   placed line few =
