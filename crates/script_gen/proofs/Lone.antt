@@ -14,6 +14,7 @@ use Rattle.script_reader.specs.declared.version.Version.TheVariants as version
 use Rattle.script_reader.specs.Checks.{cost_of, open_of, operations, run_of, turns_in}
 use Rattle.script_reader.specs.Faults.{◌>>=◌}
 use Rattle.script_reader.specs.Effects.{effect_of}
+use Rattle.script_reader.specs.Limits.{most_operations}
 use Rattle.script_reader.specs.Progress.{Progress, start}
 use Rattle.script_reader.specs.Reading.{at_end, most_script_bytes, parse_script, read_all_lines, read_lines, version_of}
 use Rattle.texts.specs.Cuts.{line_count, lines_of}
@@ -106,7 +107,7 @@ module _ (s t : ℕ) (small : s ≤ 65535) (least : 1 ≤ t) (few : t ≤ 10) wh
   )
 
   spent : (rank : ℕ) (ahead back : List Item) (item : Item) → ahead ++ item ∷ back ≡ reverse (lone_said s t) → length back ≤ 60
-      → operations 1 back rank + turns_in (open_of back) * cost_of (run_of 1 back) (effect_of item.stmt).cost rank ≤ 100000
+      → operations 1 back rank + turns_in (open_of back) * cost_of (run_of 1 back) (effect_of item.stmt).cost rank ≤ most_operations
   spent rank ahead back item is short = work 1 rank (reverse (lone_said s t)) ahead back item (light rank) is short
 
   pass_0 : Passes 1 (past s t 0) who.Even (stmt.Fill 0 s s)
@@ -145,7 +146,7 @@ module _ (s t : ℕ) (small : s ≤ 65535) (least : 1 ≤ t) (few : t ≤ 10) wh
     parented = refl;
     closed = refl;
     flat = refl;
-    turning = not_above 100000 (1 * t) (omega (arith, few));
+    turning = not_above most_operations (1 * t) (omega (arith, few));
     short = refl;
     clear = λ check rank below has.
         let even : (rank % 2 == 0) ≡ true = has in
@@ -227,7 +228,7 @@ module _ (s t : ℕ) (small : s ≤ 65535) (least : 1 ≤ t) (few : t ≤ 10) wh
     parented = refl;
     closed = refl;
     flat = refl;
-    turning = not_above 100000 (1 * t) (omega (arith, few));
+    turning = not_above most_operations (1 * t) (omega (arith, few));
     short = refl;
     clear = λ check rank below has. absurd (none_odd rank below has);
   }

@@ -11,6 +11,7 @@ use Rattle.script_reader.specs.declared.script.Peer.TheVariants as peer
 use Rattle.script_reader.specs.declared.script.Stmt.TheVariants as stmt
 use Rattle.script_reader.specs.declared.version.Version.TheVariants as version
 use Rattle.script_reader.specs.Faults.{◌>>=◌}
+use Rattle.script_reader.specs.Limits.{most_operations}
 use Rattle.script_reader.specs.Progress.{Progress, after, named, place, register_of}
 use Rattle.script_reader.specs.Reading.{at_line, begun, read_line, read_lines, read_words}
 use Rattle.script_reader.specs.Said.{said_of}
@@ -42,8 +43,8 @@ one_is : number_of (codes "1") ≡ Some 1
 unfolding number_of
 one_is = refl
 
-from_one : (t : ℕ) → 1 ≤ t → t ≤ 10 → (nat_le 1 t && nat_le t 100000) ≡ true
-from_one t some few = and_from _ _ (le-leb 1 t some) (le-leb t 100000 (omega arith))
+from_one : (t : ℕ) → 1 ≤ t → t ≤ 10 → (nat_le 1 t && nat_le t most_operations) ≡ true
+from_one t some few = and_from _ _ (le-leb 1 t some) (le-leb t most_operations (omega arith))
 
 from_zero : (s : ℕ) → s ≤ 65535 → (nat_le 0 s && nat_le s 65535) ≡ true
 from_zero s small = and_from _ _ (le-leb 0 s (omega arith)) (le-leb s 65535 small)

@@ -9,6 +9,7 @@ use Rattle.script_reader.specs.declared.script.Stmt.TheVariants as stmt
 use Rattle.script_reader.specs.declared.script.Who.TheVariants as who
 use Rattle.script_reader.specs.Checks.{cost_of, differs, is_ragged, length_at, open_of, operations, printed, run_of, turns_in}
 use Rattle.script_reader.specs.Effects.{effect_of}
+use Rattle.script_reader.specs.Limits.{most_operations}
 use Rattle.script_gen.specs.Scripts.{item_of, recv_last, send_next}
 use Rattle.script_gen.proofs.Checks.{AreLight, Passes, clears, not_above}
 use Rattle.script_gen.proofs.Facts.{light_sum, odd_other, recv_other, send_other, work}
@@ -59,7 +60,7 @@ module _ (nue s t : ℕ) (some : 2 ≤ nue) (most : nue ≤ 48) (small : s ≤ 6
   )
 
   spent : (rank : ℕ) (ahead back : List Item) (item : Item) → ahead ++ item ∷ back ≡ reverse (ring_said s t) → length back ≤ 60
-      → operations nue back rank + turns_in (open_of back) * cost_of (run_of nue back) (effect_of item.stmt).cost rank ≤ 100000
+      → operations nue back rank + turns_in (open_of back) * cost_of (run_of nue back) (effect_of item.stmt).cost rank ≤ most_operations
   spent rank ahead back item is short = work nue rank (reverse (ring_said s t)) ahead back item (light rank) is short
 
   others : (rank : ℕ) → (rank % 2 == 1) ≡ true → AreOthers rank (past s t 9)
@@ -135,7 +136,7 @@ module _ (nue s t : ℕ) (some : 2 ≤ nue) (most : nue ≤ 48) (small : s ≤ 6
     parented = refl;
     closed = refl;
     flat = refl;
-    turning = not_above 100000 (1 * t) (omega (arith, few));
+    turning = not_above most_operations (1 * t) (omega (arith, few));
     short = refl;
     clear = λ check rank below has.
         let even : (rank % 2 == 0) ≡ true = has in
@@ -268,7 +269,7 @@ module _ (nue s t : ℕ) (some : 2 ≤ nue) (most : nue ≤ 48) (small : s ≤ 6
     parented = refl;
     closed = refl;
     flat = refl;
-    turning = not_above 100000 (1 * t) (omega (arith, few));
+    turning = not_above most_operations (1 * t) (omega (arith, few));
     short = refl;
     clear = λ check rank below has.
         clears nue (past s t 11) (stmt.Repeat t 0) rank refl refl refl refl refl refl

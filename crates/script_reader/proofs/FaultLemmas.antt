@@ -15,6 +15,7 @@ use Rattle.script_reader.specs.declared.script.Stmt.{Stmt}
 use Rattle.script_reader.specs.declared.tally.Setting.{Setting}
 use Rattle.script_reader.specs.Checks.{counts_at, has_no_parent, has_split, is_past_group, is_stray, is_too_deep, is_too_long, is_unfit, is_unknown, length_at, misfits, open_of, refuses, resizes, run_of, set_by, set_if, turns_in, turns_too_often}
 use Rattle.script_reader.specs.Effects.{comm_needed, effect_of, some_use}
+use Rattle.script_reader.specs.Limits.{most_names}
 use Rattle.script_reader.specs.Progress.{Progress, fault_table, first_fault, has_fault, is_refused, past}
 use Rattle.script_reader.specs.Script.{peer_of}
 use Rattle.script_reader.specs.Tally.{reads}
@@ -54,7 +55,7 @@ pub record IsSound (p : Progress) (e : Effect) : Type 0 where
   pub worked : is_refused kind.TooManyOps p e ≡ false
   pub short : is_too_long e ≡ false
   pub printed : is_refused kind.TooLong p e ≡ false
-  pub few : nat_lt 64 (length p.names) ≡ false
+  pub few : nat_lt most_names (length p.names) ≡ false
 
 -- each kind is found among those of the table, wherever it stands there
 each-absent : (p : Progress) (e : Effect) → AreAbsent (has_fault p e) fault_table → IsSound p e

@@ -19,8 +19,8 @@ pub fn version_law()
     ensures named { (bytes : List ℕ) (nue : ℕ) → IfOk (read_file bytes nue) (NamesCommsTo (last_comm (version_of (lines_of bytes)))) }
 {}
 
-/// A script that was read names at most 64 registers. None of its repeats is open at its end, and each repeat has the place
-/// of its end, in its section.
+/// A script that was read names no more registers than a file may. None of its repeats is open at its end, and each repeat
+/// has the place of its end, in its section.
 pub fn script_law()
     ensures few { (bytes : List ℕ) (nue : ℕ) → IfOk (parse_script bytes nue) (λ script. length script.names ≤ most_names) }
     ensures closed { (bytes : List ℕ) (nue : ℕ) → IfOk (parse_script bytes nue) IsClosed }

@@ -256,7 +256,7 @@ impl Reader {
 
     /// The number of a register: the place of its name, which is put behind the others where it is new.
     pub(crate) fn register(&mut self, name: Name) -> Result<u8, AllocError>
-        requires { length self.old.names ≤ 65 }
+        requires { length self.old.names ≤ most_names + 1 }
         ensures gives { IfOk result (λ reg. reg ≡ register_of self.old.names name) }
         ensures named { OnOk result (self.new ≡ named self.old name) }
         ensures within { IfOk result (λ reg. reg < length self.new.names) }
