@@ -5,3 +5,4 @@ pub mod IdleLaws
 pub mod MarkLaws
 pub mod RepeatCounts
 pub mod OperationCounts
+pub mod UnrolledLaws
