@@ -1,10 +1,9 @@
 -- The script of a number for one rank: what the reader reads in its text.
-use Rattle.std.proofs.Common.{◌≡◌, ℕ, ◌+◌, ◌*◌, ◌%◌, ◌≤◌, Bool, true, false, cond, List, [], ◌∷◌, ◌++◌, length, map, reverse, take, drop, codes, decimal, Result, Ok, refl, ◌∙◌, ap, arith}
+use Rattle.std.proofs.Common.{◌≡◌, ℕ, ◌+◌, ◌*◌, ◌%◌, ◌≤◌, true, false, List, [], ◌∷◌, ◌++◌, length, map, reverse, take, drop, codes, decimal, Ok, refl, ◌∙◌, arith}
 use Rattle.std.specs.Prelude.{◌==◌, nat_lt}
 use Rattle.std.proofs.lemmas.Fmt.{length-decimal-le}
 use Rattle.groups.specs.declared.operations.Op.TheVariants as op
 use Rattle.groups.specs.declared.operations.Ty.TheVariants as ty
-use Rattle.script_reader.specs.declared.fault.ReadFault.{ReadFault}
 use Rattle.script_reader.specs.declared.script.Form.TheVariants as form
 use Rattle.script_reader.specs.declared.script.Item.{Item}
 use Rattle.script_reader.specs.declared.script.Stmt.TheVariants as stmt
@@ -12,19 +11,18 @@ use Rattle.script_reader.specs.declared.script.Who.{Who}
 use Rattle.script_reader.specs.declared.script.Who.TheVariants as who
 use Rattle.script_reader.specs.declared.version.Version.TheVariants as version
 use Rattle.script_reader.specs.Checks.{cost_of, open_of, operations, run_of, turns_in}
-use Rattle.script_reader.specs.Faults.{◌>>=◌}
 use Rattle.script_reader.specs.Effects.{effect_of}
 use Rattle.script_reader.specs.Limits.{most_operations}
 use Rattle.script_reader.specs.Progress.{Progress, start}
-use Rattle.script_reader.specs.Reading.{at_end, most_script_bytes, parse_script, read_all_lines, read_lines, version_of}
-use Rattle.texts.specs.Cuts.{line_count, lines_of}
+use Rattle.script_reader.specs.Reading.{at_end, most_script_bytes, parse_script, read_lines}
+use Rattle.texts.specs.Cuts.{line_count}
 use Rattle.script_gen.specs.Scripts.{item_of, lone_script}
 use Rattle.script_gen.specs.Texts.{text_of_lines, turns_of}
 use Rattle.script_gen.proofs.Checks.{AreLight, Passes, clears, not_above, placed, stage}
 use Rattle.script_gen.proofs.Facts.{light_sum, none_odd, work}
-use Rattle.script_gen.proofs.Lines.{AreLines, line_of, lines_of_text}
+use Rattle.script_gen.proofs.Lines.{AreLines, line_of}
 use Rattle.script_gen.proofs.BothScripts.{end_are, even_are, fill_are, names_1, names_2, odd_are, printme_are, rank_are, repeat_are, sum_are}
-use Rattle.script_gen.proofs.Reading.{allreduce_is, fill_is, go, repeat_is, text_short, too_long}
+use Rattle.script_gen.proofs.Reading.{allreduce_is, fill_is, go, repeat_is, text_read, text_short}
 
 -- its lines, as words
 abbrev pub lone_words : ℕ → ℕ → List (List (List ℕ))
@@ -353,11 +351,7 @@ module _ (s t : ℕ) (small : s ≤ 65535) (least : 1 ≤ t) (few : t ≤ 10) wh
       not_above most_script_bytes _ (omega (arith, size, s_short, t_short))
 
   pub lone_read : parse_script (text_of_lines (map line_of (lone_words s t))) 1 ≡ at_end (line_count (rest s t 0)) (stage 1 (lone_said s t) names_2 who.Odd)
-  lone_read =
-      let text = text_of_lines (map line_of (lone_words s t)) in
-      ap (λ (b : Bool). cond b too_long (read_all_lines (version_of (lines_of text)) (lines_of text) 1)) fits
-      ∙ ap (λ (ls : List (List ℕ)). read_all_lines (version_of ls) ls 1) (lines_of_text (lone_words s t) are)
-      ∙ ap (λ (r : Result Progress ReadFault). r >>= at_end (line_count (rest s t 0))) reading
+  lone_read = text_read 1 (lone_words s t) (stage 1 (lone_said s t) names_2 who.Odd) are fits refl reading
 
 -- the script that the text says
 pub lone_law : (s : ℕ) → s ≤ 65535 → parse_script (text_of_lines (map line_of (lone_words s (turns_of s)))) 1 ≡ Ok (lone_script s)
