@@ -54,6 +54,14 @@ pub record Passes (nue : ℕ) (past : List Item) (who : Who) (s : Stmt) : Type 0
   pub short : is_too_long (effect_of s) ≡ false
   pub clear : (kind : FaultKind) (rank : ℕ) → rank < nue → has_rank who rank ≡ true → refuses kind nue past (effect_of s) rank ≡ false
 
+-- a statement that the checks of its line let pass, and that is refused for no rank of its section
+pub passing : (nue : ℕ) (past : List Item) (who : Who) (s : Stmt) → is_unknown version.One (run_of nue past) (effect_of s).group ≡ false → has_no_parent (run_of nue past) (effect_of s).group ≡ false
+    → is_stray (open_of past) (effect_of s).nesting ≡ false → is_too_deep (open_of past) (effect_of s).nesting ≡ false
+    → turns_too_often (turns_in (open_of past)) (effect_of s).nesting ≡ false → is_too_long (effect_of s) ≡ false
+    → ((kind : FaultKind) (rank : ℕ) → rank < nue → has_rank who rank ≡ true → refuses kind nue past (effect_of s) rank ≡ false) → Passes nue past who s
+passing nue past who s known parented closed flat turning short clear =
+    record { known = known; parented = parented; closed = closed; flat = flat; turning = turning; short = short; clear = clear }
+
 -- where the reader stands in a section
 abbrev pub stage : ℕ → List Item → List (List ℕ) → Who → Progress
 stage nue items names who = record { version = version.One; nue = nue; opening = false; items = items; names = names; section = Some who }
