@@ -57,6 +57,7 @@ def _kinds(source: str, cases: dict[str, dict[str, Any]]) -> list[Kind]:
 MOST_MESSAGE, MOST_NAMES, MOST_OPEN, MOST_OPERATIONS, MOST_PRINTED, MOST_SCRIPT_BYTES = (
     LIMITS[f"most_{name}"] for name in ("message", "names", "open", "operations", "printed", "script_bytes")
 )
+LAST_COMM, LAST_COMM_TWO = LIMITS["last_comm_one"], LIMITS["last_comm_two"]
 
 SCRIPT_KINDS = _kinds(SCRIPT, {
     "NotText": _lines("blanks and the printable characters of ASCII alone, outside comments", "ue 0", "ints x \u22125", "ints x -5"),
@@ -67,7 +68,8 @@ SCRIPT_KINDS = _kinds(SCRIPT, {
     "BadName": _lines("a name of 1 to 16 letters, digits or underscores that begins with a letter", "ue 0", "bytes 2x 00", "bytes x2 00"),
     "RankRange": _lines("ranks below the number of UEs, A not above B, ROOT below the size of the group", "", "ue 2", "ue 1"),
     "SelfMessage": _lines("another UE than the one that has the statement", "ue 0|bytes x 00", "send 0 x", "send 1 x"),
-    "UnknownComm": _lines("a communicator from 1 to 7 (15 in version 2) with one rule, and its parent below it", "all", "split 8 mod 2", "split 7 mod 2"),
+    "UnknownComm": _lines(f"a communicator from 1 to {LAST_COMM} ({LAST_COMM_TWO} in version 2) with one rule, and its parent below it", "all",
+                          f"split {LAST_COMM + 1} mod 2", f"split {LAST_COMM} mod 2"),
     "NotSplit": _lines("an earlier split of the communicator at each UE of the section", "all", "barrier 1", "split 1 mod 2|barrier 1"),
     "Unset": _lines("a register that an earlier line sets at each UE of the section", "ue 0", "print y", "bytes y 00|print y"),
     "Shape": _lines("the length that the register has, equal lengths, whole values", "ue 0|bytes x 00", "bytes x 0000", "bytes z 0000"),

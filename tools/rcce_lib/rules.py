@@ -44,6 +44,8 @@ RULES: dict[str, list[tuple[str, str]]] = {
     ],
 }
 LIMITS: dict[str, int] = {
+    "last_comm_one": 7,
+    "last_comm_two": 15,
     "most_host_bytes": 65_536,
     "most_lab_bytes": 1_048_576,
     "most_line_bytes": 255,

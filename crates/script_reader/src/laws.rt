@@ -10,8 +10,7 @@ ghost use Rattle.script_reader.specs.Limits.{most_names};
 ghost use Rattle.texts.specs.Cuts.{lines_of};
 
 /// A file is read by the grammar of version 1, but where its first line that has words is `rcce 2`.
-/// A script of version 1 has no parent but the world, and names no communicator from 8 on; one of version 2 names none from
-/// 16 on.
+/// A script of version 1 has no parent but the world; and a script names no communicator past the last of its version.
 pub fn version_law()
     ensures first { (bytes : List ℕ) (nue : ℕ) → version_of (lines_of bytes) ≡ One → read_file bytes nue ≡ read_as One bytes nue }
     ensures second { (bytes : List ℕ) (nue : ℕ) → version_of (lines_of bytes) ≡ Two → read_file bytes nue ≡ read_as Two bytes nue }
