@@ -1,4 +1,4 @@
-use Rattle.std.proofs.Common.{◌≡◌, ◌∙◌, ap, subst, sym}
+use Rattle.std.proofs.Common.{◌∙◌, ap, subst, sym}
 use Rattle.script_plain.specs.Code.{HasLength, HasSent, IsAtSend}
 use Rattle.script_plain.specs.Kept.{reckoned_at}
 use Rattle.script_plain.specs.Local.{Local, local_next}
