@@ -1,4 +1,4 @@
--- A rank as it is seen, and its machine: what is known of the next step of one is known of the other's, and past a step the lengths of registers stay.
+-- A rank as it is seen, and its machine: they have one next step, and past it the registers keep their lengths.
 use Rattle.std.proofs.Common.{◌≡◌, true, subst, sym}
 use Rattle.script_plain.specs.Kept.{Fits, reckoned_at}
 use Rattle.script_plain.specs.Local.{Local, local_next}

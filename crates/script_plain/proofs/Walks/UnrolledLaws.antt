@@ -1,4 +1,4 @@
--- What holds of lists of primitives, and of two of them one behind the other, holds of a rank's program if it holds of what each item makes.
+-- A rank's program is made of what its items make: what holds of each of these, and of two lists one behind the other, holds of it.
 use Rattle.std.proofs.Common.{◌≡◌, ℕ, zero, suc, ◌-◌, List, [], ◌∷◌, ◌++◌, Some, refl, slice_get}
 use Rattle.scc_base.specs.Setups.{SetupView}
 use Rattle.script_reader.specs.declared.effect.Nesting.{Nesting}
