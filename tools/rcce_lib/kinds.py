@@ -1,7 +1,10 @@
-"""Every kind of fault: its rule, what is wanted in its place, and a small file that has it beside one that has not."""
+"""Every kind of fault: its rule (of the page), what is wanted in its place, and a small file that has it beside one that has not."""
 from __future__ import annotations
 
 from dataclasses import dataclass, field
+from typing import Any
+
+from rcce_lib.rules import LIMITS, RULES
 
 SCRIPT, HOSTS, LOG, LAB, TRACE, RUN = "script", "host file", "log", "lab", "trace", "run"
 
@@ -39,72 +42,61 @@ class Kind:
         return "".join(f"{line}\n" for line in self.before + self.right + self.after)
 
 
-def _script(name: str, rule: str, wanted: str, before: str, wrong: str, right: str, after: str = "") -> Kind:
-    """A kind of a script, with the lines of each part between bars."""
-    parts = [part.split("|") if part else [] for part in (wrong, right, before, after)]
-    return Kind(name, SCRIPT, rule, wanted, *parts)
+def _lines(wanted: str, before: str, wrong: str, right: str, after: str = "") -> dict[str, Any]:
+    """What is wanted, and the files of a kind, with the lines of each part between bars."""
+    parts = {"before": before, "wrong": wrong, "right": right, "after": after}
+    return {"wanted": wanted, **{name: part.split("|") if part else [] for name, part in parts.items()}}
 
 
-SCRIPT_KINDS = [
-    _script("NotText", "a byte outside a comment is no blank and no printable character",
-            "blanks and the printable characters of ASCII alone, outside comments", "ue 0", "ints x \u22125", "ints x -5"),
-    _script("UnknownStatement", "the first word is none of docs/SCRIPTS.md, or is rcce past its place, or a fixed word is wrong",
-            "a statement of docs/SCRIPTS.md, with its fixed words", "ue 0", "receive 1 y 4", "recv 1 y 4"),
-    _script("WrongCount", "the line has another number of words than the statement",
-            "as many words as the statement has", "ue 0", "recv 1 y", "recv 1 y 4"),
-    _script("BadNumber", "a number is not of its form, or out of its range; rcce with another number than 1 or 2; "
-            "repeat with a number not from 1 to 100,000",
-            "a number of its form and within its range", "ue 0", "recv 1 y four", "recv 1 y 4"),
-    _script("BadHex", "HEX is neither - nor an even number of hex digits",
-            "two hex digits for each byte, or - for no bytes", "ue 0", "bytes x 012", "bytes x 0102"),
-    _script("BadName", "a name is not of its form",
-            "a name of 1 to 16 letters, digits or underscores that begins with a letter", "ue 0", "bytes 2x 00", "bytes x2 00"),
-    _script("RankRange",
-            "a rank is N or more, or A is above B, or ROOT is not below the size of the group (where COMM is 0 or an earlier line splits it)",
-            "ranks below the number of UEs, A not above B, ROOT below the size of the group", "", "ue 2", "ue 1"),
-    _script("SelfMessage", "PEER is the UE itself",
-            "another UE than the one that has the statement", "ue 0|bytes x 00", "send 0 x", "send 1 x"),
-    _script("UnknownComm", "COMM is above 7, or above 15 in version 2; a split of 0; PARENT is not below COMM; "
-            "a split of a number that an earlier line splits by another rule or parent",
-            "a communicator from 1 to 7 (15 in version 2) with one rule, and its parent below it", "all", "split 8 mod 2", "split 7 mod 2"),
-    _script("NotSplit", "in another statement than split, the UE has no earlier split of COMM, which is not 0; "
-            "in a split, the UE has no earlier split of PARENT, which is not 0, or no earlier line splits it",
-            "an earlier split of the communicator at each UE of the section", "all", "barrier 1", "split 1 mod 2|barrier 1"),
-    _script("Unset", "a register is read that the UE has not set in an earlier line",
-            "a register that an earlier line sets at each UE of the section", "ue 0", "print y", "bytes y 00|print y"),
-    _script("Shape", "a register is set to another length than it has, lengths differ, or a length is no multiple of the type's width",
-            "the length that the register has, equal lengths, whole values", "ue 0|bytes x 00", "bytes x 0000", "bytes z 0000"),
-    _script("NoSection", "a statement before any section line",
-            "a section line (all, even, odd, ue A, ue A-B) before the first statement", "", "bytes x 00", "all|bytes x 00"),
-    _script("UnclosedRepeat", "a section line inside a repeat; or the file ends inside one (at the number of lines plus 1)",
-            "an end for each repeat, within its section", "all|repeat 2|barrier", "ue 0", "end|ue 0"),
-    _script("StrayEnd", "end with no open repeat",
-            "a repeat before each end", "all", "barrier|end", "repeat 2|barrier|end"),
-    _script("TooDeep", "a ninth open repeat",
-            "at most 8 open repeats", "all" + "|repeat 2" * 8, "repeat 2", "barrier", "|".join(["end"] * 8)),
-    _script("TooManyOps", "a UE has more than 100,000 operations, or the numbers of the open repeats multiply to more",
-            "at most 100,000 operations at a UE, each end counted", "all", "repeat 100000|bytes x 00|end", "repeat 50000|bytes x 00|end"),
-    _script("TooLong",
-            "a length above 65,536, a post of more than 3,584 bytes, more than 1,048,576 printed bytes at a UE, "
-            "or a file of more than 4,194,304 bytes (at line 0)",
-            "lengths up to 65,536, posts up to 3,584 bytes, 1,048,576 printed bytes at a UE, files up to 4,194,304 bytes", "ue 0",
-            "recv 1 y 65537", "recv 1 y 65536"),
-    _script("TooManyNames", "the 65th name of the file",
-            "at most 64 names in a file", "|".join(["all"] + [f"bytes n{i} 00" for i in range(64)]), "bytes n64 00", "bytes n0 00"),
-]
+def _kinds(source: str, cases: dict[str, dict[str, Any]]) -> list[Kind]:
+    """The kinds of a source in the order of its page, with their rules there; what is wanted and the files are said here, in any order."""
+    assert set(cases) == {name for name, _ in RULES[source]}, f"the kinds of a {source} are not those of its page"
+    return [Kind(name, source, rule, **cases[name]) for name, rule in RULES[source]]
 
-HOST_KINDS = [
-    Kind("TooLong", HOSTS, "the file has more than 65,536 bytes; said of line 0", "a host file of at most 65,536 bytes",
-         ["5", "6", "# and 65,536 dashes"], ["5", "6"], whole=True, dashes=65536),
-    Kind("NotText", HOSTS, "a byte outside a comment is no blank and no printable character",
-         "blanks and the printable characters of ASCII alone, outside comments", ["\u2460"], ["1"], after=["2"]),
-    Kind("BadCore", HOSTS, "the line has something else than one core number", "one core number from 0 to 47, with rck before it or not",
-         ["rck48"], ["rck47"], after=["2"]),
-    Kind("TwiceCore", HOSTS, "an earlier line has that core", "a core that no earlier line has", ["rck05"], ["rck06"], before=["rck05"]),
-    Kind("TooFew", HOSTS, "fewer than N cores; said of the line behind the last", "a core for each of the N ranks",
-         ["rck05"], ["rck05", "rck06"], behind=1),
-]
 
+MOST_MESSAGE, MOST_NAMES, MOST_OPEN, MOST_OPERATIONS, MOST_PRINTED, MOST_SCRIPT_BYTES = (
+    LIMITS[f"most_{name}"] for name in ("message", "names", "open", "operations", "printed", "script_bytes")
+)
+LAST_COMM, LAST_COMM_TWO = LIMITS["last_comm_one"], LIMITS["last_comm_two"]
+
+SCRIPT_KINDS = _kinds(SCRIPT, {
+    "NotText": _lines("blanks and the printable characters of ASCII alone, outside comments", "ue 0", "ints x \u22125", "ints x -5"),
+    "UnknownStatement": _lines("a statement of docs/SCRIPTS.md, with its fixed words", "ue 0", "receive 1 y 4", "recv 1 y 4"),
+    "WrongCount": _lines("as many words as the statement has", "ue 0", "recv 1 y", "recv 1 y 4"),
+    "BadNumber": _lines("a number of its form and within its range", "ue 0", "recv 1 y four", "recv 1 y 4"),
+    "BadHex": _lines("two hex digits for each byte, or - for no bytes", "ue 0", "bytes x 012", "bytes x 0102"),
+    "BadName": _lines("a name of 1 to 16 letters, digits or underscores that begins with a letter", "ue 0", "bytes 2x 00", "bytes x2 00"),
+    "RankRange": _lines("ranks below the number of UEs, A not above B, ROOT below the size of the group", "", "ue 2", "ue 1"),
+    "SelfMessage": _lines("another UE than the one that has the statement", "ue 0|bytes x 00", "send 0 x", "send 1 x"),
+    "UnknownComm": _lines(f"a communicator from 1 to {LAST_COMM} ({LAST_COMM_TWO} in version 2) with one rule, and its parent below it", "all",
+                          f"split {LAST_COMM + 1} mod 2", f"split {LAST_COMM} mod 2"),
+    "NotSplit": _lines("an earlier split of the communicator at each UE of the section", "all", "barrier 1", "split 1 mod 2|barrier 1"),
+    "Unset": _lines("a register that an earlier line sets at each UE of the section", "ue 0", "print y", "bytes y 00|print y"),
+    "Shape": _lines("the length that the register has, equal lengths, whole values", "ue 0|bytes x 00", "bytes x 0000", "bytes z 0000"),
+    "NoSection": _lines("a section line (all, even, odd, ue A, ue A-B) before the first statement", "", "bytes x 00", "all|bytes x 00"),
+    "UnclosedRepeat": _lines("an end for each repeat, within its section", "all|repeat 2|barrier", "ue 0", "end|ue 0"),
+    "StrayEnd": _lines("a repeat before each end", "all", "barrier|end", "repeat 2|barrier|end"),
+    "TooDeep": _lines(f"at most {MOST_OPEN} open repeats", "all" + "|repeat 2" * MOST_OPEN, "repeat 2", "barrier", "|".join(["end"] * MOST_OPEN)),
+    "TooManyOps": _lines(f"at most {MOST_OPERATIONS:,} operations at a UE, each end counted", "all",
+                         f"repeat {MOST_OPERATIONS}|bytes x 00|end", f"repeat {MOST_OPERATIONS // 2}|bytes x 00|end"),
+    "TooLong": _lines(f"lengths up to {MOST_MESSAGE:,}, posts up to 3,584 bytes, {MOST_PRINTED:,} printed bytes at a UE, files up to {MOST_SCRIPT_BYTES:,} bytes",
+                      "ue 0", f"recv 1 y {MOST_MESSAGE + 1}", f"recv 1 y {MOST_MESSAGE}"),
+    "TooManyNames": _lines(f"at most {MOST_NAMES} names in a file", "|".join(["all"] + [f"bytes n{i} 00" for i in range(MOST_NAMES)]),
+                           f"bytes n{MOST_NAMES} 00", "bytes n0 00"),
+})
+
+MOST_HOST_BYTES, MOST_LAB_BYTES, MOST_TRACE_BYTES, MOST_TRACE_LINES = (LIMITS[f"most_{name}"] for name in ("host_bytes", "lab_bytes", "trace_bytes", "trace_lines"))
+
+HOST_KINDS = _kinds(HOSTS, {
+    "TooLong": {"wanted": f"a host file of at most {MOST_HOST_BYTES:,} bytes", "wrong": ["5", "6", f"# and {MOST_HOST_BYTES:,} dashes"], "right": ["5", "6"],
+                "whole": True, "dashes": MOST_HOST_BYTES},
+    "NotText": {"wanted": "blanks and the printable characters of ASCII alone, outside comments", "wrong": ["\u2460"], "right": ["1"], "after": ["2"]},
+    "BadCore": {"wanted": "one core number from 0 to 47, with rck before it or not", "wrong": ["rck48"], "right": ["rck47"], "after": ["2"]},
+    "TwiceCore": {"wanted": "a core that no earlier line has", "wrong": ["rck05"], "right": ["rck06"], "before": ["rck05"]},
+    "TooFew": {"wanted": "a core for each of the N ranks", "wrong": ["rck05"], "right": ["rck05", "rck06"], "behind": 1},
+})
+
+# (docs/LOGS.md has no table of kinds)
 LOG_KINDS = [
     Kind("TooLong", LOG, "the log has more than 67,108,864 bytes; said of line 0", "a log of at most 67,108,864 bytes",
          ["rcce log 2", "# and 67,108,864 dashes"], ["rcce log 2"], whole=True, dashes=67108864),
@@ -119,31 +111,26 @@ LOG_KINDS = [
          ["0 send 1 plain 0 2 01"], ["0 send 1 plain 0 1 01"], before=["rcce log 2"]),
 ]
 
-LAB_KINDS = [
-    Kind("TooLong", LAB, "the file has more than 1,048,576 bytes; said of line 0", "a lab of at most 1,048,576 bytes",
-         ["core 0 print", "# and 1,048,576 dashes"], ["core 0 print"], whole=True, dashes=1048576),
-    Kind("NotText", LAB, "a byte outside a comment is no blank and no printable character",
-         "blanks and the printable characters of ASCII alone, outside comments", ["core 0 print \u2460"], ["core 0 print"]),
-    Kind("BadCore", LAB, "the line does not begin with core C", "core C first, with C from 0 to 47", ["core 48 print"], ["core 47 print"]),
-    Kind("BadStep", LAB, "what follows core C is none of the forms of a step", "a step of docs/LAB.md",
-         ["core 0 writes 0.0 2a"], ["core 0 write 0.0 2a"]),
-]
+LAB_KINDS = _kinds(LAB, {
+    "TooLong": {"wanted": f"a lab of at most {MOST_LAB_BYTES:,} bytes", "wrong": ["core 0 print", f"# and {MOST_LAB_BYTES:,} dashes"], "right": ["core 0 print"],
+                "whole": True, "dashes": MOST_LAB_BYTES},
+    "NotText": {"wanted": "blanks and the printable characters of ASCII alone, outside comments", "wrong": ["core 0 print \u2460"], "right": ["core 0 print"]},
+    "BadCore": {"wanted": "core C first, with C from 0 to 47", "wrong": ["core 48 print"], "right": ["core 47 print"]},
+    "BadStep": {"wanted": "a step of docs/LAB.md", "wrong": ["core 0 writes 0.0 2a"], "right": ["core 0 write 0.0 2a"]},
+})
 
 # (a trace that is too long is none that a test writes)
-TRACE_KINDS = [
-    Kind("TooLong", TRACE, "the file has more than 1,073,741,824 bytes or 16,777,216 lines; said of line 0",
-         "a trace of at most 1,073,741,824 bytes and 16,777,216 lines",
-         ["rcce trace 1 nue 1 layout words hosts 0", "# and 1,073,741,824 dashes"], ["rcce trace 1 nue 1 layout words hosts 0"], whole=True, dashes=1073741824),
-    Kind("BadHead", TRACE, "line 1 is not of its form",
-         "rcce trace 1 nue N layout words|bits hosts CORE,.. with N from 1 to 48 and as many different cores below 48",
-         ["rcce trace 1 nue 2 layout words hosts 0"], ["rcce trace 1 nue 2 layout words hosts 0,1"]),
-    Kind("BadComm", TRACE, "a line that begins with comm is no split of its form, or stands out of its place",
-         "comm NUMBER PARENT mod|div PARTS before all events, with rising numbers and a parent that is there",
-         ["comm 2 0 rest 2"], ["comm 2 0 mod 2"], before=["rcce trace 1 nue 4 layout words hosts 0,1,2,3"]),
-    Kind("BadEvent", TRACE, "the line is none of an event, lacks its line feed, or has more than 255 bytes",
-         "RANK load|store CORE.LINE.WORD VALUE or RANK take|free CORE.register VALUE, with 16 hex digits and what you like behind a #, 255 bytes at most",
-         ["0 load 0.225.0 0"], ["0 load 0.225.0 0000000000000000"], before=["rcce trace 1 nue 1 layout words hosts 0"]),
-]
+TRACE_KINDS = _kinds(TRACE, {
+    "TooLong": {"wanted": f"a trace of at most {MOST_TRACE_BYTES:,} bytes and {MOST_TRACE_LINES:,} lines",
+                "wrong": ["rcce trace 1 nue 1 layout words hosts 0", f"# and {MOST_TRACE_BYTES:,} dashes"], "right": ["rcce trace 1 nue 1 layout words hosts 0"],
+                "whole": True, "dashes": MOST_TRACE_BYTES},
+    "BadHead": {"wanted": "rcce trace 1 nue N layout words|bits hosts CORE,.. with N from 1 to 48 and as many different cores below 48",
+                "wrong": ["rcce trace 1 nue 2 layout words hosts 0"], "right": ["rcce trace 1 nue 2 layout words hosts 0,1"]},
+    "BadComm": {"wanted": "comm NUMBER PARENT mod|div PARTS before all events, with rising numbers and a parent that is there",
+                "wrong": ["comm 2 0 rest 2"], "right": ["comm 2 0 mod 2"], "before": ["rcce trace 1 nue 4 layout words hosts 0,1,2,3"]},
+    "BadEvent": {"wanted": "RANK load|store CORE.LINE.WORD VALUE or RANK take|free CORE.register VALUE, with 16 hex digits and what you like behind a #, 255 bytes at most",
+                 "wrong": ["0 load 0.225.0 0"], "right": ["0 load 0.225.0 0000000000000000"], "before": ["rcce trace 1 nue 1 layout words hosts 0"]},
+})
 
 # no faults of a file: why ranks of a run cannot end, as `rcce why` says it
 RUN_CAUSES = [

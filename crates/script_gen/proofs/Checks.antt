@@ -20,6 +20,7 @@ use Rattle.script_reader.specs.declared.version.Version.TheVariants as version
 use Rattle.script_reader.specs.Checks.{cost_of, has_no_parent, has_no_root, has_split, is_misshapen, is_not_split, is_stray, is_to_self, is_too_deep, is_too_long, is_unknown, is_unset, length_at, open_of, operations, posts_too_much, printed, prints, refuses, run_of, some_below, turns_in, turns_too_often}
 use Rattle.script_reader.specs.Effects.{effect_of}
 use Rattle.script_reader.specs.Faults.{◌>>=◌}
+use Rattle.script_reader.specs.Limits.{most_names, most_operations, most_printed}
 use Rattle.script_reader.specs.Progress.{Progress, fault_table, first_fault, has_fault, is_refused, place}
 use Rattle.script_reader.specs.Script.{has_rank}
 use Rattle.script_gen.specs.Scripts.{item_of}
@@ -38,14 +39,10 @@ none_below (suc n) who test clear =
     one true is = ap (λ (b : Bool). b && test n) is ∙ clear n (omega arith) is
     one false is = ap (λ (b : Bool). b && test n) is
 
--- kinds of which the test fails
-abbrev AreAbsent : (FaultKind → Bool) → List FaultKind → Type 0
-AreAbsent test [] = Unit {0}
-AreAbsent test (kind ∷ kinds) = (test kind ≡ false) × AreAbsent test kinds
-
-none_found : (test : FaultKind → Bool) (kinds : List FaultKind) → AreAbsent test kinds → find test kinds ≡ None
-none_found test [] absent = refl
-none_found test (kind ∷ kinds) absent = ap (λ (b : Bool). cond b (Some kind) (find test kinds)) absent.0 ∙ none_found test kinds absent.1
+-- a test that each kind fails finds none, whatever the list and its order
+none_found : (test : FaultKind → Bool) → ((kind : FaultKind) → test kind ≡ false) → (kinds : List FaultKind) → find test kinds ≡ None
+none_found test fails [] = refl
+none_found test fails (kind ∷ kinds) = ap (λ (b : Bool). cond b (Some kind) (find test kinds)) (fails kind) ∙ none_found test fails kinds
 
 -- what the checks ask of a statement behind others
 pub record Passes (nue : ℕ) (past : List Item) (who : Who) (s : Stmt) : Type 0 where
@@ -57,6 +54,14 @@ pub record Passes (nue : ℕ) (past : List Item) (who : Who) (s : Stmt) : Type 0
   pub short : is_too_long (effect_of s) ≡ false
   pub clear : (kind : FaultKind) (rank : ℕ) → rank < nue → has_rank who rank ≡ true → refuses kind nue past (effect_of s) rank ≡ false
 
+-- a statement that the checks of its line let pass, and that is refused for no rank of its section
+pub passing : (nue : ℕ) (past : List Item) (who : Who) (s : Stmt) → is_unknown version.One (run_of nue past) (effect_of s).group ≡ false → has_no_parent (run_of nue past) (effect_of s).group ≡ false
+    → is_stray (open_of past) (effect_of s).nesting ≡ false → is_too_deep (open_of past) (effect_of s).nesting ≡ false
+    → turns_too_often (turns_in (open_of past)) (effect_of s).nesting ≡ false → is_too_long (effect_of s) ≡ false
+    → ((kind : FaultKind) (rank : ℕ) → rank < nue → has_rank who rank ≡ true → refuses kind nue past (effect_of s) rank ≡ false) → Passes nue past who s
+passing nue past who s known parented closed flat turning short clear =
+    record { known = known; parented = parented; closed = closed; flat = flat; turning = turning; short = short; clear = clear }
+
 -- where the reader stands in a section
 abbrev pub stage : ℕ → List Item → List (List ℕ) → Who → Progress
 stage nue items names who = record { version = version.One; nue = nue; opening = false; items = items; names = names; section = Some who }
@@ -65,17 +70,25 @@ module _ (nue : ℕ) (items : List Item) (names : List (List ℕ)) (who : Who) (
   not_refused : (kind : FaultKind) → is_refused kind (stage nue items names who) (effect_of s) ≡ false
   not_refused kind = none_below nue who (refuses kind nue (reverse items) (effect_of s)) (p.clear kind)
 
-  -- no fault of the table, in its order
-  sound : nat_lt 64 (length names) ≡ false → first_fault (stage nue items names who) (effect_of s) ≡ None
-  sound few =
-      let test = has_fault (stage nue items names who) (effect_of s) in
-      let last : AreAbsent test (kind.StrayEnd ∷ kind.TooDeep ∷ kind.TooManyOps ∷ kind.TooLong ∷ kind.TooManyNames ∷ []) =
-      (p.closed, (p.flat, (or_false _ _ p.turning (not_refused kind.TooManyOps), (or_false _ _ p.short (not_refused kind.TooLong), (few, tt))))) in
-      let first : AreAbsent test (kind.NotSplit ∷ kind.Unset ∷ kind.Shape ∷ kind.NoSection ∷ kind.StrayEnd ∷ kind.TooDeep ∷ kind.TooManyOps ∷ kind.TooLong ∷ kind.TooManyNames ∷ []) =
-      (or_false _ _ p.parented (not_refused kind.NotSplit), (not_refused kind.Unset, (not_refused kind.Shape, (refl, last)))) in
-      none_found test fault_table (not_refused kind.RankRange, (not_refused kind.SelfMessage, (p.known, first)))
+  -- no fault of any kind: each behind its test, and the kinds of a line's words are none of a statement's
+  absent : nat_lt most_names (length names) ≡ false → (kind : FaultKind) → has_fault (stage nue items names who) (effect_of s) kind ≡ false
+  absent few kind.RankRange = not_refused kind.RankRange
+  absent few kind.SelfMessage = not_refused kind.SelfMessage
+  absent few kind.UnknownComm = p.known
+  absent few kind.NotSplit = or_false _ _ p.parented (not_refused kind.NotSplit)
+  absent few kind.Unset = not_refused kind.Unset
+  absent few kind.Shape = not_refused kind.Shape
+  absent few kind.StrayEnd = p.closed
+  absent few kind.TooDeep = p.flat
+  absent few kind.TooManyOps = or_false _ _ p.turning (not_refused kind.TooManyOps)
+  absent few kind.TooLong = or_false _ _ p.short (not_refused kind.TooLong)
+  absent few kind.TooManyNames = few
+  absent few _ = refl
 
-  pub placed : (line : ℕ) → nat_lt 64 (length names) ≡ false → place line (stage nue items names who) s ≡ Ok (stage nue (items ++ item_of line who s ∷ []) names who)
+  sound : nat_lt most_names (length names) ≡ false → first_fault (stage nue items names who) (effect_of s) ≡ None
+  sound few = none_found (has_fault (stage nue items names who) (effect_of s)) (absent few) fault_table
+
+  pub placed : (line : ℕ) → nat_lt most_names (length names) ≡ false → place line (stage nue items names who) s ≡ Ok (stage nue (items ++ item_of line who s ∷ []) names who)
   placed line few =
       let found : Result Who FaultKind = Ok who in
       ap (λ (o : Option FaultKind). option_map_or Err o found >>= λ w. Ok (record (stage nue items names who) { items = items ++ item_of line w s ∷ [] })) (sound few)
@@ -91,16 +104,16 @@ pub clears : (nue : ℕ) (past : List Item) (s : Stmt) (rank : ℕ)
     → is_unset (run_of nue past) (length_at nue past rank) (effect_of s) rank ≡ false
     → is_misshapen (run_of nue past) (length_at nue past rank) (effect_of s) rank ≡ false
     → posts_too_much (length_at nue past rank) (effect_of s) ≡ false
-    → operations nue past rank + turns_in (open_of past) * cost_of (run_of nue past) (effect_of s).cost rank ≤ 100000
-    → printed nue past rank + turns_in (open_of past) * prints (length_at nue past rank) (effect_of s) ≤ 1048576
+    → operations nue past rank + turns_in (open_of past) * cost_of (run_of nue past) (effect_of s).cost rank ≤ most_operations
+    → printed nue past rank + turns_in (open_of past) * prints (length_at nue past rank) (effect_of s) ≤ most_printed
     → (kind : FaultKind) → refuses kind nue past (effect_of s) rank ≡ false
 clears nue past s rank root self split set shape posts worked shown kind.RankRange = root
 clears nue past s rank root self split set shape posts worked shown kind.SelfMessage = self
 clears nue past s rank root self split set shape posts worked shown kind.NotSplit = split
 clears nue past s rank root self split set shape posts worked shown kind.Unset = set
 clears nue past s rank root self split set shape posts worked shown kind.Shape = shape
-clears nue past s rank root self split set shape posts worked shown kind.TooManyOps = not_above 100000 _ worked
-clears nue past s rank root self split set shape posts worked shown kind.TooLong = or_false _ _ posts (not_above 1048576 _ shown)
+clears nue past s rank root self split set shape posts worked shown kind.TooManyOps = not_above most_operations _ worked
+clears nue past s rank root self split set shape posts worked shown kind.TooLong = or_false _ _ posts (not_above most_printed _ shown)
 clears nue past s rank root self split set shape posts worked shown _ = refl
 
 -- statements that are few operations each
@@ -122,10 +135,10 @@ light_work nue rank (item ∷ past) light =
     let here = part (has_rank item.who rank) (turns_in (open_of past) * cost_of (run_of nue past) (effect_of item.stmt).cost rank) 1500 light.1 in
     one_more _ _ _ before here
 
-within_all : (a c n : ℕ) → a ≤ 1500 * n → c ≤ 1500 → n ≤ 60 → a + c ≤ 100000
+within_all : (a c n : ℕ) → a ≤ 1500 * n → c ≤ 1500 → n ≤ 60 → a + c ≤ most_operations
 within_all a c n before here few = omega arith
 
-pub worked : (nue rank : ℕ) (past : List Item) (item : Item) → AreLight nue rank (item ∷ past) → length past ≤ 60 → operations nue past rank + turns_in (open_of past) * cost_of (run_of nue past) (effect_of item.stmt).cost rank ≤ 100000
+pub worked : (nue rank : ℕ) (past : List Item) (item : Item) → AreLight nue rank (item ∷ past) → length past ≤ 60 → operations nue past rank + turns_in (open_of past) * cost_of (run_of nue past) (effect_of item.stmt).cost rank ≤ most_operations
 worked nue rank past item light few =
     within_all _ _ _ (light_work nue rank past light.0) light.1 few
 

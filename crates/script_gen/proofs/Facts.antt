@@ -13,6 +13,7 @@ use Rattle.script_reader.specs.declared.script.Item.{Item}
 use Rattle.script_reader.specs.declared.script.Stmt.TheVariants as stmt
 use Rattle.script_reader.specs.Checks.{cost_of, is_known, is_to_self, open_of, operations, run_of, turns_in}
 use Rattle.script_reader.specs.Effects.{effect_of}
+use Rattle.script_reader.specs.Limits.{most_operations}
 use Rattle.script_gen.specs.Scripts.{recv_last, send_next}
 use Rattle.script_gen.proofs.Checks.{AreLight, allreduce_short, part, worked}
 
@@ -67,6 +68,6 @@ light_back nue rank (item ∷ more) past light = light_back nue rank more past l
 
 -- the operations up to a statement among others
 pub work : (nue rank : ℕ) (all more past : List Item) (item : Item) → AreLight nue rank all → more ++ item ∷ past ≡ all → length past ≤ 60
-    → operations nue past rank + turns_in (open_of past) * cost_of (run_of nue past) (effect_of item.stmt).cost rank ≤ 100000
+    → operations nue past rank + turns_in (open_of past) * cost_of (run_of nue past) (effect_of item.stmt).cost rank ≤ most_operations
 work nue rank all more past item light is few =
     worked nue rank past item (light_back nue rank more (item ∷ past) (subst (AreLight nue rank) (sym is) light)) few

@@ -1,10 +1,9 @@
 -- The script of a number for one rank: what the reader reads in its text.
-use Rattle.std.proofs.Common.{◌≡◌, ℕ, ◌+◌, ◌*◌, ◌%◌, ◌≤◌, Bool, true, false, cond, List, [], ◌∷◌, ◌++◌, length, map, reverse, take, drop, codes, decimal, Result, Ok, refl, ◌∙◌, ap, arith}
+use Rattle.std.proofs.Common.{◌≡◌, ℕ, ◌+◌, ◌*◌, ◌%◌, ◌≤◌, true, false, List, [], ◌∷◌, ◌++◌, length, map, reverse, take, drop, codes, decimal, Ok, refl, ◌∙◌, arith}
 use Rattle.std.specs.Prelude.{◌==◌, nat_lt}
 use Rattle.std.proofs.lemmas.Fmt.{length-decimal-le}
 use Rattle.groups.specs.declared.operations.Op.TheVariants as op
 use Rattle.groups.specs.declared.operations.Ty.TheVariants as ty
-use Rattle.script_reader.specs.declared.fault.ReadFault.{ReadFault}
 use Rattle.script_reader.specs.declared.script.Form.TheVariants as form
 use Rattle.script_reader.specs.declared.script.Item.{Item}
 use Rattle.script_reader.specs.declared.script.OwnStmt.TheVariants as own
@@ -13,18 +12,18 @@ use Rattle.script_reader.specs.declared.script.Who.{Who}
 use Rattle.script_reader.specs.declared.script.Who.TheVariants as who
 use Rattle.script_reader.specs.declared.version.Version.TheVariants as version
 use Rattle.script_reader.specs.Checks.{cost_of, open_of, operations, run_of, turns_in}
-use Rattle.script_reader.specs.Faults.{◌>>=◌}
 use Rattle.script_reader.specs.Effects.{effect_of}
+use Rattle.script_reader.specs.Limits.{most_operations}
 use Rattle.script_reader.specs.Progress.{Progress, start}
-use Rattle.script_reader.specs.Reading.{at_end, most_script_bytes, parse_script, read_all_lines, read_lines, version_of}
-use Rattle.texts.specs.Cuts.{line_count, lines_of}
+use Rattle.script_reader.specs.Reading.{at_end, most_script_bytes, parse_script, read_lines}
+use Rattle.texts.specs.Cuts.{line_count}
 use Rattle.script_gen.specs.Scripts.{item_of, lone_script}
 use Rattle.script_gen.specs.Texts.{text_of_lines, turns_of}
-use Rattle.script_gen.proofs.Checks.{AreLight, Passes, clears, not_above, placed, stage}
+use Rattle.script_gen.proofs.Checks.{AreLight, Passes, clears, not_above, passing, placed, stage}
 use Rattle.script_gen.proofs.Facts.{light_sum, none_odd, work}
-use Rattle.script_gen.proofs.Lines.{AreLines, line_of, lines_of_text}
+use Rattle.script_gen.proofs.Lines.{AreLines, line_of}
 use Rattle.script_gen.proofs.BothScripts.{end_are, even_are, fill_are, names_1, names_2, odd_are, printme_are, rank_are, repeat_are, sum_are}
-use Rattle.script_gen.proofs.Reading.{allreduce_is, fill_is, go, repeat_is, text_short, too_long}
+use Rattle.script_gen.proofs.Reading.{allreduce_is, fill_is, go, repeat_is, text_read, text_short}
 
 -- its lines, as words
 abbrev pub lone_words : ℕ → ℕ → List (List (List ℕ))
@@ -107,164 +106,74 @@ module _ (s t : ℕ) (small : s ≤ 65535) (least : 1 ≤ t) (few : t ≤ 10) wh
   )
 
   spent : (rank : ℕ) (ahead back : List Item) (item : Item) → ahead ++ item ∷ back ≡ reverse (lone_said s t) → length back ≤ 60
-      → operations 1 back rank + turns_in (open_of back) * cost_of (run_of 1 back) (effect_of item.stmt).cost rank ≤ 100000
+      → operations 1 back rank + turns_in (open_of back) * cost_of (run_of 1 back) (effect_of item.stmt).cost rank ≤ most_operations
   spent rank ahead back item is short = work 1 rank (reverse (lone_said s t)) ahead back item (light rank) is short
 
   pass_0 : Passes 1 (past s t 0) who.Even (stmt.Fill 0 s s)
-  pass_0 = record {
-    known = refl;
-    parented = refl;
-    closed = refl;
-    flat = refl;
-    turning = refl;
-    short = not_above 65536 s (omega (arith, small));
-    clear = λ check rank below has.
-        let even : (rank % 2 == 0) ≡ true = has in
-        clears 1 (past s t 0) (stmt.Fill 0 s s) rank refl refl refl refl refl refl
-        (spent rank (more s t 1) (past s t 0) (item_of 2 who.Even (stmt.Fill 0 s s)) refl (omega arith))
-        (omega (arith, small)) check;
-  }
+  pass_0 =
+      passing 1 (past s t 0) who.Even (stmt.Fill 0 s s) refl refl refl refl refl (not_above 65536 s (omega (arith, small))) (λ check rank below has.
+      let even : (rank % 2 == 0) ≡ true = has in
+      clears 1 (past s t 0) (stmt.Fill 0 s s) rank refl refl refl refl refl refl
+      (spent rank (more s t 1) (past s t 0) (item_of 2 who.Even (stmt.Fill 0 s s)) refl (omega arith))
+      (omega (arith, small)) check)
 
   pass_1 : Passes 1 (past s t 1) who.Even (stmt.RankOf 1 ty.Long)
-  pass_1 = record {
-    known = refl;
-    parented = refl;
-    closed = refl;
-    flat = refl;
-    turning = refl;
-    short = refl;
-    clear = λ check rank below has.
-        let even : (rank % 2 == 0) ≡ true = has in
-        clears 1 (past s t 1) (stmt.RankOf 1 ty.Long) rank refl refl refl refl (simp even) refl
-        (spent rank (more s t 2) (past s t 1) (item_of 3 who.Even (stmt.RankOf 1 ty.Long)) refl (omega arith))
-        (simp even (omega (arith, small))) check;
-  }
+  pass_1 =
+      passing 1 (past s t 1) who.Even (stmt.RankOf 1 ty.Long) refl refl refl refl refl refl (λ check rank below has.
+      let even : (rank % 2 == 0) ≡ true = has in
+      clears 1 (past s t 1) (stmt.RankOf 1 ty.Long) rank refl refl refl refl (simp even) refl
+      (spent rank (more s t 2) (past s t 1) (item_of 3 who.Even (stmt.RankOf 1 ty.Long)) refl (omega arith))
+      (simp even (omega (arith, small))) check)
 
   pass_2 : Passes 1 (past s t 2) who.Even (stmt.Repeat t 0)
-  pass_2 = record {
-    known = refl;
-    parented = refl;
-    closed = refl;
-    flat = refl;
-    turning = not_above 100000 (1 * t) (omega (arith, few));
-    short = refl;
-    clear = λ check rank below has.
-        let even : (rank % 2 == 0) ≡ true = has in
-        clears 1 (past s t 2) (stmt.Repeat t 0) rank refl refl refl refl refl refl
-        (spent rank (more s t 3) (past s t 2) (item_of 4 who.Even (stmt.Repeat t 0)) refl (omega arith))
-        (simp even (omega (arith, small))) check;
-  }
+  pass_2 =
+      passing 1 (past s t 2) who.Even (stmt.Repeat t 0) refl refl refl refl (not_above most_operations (1 * t) (omega (arith, few))) refl (λ check rank below has.
+      let even : (rank % 2 == 0) ≡ true = has in
+      clears 1 (past s t 2) (stmt.Repeat t 0) rank refl refl refl refl refl refl
+      (spent rank (more s t 3) (past s t 2) (item_of 4 who.Even (stmt.Repeat t 0)) refl (omega arith))
+      (simp even (omega (arith, small))) check)
 
   pass_3 : Passes 1 (past s t 3) who.Even (stmt.Allreduce 0 op.Sum ty.Long 1 1)
-  pass_3 = record {
-    known = refl;
-    parented = refl;
-    closed = refl;
-    flat = refl;
-    turning = refl;
-    short = refl;
-    clear = λ check rank below has.
-        let even : (rank % 2 == 0) ≡ true = has in
-        clears 1 (past s t 3) (stmt.Allreduce 0 op.Sum ty.Long 1 1) rank refl refl refl (simp even) (simp even) refl
-        (spent rank (more s t 4) (past s t 3) (item_of 5 who.Even (stmt.Allreduce 0 op.Sum ty.Long 1 1)) refl (omega arith))
-        (simp even (omega (arith, small))) check;
-  }
+  pass_3 =
+      passing 1 (past s t 3) who.Even (stmt.Allreduce 0 op.Sum ty.Long 1 1) refl refl refl refl refl refl (λ check rank below has.
+      let even : (rank % 2 == 0) ≡ true = has in
+      clears 1 (past s t 3) (stmt.Allreduce 0 op.Sum ty.Long 1 1) rank refl refl refl (simp even) (simp even) refl
+      (spent rank (more s t 4) (past s t 3) (item_of 5 who.Even (stmt.Allreduce 0 op.Sum ty.Long 1 1)) refl (omega arith))
+      (simp even (omega (arith, small))) check)
 
   pass_4 : Passes 1 (past s t 4) who.Even (stmt.End 2)
-  pass_4 = record {
-    known = refl;
-    parented = refl;
-    closed = refl;
-    flat = refl;
-    turning = refl;
-    short = refl;
-    clear = λ check rank below has.
-        let even : (rank % 2 == 0) ≡ true = has in
-        clears 1 (past s t 4) (stmt.End 2) rank refl refl refl refl refl refl
-        (spent rank (more s t 5) (past s t 4) (item_of 6 who.Even (stmt.End 2)) refl (omega arith))
-        (simp even (omega (arith, small))) check;
-  }
+  pass_4 =
+      passing 1 (past s t 4) who.Even (stmt.End 2) refl refl refl refl refl refl (λ check rank below has.
+      let even : (rank % 2 == 0) ≡ true = has in
+      clears 1 (past s t 4) (stmt.End 2) rank refl refl refl refl refl refl
+      (spent rank (more s t 5) (past s t 4) (item_of 6 who.Even (stmt.End 2)) refl (omega arith))
+      (simp even (omega (arith, small))) check)
 
   pass_5 : Passes 1 (past s t 5) who.Even (stmt.Own (own.Print 1 (form.Decimal ty.Long)))
-  pass_5 = record {
-    known = refl;
-    parented = refl;
-    closed = refl;
-    flat = refl;
-    turning = refl;
-    short = refl;
-    clear = λ check rank below has.
-        let even : (rank % 2 == 0) ≡ true = has in
-        clears 1 (past s t 5) (stmt.Own (own.Print 1 (form.Decimal ty.Long))) rank refl refl refl (simp even) (simp even) refl
-        (spent rank (more s t 6) (past s t 5) (item_of 7 who.Even (stmt.Own (own.Print 1 (form.Decimal ty.Long)))) refl (omega arith))
-        (simp even (omega (arith, small))) check;
-  }
+  pass_5 =
+      passing 1 (past s t 5) who.Even (stmt.Own (own.Print 1 (form.Decimal ty.Long))) refl refl refl refl refl refl (λ check rank below has.
+      let even : (rank % 2 == 0) ≡ true = has in
+      clears 1 (past s t 5) (stmt.Own (own.Print 1 (form.Decimal ty.Long))) rank refl refl refl (simp even) (simp even) refl
+      (spent rank (more s t 6) (past s t 5) (item_of 7 who.Even (stmt.Own (own.Print 1 (form.Decimal ty.Long)))) refl (omega arith))
+      (simp even (omega (arith, small))) check)
 
   pass_6 : Passes 1 (past s t 6) who.Odd (stmt.Fill 0 s s)
-  pass_6 = record {
-    known = refl;
-    parented = refl;
-    closed = refl;
-    flat = refl;
-    turning = refl;
-    short = not_above 65536 s (omega (arith, small));
-    clear = λ check rank below has. absurd (none_odd rank below has);
-  }
+  pass_6 = passing 1 (past s t 6) who.Odd (stmt.Fill 0 s s) refl refl refl refl refl (not_above 65536 s (omega (arith, small))) (λ check rank below has. absurd (none_odd rank below has))
 
   pass_7 : Passes 1 (past s t 7) who.Odd (stmt.RankOf 1 ty.Long)
-  pass_7 = record {
-    known = refl;
-    parented = refl;
-    closed = refl;
-    flat = refl;
-    turning = refl;
-    short = refl;
-    clear = λ check rank below has. absurd (none_odd rank below has);
-  }
+  pass_7 = passing 1 (past s t 7) who.Odd (stmt.RankOf 1 ty.Long) refl refl refl refl refl refl (λ check rank below has. absurd (none_odd rank below has))
 
   pass_8 : Passes 1 (past s t 8) who.Odd (stmt.Repeat t 0)
-  pass_8 = record {
-    known = refl;
-    parented = refl;
-    closed = refl;
-    flat = refl;
-    turning = not_above 100000 (1 * t) (omega (arith, few));
-    short = refl;
-    clear = λ check rank below has. absurd (none_odd rank below has);
-  }
+  pass_8 = passing 1 (past s t 8) who.Odd (stmt.Repeat t 0) refl refl refl refl (not_above most_operations (1 * t) (omega (arith, few))) refl (λ check rank below has. absurd (none_odd rank below has))
 
   pass_9 : Passes 1 (past s t 9) who.Odd (stmt.Allreduce 0 op.Sum ty.Long 1 1)
-  pass_9 = record {
-    known = refl;
-    parented = refl;
-    closed = refl;
-    flat = refl;
-    turning = refl;
-    short = refl;
-    clear = λ check rank below has. absurd (none_odd rank below has);
-  }
+  pass_9 = passing 1 (past s t 9) who.Odd (stmt.Allreduce 0 op.Sum ty.Long 1 1) refl refl refl refl refl refl (λ check rank below has. absurd (none_odd rank below has))
 
   pass_10 : Passes 1 (past s t 10) who.Odd (stmt.End 8)
-  pass_10 = record {
-    known = refl;
-    parented = refl;
-    closed = refl;
-    flat = refl;
-    turning = refl;
-    short = refl;
-    clear = λ check rank below has. absurd (none_odd rank below has);
-  }
+  pass_10 = passing 1 (past s t 10) who.Odd (stmt.End 8) refl refl refl refl refl refl (λ check rank below has. absurd (none_odd rank below has))
 
   pass_11 : Passes 1 (past s t 11) who.Odd (stmt.Own (own.Print 1 (form.Decimal ty.Long)))
-  pass_11 = record {
-    known = refl;
-    parented = refl;
-    closed = refl;
-    flat = refl;
-    turning = refl;
-    short = refl;
-    clear = λ check rank below has. absurd (none_odd rank below has);
-  }
+  pass_11 = passing 1 (past s t 11) who.Odd (stmt.Own (own.Print 1 (form.Decimal ty.Long))) refl refl refl refl refl refl (λ check rank below has. absurd (none_odd rank below has))
 
   are : AreLines (lone_words s t)
   are = (
@@ -353,11 +262,7 @@ module _ (s t : ℕ) (small : s ≤ 65535) (least : 1 ≤ t) (few : t ≤ 10) wh
       not_above most_script_bytes _ (omega (arith, size, s_short, t_short))
 
   pub lone_read : parse_script (text_of_lines (map line_of (lone_words s t))) 1 ≡ at_end (line_count (rest s t 0)) (stage 1 (lone_said s t) names_2 who.Odd)
-  lone_read =
-      let text = text_of_lines (map line_of (lone_words s t)) in
-      ap (λ (b : Bool). cond b too_long (read_all_lines (version_of (lines_of text)) (lines_of text) 1)) fits
-      ∙ ap (λ (ls : List (List ℕ)). read_all_lines (version_of ls) ls 1) (lines_of_text (lone_words s t) are)
-      ∙ ap (λ (r : Result Progress ReadFault). r >>= at_end (line_count (rest s t 0))) reading
+  lone_read = text_read 1 (lone_words s t) (stage 1 (lone_said s t) names_2 who.Odd) are fits refl reading
 
 -- the script that the text says
 pub lone_law : (s : ℕ) → s ≤ 65535 → parse_script (text_of_lines (map line_of (lone_words s (turns_of s)))) 1 ≡ Ok (lone_script s)

@@ -5,6 +5,7 @@ use Rattle.std.proofs.lemmas.Bool.{cond-false}
 use Rattle.script_reader.specs.declared.script.Item.{Item}
 use Rattle.script_reader.specs.Checks.{length_at, open_of, printed, prints, run_of, set_by, sets_to, turns_in}
 use Rattle.script_reader.specs.Effects.{effect_of}
+use Rattle.script_reader.specs.Limits.{most_printed}
 use Rattle.script_reader.specs.Script.{has_rank}
 
 abbrev pub AreOthers : ℕ → List Item → Type 0
@@ -34,17 +35,17 @@ silent nue rank past item none =
     ap (λ (n : ℕ). printed nue past rank + cond (has_rank item.who rank) (turns_in (open_of past) * n) 0) none
     ∙ no_part (has_rank item.who rank) (printed nue past rank) (turns_in (open_of past))
 
-pub still_within : (n t : ℕ) → n ≡ 0 → n + t * 0 ≤ 1048576
+pub still_within : (n t : ℕ) → n ≡ 0 → n + t * 0 ≤ most_printed
 still_within n t none = omega (arith, none)
 
 -- a statement that prints a register outside of all repeats
 prints_at : (t : ℕ) (had : Option ℕ) (len : ℕ) → t ≡ 1 → had ≡ Some len → t * unwrap_or had 0 ≡ len
 prints_at t had len one is = ap (λ (k : ℕ). k * unwrap_or had 0) one ∙ ap (λ (o : Option ℕ). 1 * unwrap_or o 0) is ∙ omega arith
 
-sum_within : (n x m len : ℕ) → n ≤ m → x ≡ len → m + len ≤ 1048576 → n + x ≤ 1048576
+sum_within : (n x m len : ℕ) → n ≤ m → x ≡ len → m + len ≤ most_printed → n + x ≤ most_printed
 sum_within n x m len low is within = omega (arith, low, is, within)
 
-pub print_within : (n t : ℕ) (had : Option ℕ) (m len : ℕ) → n ≤ m → t ≡ 1 → had ≡ Some len → m + len ≤ 1048576 → n + t * unwrap_or had 0 ≤ 1048576
+pub print_within : (n t : ℕ) (had : Option ℕ) (m len : ℕ) → n ≤ m → t ≡ 1 → had ≡ Some len → m + len ≤ most_printed → n + t * unwrap_or had 0 ≤ most_printed
 print_within n t had m len low one is within = sum_within n (t * unwrap_or had 0) m len low (prints_at t had len one is) within
 
 at_most : (b : Bool) (n x m len k : ℕ) → n ≤ m → x ≡ len → m + len ≡ k → n + cond b x 0 ≤ k

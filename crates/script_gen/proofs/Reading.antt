@@ -1,6 +1,6 @@
 -- Lines of words, one after another, as the reader takes them.
-use Rattle.std.proofs.Common.{◌≡◌, ℕ, ◌+◌, ◌≤◌, true, false, ◌&&◌, List, [], ◌∷◌, ◌++◌, length, map, codes, decimal, Some, Result, Ok, Err, refl, ◌∙◌, ap, arith, length-append}
-use Rattle.std.specs.Prelude.{nat_le}
+use Rattle.std.proofs.Common.{◌≡◌, ℕ, ◌+◌, ◌≤◌, Bool, true, false, cond, ◌&&◌, List, [], ◌∷◌, ◌++◌, length, map, codes, decimal, Some, Result, Ok, Err, refl, ◌∙◌, ap, arith, length-append}
+use Rattle.std.specs.Prelude.{nat_le, nat_lt}
 use Rattle.std.proofs.lemmas.Bool.{and_from, cond-true, le-leb}
 use Rattle.groups.specs.declared.operations.Op.TheVariants as op
 use Rattle.groups.specs.declared.operations.Ty.TheVariants as ty
@@ -9,16 +9,19 @@ use Rattle.script_reader.specs.declared.fault.FaultKind.TheVariants as kind
 use Rattle.script_reader.specs.declared.fault.ReadFault.{ReadFault}
 use Rattle.script_reader.specs.declared.script.Peer.TheVariants as peer
 use Rattle.script_reader.specs.declared.script.Stmt.TheVariants as stmt
+use Rattle.script_reader.specs.declared.version.Version.{Version}
 use Rattle.script_reader.specs.declared.version.Version.TheVariants as version
 use Rattle.script_reader.specs.Faults.{◌>>=◌}
-use Rattle.script_reader.specs.Progress.{Progress, after, named, place, register_of}
-use Rattle.script_reader.specs.Reading.{at_line, begun, read_line, read_lines, read_words}
+use Rattle.script_reader.specs.Limits.{most_operations}
+use Rattle.script_reader.specs.Progress.{Progress, after, named, place, register_of, start}
+use Rattle.script_reader.specs.Reading.{at_end, at_line, begun, most_script_bytes, parse_script, read_all_lines, read_line, read_lines, read_words, version_of}
 use Rattle.script_reader.specs.Said.{said_of}
 use Rattle.script_reader.specs.Script.{Script}
+use Rattle.texts.specs.Cuts.{line_count, lines_of}
 use Rattle.texts.specs.Numbers.{number_of}
 use Rattle.texts.proofs.DecimalLemmas.{number_of-decimal}
 use Rattle.script_gen.specs.Texts.{text_of_lines}
-use Rattle.script_gen.proofs.Lines.{AreWords, line_of, text_line, words_of_line}
+use Rattle.script_gen.proofs.Lines.{AreLines, AreWords, line_of, lines_of_text, text_line, words_of_line}
 
 -- a line of words
 one_line : (n : ℕ) (p q : Progress) (w : List ℕ) (ws : List (List ℕ)) → AreWords (w ∷ ws) → (said_of p.version p.opening w ws >>= after n (begun p)) ≡ Ok q → read_line n p (line_of (w ∷ ws)) ≡ Ok q
@@ -42,8 +45,8 @@ one_is : number_of (codes "1") ≡ Some 1
 unfolding number_of
 one_is = refl
 
-from_one : (t : ℕ) → 1 ≤ t → t ≤ 10 → (nat_le 1 t && nat_le t 100000) ≡ true
-from_one t some few = and_from _ _ (le-leb 1 t some) (le-leb t 100000 (omega arith))
+from_one : (t : ℕ) → 1 ≤ t → t ≤ 10 → (nat_le 1 t && nat_le t most_operations) ≡ true
+from_one t some few = and_from _ _ (le-leb 1 t some) (le-leb t most_operations (omega arith))
 
 from_zero : (s : ℕ) → s ≤ 65535 → (nat_le 0 s && nat_le s 65535) ≡ true
 from_zero s small = and_from _ _ (le-leb 0 s (omega arith)) (le-leb s 65535 small)
@@ -74,8 +77,20 @@ pub allreduce_is : (n : ℕ) (p : Progress)
 allreduce_is n p = simp zero_is
 
 -- a file that is too long
-abbrev pub too_long : Result Script ReadFault
+abbrev too_long : Result Script ReadFault
 too_long = Err (record { line = 0; kind = kind.TooLong })
+
+-- a text of version 1 that is not too long is read as its lines are
+pub text_read : (nue : ℕ) (words : List (List (List ℕ))) (p : Progress) → AreLines words → nat_lt most_script_bytes (length (text_of_lines (map line_of words))) ≡ false
+    → version_of (map line_of words ++ [] ∷ []) ≡ version.One → read_lines 0 (start version.One nue) (map line_of words ++ [] ∷ []) ≡ Ok p
+    → parse_script (text_of_lines (map line_of words)) nue ≡ at_end (line_count (map line_of words ++ [] ∷ [])) p
+text_read nue words p are short first read =
+    let text = text_of_lines (map line_of words) in
+    let lines : List (List ℕ) = map line_of words ++ [] ∷ [] in
+    ap (λ (b : Bool). cond b too_long (read_all_lines (version_of (lines_of text)) (lines_of text) nue)) short
+    ∙ ap (λ (ls : List (List ℕ)). read_all_lines (version_of ls) ls nue) (lines_of_text words are)
+    ∙ ap (λ (v : Version). read_all_lines v lines nue) first
+    ∙ ap (λ (r : Result Progress ReadFault). r >>= at_end (line_count lines)) read
 
 -- how long a text of such lines is at most
 abbrev words_size : List (List ℕ) → ℕ

@@ -1,25 +1,23 @@
 -- The script of a number for two ranks and more: what the reader reads in its text.
-use Rattle.std.proofs.Common.{◌≡◌, ℕ, ◌≤◌, Bool, false, cond, List, [], ◌∷◌, length, map, take, codes, decimal, Result, Ok, refl, ◌∙◌, ap, arith}
+use Rattle.std.proofs.Common.{◌≡◌, ℕ, ◌≤◌, false, [], ◌∷◌, length, map, take, codes, decimal, Ok, refl, ◌∙◌, arith}
 use Rattle.std.specs.Prelude.{nat_lt}
 use Rattle.std.proofs.lemmas.Fmt.{length-decimal-le}
 use Rattle.groups.specs.declared.operations.Op.TheVariants as op
 use Rattle.groups.specs.declared.operations.Ty.TheVariants as ty
-use Rattle.script_reader.specs.declared.fault.ReadFault.{ReadFault}
 use Rattle.script_reader.specs.declared.script.Form.TheVariants as form
 use Rattle.script_reader.specs.declared.script.OwnStmt.TheVariants as own
 use Rattle.script_reader.specs.declared.script.Stmt.TheVariants as stmt
 use Rattle.script_reader.specs.declared.script.Who.TheVariants as who
 use Rattle.script_reader.specs.declared.version.Version.TheVariants as version
-use Rattle.script_reader.specs.Faults.{◌>>=◌}
-use Rattle.script_reader.specs.Progress.{Progress, start}
-use Rattle.script_reader.specs.Reading.{at_end, most_script_bytes, parse_script, read_all_lines, read_lines, version_of}
-use Rattle.texts.specs.Cuts.{line_count, lines_of}
+use Rattle.script_reader.specs.Progress.{start}
+use Rattle.script_reader.specs.Reading.{at_end, most_script_bytes, parse_script, read_lines}
+use Rattle.texts.specs.Cuts.{line_count}
 use Rattle.script_gen.specs.Scripts.{recv_last, ring_script, send_next}
 use Rattle.script_gen.specs.Texts.{text_of_lines, turns_of}
 use Rattle.script_gen.proofs.Checks.{not_above, placed, stage}
-use Rattle.script_gen.proofs.Lines.{AreLines, AreWords, decimal_word, line_of, lines_of_text}
+use Rattle.script_gen.proofs.Lines.{AreLines, AreWords, decimal_word, line_of}
 use Rattle.script_gen.proofs.BothScripts.{end_are, even_are, fill_are, names_1, names_2, odd_are, printme_are, rank_are, repeat_are, sum_are}
-use Rattle.script_gen.proofs.Reading.{allreduce_is, fill_is, go, recv_is, repeat_is, send_is, text_short, too_long}
+use Rattle.script_gen.proofs.Reading.{allreduce_is, fill_is, go, recv_is, repeat_is, send_is, text_read, text_short}
 use Rattle.script_gen.proofs.RingSaid.{at, names_3, rest, ring_said, ring_words}
 use Rattle.script_gen.proofs.RingPasses.{pass_0, pass_1, pass_2, pass_3, pass_4, pass_5, pass_6, pass_7, pass_8, pass_9, pass_10, pass_11, pass_12, pass_13, pass_14, pass_15, pass_16, pass_17}
 
@@ -138,11 +136,7 @@ module _ (nue s t : ℕ) (some : 2 ≤ nue) (most : nue ≤ 48) (small : s ≤ 6
       not_above most_script_bytes _ (omega (arith, size, s_short, t_short))
 
   pub ring_read : parse_script (text_of_lines (map line_of (ring_words s t))) nue ≡ at_end (line_count (rest s t 0)) (stage nue (ring_said s t) names_3 who.Odd)
-  ring_read =
-      let text = text_of_lines (map line_of (ring_words s t)) in
-      ap (λ (b : Bool). cond b too_long (read_all_lines (version_of (lines_of text)) (lines_of text) nue)) fits
-      ∙ ap (λ (ls : List (List ℕ)). read_all_lines (version_of ls) ls nue) (lines_of_text (ring_words s t) are)
-      ∙ ap (λ (r : Result Progress ReadFault). r >>= at_end (line_count (rest s t 0))) reading
+  ring_read = text_read nue (ring_words s t) (stage nue (ring_said s t) names_3 who.Odd) are fits refl reading
 
 -- the script that the text says
 pub ring_law : (nue s : ℕ) → 2 ≤ nue → nue ≤ 48 → s ≤ 65535

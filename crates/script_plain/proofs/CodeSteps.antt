@@ -3,3 +3,4 @@ pub mod CodeLaws
 pub mod UeLaws
 pub mod StandLaws
 pub mod GroupLaws
+pub mod UeViews

@@ -6,3 +6,4 @@ pub mod MarkLaws
 pub mod FlatLaws
 pub mod RepeatCounts
 pub mod OperationCounts
+pub mod UnrolledLaws

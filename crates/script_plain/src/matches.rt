@@ -133,9 +133,7 @@ fn history_of(
 pub fn plain_matches(alloc: Global, scripts: &Scripts) -> Result<Matches, AllocError>
     ensures { IfOk result (λ matches. matches ≡ plain_matches scripts.now) }
 {
-    let setup = setup_of(scripts);
-    let Ranks { mut ues, mut slots } = begin(alloc, scripts, &setup)?;
-    let matches = match_on(alloc, &setup, &mut ues, &mut slots)?;
+    let History { matches, end: _ } = plain_history(alloc, scripts)?;
     Ok(matches)
 }
 

@@ -28,6 +28,7 @@ use Rattle.script_reader.specs.declared.tally.Setting.{Setting}
 use Rattle.script_reader.specs.Acceptance.{ForEachRun, IsFitting, IsPostable, IsReadable, IsWholeOf, groups_of, length_before, length_of}
 use Rattle.script_reader.specs.Checks.{cost_of, counts_at, differs, is_absent, is_at, is_misshapen, is_ragged, is_too_deep, is_unset, length_at, length_given, open_of, opened, operations, posts_too_much, printed, prints, prints_too_much, resizes, run_of, set_by, set_if, sets_to, turns_in}
 use Rattle.script_reader.specs.Effects.{IsSizedBy, comm_needed, effect_of}
+use Rattle.script_reader.specs.Limits.{most_open, most_operations, most_printed}
 use Rattle.script_reader.specs.Script.{Script, has_rank, rules_of}
 use Rattle.script_reader.specs.Settled.{AreInLine, ArePassed, IsInLine, IsWhole, run_with}
 use Rattle.script_reader.proofs.CheckLemmas.{false-left, false-right}
@@ -346,35 +347,35 @@ sum-within : (has : Bool) (done more most : ℕ) → (has ≡ true → ltb most 
 sum-within true done more most none within = ltb-false most (done + more) (none refl)
 sum-within false done more most none within = omega arith
 
-operations-within : (nue : ℕ) (past : List Item) (rank : ℕ) → rank < nue → ArePassed nue past → operations nue past rank ≤ 100000
+operations-within : (nue : ℕ) (past : List Item) (rank : ℕ) → rank < nue → ArePassed nue past → operations nue past rank ≤ most_operations
 operations-within nue [] rank below all = omega arith
 operations-within nue (item ∷ past) rank below all =
-    sum-within (has_rank item.who rank) (operations nue past rank) (turns_in (open_of past) * cost_of (run_of nue past) (effect_of item.stmt).cost rank) 100000
+    sum-within (has_rank item.who rank) (operations nue past rank) (turns_in (open_of past) * cost_of (run_of nue past) (effect_of item.stmt).cost rank) most_operations
     (λ has. all.1 kind.TooManyOps rank below has) (operations-within nue past rank below all.0)
 
-printed-within : (nue : ℕ) (past : List Item) (rank : ℕ) → rank < nue → ArePassed nue past → printed nue past rank ≤ 1048576
+printed-within : (nue : ℕ) (past : List Item) (rank : ℕ) → rank < nue → ArePassed nue past → printed nue past rank ≤ most_printed
 printed-within nue [] rank below all = omega arith
 printed-within nue (item ∷ past) rank below all =
-    sum-within (has_rank item.who rank) (printed nue past rank) (turns_in (open_of past) * prints (length_at nue past rank) (effect_of item.stmt)) 1048576
+    sum-within (has_rank item.who rank) (printed nue past rank) (turns_in (open_of past) * prints (length_at nue past rank) (effect_of item.stmt)) most_printed
     (λ has. false-right (posts_too_much (length_at nue past rank) (effect_of item.stmt)) (prints_too_much (length_at nue past rank) (printed nue past rank) (turns_in (open_of past)) (effect_of item.stmt)) (all.1 kind.TooLong rank below has)) (printed-within nue past rank below all.0)
 
-pub worked-law : (script : Script) → IsWhole script.nue script.items → (rank : ℕ) → rank < script.nue → operations script.nue (reverse script.items) rank ≤ 100000
+pub worked-law : (script : Script) → IsWhole script.nue script.items → (rank : ℕ) → rank < script.nue → operations script.nue (reverse script.items) rank ≤ most_operations
 worked-law script whole rank below = operations-within script.nue (reverse script.items) rank below whole.passed
 
-pub printed-law : (script : Script) → IsWhole script.nue script.items → (rank : ℕ) → rank < script.nue → printed script.nue (reverse script.items) rank ≤ 1048576
+pub printed-law : (script : Script) → IsWhole script.nue script.items → (rank : ℕ) → rank < script.nue → printed script.nue (reverse script.items) rank ≤ most_printed
 printed-law script whole rank below = printed-within script.nue (reverse script.items) rank below whole.passed
 
 -- the open repeats
-opened-few : (n : Nesting) (place : ℕ) (repeats : List Open) → is_too_deep repeats n ≡ false → length repeats ≤ 8 → length (opened n place repeats) ≤ 8
-opened-few (nesting.Opens times) place repeats flat few = omega (arith, ltb-false 7 (length repeats) flat, length-append repeats ((record { start = place; turns = turns_in repeats * times }) ∷ []))
+opened-few : (n : Nesting) (place : ℕ) (repeats : List Open) → is_too_deep repeats n ≡ false → length repeats ≤ most_open → length (opened n place repeats) ≤ most_open
+opened-few (nesting.Opens times) place repeats flat few = omega (arith, ltb-false (most_open - 1) (length repeats) flat, length-append repeats ((record { start = place; turns = turns_in repeats * times }) ∷ []))
 opened-few (nesting.Closes start) place repeats flat few = omega (arith, length-take (length repeats - 1) repeats)
 opened-few nesting.Stays place repeats flat few = few
 
-open-few : (nue : ℕ) (past : List Item) → AreInLine nue past → length (open_of past) ≤ 8
+open-few : (nue : ℕ) (past : List Item) → AreInLine nue past → length (open_of past) ≤ most_open
 open-few nue [] lines = omega arith
 open-few nue (item ∷ past) lines = opened-few (effect_of item.stmt).nesting (length past) (open_of past) lines.1.flat (open-few nue past lines.0)
 
-pub shallow-law : (script : Script) → IsWhole script.nue script.items → (place : ℕ) → length (open_of (reverse (take place script.items))) ≤ 8
+pub shallow-law : (script : Script) → IsWhole script.nue script.items → (place : ℕ) → length (open_of (reverse (take place script.items))) ≤ most_open
 shallow-law script whole place =
     open-few script.nue (reverse (take place script.items))
     (line-back script.nue (reverse (drop place script.items)) (reverse (take place script.items)) (subst (λ (list : List Item). AreInLine script.nue list) (front-of script.items place) whole.in_line))

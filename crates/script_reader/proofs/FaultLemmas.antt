@@ -15,10 +15,16 @@ use Rattle.script_reader.specs.declared.script.Stmt.{Stmt}
 use Rattle.script_reader.specs.declared.tally.Setting.{Setting}
 use Rattle.script_reader.specs.Checks.{counts_at, has_no_parent, has_split, is_past_group, is_stray, is_too_deep, is_too_long, is_unfit, is_unknown, length_at, misfits, open_of, refuses, resizes, run_of, set_by, set_if, turns_in, turns_too_often}
 use Rattle.script_reader.specs.Effects.{comm_needed, effect_of, some_use}
-use Rattle.script_reader.specs.Progress.{Progress, first_fault, has_fault, is_refused, past}
+use Rattle.script_reader.specs.Limits.{most_names}
+use Rattle.script_reader.specs.Progress.{Progress, fault_table, first_fault, has_fault, is_refused, past}
 use Rattle.script_reader.specs.Script.{peer_of}
 use Rattle.script_reader.specs.Tally.{reads}
 use Rattle.script_reader.proofs.CheckLemmas.{false-left, false-right, neither, nobody}
+
+-- kinds of which the test fails
+abbrev AreAbsent : (FaultKind → Bool) → List FaultKind → Type 0
+AreAbsent test [] = Unit {0}
+AreAbsent test (kind ∷ kinds) = (test kind ≡ false) × AreAbsent test kinds
 
 -- where the search for a fault finds none, no kind of the list is one
 none-first : (test : FaultKind → Bool) (kind : FaultKind) (b : Bool) (rest : Option FaultKind) → test kind ≡ b → cond b (Some kind) rest ≡ None → (test kind ≡ false) × (rest ≡ None)
@@ -27,6 +33,12 @@ none-first test kind false rest is none = (is, none)
 
 none-here : (test : FaultKind → Bool) (kind : FaultKind) (rest : List FaultKind) → find test (kind ∷ rest) ≡ None → (test kind ≡ false) × (find test rest ≡ None)
 none-here test kind rest none = none-first test kind (test kind) (find test rest) refl none
+
+none-at-all : (test : FaultKind → Bool) (kinds : List FaultKind) → find test kinds ≡ None → AreAbsent test kinds
+none-at-all test [] none = tt
+none-at-all test (kind ∷ kinds) none =
+    let here = none-here test kind kinds none in
+    (here.0, none-at-all test kinds here.1)
 
 -- a statement without a fault, by the tests of the fault table
 pub record IsSound (p : Progress) (e : Effect) : Type 0 where
@@ -43,39 +55,30 @@ pub record IsSound (p : Progress) (e : Effect) : Type 0 where
   pub worked : is_refused kind.TooManyOps p e ≡ false
   pub short : is_too_long e ≡ false
   pub printed : is_refused kind.TooLong p e ≡ false
-  pub few : nat_lt 64 (length p.names) ≡ false
+  pub few : nat_lt most_names (length p.names) ≡ false
+
+-- each kind is found among those of the table, wherever it stands there
+each-absent : (p : Progress) (e : Effect) → AreAbsent (has_fault p e) fault_table → IsSound p e
+each-absent p e absent =
+    record {
+      rooted = assumption;
+      other = assumption;
+      unknown = assumption;
+      parented = false-left (has_no_parent (run_of p.nue (past p)) e.group) (is_refused kind.NotSplit p e) (assumption);
+      split = false-right (has_no_parent (run_of p.nue (past p)) e.group) (is_refused kind.NotSplit p e) (assumption);
+      set = assumption;
+      shaped = assumption;
+      inside = assumption;
+      flat = assumption;
+      turning = false-left (turns_too_often (turns_in (open_of (past p))) e.nesting) (is_refused kind.TooManyOps p e) (assumption);
+      worked = false-right (turns_too_often (turns_in (open_of (past p))) e.nesting) (is_refused kind.TooManyOps p e) (assumption);
+      short = false-left (is_too_long e) (is_refused kind.TooLong p e) (assumption);
+      printed = false-right (is_too_long e) (is_refused kind.TooLong p e) (assumption);
+      few = assumption;
+    }
 
 pub no-fault : (p : Progress) (e : Effect) → first_fault p e ≡ None → IsSound p e
-no-fault p e none =
-    let test = has_fault p e in
-    let a = none-here test kind.RankRange (kind.SelfMessage ∷ kind.UnknownComm ∷ kind.NotSplit ∷ kind.Unset ∷ kind.Shape ∷ kind.NoSection ∷ kind.StrayEnd ∷ kind.TooDeep ∷ kind.TooManyOps ∷ kind.TooLong ∷ kind.TooManyNames ∷ []) none in
-    let b = none-here test kind.SelfMessage (kind.UnknownComm ∷ kind.NotSplit ∷ kind.Unset ∷ kind.Shape ∷ kind.NoSection ∷ kind.StrayEnd ∷ kind.TooDeep ∷ kind.TooManyOps ∷ kind.TooLong ∷ kind.TooManyNames ∷ []) a.1 in
-    let c = none-here test kind.UnknownComm (kind.NotSplit ∷ kind.Unset ∷ kind.Shape ∷ kind.NoSection ∷ kind.StrayEnd ∷ kind.TooDeep ∷ kind.TooManyOps ∷ kind.TooLong ∷ kind.TooManyNames ∷ []) b.1 in
-    let d = none-here test kind.NotSplit (kind.Unset ∷ kind.Shape ∷ kind.NoSection ∷ kind.StrayEnd ∷ kind.TooDeep ∷ kind.TooManyOps ∷ kind.TooLong ∷ kind.TooManyNames ∷ []) c.1 in
-    let f = none-here test kind.Unset (kind.Shape ∷ kind.NoSection ∷ kind.StrayEnd ∷ kind.TooDeep ∷ kind.TooManyOps ∷ kind.TooLong ∷ kind.TooManyNames ∷ []) d.1 in
-    let g = none-here test kind.Shape (kind.NoSection ∷ kind.StrayEnd ∷ kind.TooDeep ∷ kind.TooManyOps ∷ kind.TooLong ∷ kind.TooManyNames ∷ []) f.1 in
-    let h = none-here test kind.NoSection (kind.StrayEnd ∷ kind.TooDeep ∷ kind.TooManyOps ∷ kind.TooLong ∷ kind.TooManyNames ∷ []) g.1 in
-    let i = none-here test kind.StrayEnd (kind.TooDeep ∷ kind.TooManyOps ∷ kind.TooLong ∷ kind.TooManyNames ∷ []) h.1 in
-    let j = none-here test kind.TooDeep (kind.TooManyOps ∷ kind.TooLong ∷ kind.TooManyNames ∷ []) i.1 in
-    let k = none-here test kind.TooManyOps (kind.TooLong ∷ kind.TooManyNames ∷ []) j.1 in
-    let l = none-here test kind.TooLong (kind.TooManyNames ∷ []) k.1 in
-    let m = none-here test kind.TooManyNames [] l.1 in
-    record {
-      rooted = a.0;
-      other = b.0;
-      unknown = c.0;
-      parented = false-left (has_no_parent (run_of p.nue (past p)) e.group) (is_refused kind.NotSplit p e) d.0;
-      split = false-right (has_no_parent (run_of p.nue (past p)) e.group) (is_refused kind.NotSplit p e) d.0;
-      set = f.0;
-      shaped = g.0;
-      inside = i.0;
-      flat = j.0;
-      turning = false-left (turns_too_often (turns_in (open_of (past p))) e.nesting) (is_refused kind.TooManyOps p e) k.0;
-      worked = false-right (turns_too_often (turns_in (open_of (past p))) e.nesting) (is_refused kind.TooManyOps p e) k.0;
-      short = false-left (is_too_long e) (is_refused kind.TooLong p e) l.0;
-      printed = false-right (is_too_long e) (is_refused kind.TooLong p e) l.0;
-      few = m.0;
-    }
+no-fault p e none = each-absent p e (none-at-all (has_fault p e) fault_table none)
 
 -- where an effect is that of a statement
 pub sound-at : (p : Progress) (e : Effect) (s : Stmt) → e ≡ effect_of s → first_fault p e ≡ None → IsSound p (effect_of s)

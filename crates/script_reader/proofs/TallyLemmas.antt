@@ -18,6 +18,7 @@ use Rattle.script_reader.specs.declared.tally.Setting.{Setting}
 use Rattle.script_reader.specs.declared.tally.Tally.{Tally}
 use Rattle.script_reader.specs.Checks.{cost_of, counts_at, is_misshapen, is_not_split, is_unset, length_at, open_of, operations, posts_too_much, printed, prints, prints_too_much, refuses, run_of, set_by, set_if, sets_to, turns_in}
 use Rattle.script_reader.specs.Effects.{effect_of, is_split_of}
+use Rattle.script_reader.specs.Limits.{most_operations, most_printed}
 use Rattle.script_reader.specs.Script.{has_rank}
 use Rattle.script_reader.specs.Tally.{AreTallies, IsMade, IsSplitMade, IsTally, empty_tally, length_in, noted, noted_at, refuses_by, with_length, with_split}
 
@@ -132,10 +133,10 @@ noted-tally : (item : Item) (tally : Tally) (nue : ℕ) (past : List Item) (rank
 noted-tally item tally nue past rank true has made t =
     let e = effect_of item.stmt in
     record {
-      operations_are = capped tally.operations (operations nue past rank) (operations nue (item ∷ past) rank) (turns_in (open_of past) * cost_of (run_of nue past) e.cost rank) 100001 t.operations_are (rw has refl);
+      operations_are = capped tally.operations (operations nue past rank) (operations nue (item ∷ past) rank) (turns_in (open_of past) * cost_of (run_of nue past) e.cost rank) (most_operations + 1) t.operations_are (rw has refl);
       printed_are =
-          ap (λ (had : ℕ → Option ℕ). min (tally.printed + turns_in (open_of past) * prints had e) 1048577) (fun_ext t.lengths_are)
-          ∙ capped tally.printed (printed nue past rank) (printed nue (item ∷ past) rank) (turns_in (open_of past) * prints (length_at nue past rank) e) 1048577 t.printed_are (rw has refl);
+          ap (λ (had : ℕ → Option ℕ). min (tally.printed + turns_in (open_of past) * prints had e) (most_printed + 1)) (fun_ext t.lengths_are)
+          ∙ capped tally.printed (printed nue past rank) (printed nue (item ∷ past) rank) (turns_in (open_of past) * prints (length_at nue past rank) e) (most_printed + 1) t.printed_are (rw has refl);
       lengths_are = lengths-noted item tally nue past rank has made t;
       splits_are = λ comm. split-marked e.group tally.splits comm t.splits_room made.split ∙ ap (λ b. b || is_split_of e.group comm) (t.splits_are comm) ∙ sym (rw has refl);
       lengths_room = with_length-room tally.lengths (set_by (run_of nue past) (length_in tally) e rank) ∙ t.lengths_room;
@@ -169,8 +170,8 @@ pub refuses-same : (kind : FaultKind) (tally : Tally) (nue : ℕ) (past : List I
 refuses-same kind.NotSplit tally nue past e rank t = ap (λ (split : ℕ → Bool). is_not_split split e.group) (fun_ext t.splits_are)
 refuses-same kind.Unset tally nue past e rank t = ap (λ (had : ℕ → Option ℕ). is_unset (run_of nue past) had e rank) (fun_ext t.lengths_are)
 refuses-same kind.Shape tally nue past e rank t = ap (λ (had : ℕ → Option ℕ). is_misshapen (run_of nue past) had e rank) (fun_ext t.lengths_are)
-refuses-same kind.TooManyOps tally nue past e rank t = over-cap tally.operations (operations nue past rank) (turns_in (open_of past) * cost_of (run_of nue past) e.cost rank) 100000 t.operations_are
+refuses-same kind.TooManyOps tally nue past e rank t = over-cap tally.operations (operations nue past rank) (turns_in (open_of past) * cost_of (run_of nue past) e.cost rank) most_operations t.operations_are
 refuses-same kind.TooLong tally nue past e rank t =
     ap (λ (had : ℕ → Option ℕ). posts_too_much had e || prints_too_much had tally.printed (turns_in (open_of past)) e) (fun_ext t.lengths_are)
-    ∙ ap (λ b. posts_too_much (length_at nue past rank) e || b) (over-cap tally.printed (printed nue past rank) (turns_in (open_of past) * prints (length_at nue past rank) e) 1048576 t.printed_are)
+    ∙ ap (λ b. posts_too_much (length_at nue past rank) e || b) (over-cap tally.printed (printed nue past rank) (turns_in (open_of past) * prints (length_at nue past rank) e) most_printed t.printed_are)
 refuses-same _ tally nue past e rank t = refl

@@ -37,6 +37,7 @@ use Rattle.script_reader.specs.Checks.{innermost, open_of}
 use Rattle.script_reader.specs.Counts.{of_five_words, of_four_words, of_six_words, of_three_words, of_two_words}
 use Rattle.script_reader.specs.Effects.{effect_of, parent_of, split_rule}
 use Rattle.script_reader.specs.Faults.{◌>>=◌, Gives}
+use Rattle.script_reader.specs.Limits.{most_operations}
 use Rattle.script_reader.specs.Progress.{Progress, after, after_group, after_local, after_message, after_section, checked, local_numbered, named, open_section, past, peer_in, place, rank_said, register_of, rule_said, small, start}
 use Rattle.script_reader.specs.Reading.{at_end, at_line, begun, most_script_bytes, read_all_lines, read_as, read_line, read_lines, read_words, script_of}
 use Rattle.script_reader.specs.Said.{allreduce_said, allreduce_words, alone, barrier_said, bcast_said, bcast_words, colour_said, dash_of, group_said, local_said, local_word, name_said, number_said, of_said, operation_said, peer_said, post_said, post_words, range_said, ranks_said, rcce_said, recv_said, recv_words, reduce_said, reduce_words, register_said, register_said_by, repeat_said, said_of, section_said, send_said, send_words, span_said, split_said, type_said, ue_said, version_number}
@@ -142,7 +143,7 @@ module _ (v : Version) where
 
   repeat-plain : (words : List (List ℕ)) → IfOk (repeat_said words) (IsPlain v)
   repeat-plain [] = tt
-  repeat-plain (a ∷ []) = behind (λ n. 1 ≤ n) (IsPlain v) (range_said 1 100000 a) _ (then (λ n. 1 ≤ n) (number_said a) _ (λ n. ranged 1 100000 n (nat_le 1 n && nat_le n 100000) refl)) (λ n is. is)
+  repeat-plain (a ∷ []) = behind (λ n. 1 ≤ n) (IsPlain v) (range_said 1 most_operations a) _ (then (λ n. 1 ≤ n) (number_said a) _ (λ n. ranged 1 most_operations n (nat_le 1 n && nat_le n most_operations) refl)) (λ n is. is)
   repeat-plain (a ∷ b ∷ rest) = tt
 
   rcce-plain : (words : List (List ℕ)) → IfOk (rcce_said v words) (IsPlain v)

@@ -1,4 +1,4 @@
--- A script that was read names at most 64 registers, and its repeats are closed.
+-- A script that was read names no more registers than a file may, and its repeats are closed.
 use Rattle.std.proofs.Common.{◌≡◌, ℕ, ◌+◌, ◌≤◌, ◌==◌, Bool, true, false, if◌then◌else◌, Option, Some, None, List, [], ◌∷◌, ◌++◌, length, reverse, refl, sym, ap, ◌∙◌, subst, arith, lit≤, Result, Ok, Err, nat_lt}
 use Rattle.std.proofs.lemmas.Bool.{eqb-true, ltb-false}
 use Rattle.std.proofs.lemmas.List.{reverse-append}
@@ -29,6 +29,7 @@ use Rattle.script_reader.specs.Checks.{innermost, is_stray, open_of}
 use Rattle.script_reader.specs.Closed.{AreMatched, AreWithin, Closes, HasPass, HavePasses, IsClosed, latest_section}
 use Rattle.script_reader.specs.Effects.{effect_of}
 use Rattle.script_reader.specs.Faults.{◌>>=◌}
+use Rattle.script_reader.specs.Limits.{most_names}
 use Rattle.script_reader.specs.Progress.{Progress, after, after_group, after_local, after_message, after_section, checked, first_fault, local_numbered, named, open_section, past, peer_in, place, rank_said, register_of, rule_said, small, start}
 use Rattle.script_reader.specs.Reading.{at_end, at_line, begun, most_script_bytes, parse_script, read_all_lines, read_line, read_lines, read_words, script_of, version_of}
 use Rattle.script_reader.specs.Said.{said_of}
@@ -38,7 +39,7 @@ use Rattle.script_reader.proofs.ClosedLemmas.{closed-of}
 use Rattle.script_reader.proofs.FaultLemmas.{IsSound, no-fault}
 use Rattle.script_reader.proofs.VersionLemmas.{IsPlain, said-plain}
 
--- the lines so far: they name at most 64 registers, each end names the innermost repeat that is open before it, each repeat
+-- the lines so far: they name no more registers than a file may, each end names the innermost repeat that is open before it, each repeat
 -- is done at least once, and what stands in an open one is of the section that is open
 record IsLaid (p : Progress) : Type 0 where
   matched : AreMatched (past p)
@@ -47,7 +48,7 @@ record IsLaid (p : Progress) : Type 0 where
   here : 1 ≤ length (open_of (past p)) → latest_section (past p) ≡ p.section
 
 record IsFormed (p : Progress) : Type 0 where
-  few : length p.names ≤ 64
+  few : length p.names ≤ most_names
   laid : IsLaid p
 
 abbrev Keeps : {E : Type 0} → Result Progress E → Type 0
@@ -71,13 +72,13 @@ either false x y one other = other
 
 -- what the checks of a line leave of names and of open repeats
 record IsPassed (p : Progress) (e : Effect) (who : Who) : Type 0 where
-  few : length p.names ≤ 64
+  few : length p.names ≤ most_names
   inside : is_stray (open_of (past p)) e.nesting ≡ false
   here : p.section ≡ Some who
 
 section_passes : (p : Progress) (e : Effect) (section : Option Who) → p.section ≡ section → IsSound p e → IfOk (ok_or section kind.NoSection) (IsPassed p e)
 section_passes p e None here sound = tt
-section_passes p e (Some who) here sound = record { few = omega (arith, ltb-false 64 (length p.names) sound.few); inside = sound.inside; here = here }
+section_passes p e (Some who) here sound = record { few = omega (arith, ltb-false most_names (length p.names) sound.few); inside = sound.inside; here = here }
 
 fault_passes : (p : Progress) (e : Effect) (fault : Option FaultKind) → first_fault p e ≡ fault → IfOk (option_map_or Err fault (ok_or p.section kind.NoSection)) (IsPassed p e)
 fault_passes p e None is = section_passes p e p.section refl (no-fault p e is)
@@ -200,9 +201,9 @@ lines_keep before p (line ∷ lines) formed =
     (λ q kept. lines_keep (before + 1) q lines kept)
 
 abbrev Has : {E : Type 0} → Result Script E → Type 0
-Has r = IfOk r (λ script. (length script.names ≤ 64) × IsClosed script)
+Has r = IfOk r (λ script. (length script.names ≤ most_names) × IsClosed script)
 
-ended : (b : Bool) (script : Script) (fault : ReadFault) → (b ≡ true → (length script.names ≤ 64) × IsClosed script) → Has (if b then Ok script else Err fault)
+ended : (b : Bool) (script : Script) (fault : ReadFault) → (b ≡ true → (length script.names ≤ most_names) × IsClosed script) → Has (if b then Ok script else Err fault)
 ended true script fault given = given refl
 ended false script fault given = tt
 
@@ -237,11 +238,11 @@ weaker P Q (Ok script) more is = more script is
 weaker P Q (Err fault) more is = tt
 
 -- the names of a script
-pub parse_named : (bytes : List ℕ) (nue : ℕ) → IfOk (parse_script bytes nue) (λ script. length script.names ≤ 64)
+pub parse_named : (bytes : List ℕ) (nue : ℕ) → IfOk (parse_script bytes nue) (λ script. length script.names ≤ most_names)
 parse_named bytes nue =
-    weaker (λ script. (length script.names ≤ 64) × IsClosed script) (λ script. length script.names ≤ 64) (parse_script bytes nue) (λ script both. both.0) (parse_has bytes nue)
+    weaker (λ script. (length script.names ≤ most_names) × IsClosed script) (λ script. length script.names ≤ most_names) (parse_script bytes nue) (λ script both. both.0) (parse_has bytes nue)
 
 -- its repeats
 pub parse_closed : (bytes : List ℕ) (nue : ℕ) → IfOk (parse_script bytes nue) IsClosed
 parse_closed bytes nue =
-    weaker (λ script. (length script.names ≤ 64) × IsClosed script) IsClosed (parse_script bytes nue) (λ script both. both.1) (parse_has bytes nue)
+    weaker (λ script. (length script.names ≤ most_names) × IsClosed script) IsClosed (parse_script bytes nue) (λ script both. both.1) (parse_has bytes nue)

@@ -228,7 +228,7 @@ is_stray repeats (nesting.Opens times) = false
 is_stray repeats (nesting.Closes start) = length repeats == 0
 is_stray repeats nesting.Stays = false
 
--- TooDeep: a ninth open repeat
+-- TooDeep: a repeat inside as many as may be open
 abbrev pub is_too_deep : List Open → Nesting → Bool
 is_too_deep repeats (nesting.Opens times) = nat_lt (most_open - 1) (length repeats)
 is_too_deep repeats (nesting.Closes start) = false
@@ -261,13 +261,13 @@ abbrev pub operations : ℕ → List Item → ℕ → ℕ
 operations nue [] rank = 0
 operations nue (item ∷ past) rank = operations nue past rank + (if has_rank item.who rank then turns_in (open_of past) * cost_of (run_of nue past) (effect_of item.stmt).cost rank else 0)
 
--- TooManyOps: at a repeat, the statements in it would run more than 100,000 times
+-- TooManyOps: at a repeat, the statements in it would run more often than a rank has operations
 abbrev pub turns_too_often : ℕ → Nesting → Bool
 turns_too_often turns (nesting.Opens times) = nat_lt most_operations (turns * times)
 turns_too_often turns (nesting.Closes start) = false
 turns_too_often turns nesting.Stays = false
 
--- TooManyOps: at another statement, a rank has more than 100,000 operations with it
+-- TooManyOps: at another statement, a rank has more operations with it than it may
 abbrev pub is_overworked : SetupView → ℕ → ℕ → Cost → ℕ → Bool
 is_overworked run done turns cost rank = nat_lt most_operations (done + turns * cost_of run cost rank)
 
@@ -293,7 +293,7 @@ is_too_long e = option_map_or (λ target. is_past_most target.size) e.sets false
 abbrev pub posts_too_much : (ℕ → Option ℕ) → Effect → Bool
 posts_too_much had e = option_map_or (λ reg. nat_lt most_post (unwrap_or (had reg) 0)) e.posts false
 
--- TooLong: a print with which a rank prints more than 1,048,576 bytes
+-- TooLong: a print with which a rank prints more bytes than it may
 abbrev pub prints_too_much : (ℕ → Option ℕ) → ℕ → ℕ → Effect → Bool
 prints_too_much had done turns e = nat_lt most_printed (done + turns * prints had e)
 

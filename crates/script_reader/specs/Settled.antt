@@ -48,7 +48,7 @@ ArePassed nue (item ∷ past) =
     ArePassed nue past × ((kind : FaultKind) (rank : ℕ) → rank < nue → has_rank item.who rank ≡ true → refuses kind nue past (effect_of item.stmt) rank ≡ false)
 
 -- a statement that the checks of its line let pass behind others: the splits so far are rules that a setup may have, the
--- communicator that it needs has one, a length that it sets is one of a message, and it is no ninth open repeat
+-- communicator that it needs has one, a length that it sets is one of a message, and it opens no repeat too many
 pub record IsInLine (nue : ℕ) (past : List Item) (item : Item) : Type 0 where
   pub rules : AreRules (rules_of (reverse past))
   pub present : (rank : ℕ) → rank < nue → has_rank item.who rank ≡ true → rule_of (rules_of (reverse past)) (comm_needed (effect_of item.stmt).group) ≢ rule.Absent

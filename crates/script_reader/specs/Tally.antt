@@ -157,7 +157,7 @@ is_new_split run group.World = false
 is_new_split run (group.Of comm) = false
 is_new_split run (group.Split comm rule) = not (is_known run comm)
 
--- the lines so far have given at most as many statements as there are lines, and at most 64 names; the version stays
+-- the lines so far have given at most as many statements as there are lines, and no more names than a file may have; the version stays
 pub record IsUpTo (version : Version) (line : ℕ) (p : Progress) : Type 0 where
   pub same : p.version ≡ version
   pub named : length p.names ≤ most_names

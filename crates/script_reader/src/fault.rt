@@ -29,6 +29,22 @@ pub enum FaultKind {
     TooManyNames,
 }
 
+/// The faults that a statement may have, in the order of the fault table: the first that it has counts.
+pub(crate) const FAULT_TABLE: [FaultKind; 12] = [
+    FaultKind::RankRange,
+    FaultKind::SelfMessage,
+    FaultKind::UnknownComm,
+    FaultKind::NotSplit,
+    FaultKind::Unset,
+    FaultKind::Shape,
+    FaultKind::NoSection,
+    FaultKind::StrayEnd,
+    FaultKind::TooDeep,
+    FaultKind::TooManyOps,
+    FaultKind::TooLong,
+    FaultKind::TooManyNames,
+];
+
 impl FaultKind {
     /// The name of the kind, as a program prints it.
     pub fn name(self) -> &'static str

@@ -10,8 +10,7 @@ ghost use Rattle.script_reader.specs.Limits.{most_names};
 ghost use Rattle.texts.specs.Cuts.{lines_of};
 
 /// A file is read by the grammar of version 1, but where its first line that has words is `rcce 2`.
-/// A script of version 1 has no parent but the world, and names no communicator from 8 on; one of version 2 names none from
-/// 16 on.
+/// A script of version 1 has no parent but the world; and a script names no communicator past the last of its version.
 pub fn version_law()
     ensures first { (bytes : List ℕ) (nue : ℕ) → version_of (lines_of bytes) ≡ One → read_file bytes nue ≡ read_as One bytes nue }
     ensures second { (bytes : List ℕ) (nue : ℕ) → version_of (lines_of bytes) ≡ Two → read_file bytes nue ≡ read_as Two bytes nue }
@@ -19,8 +18,8 @@ pub fn version_law()
     ensures named { (bytes : List ℕ) (nue : ℕ) → IfOk (read_file bytes nue) (NamesCommsTo (last_comm (version_of (lines_of bytes)))) }
 {}
 
-/// A script that was read names at most 64 registers. None of its repeats is open at its end, and each repeat has the place
-/// of its end, in its section.
+/// A script that was read names no more registers than a file may. None of its repeats is open at its end, and each repeat
+/// has the place of its end, in its section.
 pub fn script_law()
     ensures few { (bytes : List ℕ) (nue : ℕ) → IfOk (parse_script bytes nue) (λ script. length script.names ≤ most_names) }
     ensures closed { (bytes : List ℕ) (nue : ℕ) → IfOk (parse_script bytes nue) IsClosed }

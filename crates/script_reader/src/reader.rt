@@ -3,7 +3,7 @@
 use crate::checks::{has_no_parent, is_new_split, is_unknown, refuses_by};
 use crate::effect::{Effect, effect_of};
 use crate::ends::tell_ends;
-use crate::fault::{FaultKind, LineStop};
+use crate::fault::{FAULT_TABLE, FaultKind, LineStop};
 use crate::name::Name;
 use crate::repeats::{
     MOST_OPEN, Open, innermost, is_stray, is_too_deep, note_repeat, turns_in, turns_too_often,
@@ -19,22 +19,6 @@ use std::marker::Model;
 
 /// How many names a file may have.
 const MOST_NAMES: usize = 64;
-
-/// The faults that a statement may have, in the order of the fault table: the first that it has counts.
-const FAULT_TABLE: [FaultKind; 12] = [
-    FaultKind::RankRange,
-    FaultKind::SelfMessage,
-    FaultKind::UnknownComm,
-    FaultKind::NotSplit,
-    FaultKind::Unset,
-    FaultKind::Shape,
-    FaultKind::NoSection,
-    FaultKind::StrayEnd,
-    FaultKind::TooDeep,
-    FaultKind::TooManyOps,
-    FaultKind::TooLong,
-    FaultKind::TooManyNames,
-];
 
 /// Two registers of a statement.
 #[derive(Clone, Copy)]
@@ -272,7 +256,7 @@ impl Reader {
 
     /// The number of a register: the place of its name, which is put behind the others where it is new.
     pub(crate) fn register(&mut self, name: Name) -> Result<u8, AllocError>
-        requires { length self.old.names ≤ 65 }
+        requires { length self.old.names ≤ most_names + 1 }
         ensures gives { IfOk result (λ reg. reg ≡ register_of self.old.names name) }
         ensures named { OnOk result (self.new ≡ named self.old name) }
         ensures within { IfOk result (λ reg. reg < length self.new.names) }

@@ -163,7 +163,7 @@ pub fn read_script(alloc: Global, bytes: &[u8], nue: u8) -> Result<Scripts, Read
     ensures gives { Gives (λ script. script) result (parse_script bytes.now nue) }
     // It has as many ranks as it was read for.
     ensures ranks { IfOk result (λ script. script.nue ≡ nue) }
-    // A script of version 1 neither names the communicators from 8 on nor has a rule for them, and has no parent but the world.
+    // It neither names a communicator past the last of its version nor has a rule for one, and in version 1 the world alone is split.
     ensures named { IfOk result (NamesCommsTo (last_comm (version_of (lines_of bytes.now)))) }
     ensures low { IfOk result (HasCommsTo (last_comm (version_of (lines_of bytes.now)))) }
     ensures flat { version_of (lines_of bytes.now) ≡ One → IfOk result SplitsWorldAlone }

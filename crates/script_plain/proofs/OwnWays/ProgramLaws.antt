@@ -1,12 +1,10 @@
 -- What the statements of a script make for a rank, one statement after another, and the rank's own way through it.
-use Rattle.std.proofs.Common.{◌≡◌, ℕ, zero, suc, ◌-◌, ◌<◌, ◌≤◌, Bool, true, false, cond, List, [], ◌∷◌, ◌++◌, length, drop, slice_get, Some, refl, sym, ap, subst, ◌∙◌, arith, append_assoc, ⊎_elim}
+use Rattle.std.proofs.Common.{◌≡◌, ℕ, ◌<◌, ◌≤◌, Bool, true, false, cond, List, [], ◌∷◌, ◌++◌, length, drop, slice_get, Some, refl, sym, ap, subst, ◌∙◌, arith, append_assoc, ⊎_elim}
 use Rattle.std.proofs.lemmas.Bool.{cases_lt}
 use Rattle.std.proofs.lemmas.List.{append-nil}
 use Rattle.scc_base.specs.Setups.{SetupView}
 use Rattle.script_reader.specs.declared.script.Item.{Item}
 use Rattle.script_reader.specs.Script.{Script, has_rank}
-use Rattle.script_reader.specs.declared.effect.Nesting.{Nesting}
-use Rattle.script_reader.specs.declared.effect.Nesting.TheVariants as nesting
 use Rattle.script_plain.specs.declared.prims.Standing.TheVariants as standing
 pub use Rattle.script_plain.specs.Collectives.{IsOfRank, Made, made_by}
 use Rattle.script_plain.specs.Collectives.Made.{Done, Then}
@@ -15,19 +13,16 @@ use Rattle.script_plain.specs.Local.{next_by_act, next_by_prim, local_next, prim
 use Rattle.script_plain.specs.Meaning.{State, next_of, recorded}
 use Rattle.script_plain.specs.Next.{Next}
 use Rattle.script_plain.specs.Next.Next.{Ends}
-use Rattle.script_plain.specs.Program.{Act, Prim, Unrolled, acts_of, copies, in_front, nesting_at, prims_of, program_of, repeated, setup_of, unrolled}
+use Rattle.script_plain.specs.Program.{Act, Prim, acts_of, prims_of, program_of, setup_of}
 use Rattle.script_plain.proofs.Collectives.CollectivePaths.{Facing, faced, past, through_both}
 use Rattle.script_plain.proofs.Collectives.ReductionPaths.{split_at}
+use Rattle.script_plain.proofs.Walks.UnrolledLaws.{hold_program}
 
 module _ (s : SetupView) (rank : ℕ) (items : List Item) where
   pub made_both : (a b : List Prim) → Made s rank items a → Made s rank items b → Made s rank items (a ++ b)
   made_both a b Done last = last
   made_both a b (Then item is rest more) last =
       subst (Made s rank items) (sym (append_assoc (made_by s rank item) rest b)) (Then item is (rest ++ b) (made_both rest b more last))
-
-  made_copies : (n : ℕ) (a : List Prim) → Made s rank items a → Made s rank items (copies n a)
-  made_copies zero a made = Done
-  made_copies (suc n) a made = made_both a (copies n a) made (made_copies n a made)
 
   made_item : (item : Item) (place : ℕ) → slice_get items place ≡ Some item → Made s rank items (prims_of s rank item)
   made_item item place listed = by (has_rank item.who rank) refl
@@ -36,38 +31,11 @@ module _ (s : SetupView) (rank : ℕ) (items : List Item) where
       by true own = subst (Made s rank items) (append-nil (made_by s rank item)) (Then item (record { place = place; listed = listed; own = own }) [] Done)
       by false other = Done
 
-  abbrev MadeEach : List (List Prim) → Type 0
-  MadeEach [] = Unit {0}
-  MadeEach (a ∷ more) = Made s rank items a × MadeEach more
-
-  abbrev MadeAll : Unrolled Prim → Type 0
-  MadeAll u = Made s rank items u.here × MadeEach u.behind
-
-  made_repeated : (times : ℕ) (body : List Prim) (behind : List (List Prim)) → Made s rank items body → MadeEach behind → MadeAll (repeated times body behind)
-  made_repeated times body [] made each = (made, tt)
-  made_repeated times body (next ∷ behind) made each =
-      (made_both body (copies (times - 1) body ++ next) made (made_both (copies (times - 1) body) next (made_copies (times - 1) body made) each.0), each.1)
-
-  made_front : (n : Nesting) (prims : List Prim) (u : Unrolled Prim) → Made s rank items prims → MadeAll u → MadeAll (in_front n prims u)
-  made_front (nesting.Opens times) prims u made all = made_repeated times u.here u.behind all.0 all.1
-  made_front (nesting.Closes start) prims u made all = (made, all)
-  made_front nesting.Stays prims u made all = (made_both prims u.here made all.0, all.1)
-
-  -- each of these items is one of the script
-  abbrev AreListed : List Item → Type 0
-  AreListed later = (k : ℕ) (item : Item) → slice_get later k ≡ Some item → (place : ℕ) × (slice_get items place ≡ Some item)
-
-  made_unrolled : (later : List Item) → AreListed later → MadeAll (unrolled s rank later)
-  unfolding unrolled
-  made_unrolled [] listed = (Done, tt)
-  made_unrolled (item ∷ later) listed =
-      let there = listed 0 item refl in
-      made_front (nesting_at rank item) (prims_of s rank item) (unrolled s rank later) (made_item item there.0 there.1)
-      (made_unrolled later (λ k x at. listed (suc k) x at))
-
 -- the program of a rank is what its items make
 pub program_made : (script : Script) (rank : ℕ) → Made (setup_of script) rank script.items (program_of script rank)
-program_made script rank = (made_unrolled (setup_of script) rank script.items script.items (λ k item at. (k, at))).0
+program_made script rank =
+    hold_program (Made (setup_of script) rank script.items) Done (made_both (setup_of script) rank script.items) (setup_of script) rank script.items
+    (λ k item at. made_item (setup_of script) rank script.items item k at)
 
 -- one act on
 act_leaves : (bytes : List ℕ) (u : State) (line : ℕ) (a : Act)

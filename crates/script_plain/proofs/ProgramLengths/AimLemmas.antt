@@ -1,5 +1,5 @@
 -- The messages of a rank's program are with other ranks of the run, and its barriers are of communicators that are there.
-use Rattle.std.proofs.Common.{◌≡◌, ◌≢◌, ℕ, zero, suc, ◌+◌, ◌-◌, ◌%◌, ◌<◌, ◌≤◌, Bool, true, false, cond, not, ◌&&◌, List, [], ◌∷◌, ◌++◌, length, map, None, Some, refl, arith, slice_get}
+use Rattle.std.proofs.Common.{◌≡◌, ◌≢◌, ℕ, ◌+◌, ◌%◌, ◌<◌, ◌≤◌, Bool, true, false, cond, not, ◌&&◌, List, [], ◌∷◌, ◌++◌, length, map, None, Some, refl, arith}
 use Rattle.std.specs.Prelude.{nat_le, nat_lt, pos}
 use Rattle.std.proofs.lemmas.Bool.{eqb-false, leb-true, ltb-true}
 use Rattle.std.proofs.lemmas.List.FromFn.{length-map-range_with_len}
@@ -29,12 +29,11 @@ use Rattle.script_reader.specs.declared.script.Peer.{Peer}
 use Rattle.script_reader.specs.declared.script.Stmt.{Stmt}
 use Rattle.script_reader.specs.declared.script.Stmt.TheVariants as stmt
 use Rattle.script_reader.proofs.SettledLemmas.{present-low}
-use Rattle.script_reader.specs.declared.effect.Nesting.{Nesting}
-use Rattle.script_reader.specs.declared.effect.Nesting.TheVariants as nesting
 use Rattle.script_plain.specs.declared.prims.Operands.{Operands}
-use Rattle.script_plain.specs.Program.{Act, Prim, Unrolled, acts_of, begins, call_steps, can_call, copies, in_front, nesting_at, part_of, parts_of, prims_of, program_of, repeated, setup_of, unrolled}
+use Rattle.script_plain.specs.Program.{Act, Prim, acts_of, begins, call_steps, can_call, part_of, parts_of, prims_of, program_of, setup_of}
 use Rattle.script_plain.proofs.ProgramLengths.LengthLemmas.{at-found}
 use Rattle.script_plain.proofs.Runs.StepLaws as steps
+use Rattle.script_plain.proofs.Walks.UnrolledLaws.{hold_program}
 
 -- a rule that is there
 there_is : (r : CommRule) → not (is_absent r) ≡ true → r ≢ rule.Absent
@@ -89,36 +88,6 @@ module _ (script : Script) (rank : ℕ) where
   aimed_both : (one two : List Prim) → AreAimed one → AreAimed two → AreAimed (one ++ two)
   aimed_both [] two first second = second
   aimed_both (prim ∷ one) two first second = (first.0, aimed_both one two first.1 second)
-
-  aimed_copies : (n : ℕ) (prims : List Prim) → AreAimed prims → AreAimed (copies n prims)
-  aimed_copies zero prims all = tt
-  aimed_copies (suc n) prims all = aimed_both prims (copies n prims) all (aimed_copies n prims all)
-
-  abbrev EachAimed : List (List Prim) → Type 0
-  EachAimed [] = Unit {0}
-  EachAimed (prims ∷ more) = AreAimed prims × EachAimed more
-
-  record AimedIn (u : Unrolled Prim) : Type 0 where
-    here : AreAimed u.here
-    behind : EachAimed u.behind
-
-  aimed_repeated : (times : ℕ) (body : List Prim) (behind : List (List Prim)) → AreAimed body → EachAimed behind → AimedIn (repeated times body behind)
-  aimed_repeated times body [] one rest = record { here = one; behind = tt }
-  aimed_repeated times body (next ∷ behind) one rest = record {
-    here = aimed_both body (copies (times - 1) body ++ next) one (aimed_both (copies (times - 1) body) next (aimed_copies (times - 1) body one) rest.0);
-    behind = rest.1;
-  }
-
-  aimed_front : (n : Nesting) (prims : List Prim) (u : Unrolled Prim) → AreAimed prims → AimedIn u → AimedIn (in_front n prims u)
-  aimed_front (nesting.Opens times) prims u each all = aimed_repeated times u.here u.behind all.here all.behind
-  aimed_front (nesting.Closes start) prims u each all = record { here = each; behind = (all.here, all.behind) }
-  aimed_front nesting.Stays prims u each all = record { here = aimed_both prims u.here each all.here; behind = all.behind }
-
-  aimed_unrolled : (s : SetupView) (items : List Item) → ((k : ℕ) (item : Item) → slice_get items k ≡ Some item → AreAimed (prims_of s rank item)) → AimedIn (unrolled s rank items)
-  unfolding unrolled
-  aimed_unrolled s [] each = record { here = tt; behind = tt }
-  aimed_unrolled s (item ∷ items) each =
-      aimed_front (nesting_at rank item) (prims_of s rank item) (unrolled s rank items) (each 0 item refl) (aimed_unrolled s items (λ k other found. each (suc k) other found))
 
   -- the acts of one line
   abbrev AimedActs : ℕ → List Act → Type 0
@@ -177,7 +146,7 @@ module _ (script : Script) (rank : ℕ) where
   -- the program's
   pub program_aimed : IsWhole script.nue script.items → rank < script.nue → AreAimed (program_of script rank)
   program_aimed whole within =
-      (aimed_unrolled (setup_of script) script.items (λ k item found. aimed_prims item (λ has.
+      hold_program AreAimed tt aimed_both (setup_of script) rank script.items (λ k item found. aimed_prims item (λ has.
       let settled = at-found (IsSettled script.nue (rules_of script.items)) script.items k item whole.settled found in
       let sized = at-found (λ (i : Item). IsSized i.stmt) script.items k item whole.sized found in
-      aimed_statement item.line item.stmt (settled.below rank within has) (settled.other rank within has) (settled.present rank within has) sized))).here
+      aimed_statement item.line item.stmt (settled.below rank within has) (settled.other rank within has) (settled.present rank within has) sized))

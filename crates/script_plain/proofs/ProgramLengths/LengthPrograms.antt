@@ -1,5 +1,5 @@
 -- The program of a rank keeps the lengths of its registers, where its statements do.
-use Rattle.std.proofs.Common.{◌≡◌, ◌≢◌, ℕ, zero, suc, ◌+◌, ◌-◌, ◌%◌, ◌==◌, Bool, true, false, cond, List, [], ◌∷◌, ◌++◌, map, Option, Some, None, refl, sym, ap, ◌∙◌, subst, slice_get, append_assoc}
+use Rattle.std.proofs.Common.{◌≡◌, ◌≢◌, ℕ, ◌+◌, ◌%◌, ◌==◌, Bool, true, false, cond, List, [], ◌∷◌, ◌++◌, map, Option, Some, None, refl, sym, ap, ◌∙◌, subst, slice_get, append_assoc}
 use Rattle.std.specs.Prelude.{pos, slice_index}
 use Rattle.std.proofs.lemmas.Bool.{eqb-true, eqb-false}
 use Rattle.std.proofs.lemmas.List.FromFn.{length-map-range_with_len}
@@ -19,12 +19,11 @@ use Rattle.script_reader.specs.declared.script.Item.{Item}
 use Rattle.script_reader.specs.declared.script.Stmt.{Stmt}
 use Rattle.script_reader.specs.declared.script.Stmt.TheVariants as stmt
 use Rattle.script_plain.proofs.ProgramLengths.LengthLemmas.{Reckons}
-use Rattle.script_reader.specs.declared.effect.Nesting.{Nesting}
-use Rattle.script_reader.specs.declared.effect.Nesting.TheVariants as nesting
 use Rattle.script_plain.specs.declared.prims.Operands.{Operands}
-use Rattle.script_plain.specs.Program.{Act, Prim, Unrolled, acts_of, begins, call_steps, can_call, copies, in_front, nesting_at, part_of, parts_of, prims_of, repeated, unrolled}
+use Rattle.script_plain.specs.Program.{Act, Prim, acts_of, begins, call_steps, can_call, part_of, parts_of, prims_of, unrolled}
 use Rattle.script_plain.specs.Kept.{Keeps, folding, gathering}
 use Rattle.script_plain.proofs.Collectives.ReductionPaths.{fold_operands}
+use Rattle.script_plain.proofs.Walks.UnrolledLaws.{hold_program}
 
 module _ (had : ℕ → Option ℕ) where
   -- whatever stands in the accumulator and in the received bytes
@@ -37,36 +36,6 @@ module _ (had : ℕ → Option ℕ) where
 
   always_both : (one two : List Prim) → KeepsAlways one → KeepsAlways two → KeepsAlways (one ++ two)
   always_both one two first second acc got = keeps_both one two acc got (first acc got) second
-
-  always_copies : (n : ℕ) (prims : List Prim) → KeepsAlways prims → KeepsAlways (copies n prims)
-  always_copies zero prims each acc got = tt
-  always_copies (suc n) prims each acc got = always_both prims (copies n prims) each (always_copies n prims each) acc got
-
-  abbrev EachAlways : List (List Prim) → Type 0
-  EachAlways [] = Unit {0}
-  EachAlways (prims ∷ more) = KeepsAlways prims × EachAlways more
-
-  record AlwaysIn (u : Unrolled Prim) : Type 0 where
-    here : KeepsAlways u.here
-    behind : EachAlways u.behind
-
-  always_repeated : (times : ℕ) (body : List Prim) (behind : List (List Prim)) → KeepsAlways body → EachAlways behind → AlwaysIn (repeated times body behind)
-  always_repeated times body [] one rest = record { here = one; behind = tt }
-  always_repeated times body (next ∷ behind) one rest = record {
-    here = always_both body (copies (times - 1) body ++ next) one (always_both (copies (times - 1) body) next (always_copies (times - 1) body one) rest.0);
-    behind = rest.1;
-  }
-
-  always_front : (n : Nesting) (prims : List Prim) (u : Unrolled Prim) → KeepsAlways prims → AlwaysIn u → AlwaysIn (in_front n prims u)
-  always_front (nesting.Opens times) prims u each all = always_repeated times u.here u.behind all.here all.behind
-  always_front (nesting.Closes start) prims u each all = record { here = each; behind = (all.here, all.behind) }
-  always_front nesting.Stays prims u each all = record { here = always_both prims u.here each all.here; behind = all.behind }
-
-  always_unrolled : (s : SetupView) (rank : ℕ) (items : List Item) → ((k : ℕ) (item : Item) → slice_get items k ≡ Some item → KeepsAlways (prims_of s rank item)) → AlwaysIn (unrolled s rank items)
-  unfolding unrolled
-  always_unrolled s rank [] each = record { here = λ acc got. tt; behind = tt }
-  always_unrolled s rank (item ∷ items) each =
-      always_front (nesting_at rank item) (prims_of s rank item) (unrolled s rank items) (each 0 item refl) (always_unrolled s rank items (λ k other found. each (suc k) other found))
 
   -- the acts of one line
   abbrev KeepsActs : ℕ → Option ℕ → Option ℕ → List Act → Type 0
@@ -142,4 +111,4 @@ module _ (had : ℕ → Option ℕ) where
 
   pub keeps_items : (s : SetupView) (rank : ℕ) (items : List Item) → ((k : ℕ) (item : Item) → slice_get items k ≡ Some item → has_rank item.who rank ≡ true → Reckons s.comms had rank item.stmt)
       → (acc got : Option ℕ) → Keeps had acc got (unrolled s rank items).here
-  keeps_items s rank items each = (always_unrolled s rank items (λ k item found. keeps_prims s rank item (each k item found))).here
+  keeps_items s rank items each = hold_program KeepsAlways (λ acc got. tt) always_both s rank items (λ k item found. keeps_prims s rank item (each k item found))

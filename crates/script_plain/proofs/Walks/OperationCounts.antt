@@ -15,6 +15,7 @@ use Rattle.groups.specs.declared.operations.Ty.TheVariants as ty_of
 use Rattle.script_reader.specs.Checks.{cost_of, has_root, is_known, open_of, opened, operations, run_of, steps_in, turns_in}
 use Rattle.script_reader.specs.Closed.{AreMatched, AreWithin, Closes, HasPass, HavePasses, IsClosed, latest_section}
 use Rattle.script_reader.specs.Effects.{comm_needed, effect_of}
+use Rattle.script_reader.specs.Limits.{most_operations}
 use Rattle.script_reader.specs.Script.{Script, has_rank, rules_of}
 use Rattle.script_reader.specs.Settled.{AreInLine, IsInLine, IsWhole}
 use Rattle.script_reader.specs.declared.script.Item.{Item}
@@ -266,7 +267,7 @@ as_many script whole closed rank below =
     let same = ap (λ (l : List Item). operations script.nue l rank) flat in
     omega (arith, c.0, all, same)
 
-pub few_enough : (script : Script) → IsWhole script.nue script.items → IsClosed script → (rank : ℕ) → rank < script.nue → length (program_of script rank) ≤ 100000
+pub few_enough : (script : Script) → IsWhole script.nue script.items → IsClosed script → (rank : ℕ) → rank < script.nue → length (program_of script rank) ≤ most_operations
 few_enough script whole closed rank below =
     let less = fewer_prims (marks_in script rank) in
     let same = ap length (program_is script rank) in

@@ -5,11 +5,10 @@ use Rattle.script_plain.specs.Code.{config}
 use Rattle.script_plain.specs.Local.{Local, cost_of, local_next}
 use Rattle.script_plain.specs.Matches.{line_of, matches_on}
 use Rattle.script_plain.specs.Meaning.{ends_at, keys_of, locals_of, plain_end, seen_of, start_of}
-use Rattle.script_plain.specs.Step.{run_on}
 use Rattle.script_plain.specs.declared.posts.Posted.{Posted}
 use Rattle.script_plain.proofs.Messages.MatchLaws.{seen_matches}
 use Rattle.script_plain.proofs.Messages.RestLaws.{ends_length}
-use Rattle.script_plain.proofs.Runs.PlainLaws.{length-plain_end, seen_of-plain_end}
+use Rattle.script_plain.proofs.Runs.PlainLaws.{length-plain_end, run_from_start}
 use Rattle.script_plain.proofs.matches.plain_history.Goals as goal
 
 pub history_of-requires : goal.history_of-requires
@@ -35,15 +34,9 @@ returns-clause-matches c =
 
 pub returns-clause-end : goal.returns-clause-end
 returns-clause-end c =
-    let script = c.args.scripts.now in
-    let start = locals_of (start_of script) in
-    let slots : c.deref_mut-2.result.now ≡ replicate script.nue None = c.deref_mut-2.ensures.value ∙ c.in_ok-ues.ensures.slots in
     c.in_ok-history.ensures.end
-    ∙ ap ends_at (
-    ap (λ (comms : List CommRule). run_on (key_of comms) local_next (sum_by cost_of c.deref_mut.result.now) (config c.deref_mut.result.now c.deref_mut-2.result.now)) c.setup_of-setup.ensures.communicators
-    ∙ ap (λ (us : List Local). run_on (keys_of script) local_next (sum_by cost_of us) (config us c.deref_mut-2.result.now)) (c.deref_mut.ensures.value ∙ c.in_ok-ues.ensures.cells)
-    ∙ ap (λ (ss : List (Option Posted)). run_on (keys_of script) local_next (sum_by cost_of start) (config start ss)) slots
-    ∙ seen_of-plain_end script)
+    ∙ ap ends_at (run_from_start c.args.scripts.now _ c.deref_mut.result.now c.deref_mut-2.result.now c.setup_of-setup.ensures.communicators
+    (c.deref_mut.ensures.value ∙ c.in_ok-ues.ensures.cells) (c.deref_mut-2.ensures.value ∙ c.in_ok-ues.ensures.slots))
 
 pub returns-clause-ranks : goal.returns-clause-ranks
 returns-clause-ranks c = ap length (returns-clause-end c) ∙ ends_length (seen_of (plain_end c.args.scripts.now)) ∙ length-plain_end c.args.scripts.now

@@ -1,13 +1,7 @@
-use Rattle.std.proofs.Common.{◌≡◌, ◌∙◌, List, Option, None, ap, length, replicate, sum_by}
-use Rattle.scc_base.specs.Communicators.{key_of}
-use Rattle.scc_base.specs.declared.communicators.CommRule.{CommRule}
-use Rattle.script_plain.specs.Code.{config}
-use Rattle.script_plain.specs.Local.{Local, cost_of, local_next}
-use Rattle.script_plain.specs.Meaning.{ends_at, keys_of, locals_of, plain_end, seen_of, start_of}
-use Rattle.script_plain.specs.Step.{run_on}
-use Rattle.script_plain.specs.declared.posts.Posted.{Posted}
+use Rattle.std.proofs.Common.{◌∙◌, ap, length}
+use Rattle.script_plain.specs.Meaning.{ends_at, plain_end, seen_of}
 use Rattle.script_plain.proofs.Messages.RestLaws.{ends_length}
-use Rattle.script_plain.proofs.Runs.PlainLaws.{length-plain_end, seen_of-plain_end}
+use Rattle.script_plain.proofs.Runs.PlainLaws.{length-plain_end, run_from_start}
 use Rattle.script_plain.proofs.steps.run_scripts.Goals as goal
 
 pub run_to_end-requires : goal.run_to_end-requires
@@ -22,15 +16,9 @@ run_to_end-requires c =
 
 pub returns-clause-end : goal.returns-clause-end
 returns-clause-end c =
-    let script = c.args.scripts.now in
-    let start = locals_of (start_of script) in
-    let slots : c.deref_mut-2.result.now ≡ replicate script.nue None = c.deref_mut-2.ensures.value ∙ c.in_ok-ues.ensures.slots in
     c.in_ok-end.ensures
-    ∙ ap ends_at (
-    ap (λ (comms : List CommRule). run_on (key_of comms) local_next (sum_by cost_of c.deref_mut.result.now) (config c.deref_mut.result.now c.deref_mut-2.result.now)) c.setup_of-setup.ensures.communicators
-    ∙ ap (λ (us : List Local). run_on (keys_of script) local_next (sum_by cost_of us) (config us c.deref_mut-2.result.now)) (c.deref_mut.ensures.value ∙ c.in_ok-ues.ensures.cells)
-    ∙ ap (λ (ss : List (Option Posted)). run_on (keys_of script) local_next (sum_by cost_of start) (config start ss)) slots
-    ∙ seen_of-plain_end script)
+    ∙ ap ends_at (run_from_start c.args.scripts.now _ c.deref_mut.result.now c.deref_mut-2.result.now c.setup_of-setup.ensures.communicators
+    (c.deref_mut.ensures.value ∙ c.in_ok-ues.ensures.cells) (c.deref_mut-2.ensures.value ∙ c.in_ok-ues.ensures.slots))
 
 pub returns-clause-ranks : goal.returns-clause-ranks
 returns-clause-ranks c = ap length (returns-clause-end c) ∙ ends_length (seen_of (plain_end c.args.scripts.now)) ∙ length-plain_end c.args.scripts.now

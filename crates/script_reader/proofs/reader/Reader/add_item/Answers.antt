@@ -23,7 +23,7 @@ use Rattle.script_reader.proofs.SettledLemmas.{passed-all, settled-new}
 use Rattle.script_reader.proofs.TallyLemmas.{written-back}
 use Rattle.script_reader.proofs.reader.Reader.add_item.Goals as goal
 
--- a statement without a fault is no ninth open repeat, nor does it turn too often
+-- a statement without a fault opens no repeat too many, nor does it turn too often
 pub note_repeat-requires-clause-flat : goal.note_repeat-requires-clause-flat
 note_repeat-requires-clause-flat c =
     let sound = subst (λ (p : Progress). IsSound p c.args.effect.now) (sym c.self.view_is) (no-fault _ c.args.effect.now c.requires.passed) in

@@ -1,0 +1,62 @@
+"""The kinds of faults of each source with their rules, in the order of the tables of docs/, and the limits: made by scripts/kinds."""
+from __future__ import annotations
+
+RULES: dict[str, list[tuple[str, str]]] = {
+    "host file": [
+        ("TooLong", "the file has more than 65,536 bytes; said of line 0"),
+        ("NotText", "a byte outside a comment is no blank and no printable character"),
+        ("BadCore", "the line has something else than one core number"),
+        ("TwiceCore", "an earlier line has that core"),
+        ("TooFew", "fewer than N cores; said of the line behind the last"),
+    ],
+    "script": [
+        ("NotText", "a byte outside a comment is no blank and no printable character"),
+        ("UnknownStatement", "the first word is none of docs/SCRIPTS.md, or is rcce past its place, or a fixed word is wrong"),
+        ("WrongCount", "the line has another number of words than the statement"),
+        ("BadNumber", "a number is not of its form, or out of its range; rcce with another number than 1 or 2; repeat with a number not from 1 to 100,000"),
+        ("BadHex", "HEX is neither - nor an even number of hex digits"),
+        ("BadName", "a name is not of its form"),
+        ("RankRange", "a rank is N or more, or A is above B, or ROOT is not below the size of the group (where COMM is 0 or an earlier line splits it)"),
+        ("SelfMessage", "PEER is the UE itself"),
+        ("UnknownComm", "COMM is above 7, or above 15 in version 2; a split of 0; PARENT is not below COMM; a split of a number that an earlier line splits by another rule or parent"),
+        ("NotSplit", "in another statement than split, the UE has no earlier split of COMM, which is not 0; in a split, the UE has no earlier split of PARENT, which is not 0, or no earlier line splits it"),
+        ("Unset", "a register is read that the UE has not set in an earlier line"),
+        ("Shape", "a register is set to another length than it has, lengths differ, or a length is no multiple of the type's width"),
+        ("NoSection", "a statement before any section line"),
+        ("UnclosedRepeat", "a section line inside a repeat; or the file ends inside one (at the number of lines plus 1)"),
+        ("StrayEnd", "end with no open repeat"),
+        ("TooDeep", "a ninth open repeat"),
+        ("TooManyOps", "a UE has more than 100,000 operations, or the numbers of the open repeats multiply to more"),
+        ("TooLong", "a length above 65,536, a post of more than 3,584 bytes, more than 1,048,576 printed bytes at a UE, or a file of more than 4,194,304 bytes (at line 0)"),
+        ("TooManyNames", "the 65th name of the file"),
+    ],
+    "lab": [
+        ("TooLong", "the file has more than 1,048,576 bytes; said of line 0"),
+        ("NotText", "a byte outside a comment is no blank and no printable character"),
+        ("BadCore", "the line does not begin with core C"),
+        ("BadStep", "what follows core C is none of the forms of a step"),
+    ],
+    "trace": [
+        ("TooLong", "the file has more than 1,073,741,824 bytes or 16,777,216 lines; said of line 0"),
+        ("BadHead", "line 1 is not of its form"),
+        ("BadComm", "a line that begins with comm is no split of its form, or stands out of its place"),
+        ("BadEvent", "the line is none of an event, lacks its line feed, or has more than 255 bytes"),
+    ],
+}
+LIMITS: dict[str, int] = {
+    "last_comm_one": 7,
+    "last_comm_two": 15,
+    "most_host_bytes": 65_536,
+    "most_lab_bytes": 1_048_576,
+    "most_line_bytes": 255,
+    "most_lines": 512,
+    "most_log_bytes": 67_108_864,
+    "most_message": 65_536,
+    "most_names": 64,
+    "most_open": 8,
+    "most_operations": 100_000,
+    "most_printed": 1_048_576,
+    "most_script_bytes": 4_194_304,
+    "most_trace_bytes": 1_073_741_824,
+    "most_trace_lines": 16_777_216,
+}
