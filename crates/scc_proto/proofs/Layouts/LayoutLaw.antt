@@ -3,7 +3,8 @@ use Rattle.std.proofs.Common.{◌≡◌, ◌≢◌, ℕ, ◌<◌, Bool, true, fa
 use Rattle.std.specs.Prelude.{IsTrue}
 use Rattle.std.specs.Int.{bit_at}
 use Rattle.scc_base.specs.Places.{WordAt}
-use Rattle.scc_base.specs.Layouts.{signal_at}
+use Rattle.scc_base.specs.Layouts.{signal_at, signal_word}
+use Rattle.scc_base.specs.declared.signals.Signal.{Signal}
 use Rattle.scc_base.specs.declared.signals.Signal.TheVariants.{Sent, Ready}
 use Rattle.scc_base.specs.Setups.{SetupView, IsSetup, host_of, place_of}
 use Rattle.scc_base.specs.Events.{IsAccess, IsEvent}
@@ -17,7 +18,7 @@ use Rattle.scc_proto.specs.Stages.{FlagWords, Record}
 use Rattle.scc_proto.specs.Moves.{Move, DraftHeader, DraftChunk, RaiseSignal, LowerSignal, FlipGather, WriteRelease, NoMove, Misplaced, after}
 use Rattle.scc_proto.specs.Permission.{permits}
 use Rattle.scc_proto.specs.Words.{Memory, word_at, IsStep, IsStepBy, memory_after, Role, HeaderWord, ChunkWord, SignalFlag, SignalFlags, GatherFlag, ReleaseFlag, HeapWord, IdleWord, role_of, are_peers}
-use Rattle.scc_proto.specs.Records.{Act, Moving, NotingSignal, Holding, act_of, load_act, store_act, load_by, store_by, last_of, leads, raises_bit, lowered_below, move_at, change_at, flags_noted, note_flags, forget_flags, chunk_of, after_act, permits_act, permits_by, IsPermitted, record_after}
+use Rattle.scc_proto.specs.Records.{Act, Moving, NotingSignal, Holding, act_of, load_act, store_act, load_by, store_by, last_of, leads, raises_bit, lowered_below, move_at, change_at, flags_in, flags_noted, note_flags, forget_flags, chunk_of, after_act, permits_act, permits_by, IsPermitted, record_after}
 use Rattle.scc_proto.specs.Registers.{IsNotedWord, NotedFlags}
 use Rattle.scc_proto.specs.Views.{View, flag_in, word_of_flag, view_of, shown}
 use Rattle.scc_proto.specs.Agreement.{RegistersAgree}
@@ -53,15 +54,11 @@ bit_put_second table owner i b old new here there shows k l = same_or_other (put
     (λ t ne. put_two_first table owner i b k l ne ∙ sym (if_no (k == owner) (bit_at new l) (table k l) t))
 
 -- the word that is noted under a register is the word
-pub sent_noted_is : (layout : Layout) (held : Option FlagWords) (words : ℕ → ℕ) (old : ℕ) → NotedFlags layout held words → option_and_then (λ (flags : FlagWords). flags.sent) held ≡ Some old → words 0 ≡ old
-sent_noted_is layout None words old noted is = absurd (cc)
-sent_noted_is LineFlags (Some flags) words old noted is = let a : None ≡ Some old = sym noted.0 ∙ is in absurd (cc)
-sent_noted_is BitFlags (Some flags) words old noted is = subst (λ (o : Option ℕ). IsNotedWord o (words 0)) is noted.0
-
-pub ready_noted_is : (layout : Layout) (held : Option FlagWords) (words : ℕ → ℕ) (old : ℕ) → NotedFlags layout held words → option_and_then (λ (flags : FlagWords). flags.ready) held ≡ Some old → words 1 ≡ old
-ready_noted_is layout None words old noted is = absurd (cc)
-ready_noted_is LineFlags (Some flags) words old noted is = let a : None ≡ Some old = sym noted.1 ∙ is in absurd (cc)
-ready_noted_is BitFlags (Some flags) words old noted is = subst (λ (o : Option ℕ). IsNotedWord o (words 1)) is noted.1
+pub noted_is : (layout : Layout) (signal : Signal) (held : Option FlagWords) (words : ℕ → ℕ) (old : ℕ) → NotedFlags layout held words → option_and_then (λ (flags : FlagWords). flags_in signal flags) held ≡ Some old
+    → words (signal_word signal) ≡ old
+noted_is layout signal None words old noted is = absurd (cc)
+noted_is LineFlags signal (Some flags) words old noted is = let a : None ≡ Some old = sym (noted signal) ∙ is in absurd (cc)
+noted_is BitFlags signal (Some flags) words old noted is = subst (λ (o : Option ℕ). IsNotedWord o (words (signal_word signal))) is (noted signal)
 
 -- ---- stores
 
@@ -86,12 +83,12 @@ module _ (s : SetupView) (memory : Memory) (rec : Record) (me : ℕ) (below : me
   sent_shows_old : (owner old : ℕ) → IsOwn s place owner 1 0 → s.layout ≡ BitFlags → flags_noted Sent rec place.core ≡ Some old → (from : ℕ) → (view_of s memory).sent from owner ≡ bit_at old from
   sent_shows_old owner old own bits is from =
       ap (λ (layout : Layout). flag_in layout (word_of_flag memory (host_of s.hosts owner) (signal_at layout Sent from)) (signal_at layout Sent from)) bits
-      ∙ ap (λ (w : ℕ). bit_at w from) (ap (λ (core : ℕ). memory.word core 1 0) (sym own.on) ∙ sent_noted_is s.layout (rec.held place.core) (memory.word place.core 1) old noted is)
+      ∙ ap (λ (w : ℕ). bit_at w from) (ap (λ (core : ℕ). memory.word core 1 0) (sym own.on) ∙ noted_is s.layout Sent (rec.held place.core) (memory.word place.core 1) old noted is)
 
   ready_shows_old : (owner old : ℕ) → IsOwn s place owner 1 1 → s.layout ≡ BitFlags → flags_noted Ready rec place.core ≡ Some old → (to : ℕ) → (view_of s memory).ready owner to ≡ bit_at old to
   ready_shows_old owner old own bits is to =
       ap (λ (layout : Layout). flag_in layout (word_of_flag memory (host_of s.hosts owner) (signal_at layout Ready to)) (signal_at layout Ready to)) bits
-      ∙ ap (λ (w : ℕ). bit_at w to) (ap (λ (core : ℕ). memory.word core 1 1) (sym own.on) ∙ ready_noted_is s.layout (rec.held place.core) (memory.word place.core 1) old noted is)
+      ∙ ap (λ (w : ℕ). bit_at w to) (ap (λ (core : ℕ). memory.word core 1 1) (sym own.on) ∙ noted_is s.layout Ready (rec.held place.core) (memory.word place.core 1) old noted is)
 
   sent_bits : (owner old new i b : ℕ) → IsOwn s place owner 1 0 → s.layout ≡ BitFlags → flags_noted Sent rec place.core ≡ Some old → bit_at new i ≡ b → ((k : ℕ) → k ≢ i → bit_at new k ≡ bit_at old k)
       → SameView s (record (view_of s memory) { sent = put_two (view_of s memory).sent i owner b }) (view_stored (SignalFlags Sent owner) new (view_of s memory))
@@ -174,14 +171,14 @@ module _ (s : SetupView) (memory : Memory) (rec : Record) (me : ℕ) (below : me
   stores_as (SignalFlag Ready to from) st = either (Stored (SignalFlag Ready to from)) ((to == me) && (value == 1)) (RaiseSignal Ready from) _
       (λ t may. let own = eq_is to me (both_first (to == me) (value == 1) t) in let set = eq_is value 1 (both_second (to == me) (value == 1) t) in
       record {
-        own = peers_swap s from me (subst (λ (x : ℕ). are_peers s from x ≡ true) own st.1);
+        own = subst (λ (x : ℕ). are_peers s x from ≡ true) own st.1;
         told = tt;
         shows = view_is s _ _ (λ i. record (view_of s memory) { ready = put_two (view_of s memory).ready from (sym own i) (sym set i) });
       })
       (λ f. either (Stored (SignalFlag Ready to from)) ((from == me) && (value == 0)) (LowerSignal Ready to) Misplaced
       (λ t may. let own = eq_is from me (both_first (from == me) (value == 0) t) in let clear = eq_is value 0 (both_second (from == me) (value == 0) t) in
       record {
-        own = subst (λ (x : ℕ). are_peers s x to ≡ true) own st.1;
+        own = peers_swap s to me (subst (λ (x : ℕ). are_peers s to x ≡ true) own st.1);
         told = tt;
         shows = view_is s _ _ (λ i. record (view_of s memory) { ready = put_two (view_of s memory).ready (sym own i) to (sym clear i) });
       })
@@ -223,10 +220,8 @@ module _ (s : SetupView) (valid : IsSetup s) (memory : Memory) (rec : Record) (m
   notes_or noting held move false is none loads = moves move loads
 
   load_acts : word_at memory place ≡ value → (role : Role) → Stands s place role → ActsAs (load_act s me rec place value role)
-  load_acts tells (SignalFlags Sent owner) st = notes_or (NotingSignal Sent place.core value) (put rec.held place.core (option_map (note_flags Sent value) (rec.held place.core))) _ (is_some (rec.held place.core)) refl
-      (no_move s memory rec me below place value tells) (loads_as s memory rec me below place value tells (SignalFlags Sent owner) st)
-  load_acts tells (SignalFlags Ready owner) st = notes_or (NotingSignal Ready place.core value) (put rec.held place.core (option_map (note_flags Ready value) (rec.held place.core))) _ (is_some (rec.held place.core)) refl
-      (no_move s memory rec me below place value tells) (loads_as s memory rec me below place value tells (SignalFlags Ready owner) st)
+  load_acts tells (SignalFlags signal at) st = notes_or (NotingSignal signal place.core value) (put rec.held place.core (option_map (note_flags signal value) (rec.held place.core))) _ (is_some (rec.held place.core)) refl
+      (no_move s memory rec me below place value tells) (loads_as s memory rec me below place value tells (SignalFlags signal at) st)
   load_acts tells role st = moves (load_by s me value role) (loads_as s memory rec me below place value tells role st)
 
   load_made : place.word < 4 → word_at memory place ≡ value → IsMade s memory rec me (made Load)

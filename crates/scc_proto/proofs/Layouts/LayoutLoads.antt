@@ -101,7 +101,7 @@ module _ (s : SetupView) (memory : Memory) (rec : Record) (me : ℕ) (below : me
   loads_as (SignalFlag Ready to from) st = either (LoadsAs s me (view_of s memory) rec) (from == me) (LookSignal Ready (look_at to value)) NoMove
       (λ t. let own = eq_is from me t in record {
         own = λ j u. let same = eq_is j to (both_first (j == to) (value == 1) u) in
-            subst (λ (x : ℕ). are_peers s me x ≡ true) (sym same) (subst (λ (x : ℕ). are_peers s x to ≡ true) own st.1);
+            subst (λ (x : ℕ). are_peers s me x ≡ true) (sym same) (subst (λ (x : ℕ). are_peers s x to ≡ true) own (peers_swap s to from st.1));
         told = λ j u. let same = eq_is j to (both_first (j == to) (value == 1) u) in
             ap (λ (x : ℕ). (view_of s memory).ready me x) same ∙ ap (λ (x : ℕ). (view_of s memory).ready x to) (sym own) ∙ ready_line_is from to st.0 st.2 ∙ eq_is value 1 (both_second (j == to) (value == 1) u);
         permitted = refl;

@@ -14,8 +14,8 @@ use Rattle.scc_proto.specs.Tables.{put_two}
 use Rattle.scc_proto.specs.Words.{Memory, word_at, is_at, memory_by, Role, HeaderWord, ChunkWord, SignalFlag, SignalFlags, GatherFlag, ReleaseFlag, HeapWord, IdleWord, are_peers, is_present, role_of}
 use Rattle.scc_proto.specs.Views.{View, flag_in, view_of}
 use Rattle.scc_proto.proofs.Layouts.MoveFacts.{SameView}
-use Rattle.scc_proto.proofs.Tests.{same_or_other, eqb_same, eqb_other, put_two_here, put_two_first, put_two_second}
-use Rattle.scc_proto.proofs.Layouts.Roles.{if_yes, if_no, lt_yes, lt_no, lt_is, lt_not, own_word, own_is, Stands, role_stands, signal_role, role_header, role_chunk, role_sent, role_ready, role_gather, role_release}
+use Rattle.scc_proto.proofs.Tests.{same_or_other, eqb_same, eqb_other, peers_swap, put_two_here, put_two_first, put_two_second}
+use Rattle.scc_proto.proofs.Layouts.Roles.{if_yes, if_no, lt_yes, lt_no, lt_is, lt_not, own_word, own_is, Stands, role_stands, signal_role, role_header, role_chunk, role_signal, role_gather, role_release}
 
 -- the flags `sent`, and the flags `ready`, with this signal's flag from a rank to another stored
 abbrev sent_put : Signal → (by at v : ℕ) → (ℕ → ℕ → ℕ) → ℕ → ℕ → ℕ
@@ -136,7 +136,7 @@ module _ (s : SetupView) (valid : IsSetup s) (place : WordAt) (value : ℕ) (mem
   sent_shows st from to peers =
       let q = flag_word (host_of s.hosts to) (signal_at s.layout Sent from) in
       same_word ((view_stored (role_of s place) value (view_of s memory)).sent from to ≡ (view_of s late).sent from to) place q
-      (λ e. ap (λ (role : Role). (view_stored role value (view_of s memory)).sent from to) (ap (role_of s) e ∙ role_sent s valid from to peers) ∙ sent_here s.layout from to
+      (λ e. ap (λ (role : Role). (view_stored role value (view_of s memory)).sent from to) (ap (role_of s) e ∙ role_signal s valid Sent from to peers) ∙ sent_here s.layout from to
       ∙ ap (λ (word : ℕ). flag_in s.layout word (signal_at s.layout Sent from)) (sym (stored_here place value memory q e)))
       (λ ne. sent_left (role_of s place) st from to ne ∙ ap (λ (word : ℕ). flag_in s.layout word (signal_at s.layout Sent from)) (sym (stored_there place value memory q ne)))
 
@@ -144,7 +144,7 @@ module _ (s : SetupView) (valid : IsSetup s) (place : WordAt) (value : ℕ) (mem
   ready_shows st from to peers =
       let q = flag_word (host_of s.hosts from) (signal_at s.layout Ready to) in
       same_word ((view_stored (role_of s place) value (view_of s memory)).ready from to ≡ (view_of s late).ready from to) place q
-      (λ e. ap (λ (role : Role). (view_stored role value (view_of s memory)).ready from to) (ap (role_of s) e ∙ role_ready s valid from to peers) ∙ ready_here s.layout from to
+      (λ e. ap (λ (role : Role). (view_stored role value (view_of s memory)).ready from to) (ap (role_of s) e ∙ role_signal s valid Ready to from (peers_swap s from to peers)) ∙ ready_here s.layout from to
       ∙ ap (λ (word : ℕ). flag_in s.layout word (signal_at s.layout Ready to)) (sym (stored_here place value memory q e)))
       (λ ne. ready_left (role_of s place) st from to ne ∙ ap (λ (word : ℕ). flag_in s.layout word (signal_at s.layout Ready to)) (sym (stored_there place value memory q ne)))
 
