@@ -2,6 +2,7 @@
 use Rattle.std.proofs.Common.{◌≡◌, ◌≢◌, ◌⊎◌, inl, inr, ⊎_elim, ℕ, ◌%◌, true, false, option_map, sym, ap, ◌∙◌, subst}
 use Rattle.scc_base.specs.Heads.{MessageHead}
 use Rattle.scc_base.specs.Setups.{SetupView}
+use Rattle.scc_base.specs.declared.signals.Signal.TheVariants.{Ready}
 use Rattle.scc_proto.specs.Agreement.{Agrees}
 use Rattle.scc_proto.specs.Like.{unanswered, Like}
 use Rattle.scc_proto.specs.Messages.{Notes, Progress}
@@ -19,7 +20,7 @@ use Rattle.chip_run.proofs.WaitsLike.{post_like}
 -- a send whose chunk is up and whose `ready` is not set has not seen it set
 pub raise_waits : (s : SetupView) (memory : Memory) (records : ℕ → Record) (me to : ℕ) (head : MessageHead) (part : Part) (message : Progress) (chunk : Notes) → Agrees s memory records
     → are_peers s me to ≡ true → (records me).stage ≡ Sending to part message chunk → (part ≡ Raised) ⊎ (part ≡ Answered) → message.head ≡ head
-    → (view_of s memory).ready me to ≢ 1 → RaiseWaits s (view_of s memory) me to head (records me)
+    → (view_of s memory).signal Ready to me ≢ 1 → RaiseWaits s (view_of s memory) me to head (records me)
 raise_waits s memory records me to head part message chunk agrees peers stage up head_is vain =
     record { peers = peers; message = message; chunk = chunk; stage = stage ∙ ap (λ (p : Part). Sending to p message chunk) raised; head_is = head_is; vain = vain }
   where
@@ -40,7 +41,7 @@ module _ (s : SetupView) (view : View) (me : ℕ) (rec now : Record) (like : Lik
   slot_same : SlotWaits view me rec → SlotWaits view me now
   slot_same waits =
       let (q, there, to_is) = post_like waits.post now.post (sym (ap (option_map unanswered) waits.is_posted) ∙ like.post) in
-      record { stage = sym like.stage ∙ waits.stage; post = q; is_posted = there; vain = λ is. waits.vain (ap (view.ready me) to_is ∙ is) }
+      record { stage = sym like.stage ∙ waits.stage; post = q; is_posted = there; vain = λ is. waits.vain (ap (λ (x : ℕ). view.signal Ready x me) to_is ∙ is) }
 
   raise_same : (to : ℕ) (head : MessageHead) → RaiseWaits s view me to head rec → RaiseWaits s view me to head now
   raise_same to head waits =

@@ -3,6 +3,7 @@ use Rattle.std.proofs.Common.{◌≡◌, ◌≢◌, ◌⊎◌, inl, inr, ⊎_eli
 use Rattle.std.proofs.lemmas.Bool.Decides.{nat_tests}
 use Rattle.std.proofs.lemmas.Option.{same_Some}
 use Rattle.scc_base.specs.Setups.{SetupView}
+use Rattle.scc_base.specs.declared.signals.Signal.TheVariants.{Sent}
 use Rattle.scc_proto.specs.Agreement.{Agrees}
 use Rattle.scc_proto.specs.Legality.{Outgoing}
 use Rattle.scc_proto.specs.Messages.{Notes, Message, Progress, begun, is_last, with_chunk, sent_messages, received_messages}
@@ -154,7 +155,7 @@ module _ (s : SetupView) (memory : Memory) (records : ℕ → Record) (agrees : 
       → TakeWaits s (view_of s memory) j i (records j) → ⊥
   no_take i j p m c out takes =
       ⊎_elim
-      (λ (flag : (view_of s memory).sent i j ≡ 1). takes.vain flag)
+      (λ (flag : (view_of s memory).signal Sent i j ≡ 1). takes.vain flag)
       (λ (taken : (words : Notes) × (taking_side i (records j).stage ≡ Receiving m words)). looking_awaits i (records j).stage takes.stage m taken.0 taken.1)
       out.seen
 

@@ -3,6 +3,7 @@ use Rattle.std.proofs.Common.{◌≡◌, ◌≢◌, inl, inr, ℕ, ◌%◌, ◌<
 use Rattle.std.specs.List.{list_all}
 use Rattle.std.proofs.lemmas.Option.{same_Some}
 use Rattle.scc_base.specs.Setups.{SetupView}
+use Rattle.scc_base.specs.declared.signals.Signal.TheVariants.{Sent, Ready}
 use Rattle.scc_base.specs.declared.events.Event.{Event}
 use Rattle.scc_proto.specs.Agreement.{Agrees}
 use Rattle.scc_proto.specs.Like.{unanswered, Like}
@@ -14,7 +15,7 @@ use Rattle.scc_proto.specs.Views.{view_of, SameFlagWords}
 use Rattle.scc_proto.specs.Words.{Memory}
 use Rattle.scc_proto.proofs.Words.FlagsTold.{flags_like, like_both, like_sym}
 use Rattle.scc_proto.proofs.Runs.RestLaw.{resting_part}
-use Rattle.scc_proto.proofs.Tests.{same_or_other}
+use Rattle.scc_proto.proofs.Tests.{same_or_other, peers_swap}
 use Rattle.chip_run.specs.Wants.{Want}
 use Rattle.chip_run.specs.Waiting.{SlotWaits, RaiseWaits, TakeWaits, IsLooking, BarWaits, AtRoot, AtMember, Waits}
 
@@ -35,7 +36,7 @@ module _ (s : SetupView) (one other : Memory) (records recs : ℕ → Record) (a
         stage = sym (like k).stage ∙ waits.stage;
         post = q;
         is_posted = there;
-        vain = λ is. waits.vain (same.ready k waits.post.to on.peers ∙ ap ((view_of s other).ready k) to_is ∙ is);
+        vain = λ is. waits.vain (same.signal Ready waits.post.to k (peers_swap s k waits.post.to on.peers) ∙ ap (λ (x : ℕ). (view_of s other).signal Ready x k) to_is ∙ is);
       }
 
   raise_like : (k to : ℕ) (head : _) → RaiseWaits s (view_of s one) k to head (records k) → RaiseWaits s (view_of s other) k to head (recs k)
@@ -45,14 +46,14 @@ module _ (s : SetupView) (one other : Memory) (records recs : ℕ → Record) (a
     chunk = waits.chunk;
     stage = sym (like k).stage ∙ waits.stage;
     head_is = waits.head_is;
-    vain = λ is. waits.vain (same.ready k to waits.peers ∙ is);
+    vain = λ is. waits.vain (same.signal Ready to k (peers_swap s k to waits.peers) ∙ is);
   }
 
   take_like : (k from : ℕ) → TakeWaits s (view_of s one) k from (records k) → TakeWaits s (view_of s other) k from (recs k)
   take_like k from waits = record {
     peers = waits.peers;
     stage = subst (IsLooking from) (like k).stage waits.stage;
-    vain = λ is. waits.vain (same.sent from k waits.peers ∙ is);
+    vain = λ is. waits.vain (same.signal Sent from k waits.peers ∙ is);
   }
 
   bar_like : (k comm : ℕ) → k < s.nue → BarWaits s (view_of s one) k comm (records k) → BarWaits s (view_of s other) k comm (recs k)

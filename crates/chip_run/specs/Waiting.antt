@@ -2,6 +2,7 @@
 use Rattle.std.specs.Prelude.{◌≡◌, ◌≢◌, ℕ, suc, ◌%◌, ◌<◌, ◌⊎◌, true, Some, None}
 use Rattle.scc_base.specs.Heads.{MessageHead}
 use Rattle.scc_base.specs.Setups.{SetupView, setup_key, place_of}
+use Rattle.scc_base.specs.declared.signals.Signal.TheVariants.{Sent, Ready}
 use Rattle.scc_proto.specs.Messages.{Notes, Progress}
 use Rattle.scc_proto.specs.Passed.{open_call}
 use Rattle.scc_proto.specs.Records.{last_of}
@@ -15,7 +16,7 @@ pub record SlotWaits (view : View) (me : ℕ) (rec : Record) : Type 0 where
   pub stage : rec.stage ≡ Idle
   pub post : OnItsWay
   pub is_posted : rec.post ≡ Some post
-  pub vain : view.ready me post.to ≢ 1
+  pub vain : view.signal Ready post.to me ≢ 1
 
 -- a rank waits in a send, with a chunk raised: its `ready` is not set
 pub record RaiseWaits (s : SetupView) (view : View) (me to : ℕ) (head : MessageHead) (rec : Record) : Type 0 where
@@ -24,7 +25,7 @@ pub record RaiseWaits (s : SetupView) (view : View) (me to : ℕ) (head : Messag
   pub chunk : Notes
   pub stage : rec.stage ≡ Sending to Raised message chunk
   pub head_is : message.head ≡ head
-  pub vain : view.ready me to ≢ 1
+  pub vain : view.signal Ready to me ≢ 1
 
 -- no chunk is taken: before the message, or between its chunks
 abbrev pub IsLooking : ℕ → Stage → Type 0
@@ -36,7 +37,7 @@ IsLooking from stage = ⊥
 pub record TakeWaits (s : SetupView) (view : View) (me from : ℕ) (rec : Record) : Type 0 where
   pub peers : are_peers s from me ≡ true
   pub stage : IsLooking from rec.stage
-  pub vain : view.sent from me ≢ 1
+  pub vain : view.signal Sent from me ≢ 1
 
 -- a rank waits in a barrier: member 0 for the flip of the first member that it has not seen, any other member for its
 -- release

@@ -5,6 +5,7 @@ ghost use Rattle.std.specs.List.{list_all};
 ghost use Rattle.scc_base.specs.declared.events.Event.{Event};
 ghost use Rattle.scc_base.specs.Heads.{MessageHead};
 ghost use Rattle.scc_base.specs.Setups.{SetupView};
+ghost use Rattle.scc_base.specs.declared.signals.Signal.TheVariants.{Ready};
 ghost use Rattle.scc_proto.specs.Agreement.{Agrees};
 ghost use Rattle.scc_proto.specs.Like.{Like};
 ghost use Rattle.scc_proto.specs.Messages.{Notes, Progress};
@@ -35,5 +36,5 @@ pub fn looks_stay_vain()
     // A send whose chunk is up waits where its `ready` is not set: it cannot have seen it set.
     ensures raised { (s : SetupView) (memory : Memory) (records : ℕ → Record) (me to : ℕ) (head : MessageHead) (part : Part) (message : Progress) (chunk : Notes)
         → Agrees s memory records → are_peers s me to ≡ true → (records me).stage ≡ Sending to part message chunk → (part ≡ Raised) ⊎ (part ≡ Answered)
-        → message.head ≡ head → (view_of s memory).ready me to ≢ 1 → RaiseWaits s (view_of s memory) me to head (records me) }
+        → message.head ≡ head → (view_of s memory).signal Ready to me ≢ 1 → RaiseWaits s (view_of s memory) me to head (records me) }
 {}

@@ -4,6 +4,7 @@ use Rattle.std.proofs.lemmas.Option.{same_Some}
 use Rattle.scc_base.specs.Calls.{DataCall}
 use Rattle.scc_base.specs.Calls as calls
 use Rattle.scc_base.specs.Setups.{SetupView}
+use Rattle.scc_base.specs.declared.signals.Signal.TheVariants.{Ready}
 use Rattle.scc_base.specs.declared.calls.Call.TheVariants as call
 use Rattle.scc_proto.specs.Messages.{Notes, Progress, begun, is_last, with_chunk}
 use Rattle.scc_proto.specs.Pairs.{Resting, Offering, Awaiting, side_of_part, side_of_post, sending_side, taking_side, HasArrived, Pair, pair_of, Phase, InRest, InRaised, InTaken, InReady}
@@ -76,7 +77,7 @@ refilling to m (Barrier comm seen released) o is = absurd (no_post_rests to m o 
 
 module _ {U : Type 0} (next : U → Next U) (s : SetupView) (memory : Memory) (records : ℕ → Record) (starts states : ℕ → U) (lasts : ℕ → Option Posted) (sw : Swept next s memory records starts states lasts) where
   -- a rank that sends waits for its `ready`, with a chunk raised
-  pub raised_by : (k to : ℕ) (part : Part) (m : Progress) (w : Notes) → k < s.nue → (records k).stage ≡ Sending to part m w → (part ≡ Raised) × ((view_of s memory).ready k to ≢ 1)
+  pub raised_by : (k to : ℕ) (part : Part) (m : Progress) (w : Notes) → k < s.nue → (records k).stage ≡ Sending to part m w → (part ≡ Raised) × ((view_of s memory).signal Ready to k ≢ 1)
   raised_by k to part m w low stage = by (next (states k)) (sw.vain k low)
     where
       not_looking : (from : ℕ) (st : Stage) → st ≡ Sending to part m w → IsLooking from st → ⊥
@@ -86,7 +87,7 @@ module _ {U : Type 0} (next : U → Next U) (s : SetupView) (memory : Memory) (r
       not_bar comm (AtRoot seen j present zeroth bar less below grouped placed vain) = cc (stage, bar)
       not_bar comm (AtMember present other bar vain) = cc (stage, bar)
 
-      by : (n : Next U) → Vain s (view_of s memory) k (records k) n → (part ≡ Raised) × ((view_of s memory).ready k to ≢ 1)
+      by : (n : Next U) → Vain s (view_of s memory) k (records k) n → (part ≡ Raised) × ((view_of s memory).signal Ready to k ≢ 1)
       by Ends vain = absurd (cc (stage, vain))
       by (Goes after) vain = absurd vain
       by (Posts message after) vain = absurd (let idle = vain.stage in cc (stage, idle))
@@ -95,7 +96,7 @@ module _ {U : Type 0} (next : U → Next U) (s : SetupView) (memory : Memory) (r
           let at = raise.stage in
           let to_is : j ≡ to = cc (stage, at) in
           let part_is : part ≡ Raised = cc (stage, at) in
-          (part_is, subst (λ (x : ℕ). (view_of s memory).ready k x ≢ 1) to_is raise.vain)
+          (part_is, subst (λ (x : ℕ). (view_of s memory).signal Ready x k ≢ 1) to_is raise.vain)
       by (Recvs from head take refuse) vain = absurd (not_looking from (records k).stage stage vain.stage)
       by (Bars comm after) vain = absurd (not_bar comm vain)
 

@@ -69,12 +69,10 @@ pub load_notes : (s : SetupView) (me : ℕ) (rec : Record) (place : WordAt) (val
 load_notes s me rec place value of is noted = loaded s me rec place value (role_meant of) is ∙ by of noted
   where
     by : (u : Use) → (is_flags_use u && is_some (rec.held place.core)) ≡ true → after_act (chunk_of s) (load_act s me rec place value (role_meant u)) rec ≡ change_held (note_by u value) place.core rec
-    by (word_use.SentBits owner) so = ap (λ a. after_act (chunk_of s) a rec) (if_true (is_some (rec.held place.core)) _ _ so)
-    by (word_use.ReadyBits owner) so = ap (λ a. after_act (chunk_of s) a rec) (if_true (is_some (rec.held place.core)) _ _ so)
+    by (word_use.SignalFlags signal at) so = ap (λ a. after_act (chunk_of s) a rec) (if_true (is_some (rec.held place.core)) _ _ so)
     by (word_use.Header owner word) so = absurd (cc)
     by (word_use.Chunk owner word) so = absurd (cc)
-    by (word_use.Sent from to) so = absurd (cc)
-    by (word_use.Ready from to) so = absurd (cc)
+    by (word_use.SignalFlag signal from at) so = absurd (cc)
     by (word_use.Gather comm owner) so = absurd (cc)
     by (word_use.Release comm owner) so = absurd (cc)
     by word_use.Heap so = absurd (cc)
@@ -85,12 +83,10 @@ pub load_moves : (s : SetupView) (me : ℕ) (rec : Record) (place : WordAt) (val
 load_moves s me rec place value of is other = loaded s me rec place value (role_meant of) is ∙ by of other
   where
     by : (u : Use) → (is_flags_use u && is_some (rec.held place.core)) ≡ false → after_act (chunk_of s) (load_act s me rec place value (role_meant u)) rec ≡ after (chunk_of s) (load_by s me value (role_meant u)) rec
-    by (word_use.SentBits owner) not_so = ap (λ a. after_act (chunk_of s) a rec) (if_false (is_some (rec.held place.core)) _ _ not_so)
-    by (word_use.ReadyBits owner) not_so = ap (λ a. after_act (chunk_of s) a rec) (if_false (is_some (rec.held place.core)) _ _ not_so)
+    by (word_use.SignalFlags signal at) not_so = ap (λ a. after_act (chunk_of s) a rec) (if_false (is_some (rec.held place.core)) _ _ not_so)
     by (word_use.Header owner word) not_so = refl
     by (word_use.Chunk owner word) not_so = refl
-    by (word_use.Sent from to) not_so = refl
-    by (word_use.Ready from to) not_so = refl
+    by (word_use.SignalFlag signal from at) not_so = refl
     by (word_use.Gather comm owner) not_so = refl
     by (word_use.Release comm owner) not_so = refl
     by word_use.Heap not_so = refl
@@ -103,10 +99,8 @@ one_permitted size rec false x y one two = two
 pub load_permitted : (s : SetupView) (me : ℕ) (rec : Record) (value : ℕ) (of : Use) → permits (chunk_of s) (load_by s me value (role_meant of)) rec ≡ true
 load_permitted s me rec value (word_use.Header owner k) = refl
 load_permitted s me rec value (word_use.Chunk owner k) = refl
-load_permitted s me rec value (word_use.Sent from to) = one_permitted (chunk_of s) rec (to == me) _ _ refl refl
-load_permitted s me rec value (word_use.Ready from to) = one_permitted (chunk_of s) rec (from == me) _ _ refl refl
-load_permitted s me rec value (word_use.SentBits owner) = one_permitted (chunk_of s) rec (owner == me) _ _ refl refl
-load_permitted s me rec value (word_use.ReadyBits owner) = one_permitted (chunk_of s) rec (owner == me) _ _ refl refl
+load_permitted s me rec value (word_use.SignalFlag signal by at) = one_permitted (chunk_of s) rec (at == me) _ _ refl refl
+load_permitted s me rec value (word_use.SignalFlags signal at) = one_permitted (chunk_of s) rec (at == me) _ _ refl refl
 load_permitted s me rec value (word_use.Gather comm owner) = one_permitted (chunk_of s) rec (leads s comm me owner) _ _ refl refl
 load_permitted s me rec value (word_use.Release comm owner) = one_permitted (chunk_of s) rec ((owner == me) && not (leads s comm me me)) _ _ refl refl
 load_permitted s me rec value word_use.Heap = refl
@@ -115,12 +109,10 @@ load_permitted s me rec value word_use.Idle = refl
 -- ---- stores
 
 stored : (s : SetupView) (me : ℕ) (rec : Record) (place : WordAt) (value : ℕ) (of : Use) → permits_act (chunk_of s) (store_act s me rec place value (role_meant of)) rec ≡ permits (chunk_of s) (store_by s me rec place value (role_meant of)) rec
-stored s me rec place value (word_use.SentBits owner) = refl
-stored s me rec place value (word_use.ReadyBits owner) = refl
+stored s me rec place value (word_use.SignalFlags signal at) = refl
 stored s me rec place value (word_use.Header owner word) = refl
 stored s me rec place value (word_use.Chunk owner word) = refl
-stored s me rec place value (word_use.Sent from to) = refl
-stored s me rec place value (word_use.Ready from to) = refl
+stored s me rec place value (word_use.SignalFlag signal by at) = refl
 stored s me rec place value (word_use.Gather comm owner) = refl
 stored s me rec place value (word_use.Release comm owner) = refl
 stored s me rec place value word_use.Heap = refl
@@ -132,12 +124,10 @@ store_permitted s me rec place value of is = ap (λ (r : Role). permits_act (chu
 
 store_acts : (s : SetupView) (me : ℕ) (rec : Record) (place : WordAt) (value : ℕ) (of : Use)
     → after_act (chunk_of s) (store_act s me rec place value (role_meant of)) rec ≡ change_held (forget_by of) place.core (after (chunk_of s) (store_by s me rec place value (role_meant of)) rec)
-store_acts s me rec place value (word_use.SentBits owner) = refl
-store_acts s me rec place value (word_use.ReadyBits owner) = refl
+store_acts s me rec place value (word_use.SignalFlags signal at) = refl
 store_acts s me rec place value (word_use.Header owner word) = sym (same_held _ place.core)
 store_acts s me rec place value (word_use.Chunk owner word) = sym (same_held _ place.core)
-store_acts s me rec place value (word_use.Sent from to) = sym (same_held _ place.core)
-store_acts s me rec place value (word_use.Ready from to) = sym (same_held _ place.core)
+store_acts s me rec place value (word_use.SignalFlag signal by at) = sym (same_held _ place.core)
 store_acts s me rec place value (word_use.Gather comm owner) = sym (same_held _ place.core)
 store_acts s me rec place value (word_use.Release comm owner) = sym (same_held _ place.core)
 store_acts s me rec place value word_use.Heap = sym (same_held _ place.core)

@@ -1,21 +1,20 @@
 -- What a record allows next, beside what it permits.
-use Rattle.std.proofs.Common.{◌≡◌, ◌⊎◌, inl, inr, ℕ, suc, ◌%◌, Bool, true, false, ◌&&◌, ◌||◌, ◌==◌, if◌then◌else◌, List, [], ◌∷◌, Option, Some, None, is_none, is_some, refl, sym, ◌∙◌, ap, arith}
+use Rattle.std.proofs.Common.{◌≡◌, ◌⊎◌, inl, inr, ℕ, Bool, true, false, ◌&&◌, ◌||◌, ◌==◌, if◌then◌else◌, List, [], ◌∷◌, Option, Some, None, is_none, is_some, refl, sym, ◌∙◌, ap, arith}
 use Rattle.std.proofs.lemmas.Bool.Decides.{nat_tests}
 use Rattle.scc_base.specs.Calls.{DataCall}
-use Rattle.scc_base.specs.Events.{free_of, store_of, take_of}
+use Rattle.scc_base.specs.Events.{store_of}
 use Rattle.scc_base.specs.Places.{WordAt}
 use Rattle.scc_base.specs.Setups.{SetupView}
 use Rattle.scc_base.specs.declared.signals.Signal.TheVariants.{Sent, Ready}
 use Rattle.scc_proto.specs.Messages.{Note, Notes, Progress, begun, head_of, is_whole}
-use Rattle.scc_proto.specs.Moves.{Move, DraftHeader, DraftChunk, RaiseSignal, LookSignal, ReadHeader, ReadChunk, LowerSignal, FlipGather, LookGather, WriteRelease, LookRelease, StoreHeap, NoMove, Misplaced}
+use Rattle.scc_proto.specs.Moves.{Move, DraftHeader, DraftChunk, RaiseSignal, ReadChunk, LowerSignal, WriteRelease, StoreHeap}
 use Rattle.scc_proto.specs.Permission.{is_drafted, is_whole_header, may_take, permits}
 use Rattle.scc_proto.specs.Records.{change_at, chunk_of, is_permitted, permits_act, flags_noted, store_act}
 use Rattle.scc_proto.specs.Singles.{is_free}
 use Rattle.scc_proto.specs.Stages.{FlagWords, HeapStore, Filling, Raised, Answered, Stage, Idle, Drafting, Sending, Between, Taking, Barrier, OnItsWay, Record}
-use Rattle.scc_proto.specs.Words.{Role, HeaderWord, ChunkWord, SignalFlag, SignalFlags, GatherFlag, ReleaseFlag, HeapWord, IdleWord, role_of}
+use Rattle.scc_proto.specs.Words.{Role, SignalFlags, role_of}
 use Rattle.scc_proto.proofs.Tests.{both_first, both_second, same_by_eqb, true_not_false}
-use Rattle.record_machine.specs.Next.{allowed_for, awaits, is_load_move, lacks_flags, lowers_beside, names_move, offers, ready_allowed, store_allowed, stores_allowed}
-use Rattle.record_machine.specs.declared.next.NextEvent.{NextEvent}
+use Rattle.record_machine.specs.Next.{allowed_for, is_load_move, lacks_flags, lowers_beside, names_move, offers, ready_allowed, store_allowed, stores_allowed}
 use Rattle.record_machine.specs.declared.next.NextEvent.TheVariants as next
 use Rattle.record_machine.specs.declared.next.NextStore.{NextStore}
 use Rattle.record_machine.specs.declared.next.NextStore.TheVariants as may

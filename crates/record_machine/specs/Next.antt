@@ -12,6 +12,7 @@ use Rattle.scc_proto.specs.Moves.{Move, DraftHeader, DraftChunk, RaiseSignal, Lo
 use Rattle.scc_proto.specs.Permission.{is_drafted, is_empty, is_whole_header}
 use Rattle.scc_proto.specs.Records.{chunk_of, flags_noted}
 use Rattle.scc_proto.specs.Stages.{Filling, Raised, Answered, Stage, Idle, Drafting, Sending, Between, Taking, Barrier, OnItsWay, Record}
+use Rattle.scc_proto.specs.Tables.{put_signal}
 use Rattle.scc_proto.specs.Words.{Role, HeaderWord, ChunkWord, SignalFlag, SignalFlags, GatherFlag, ReleaseFlag, HeapWord, IdleWord, role_of}
 use Rattle.record_machine.specs.declared.next.NextEvent.{NextEvent}
 use Rattle.record_machine.specs.declared.next.NextEvent.TheVariants as next
@@ -93,15 +94,9 @@ no_store = record {
   release = λ comm. false;
 }
 
--- `sent` of one rank alone, or of any
-abbrev pub sent_at : (ℕ → Bool) → Signal → ℕ → Bool
-sent_at test Sent rank = test rank
-sent_at test Ready rank = false
-
--- `ready` of one rank alone, or of any
-abbrev pub ready_at : (ℕ → Bool) → Signal → ℕ → Bool
-ready_at test Sent rank = false
-ready_at test Ready rank = test rank
+-- the flags of this signal alone, at the ranks of a test
+abbrev pub at_ranks : Signal → (ℕ → Bool) → Signal → ℕ → Bool
+at_ranks signal test = put_signal (λ other rank. false) signal test
 
 -- the move is a store of these kinds
 abbrev pub is_among : StoreKinds → Move → Bool
@@ -125,39 +120,39 @@ abbrev pub kinds_offered : NextStore → StoreKinds
 kinds_offered may.Begin = record no_store { header = true; chunk = true; heap = true }
 kinds_offered (may.BesidePost to) = record no_store { heap = true }
 kinds_offered may.Draft = record no_store { header = true; chunk = true }
-kinds_offered may.Raise = record no_store { header = true; chunk = true; raise = sent_at (λ to. true) }
+kinds_offered may.Raise = record no_store { header = true; chunk = true; raise = at_ranks Sent (λ to. true) }
 kinds_offered (may.FillFirst to) = record no_store { chunk = true; heap = true }
 kinds_offered (may.Fill to) = record no_store { chunk = true }
-kinds_offered (may.RaiseMore j) = record no_store { chunk = true; raise = sent_at (λ to. j == to) }
+kinds_offered (may.RaiseMore j) = record no_store { chunk = true; raise = at_ranks Sent (λ to. j == to) }
 kinds_offered (may.SeeReady j) = no_store
-kinds_offered (may.LowerReady j) = record no_store { lower = ready_at (λ by. j == by) }
+kinds_offered (may.LowerReady j) = record no_store { lower = at_ranks Ready (λ by. j == by) }
 kinds_offered (may.SeeSent i) = record no_store { heap = true }
-kinds_offered (may.LowerSent i) = record no_store { heap = true; lower = sent_at (λ from. i == from) }
+kinds_offered (may.LowerSent i) = record no_store { heap = true; lower = at_ranks Sent (λ from. i == from) }
 kinds_offered (may.ReadChunk i) = no_store
-kinds_offered (may.RaiseReady i) = record no_store { raise = ready_at (λ to. i == to) }
+kinds_offered (may.RaiseReady i) = record no_store { raise = at_ranks Ready (λ to. i == to) }
 kinds_offered (may.Meet comm) = no_store
 
 -- what is named under a condition: a flag that is seen, a header that is read, a chunk that is whole, the value of a barrier
 abbrev pub kinds_awaited : NextStore → StoreKinds
-kinds_awaited may.Begin = record no_store { lower = sent_at (λ from. true); gather = true }
-kinds_awaited (may.BesidePost to) = record no_store { lower = sent_at (λ from. true); gather = true }
-kinds_awaited may.Draft = record no_store { raise = sent_at (λ to. true) }
+kinds_awaited may.Begin = record no_store { lower = at_ranks Sent (λ from. true); gather = true }
+kinds_awaited (may.BesidePost to) = record no_store { lower = at_ranks Sent (λ from. true); gather = true }
+kinds_awaited may.Draft = record no_store { raise = at_ranks Sent (λ to. true) }
 kinds_awaited may.Raise = no_store
-kinds_awaited (may.FillFirst j) = record no_store { raise = sent_at (λ to. j == to) }
-kinds_awaited (may.Fill j) = record no_store { raise = sent_at (λ to. j == to) }
+kinds_awaited (may.FillFirst j) = record no_store { raise = at_ranks Sent (λ to. j == to) }
+kinds_awaited (may.Fill j) = record no_store { raise = at_ranks Sent (λ to. j == to) }
 kinds_awaited (may.RaiseMore j) = no_store
-kinds_awaited (may.SeeReady j) = record no_store { lower = ready_at (λ by. j == by) }
+kinds_awaited (may.SeeReady j) = record no_store { lower = at_ranks Ready (λ by. j == by) }
 kinds_awaited (may.LowerReady j) = no_store
-kinds_awaited (may.SeeSent i) = record no_store { lower = sent_at (λ from. i == from) }
+kinds_awaited (may.SeeSent i) = record no_store { lower = at_ranks Sent (λ from. i == from) }
 kinds_awaited (may.LowerSent i) = no_store
-kinds_awaited (may.ReadChunk i) = record no_store { raise = ready_at (λ to. i == to) }
+kinds_awaited (may.ReadChunk i) = record no_store { raise = at_ranks Ready (λ to. i == to) }
 kinds_awaited (may.RaiseReady i) = no_store
 kinds_awaited (may.Meet c) = record no_store { release = λ comm. c == comm }
 
 -- the `ready` that may be lowered beside the stores
 abbrev pub kinds_beside : Option ℕ → StoreKinds
 kinds_beside None = no_store
-kinds_beside (Some j) = record no_store { lower = ready_at (λ by. j == by) }
+kinds_beside (Some j) = record no_store { lower = at_ranks Ready (λ by. j == by) }
 
 -- the move is named, and permitted as things stand
 abbrev pub offers : NextStore → Move → Bool

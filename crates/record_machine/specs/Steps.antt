@@ -1,7 +1,6 @@
 -- What the steps of a machine mean.
 use Rattle.std.specs.Prelude.{ℕ, ◌<◌, Bool, ◌&&◌, ◌==◌, not, nat_lt}
 use Rattle.std.specs.Int.{bit_at}
-use Rattle.scc_base.specs.declared.signals.Signal.TheVariants.{Sent, Ready}
 use Rattle.scc_proto.specs.Moves.{Move, DraftHeader, DraftChunk, RaiseSignal, LookSignal, ReadHeader, ReadChunk, LowerSignal, FlipGather, LookGather, WriteRelease, LookRelease, StoreHeap, NoMove, Misplaced}
 use Rattle.scc_proto.specs.Records.{look_at}
 use Rattle.record_machine.specs.declared.changes.Change.{Change}
@@ -21,14 +20,11 @@ look_of (look.Bits me nue value) = λ j. (nat_lt me nue && (nat_lt j nue && not 
 abbrev pub move_of : Step → Move
 move_of (step.DraftHeader word value) = DraftHeader word value
 move_of (step.DraftChunk word value) = DraftChunk word value
-move_of (step.RaiseSent to) = RaiseSignal Sent to
-move_of (step.LookSent seen) = LookSignal Sent (look_of seen)
+move_of (step.RaiseSignal signal to) = RaiseSignal signal to
+move_of (step.LookSignal signal seen) = LookSignal signal (look_of seen)
 move_of (step.ReadHeader from word value) = ReadHeader from word value
 move_of (step.ReadChunk from word value) = ReadChunk from word value
-move_of (step.LowerSent from) = LowerSignal Sent from
-move_of (step.RaiseReady to) = RaiseSignal Ready to
-move_of (step.LookReady seen) = LookSignal Ready (look_of seen)
-move_of (step.LowerReady by) = LowerSignal Ready by
+move_of (step.LowerSignal signal by) = LowerSignal signal by
 move_of (step.FlipGather comm value last) = FlipGather comm value last
 move_of (step.LookGather comm from place value) = LookGather comm from place value
 move_of (step.WriteRelease comm to place value last) = WriteRelease comm to place value last

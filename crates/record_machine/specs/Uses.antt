@@ -5,7 +5,6 @@ use Rattle.scc_base.specs.Setups.{SetupView}
 use Rattle.scc_base.specs.declared.communicators.CommRule.TheVariants.{Absent}
 use Rattle.record_machine.specs.declared.uses.Use.{Use}
 use Rattle.record_machine.specs.declared.uses.Use.TheVariants as word_use
-use Rattle.scc_base.specs.declared.signals.Signal.TheVariants.{Sent, Ready}
 use Rattle.scc_proto.specs.Records.{forget_flags, note_flags}
 use Rattle.scc_proto.specs.Stages.{FlagWords}
 use Rattle.scc_proto.specs.Words.{Role, HeaderWord, ChunkWord, SignalFlag, SignalFlags, GatherFlag, ReleaseFlag, HeapWord, IdleWord}
@@ -15,10 +14,8 @@ use Rattle.scc_base.specs.Layouts.{most_chunk_words}
 abbrev pub role_meant : Use → Role
 role_meant (word_use.Header owner word) = HeaderWord owner word
 role_meant (word_use.Chunk owner word) = ChunkWord owner word
-role_meant (word_use.Sent from to) = SignalFlag Sent from to
-role_meant (word_use.Ready from to) = SignalFlag Ready to from
-role_meant (word_use.SentBits owner) = SignalFlags Sent owner
-role_meant (word_use.ReadyBits owner) = SignalFlags Ready owner
+role_meant (word_use.SignalFlag signal by at) = SignalFlag signal by at
+role_meant (word_use.SignalFlags signal at) = SignalFlags signal at
 role_meant (word_use.Gather comm owner) = GatherFlag comm owner
 role_meant (word_use.Release comm owner) = ReleaseFlag comm owner
 role_meant word_use.Heap = HeapWord
@@ -40,18 +37,15 @@ IsWordUse s of = Unit {0}
 
 -- the word is one of bit flags
 abbrev pub is_flags_use : Use → Bool
-is_flags_use (word_use.SentBits owner) = true
-is_flags_use (word_use.ReadyBits owner) = true
+is_flags_use (word_use.SignalFlags signal at) = true
 is_flags_use of = false
 
 -- what a load of the word notes of the flag words of its core
 abbrev pub note_by : Use → ℕ → FlagWords → FlagWords
-note_by (word_use.SentBits owner) value flags = note_flags Sent value flags
-note_by (word_use.ReadyBits owner) value flags = note_flags Ready value flags
+note_by (word_use.SignalFlags signal at) value flags = note_flags signal value flags
 note_by of value flags = flags
 
 -- what a store of the word leaves noted of the flag words of its core
 abbrev pub forget_by : Use → FlagWords → FlagWords
-forget_by (word_use.SentBits owner) flags = forget_flags Sent flags
-forget_by (word_use.ReadyBits owner) flags = forget_flags Ready flags
+forget_by (word_use.SignalFlags signal at) flags = forget_flags signal flags
 forget_by of flags = flags

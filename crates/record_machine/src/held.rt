@@ -1,19 +1,51 @@
 //! The words of bit flags that are noted under held registers.
 
-ghost use Rattle.std.specs.Prelude.{◌≡◌, ◌&&◌, ℕ, Option, false, is_some, option_map};
+ghost use Rattle.std.specs.Prelude.{◌≡◌, ◌&&◌, ℕ, Option, false, is_some, option_and_then, option_map};
+ghost use Rattle.scc_proto.specs.Records.{flags_in, set_flags};
 ghost use Rattle.scc_proto.specs.Stages.{FlagWords};
 ghost use Rattle.scc_proto.specs.Tables.{put};
-ghost use Rattle.record_machine.specs.Held.{KeepsHeld};
+ghost use Rattle.record_machine.specs.Held.{KeepsHeld, flag_words};
 ghost use Rattle.record_machine.specs.Uses.{forget_by, is_flags_use, note_by};
 
 use crate::uses::Use;
-use scc_base::CoreId;
+use scc_base::{CoreId, Signal};
 
 /// The words of bit flags of one core, each where it was loaded under the own hold of the core's register and not stored since.
 #[derive(Clone, Copy)]
 pub struct NotedFlags {
     pub sent: Option<u64>,
     pub ready: Option<u64>,
+}
+
+/// The word of a signal's flags, where the register is held and the word is noted under it.
+#[inline]
+pub(crate) fn noted_of(slot: Option<NotedFlags>, signal: Signal) -> Option<u64>
+    ensures gives { result ≡ option_and_then (λ (flags : FlagWords). flags_in signal flags) (option_map flag_words slot) }
+{
+    let Some(flags) = slot else {
+        return None;
+    };
+    match signal {
+        Signal::Sent => flags.sent,
+        Signal::Ready => flags.ready,
+    }
+}
+
+/// The words with another one of a signal's flags, noted or not.
+#[inline]
+fn with_word(flags: NotedFlags, signal: Signal, word: Option<u64>) -> NotedFlags
+    ensures gives { flag_words result ≡ set_flags signal word (flag_words flags) }
+{
+    match signal {
+        Signal::Sent => NotedFlags {
+            sent: word,
+            ready: flags.ready,
+        },
+        Signal::Ready => NotedFlags {
+            sent: flags.sent,
+            ready: word,
+        },
+    }
 }
 
 /// Notes a word of bit flags that is loaded under the own hold of its core's register: whether it is such a load.
@@ -34,24 +66,14 @@ pub(crate) fn note_flags(
         return false;
     };
     match of {
-        Use::SentBits { .. } => {
-            held[at] = Some(NotedFlags {
-                sent: Some(value),
-                ready: flags.ready,
-            });
-            true
-        }
-        Use::ReadyBits { .. } => {
-            held[at] = Some(NotedFlags {
-                sent: flags.sent,
-                ready: Some(value),
-            });
+        Use::SignalFlags { signal, .. } => {
+            let words = with_word(flags, *signal, Some(value));
+            held[at] = Some(words);
             true
         }
         Use::Header { .. }
         | Use::Chunk { .. }
-        | Use::Sent { .. }
-        | Use::Ready { .. }
+        | Use::SignalFlag { .. }
         | Use::Gather { .. }
         | Use::Release { .. }
         | Use::Heap
@@ -69,22 +91,13 @@ pub(crate) fn forget_flags(held: &mut [Option<NotedFlags>; 48], of: &Use, core: 
         return;
     };
     match of {
-        Use::SentBits { .. } => {
-            held[at] = Some(NotedFlags {
-                sent: None,
-                ready: flags.ready,
-            });
-        }
-        Use::ReadyBits { .. } => {
-            held[at] = Some(NotedFlags {
-                sent: flags.sent,
-                ready: None,
-            });
+        Use::SignalFlags { signal, .. } => {
+            let words = with_word(flags, *signal, None);
+            held[at] = Some(words);
         }
         Use::Header { .. }
         | Use::Chunk { .. }
-        | Use::Sent { .. }
-        | Use::Ready { .. }
+        | Use::SignalFlag { .. }
         | Use::Gather { .. }
         | Use::Release { .. }
         | Use::Heap

@@ -14,6 +14,7 @@ mod next;
 mod next_laws;
 mod receives;
 mod sends;
+mod signals;
 mod steps;
 mod uses;
 mod works;

@@ -6,7 +6,7 @@ ghost use Rattle.record_machine.specs.Held.{KeepsHeld};
 ghost use Rattle.record_machine.specs.Next.{lacks_flags};
 ghost use Rattle.record_machine.specs.Uses.{role_meant};
 
-use crate::held::NotedFlags;
+use crate::held::{NotedFlags, noted_of};
 use crate::machines::Machine;
 use crate::uses::{Use, use_of};
 use crate::works::{Standing, Work};
@@ -168,18 +168,10 @@ fn lacks_flags(held: &[Option<NotedFlags>; 48], of: &Use, core: CoreId) -> bool
 {
     let slot = held[core.number() as usize];
     match of {
-        Use::SentBits { .. } => match slot {
-            Some(flags) => flags.sent.is_none(),
-            None => true,
-        },
-        Use::ReadyBits { .. } => match slot {
-            Some(flags) => flags.ready.is_none(),
-            None => true,
-        },
+        Use::SignalFlags { signal, .. } => noted_of(slot, *signal).is_none(),
         Use::Header { .. }
         | Use::Chunk { .. }
-        | Use::Sent { .. }
-        | Use::Ready { .. }
+        | Use::SignalFlag { .. }
         | Use::Gather { .. }
         | Use::Release { .. }
         | Use::Heap

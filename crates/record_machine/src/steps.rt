@@ -2,7 +2,6 @@
 
 ghost use Rattle.std.specs.Prelude.{◌≡◌, ◌<◌, option_map};
 ghost use Rattle.scc_base.specs.Places.{WordAt};
-ghost use Rattle.scc_base.specs.declared.signals.Signal.TheVariants.{Sent, Ready};
 ghost use Rattle.scc_proto.specs.Records.{last_of, leads, load_by, store_by};
 ghost use Rattle.scc_proto.specs.Words.{SignalFlags};
 ghost use Rattle.scc_proto.specs.Stages.{Record};
@@ -11,10 +10,10 @@ ghost use Rattle.record_machine.specs.Steps.{IsStepWithin, move_of};
 ghost use Rattle.record_machine.specs.Uses.{IsMemberUse, IsWordUse, role_meant};
 
 use crate::changes::{Change, change_of};
-use crate::held::NotedFlags;
+use crate::held::{NotedFlags, noted_of};
 use crate::looks::Look;
 use crate::uses::Use;
-use scc_base::{Place, Rank, Setup};
+use scc_base::{Place, Rank, Setup, Signal};
 
 /// A move of the handshake or of the barrier.
 #[derive(Clone, Copy)]
@@ -27,10 +26,12 @@ pub enum Step {
         word: u16,
         value: u64,
     },
-    RaiseSent {
+    RaiseSignal {
+        signal: Signal,
         to: Rank,
     },
-    LookSent {
+    LookSignal {
+        signal: Signal,
         look: Look,
     },
     ReadHeader {
@@ -43,16 +44,8 @@ pub enum Step {
         word: u16,
         value: u64,
     },
-    LowerSent {
-        from: Rank,
-    },
-    RaiseReady {
-        to: Rank,
-    },
-    LookReady {
-        look: Look,
-    },
-    LowerReady {
+    LowerSignal {
+        signal: Signal,
         by: Rank,
     },
     FlipGather {
@@ -122,40 +115,20 @@ pub(crate) fn load_step(setup: &Setup, rank: Rank, of: &Use, value: u64) -> Step
             word: *word,
             value,
         },
-        Use::Sent { from, to } => {
-            if *to == rank {
-                Step::LookSent {
-                    look: Look::Line { of: *from, value },
+        Use::SignalFlag { signal, by, at } => {
+            if *at == rank {
+                Step::LookSignal {
+                    signal: *signal,
+                    look: Look::Line { of: *by, value },
                 }
             } else {
                 Step::Nothing
             }
         }
-        Use::Ready { from, to } => {
-            if *from == rank {
-                Step::LookReady {
-                    look: Look::Line { of: *to, value },
-                }
-            } else {
-                Step::Nothing
-            }
-        }
-        Use::SentBits { owner } => {
-            if *owner == rank {
-                Step::LookSent {
-                    look: Look::Bits {
-                        me: rank,
-                        nue: setup.nue(),
-                        value,
-                    },
-                }
-            } else {
-                Step::Nothing
-            }
-        }
-        Use::ReadyBits { owner } => {
-            if *owner == rank {
-                Step::LookReady {
+        Use::SignalFlags { signal, at } => {
+            if *at == rank {
+                Step::LookSignal {
+                    signal: *signal,
                     look: Look::Bits {
                         me: rank,
                         nue: setup.nue(),
@@ -189,48 +162,23 @@ pub(crate) fn load_step(setup: &Setup, rank: Rank, of: &Use, value: u64) -> Step
     }
 }
 
-/// The move that a store to a word of `sent` bits is.
-fn sent_change(
+/// The move that a store to a word of a signal's bits at a rank's core is.
+fn flags_change(
     setup: &Setup,
     rank: Rank,
     flags: Option<NotedFlags>,
+    signal: Signal,
     owner: Rank,
     value: u64,
 ) -> Step
     ensures gives { (rec : Record) (place : WordAt) → rec.held place.core ≡ option_map flag_words flags
-        → move_of result ≡ store_by setup.now rank rec place value (SignalFlags Sent owner) }
+        → move_of result ≡ store_by setup.now rank rec place value (SignalFlags signal owner) }
     ensures within { IsStepWithin result }
 {
-    let noted = match flags {
-        Some(words) => words.sent,
-        None => None,
-    };
+    let noted = noted_of(flags, signal);
     match change_of(setup, rank, owner, noted, value) {
-        Change::Lowered { of } => Step::LowerSent { from: of },
-        Change::Raised { at } => Step::RaiseSent { to: at },
-        Change::Misplaced => Step::Misplaced,
-    }
-}
-
-/// The move that a store to a word of `ready` bits is.
-fn ready_change(
-    setup: &Setup,
-    rank: Rank,
-    flags: Option<NotedFlags>,
-    owner: Rank,
-    value: u64,
-) -> Step
-    ensures gives { (rec : Record) (place : WordAt) → rec.held place.core ≡ option_map flag_words flags
-        → move_of result ≡ store_by setup.now rank rec place value (SignalFlags Ready owner) }
-    ensures within { IsStepWithin result }
-{
-    let noted = match flags {
-        Some(words) => words.ready,
-        None => None,
-    };
-    match change_of(setup, rank, owner, noted, value) {
-        Change::Lowered { of } => Step::LowerReady { by: of },
-        Change::Raised { at } => Step::RaiseReady { to: at },
+        Change::Lowered { of } => Step::LowerSignal { signal, by: of },
+        Change::Raised { at } => Step::RaiseSignal { signal, to: at },
         Change::Misplaced => Step::Misplaced,
     }
 }
@@ -265,26 +213,22 @@ pub(crate) fn store_step(
                 Step::Misplaced
             }
         }
-        Use::Sent { from, to } => {
-            if *from == rank && value == 1 {
-                Step::RaiseSent { to: *to }
-            } else if *to == rank && value == 0 {
-                Step::LowerSent { from: *from }
+        Use::SignalFlag { signal, by, at } => {
+            if *by == rank && value == 1 {
+                Step::RaiseSignal {
+                    signal: *signal,
+                    to: *at,
+                }
+            } else if *at == rank && value == 0 {
+                Step::LowerSignal {
+                    signal: *signal,
+                    by: *by,
+                }
             } else {
                 Step::Misplaced
             }
         }
-        Use::Ready { from, to } => {
-            if *to == rank && value == 1 {
-                Step::RaiseReady { to: *from }
-            } else if *from == rank && value == 0 {
-                Step::LowerReady { by: *to }
-            } else {
-                Step::Misplaced
-            }
-        }
-        Use::SentBits { owner } => sent_change(setup, rank, flags, *owner, value),
-        Use::ReadyBits { owner } => ready_change(setup, rank, flags, *owner, value),
+        Use::SignalFlags { signal, at } => { flags_change(setup, rank, flags, *signal, *at, value) }
         Use::Gather { comm, owner } => {
             if *owner == rank {
                 Step::FlipGather {

@@ -9,17 +9,15 @@ ghost use Rattle.scc_base.specs.declared.layouts.Layout.TheVariants.{BitFlags, L
 ghost use Rattle.scc_proto.specs.Words.{are_peers, barrier_role, flag_role, is_present, rank_below, rank_on, role_at, role_of};
 ghost use Rattle.record_machine.specs.Uses.{IsWordUse, role_meant};
 
-use scc_base::{Buf, CommRule, CoreId, Layout, Place, Rank, Setup};
+use scc_base::{Buf, CommRule, CoreId, Layout, Place, Rank, Setup, Signal};
 
-/// What a word of the buffers is for.
+/// What a word of the buffers is for. A flag of a signal is named by the rank that raises it and the rank at whose core it lies.
 #[derive(Clone, Copy)]
 pub enum Use {
     Header { owner: Rank, word: u8 },
     Chunk { owner: Rank, word: u16 },
-    Sent { from: Rank, to: Rank },
-    Ready { from: Rank, to: Rank },
-    SentBits { owner: Rank },
-    ReadyBits { owner: Rank },
+    SignalFlag { signal: Signal, by: Rank, at: Rank },
+    SignalFlags { signal: Signal, at: Rank },
     Gather { comm: u8, owner: Rank },
     Release { comm: u8, owner: Rank },
     Heap,
@@ -93,15 +91,17 @@ fn line_use(setup: &Setup, owner: Rank, line: u8, word: u8) -> Use
     }
     if line <= 48 {
         if are_peers(setup, line - 1, owner) {
-            return Use::Sent {
-                from: Rank::of(line - 1),
-                to: owner,
+            return Use::SignalFlag {
+                signal: Signal::Sent,
+                by: Rank::of(line - 1),
+                at: owner,
             };
         }
     } else if are_peers(setup, line - 49, owner) {
-        return Use::Ready {
-            from: owner,
-            to: Rank::of(line - 49),
+        return Use::SignalFlag {
+            signal: Signal::Ready,
+            by: Rank::of(line - 49),
+            at: owner,
         };
     }
     Use::Idle
@@ -113,8 +113,14 @@ fn bit_use(setup: &Setup, owner: Rank, line: u8, word: u8) -> Use
     ensures is_use { IsWordUse setup.now result }
 {
     match word {
-        0 => Use::SentBits { owner },
-        1 => Use::ReadyBits { owner },
+        0 => Use::SignalFlags {
+            signal: Signal::Sent,
+            at: owner,
+        },
+        1 => Use::SignalFlags {
+            signal: Signal::Ready,
+            at: owner,
+        },
         _ => Use::Idle,
     }
 }

@@ -209,10 +209,8 @@ impl Work {
         match step {
             Step::DraftHeader { .. } => self.may_draft_header(),
             Step::DraftChunk { .. } => self.may_draft_chunk(),
-            Step::RaiseSent { to } => self.may_raise(*to),
-            Step::LowerSent { from } => self.may_take(*from),
-            Step::RaiseReady { to } => self.has_taken(*to),
-            Step::LowerReady { by } => self.may_go_on(*by),
+            Step::RaiseSignal { signal, to } => self.permits_raise(*signal, *to),
+            Step::LowerSignal { signal, by } => self.permits_lower(*signal, *by),
             Step::FlipGather { comm, value, .. } => self.may_flip(*comm, *value),
             Step::WriteRelease {
                 comm,
@@ -222,10 +220,9 @@ impl Work {
                 ..
             } => self.may_release(*comm, *place, *value, *last),
             Step::StoreHeap { .. } => self.leaves_heap(),
-            Step::LookSent { .. }
+            Step::LookSignal { .. }
             | Step::ReadHeader { .. }
             | Step::ReadChunk { .. }
-            | Step::LookReady { .. }
             | Step::LookGather { .. }
             | Step::LookRelease { .. }
             | Step::Nothing => true,
@@ -248,9 +245,9 @@ impl Work {
                 self.draft_chunk(*word, *value);
                 None
             }
-            Step::RaiseSent { to } => self.raise_sent(*to),
-            Step::LookSent { look } => {
-                self.look_sent(look);
+            Step::RaiseSignal { signal, to } => self.raise(*signal, *to),
+            Step::LookSignal { signal, look } => {
+                self.look(*signal, look);
                 None
             }
             Step::ReadHeader { from, word, value } => {
@@ -261,16 +258,7 @@ impl Work {
                 self.read_chunk(*from, *word, *value);
                 None
             }
-            Step::LowerSent { from } => {
-                self.lower_sent(*from);
-                None
-            }
-            Step::RaiseReady { .. } => self.raise_ready(),
-            Step::LookReady { look } => {
-                self.look_ready(look);
-                None
-            }
-            Step::LowerReady { .. } => self.lower_ready(),
+            Step::LowerSignal { signal, by } => self.lower(*signal, *by),
             Step::FlipGather { comm, value, last } => self.flip_gather(*comm, *value, *last),
             Step::LookGather {
                 comm,

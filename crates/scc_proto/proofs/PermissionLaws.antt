@@ -4,6 +4,7 @@ use Rattle.std.proofs.lemmas.Bool.Decides.{nat_tests}
 use Rattle.scc_base.specs.Events.{store_of}
 use Rattle.scc_base.specs.Places.{WordAt}
 use Rattle.scc_base.specs.Setups.{SetupView}
+use Rattle.scc_base.specs.declared.signals.Signal.{Signal}
 use Rattle.scc_base.specs.declared.signals.Signal.TheVariants.{Sent, Ready}
 use Rattle.scc_proto.specs.Messages.{Notes, Progress, begun, head_of, is_whole}
 use Rattle.scc_proto.specs.Stages.{Part, Filling, Raised, Answered, Stage, Idle, Drafting, Sending, Between, Taking, Barrier, OnItsWay, Record}
@@ -104,18 +105,11 @@ module _ (lower raise : ℕ → Move) (s : SetupView) (me owner new : ℕ) (rec 
           (eqb_other owner me x.0)
           ∙ ap (λ (b : Bool). permits (chunk_of s) (if b then raise owner else Misplaced) rec) x.1 ∙ x.2
 
-pub sent_bits_where : (s : SetupView) (me owner value : ℕ) (rec : Record) (place : WordAt) → role_of s place ≡ SignalFlags Sent owner
-    → (is_permitted s me rec (store_of place value) ≡ true) ↔ (ChangesWhere (LowerSignal Sent) (RaiseSignal Sent) s me owner value rec (flags_noted Sent rec place.core))
-sent_bits_where s me owner value rec place is = let e = stored_by s me rec place value (SignalFlags Sent owner) is in (
-  λ t. changes (LowerSignal Sent) (RaiseSignal Sent) s me owner value rec (flags_noted Sent rec place.core) (sym e ∙ t),
-  λ w. e ∙ may_change (LowerSignal Sent) (RaiseSignal Sent) s me owner value rec (flags_noted Sent rec place.core) w,
-)
-
-pub ready_bits_where : (s : SetupView) (me owner value : ℕ) (rec : Record) (place : WordAt) → role_of s place ≡ SignalFlags Ready owner
-    → (is_permitted s me rec (store_of place value) ≡ true) ↔ (ChangesWhere (LowerSignal Ready) (RaiseSignal Ready) s me owner value rec (flags_noted Ready rec place.core))
-ready_bits_where s me owner value rec place is = let e = stored_by s me rec place value (SignalFlags Ready owner) is in (
-  λ t. changes (LowerSignal Ready) (RaiseSignal Ready) s me owner value rec (flags_noted Ready rec place.core) (sym e ∙ t),
-  λ w. e ∙ may_change (LowerSignal Ready) (RaiseSignal Ready) s me owner value rec (flags_noted Ready rec place.core) w,
+pub bits_where : (signal : Signal) (s : SetupView) (me owner value : ℕ) (rec : Record) (place : WordAt) → role_of s place ≡ SignalFlags signal owner
+    → (is_permitted s me rec (store_of place value) ≡ true) ↔ (ChangesWhere (LowerSignal signal) (RaiseSignal signal) s me owner value rec (flags_noted signal rec place.core))
+bits_where signal s me owner value rec place is = let e = stored_by s me rec place value (SignalFlags signal owner) is in (
+  λ t. changes (LowerSignal signal) (RaiseSignal signal) s me owner value rec (flags_noted signal rec place.core) (sym e ∙ t),
+  λ w. e ∙ may_change (LowerSignal signal) (RaiseSignal signal) s me owner value rec (flags_noted signal rec place.core) w,
 )
 
 -- ---- drafts

@@ -2,7 +2,9 @@
 use Rattle.std.proofs.Common.{◌≡◌, ◌≢◌, ⊎_elim, ℕ, ◌<◌, Bool, true, false, not, ◌&&◌, ◌==◌, refl, sym, arith}
 use Rattle.std.proofs.lemmas.Bool.Decides.{nat_tests, eqb_tells}
 use Rattle.scc_base.specs.Setups.{SetupView}
-use Rattle.scc_proto.specs.Tables.{put, put_two}
+use Rattle.scc_base.specs.declared.signals.Signal.{Signal}
+use Rattle.scc_base.specs.declared.signals.Signal.TheVariants.{Sent, Ready}
+use Rattle.scc_proto.specs.Tables.{put, put_two, put_signal}
 use Rattle.scc_proto.specs.Words.{are_peers}
 
 pub put_here : {A : Type 0} (table : ℕ → A) (i : ℕ) (x : A) → put table i x i ≡ x
@@ -19,6 +21,23 @@ put_two_first table i j x k l ne = grind (arith, nat_tests)
 
 pub put_two_second : {A : Type 0} (table : ℕ → ℕ → A) (i j : ℕ) (x : A) (k l : ℕ) → l ≢ j → put_two table i j x k l ≡ table k l
 put_two_second table i j x k l ne = grind (arith, nat_tests)
+
+pub put_signal_here : {A : Type 0} (table : Signal → A) (signal : Signal) (x : A) → put_signal table signal x signal ≡ x
+put_signal_here table Sent x = refl
+put_signal_here table Ready x = refl
+
+-- what the flags of the other signal show, and those of this one where its table shows the same
+pub put_signal_left : (flags : Signal → ℕ → ℕ → ℕ) (signal other : Signal) (x : ℕ → ℕ → ℕ) (by at : ℕ) → (signal ≡ other → x by at ≡ flags signal by at) → put_signal flags signal x other by at ≡ flags other by at
+put_signal_left flags Sent Sent x by at same = same refl
+put_signal_left flags Sent Ready x by at same = refl
+put_signal_left flags Ready Sent x by at same = refl
+put_signal_left flags Ready Ready x by at same = same refl
+
+pub put_signal_alike : (flags : Signal → ℕ → ℕ → ℕ) (signal other : Signal) (x y : ℕ → ℕ → ℕ) (by at : ℕ) → x by at ≡ y by at → put_signal flags signal x other by at ≡ put_signal flags signal y other by at
+put_signal_alike flags Sent Sent x y by at same = same
+put_signal_alike flags Sent Ready x y by at same = refl
+put_signal_alike flags Ready Sent x y by at same = refl
+put_signal_alike flags Ready Ready x y by at same = same
 
 -- a number is this one, with the test that tells it, or it is another
 pub same_or_other : (P : Type 0) (a b : ℕ) → ((a == b) ≡ true → a ≡ b → P) → ((a == b) ≡ false → a ≢ b → P) → P

@@ -3,7 +3,6 @@ use Rattle.std.specs.Prelude.{◌≡◌, ◌≢◌, ℕ, ◌<◌, ◌≤◌, ◌
 use Rattle.std.specs.Int.{bit_at}
 use Rattle.scc_base.specs.Places.{WordAt, IsPlace}
 use Rattle.scc_base.specs.Setups.{SetupView, setup_key, place_of, root_of}
-use Rattle.scc_base.specs.declared.signals.Signal.TheVariants.{Sent, Ready}
 use Rattle.scc_proto.specs.Stages.{Record, blank}
 use Rattle.scc_proto.specs.Words.{Memory, word_at, Role, SignalFlags, HeapWord, IdleWord, role_of, are_peers, is_present}
 use Rattle.scc_proto.specs.Records.{chunk_of}

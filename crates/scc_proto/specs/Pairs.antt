@@ -2,6 +2,7 @@
 -- records fit together (this project's profile of RCCE's handshake).
 use Rattle.std.specs.Prelude.{◌≡◌, ℕ, ◌<◌, Bool, true, false, ◌==◌, if◌then◌else◌, List, [], ◌∷◌, ◌++◌, Option, Some, None}
 use Rattle.scc_base.specs.Calls.{Message}
+use Rattle.scc_base.specs.declared.signals.Signal.TheVariants.{Sent, Ready}
 use Rattle.scc_base.specs.Heads.{MessageHead}
 use Rattle.scc_proto.specs.Messages.{Notes, StandsIn, header_word, Progress, begun, is_last, with_chunk, message_of, sent_messages, received_messages}
 use Rattle.scc_proto.specs.Stages.{Part, Filling, Raised, Answered, Stage, Drafting, Sending, Between, Taking, OnItsWay, Record}
@@ -57,8 +58,8 @@ pub record Pair : Type 0 where
 -- what view and records show of the messages from rank s to rank r
 abbrev pub pair_of : ℕ → ℕ → View → Record → Record → Pair
 pair_of s r view sender receiver = record {
-  sent_flag = view.sent s r;
-  ready_flag = view.ready s r;
+  sent_flag = view.signal Sent s r;
+  ready_flag = view.signal Ready r s;
   sending = sending_side r sender.stage sender.post;
   taking = taking_side s receiver.stage;
   notes = receiver.notes s;

@@ -125,15 +125,18 @@ act_by s me rec Free place value = Freeing place.core
 unfoldable pub act_of : SetupView → ℕ → Record → Event → Act
 act_of s me rec e = act_by s me rec e.access e.place e.value
 
+-- the words of a core with another word of a signal's flags, a noted one or none
+abbrev pub set_flags : Signal → Option ℕ → FlagWords → FlagWords
+set_flags Sent word flags = record flags { sent = word }
+set_flags Ready word flags = record flags { ready = word }
+
 -- the word of a signal's flags is noted
 abbrev pub note_flags : Signal → ℕ → FlagWords → FlagWords
-note_flags Sent value flags = record flags { sent = Some value }
-note_flags Ready value flags = record flags { ready = Some value }
+note_flags signal value flags = set_flags signal (Some value) flags
 
 -- the word of a signal's flags was stored, and is noted no more
 abbrev pub forget_flags : Signal → FlagWords → FlagWords
-forget_flags Sent flags = record flags { sent = None }
-forget_flags Ready flags = record flags { ready = None }
+forget_flags signal flags = set_flags signal None flags
 
 -- the flag words under the hold of one core's register, changed
 abbrev pub change_held : (FlagWords → FlagWords) → ℕ → Record → Record

@@ -1,9 +1,12 @@
 -- The test-and-set registers, and the words of bit flags that are changed under them (SCC External
 -- Architecture Specification; one-bit flags under registers as in RCCE).
 use Rattle.std.specs.Prelude.{◌≡◌, ℕ, ◌<◌, ◌≢◌, true, Option, Some, None, is_some}
+use Rattle.scc_base.specs.Layouts.{signal_word}
 use Rattle.scc_base.specs.Setups.{SetupView}
 use Rattle.scc_base.specs.declared.layouts.Layout.{Layout}
 use Rattle.scc_base.specs.declared.layouts.Layout.TheVariants.{LineFlags, BitFlags}
+use Rattle.scc_base.specs.declared.signals.Signal.{Signal}
+use Rattle.scc_proto.specs.Records.{flags_in}
 use Rattle.scc_proto.specs.Stages.{FlagWords, Record}
 use Rattle.scc_proto.specs.Words.{Memory}
 
@@ -22,8 +25,8 @@ IsNotedWord (Some noted) word = word ≡ noted
 -- noted.
 abbrev pub NotedFlags : Layout → Option FlagWords → (ℕ → ℕ) → Type 0
 NotedFlags layout None words = Unit {0}
-NotedFlags LineFlags (Some flags) words = (flags.sent ≡ None) × (flags.ready ≡ None)
-NotedFlags BitFlags (Some flags) words = IsNotedWord flags.sent (words 0) × IsNotedWord flags.ready (words 1)
+NotedFlags LineFlags (Some flags) words = (signal : Signal) → flags_in signal flags ≡ None
+NotedFlags BitFlags (Some flags) words = (signal : Signal) → IsNotedWord (flags_in signal flags) (words (signal_word signal))
 
 -- the register of a core agrees with what the ranks hold, and the words of line 1 of its buffer with what they noted
 -- under it

@@ -3,19 +3,18 @@ use Rattle.std.specs.Prelude.{ℕ, ◌+◌, ◌*◌, ◌/◌, ◌%◌, nat_lt, i
 use Rattle.std.specs.Int.{bit_at}
 use Rattle.scc_base.specs.Places.{FlagPlace}
 use Rattle.scc_base.specs.Layouts.{signal_at, gather_at, release_at, first_chunk, chunk_lines}
-use Rattle.scc_base.specs.declared.signals.Signal.TheVariants.{Sent, Ready}
+use Rattle.scc_base.specs.declared.signals.Signal.{Signal}
 use Rattle.scc_base.specs.Setups.{SetupView, host_of}
 use Rattle.scc_base.specs.declared.layouts.Layout.{Layout}
 use Rattle.scc_base.specs.declared.layouts.Layout.TheVariants.{LineFlags, BitFlags}
-use Rattle.scc_proto.specs.Tables.{put_two}
+use Rattle.scc_proto.specs.Tables.{put_two, put_signal}
 use Rattle.scc_proto.specs.Moves.{Move, DraftHeader, DraftChunk, RaiseSignal, LowerSignal, FlipGather, WriteRelease}
 use Rattle.scc_proto.specs.Words.{Memory, are_peers, is_present}
 
 -- the words of the chip by what they are for: by rank, peer, communicator and member in place of core, line and word
 pub record View : Type 0 where
-  -- the flag `sent` of the messages from one rank to another, and the flag `ready` of the same messages
-  pub sent : ℕ → ℕ → ℕ
-  pub ready : ℕ → ℕ → ℕ
+  -- the flag of a signal, by the rank that raises it and the rank at whose core it lies
+  pub signal : Signal → ℕ → ℕ → ℕ
   -- the header line and the chunk buffer of a rank, by word
   pub header : ℕ → ℕ → ℕ
   pub chunk : ℕ → ℕ → ℕ
@@ -35,25 +34,19 @@ word_of_flag memory core flag = memory.word core flag.line flag.word
 -- the words of a memory, read by what they are for
 abbrev pub view_of : SetupView → Memory → View
 view_of s memory = record {
-  sent = λ from to. flag_in s.layout (word_of_flag memory (host_of s.hosts to) (signal_at s.layout Sent from)) (signal_at s.layout Sent from);
-  ready = λ from to. flag_in s.layout (word_of_flag memory (host_of s.hosts from) (signal_at s.layout Ready to)) (signal_at s.layout Ready to);
+  signal = λ signal by at.
+      flag_in s.layout (word_of_flag memory (host_of s.hosts at) (signal_at s.layout signal by)) (signal_at s.layout signal by);
   header = λ r k. memory.word (host_of s.hosts r) 0 k;
   chunk = λ r k. if nat_lt k (4 * chunk_lines s.layout) then memory.word (host_of s.hosts r) (first_chunk s.layout + k / 4) (k % 4) else 0;
   gather = λ comm r. word_of_flag memory (host_of s.hosts r) (gather_at s.layout comm);
   release = λ comm r. word_of_flag memory (host_of s.hosts r) (release_at s.layout comm);
 }
 
--- what a move of rank `me` does to the `sent` flags
-abbrev pub sent_shown : ℕ → Move → (ℕ → ℕ → ℕ) → ℕ → ℕ → ℕ
-sent_shown me (RaiseSignal Sent to) sent = put_two sent me to 1
-sent_shown me (LowerSignal Sent from) sent = put_two sent from me 0
-sent_shown me move sent = sent
-
--- what a move of rank `me` does to the `ready` flags
-abbrev pub ready_shown : ℕ → Move → (ℕ → ℕ → ℕ) → ℕ → ℕ → ℕ
-ready_shown me (RaiseSignal Ready to) ready = put_two ready to me 1
-ready_shown me (LowerSignal Ready by) ready = put_two ready me by 0
-ready_shown me move ready = ready
+-- what a move of rank `me` does to the flags of the signals
+abbrev pub signal_shown : ℕ → Move → (Signal → ℕ → ℕ → ℕ) → Signal → ℕ → ℕ → ℕ
+signal_shown me (RaiseSignal signal to) flags = put_signal flags signal (put_two (flags signal) me to 1)
+signal_shown me (LowerSignal signal by) flags = put_signal flags signal (put_two (flags signal) by me 0)
+signal_shown me move flags = flags
 
 -- what a move of rank `me` does to the header lines
 abbrev pub header_shown : ℕ → Move → (ℕ → ℕ → ℕ) → ℕ → ℕ → ℕ
@@ -78,8 +71,7 @@ release_shown me move release = release
 -- what a move of rank `me` does to the words
 abbrev pub shown : ℕ → Move → View → View
 shown me move view = record {
-  sent = sent_shown me move view.sent;
-  ready = ready_shown me move view.ready;
+  signal = signal_shown me move view.signal;
   header = header_shown me move view.header;
   chunk = chunk_shown me move view.chunk;
   gather = gather_shown me move view.gather;
@@ -88,7 +80,6 @@ shown me move view = record {
 
 -- two views have the same flags of all ranks and communicators of the run
 pub record SameFlagWords (s : SetupView) (one other : View) : Type 0 where
-  pub sent : (from to : ℕ) → are_peers s from to ≡ true → one.sent from to ≡ other.sent from to
-  pub ready : (from to : ℕ) → are_peers s from to ≡ true → one.ready from to ≡ other.ready from to
+  pub signal : (signal : Signal) (by at : ℕ) → are_peers s by at ≡ true → one.signal signal by at ≡ other.signal signal by at
   pub gather : (comm r : ℕ) → is_present s comm ≡ true → r < s.nue → one.gather comm r ≡ other.gather comm r
   pub release : (comm r : ℕ) → is_present s comm ≡ true → r < s.nue → one.release comm r ≡ other.release comm r

@@ -8,7 +8,7 @@ ghost use Rattle.scc_base.specs.Events.{IsEvent, load_of, store_of, take_of};
 ghost use Rattle.scc_base.specs.Heads.{MessageHead, IsHead, IsPostHead};
 ghost use Rattle.scc_base.specs.Places.{WordAt, IsPlace};
 ghost use Rattle.scc_base.specs.Setups.{SetupView, IsSetup, setup_key};
-ghost use Rattle.scc_base.specs.declared.signals.Signal.TheVariants.{Sent, Ready};
+ghost use Rattle.scc_base.specs.declared.signals.Signal.{Signal};
 ghost use Rattle.scc_proto.specs.Stages.{Part, Record, Idle, Drafting, Sending, Between, Taking, Barrier, blank};
 ghost use Rattle.scc_proto.specs.Words.{Memory, zeros, IsStep, memory_after, RankEvent, IsRun, HeapWord, IdleWord, SignalFlags, are_peers, role_of, word_at};
 ghost use Rattle.scc_proto.specs.Records.{chunk_of, IsPermitted, IsHonest, record_after, record_from, record_of};
@@ -183,8 +183,7 @@ pub fn registers_law()
 pub fn idle_law()
     ensures word { (s : SetupView) (memory : Memory) (records : ℕ → Record) (place : WordAt)
         → Agrees s memory records → IsPlace place → role_of s place ≡ IdleWord → word_at memory place ≡ 0 }
-    ensures sent { (s : SetupView) (memory : Memory) (records : ℕ → Record) (place : WordAt) (owner b : ℕ)
-        → Agrees s memory records → IsPlace place → role_of s place ≡ SignalFlags Sent owner → are_peers s owner b ≡ false → bit_at (word_at memory place) b ≡ 0 }
-    ensures ready { (s : SetupView) (memory : Memory) (records : ℕ → Record) (place : WordAt) (owner b : ℕ)
-        → Agrees s memory records → IsPlace place → role_of s place ≡ SignalFlags Ready owner → are_peers s owner b ≡ false → bit_at (word_at memory place) b ≡ 0 }
+    ensures flags { (s : SetupView) (memory : Memory) (records : ℕ → Record) (place : WordAt) (signal : Signal) (owner b : ℕ)
+        → Agrees s memory records → IsPlace place → role_of s place ≡ SignalFlags signal owner → are_peers s owner b ≡ false
+        → bit_at (word_at memory place) b ≡ 0 }
 {}

@@ -4,6 +4,7 @@ ghost use Rattle.std.specs.Prelude.{◌≡◌, ◌≢◌, ◌⊎◌, ◌↔◌, 
 ghost use Rattle.scc_base.specs.Events.{load_of, store_of, take_of, free_of};
 ghost use Rattle.scc_base.specs.Places.{WordAt};
 ghost use Rattle.scc_base.specs.Setups.{SetupView};
+ghost use Rattle.scc_base.specs.declared.signals.Signal.{Signal};
 ghost use Rattle.scc_base.specs.declared.signals.Signal.TheVariants.{Sent, Ready};
 ghost use Rattle.scc_proto.specs.Messages.{Notes, Progress, begun, head_of};
 ghost use Rattle.scc_proto.specs.Stages.{Part, Filling, Answered, Stage, Idle, Drafting, Sending, Between, Taking, Barrier, OnItsWay, Record};
@@ -38,14 +39,11 @@ pub fn register_law()
 /// bit of it: at its own core a set bit of another rank is lowered, at another core its own bit is raised, and the move is
 /// permitted.
 pub fn bits_law()
-    ensures sent { (s : SetupView) (me owner value : ℕ) (rec : Record) (place : WordAt) → role_of s place ≡ SignalFlags Sent owner
-        → (IsPermitted s me rec (store_of place value)) ↔ ((old : ℕ) × (flags_noted Sent rec place.core ≡ Some old)
-        × (((owner ≡ me) × (from : ℕ) × (lowered_below me old value s.nue ≡ Some from) × (permits (chunk_of s) (LowerSignal Sent from) rec ≡ true))
-        ⊎ ((owner ≢ me) × (raises_bit me old value ≡ true) × (permits (chunk_of s) (RaiseSignal Sent owner) rec ≡ true)))) }
-    ensures ready { (s : SetupView) (me owner value : ℕ) (rec : Record) (place : WordAt) → role_of s place ≡ SignalFlags Ready owner
-        → (IsPermitted s me rec (store_of place value)) ↔ ((old : ℕ) × (flags_noted Ready rec place.core ≡ Some old)
-        × (((owner ≡ me) × (by : ℕ) × (lowered_below me old value s.nue ≡ Some by) × (permits (chunk_of s) (LowerSignal Ready by) rec ≡ true))
-        ⊎ ((owner ≢ me) × (raises_bit me old value ≡ true) × (permits (chunk_of s) (RaiseSignal Ready owner) rec ≡ true)))) }
+    ensures stored { (signal : Signal) (s : SetupView) (me owner value : ℕ) (rec : Record) (place : WordAt)
+        → role_of s place ≡ SignalFlags signal owner
+        → (IsPermitted s me rec (store_of place value)) ↔ ((old : ℕ) × (flags_noted signal rec place.core ≡ Some old)
+        × (((owner ≡ me) × (j : ℕ) × (lowered_below me old value s.nue ≡ Some j) × (permits (chunk_of s) (LowerSignal signal j) rec ≡ true))
+        ⊎ ((owner ≢ me) × (raises_bit me old value ≡ true) × (permits (chunk_of s) (RaiseSignal signal owner) rec ≡ true)))) }
 {}
 
 /// A word is drafted exactly where no post is on its way, and a header word before the first raise, a chunk word while no chunk is raised.

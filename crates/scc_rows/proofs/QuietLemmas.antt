@@ -11,12 +11,14 @@ use Rattle.scc_base.specs.declared.layouts.Layout.TheVariants.{LineFlags, BitFla
 use Rattle.scc_base.specs.declared.events.Access.{Access}
 use Rattle.scc_base.specs.declared.events.Access.TheVariants.{Load, Store, Take, Free}
 use Rattle.scc_base.specs.declared.events.Event.{Event}
+use Rattle.scc_base.specs.declared.signals.Signal.{Signal}
+use Rattle.scc_base.specs.declared.signals.Signal.TheVariants.{Sent, Ready}
 use Rattle.scc_proto.specs.Tables.{put}
 use Rattle.scc_proto.specs.Stages.{FlagWords, Record, blank}
 use Rattle.scc_proto.specs.Moves.{StoreHeap, NoMove, after}
 use Rattle.scc_proto.specs.Permission.{permits}
 use Rattle.scc_proto.specs.Words.{Role, HeapWord, IdleWord, role_of, role_where, rank_on}
-use Rattle.scc_proto.specs.Records.{Moving, Holding, act_of, act_by, after_act, load_act, store_act, permits_act, permits_by, chunk_of, record_after, record_from, record_of}
+use Rattle.scc_proto.specs.Records.{Moving, Holding, flags_in, act_of, act_by, after_act, load_act, store_act, permits_act, permits_by, chunk_of, record_after, record_from, record_of}
 use Rattle.scc_proto.specs.Ports.{Sight, IsSoundPort, record_in}
 use Rattle.tas_lock.specs.Holds.{IsNotHolding}
 use Rattle.scc_rows.specs.Quiet.{is_quiet, are_quiet, IsQuietRecord}
@@ -72,24 +74,28 @@ none_put field held core k o here there = by (k == core)
     by true = here
     by false = there
 
-held_quiet : (rec : Record) (core : ℕ) (o : Option FlagWords) → option_and_then (λ (flags : FlagWords). flags.sent) o ≡ None
-    → option_and_then (λ (flags : FlagWords). flags.ready) o ≡ None → IsQuietRecord rec → IsQuietRecord (record rec { held = put rec.held core o })
-held_quiet rec core o sent ready q = record {
+held_quiet : (rec : Record) (core : ℕ) (o : Option FlagWords) → ((signal : Signal) → option_and_then (λ (flags : FlagWords). flags_in signal flags) o ≡ None)
+    → IsQuietRecord rec → IsQuietRecord (record rec { held = put rec.held core o })
+held_quiet rec core o none q = record {
   stage = q.stage;
   post = q.post;
   notes = q.notes;
-  sent = λ k. none_put (λ (flags : FlagWords). flags.sent) rec.held core k o sent (q.sent k);
-  ready = λ k. none_put (λ (flags : FlagWords). flags.ready) rec.held core k o ready (q.ready k);
+  flags = λ signal k. none_put (λ (flags : FlagWords). flags_in signal flags) rec.held core k o (none signal) (q.flags signal k);
 }
 
+-- a register that was just taken has no word noted under it
+none_noted : (signal : Signal) → option_and_then (λ (flags : FlagWords). flags_in signal flags) (Some (record { sent = None; ready = None })) ≡ None
+none_noted Sent = refl
+none_noted Ready = refl
+
 no_move : (size : ℕ) (rec : Record) → IsQuietRecord rec → IsQuietRecord (after size NoMove rec)
-no_move size rec q = record { stage = q.stage; post = q.post; notes = q.notes; sent = q.sent; ready = q.ready }
+no_move size rec q = record { stage = q.stage; post = q.post; notes = q.notes; flags = q.flags }
 
 heap_move : (size : ℕ) (place : WordAt) (value : ℕ) (rec : Record) → IsQuietRecord rec → IsQuietRecord (after size (StoreHeap place value) rec)
-heap_move size place value rec q = record { stage = q.stage; post = q.post; notes = q.notes; sent = q.sent; ready = q.ready }
+heap_move size place value rec q = record { stage = q.stage; post = q.post; notes = q.notes; flags = q.flags }
 
 take_quiet : (size core : ℕ) (rec : Record) → IsQuietRecord rec → IsQuietRecord (record rec { held = put rec.held core (Some (record { sent = None; ready = None })) })
-take_quiet size core rec q = held_quiet rec core (Some (record { sent = None; ready = None })) refl refl q
+take_quiet size core rec q = held_quiet rec core (Some (record { sent = None; ready = None })) none_noted q
 
 quiet_by : (s : SetupView) (me : ℕ) (rec : Record) (access : Access) (place : WordAt) (value : ℕ) → is_quiet access place ≡ true → IsQuietRecord rec
     → IsQuietRecord (if permits_by s me rec access place value then after_act (chunk_of s) (act_by s me rec access place value) rec else rec)
@@ -106,7 +112,7 @@ quiet_by s me rec Take place value h q = either (is_none (rec.held place.core)) 
     taken : (b : Bool) → IsQuietRecord (after_act (chunk_of s) (if b then Holding place.core else Moving NoMove) rec)
     taken true = take_quiet (chunk_of s) place.core rec q
     taken false = no_move (chunk_of s) rec q
-quiet_by s me rec Free place value h q = either (is_some (rec.held place.core)) _ rec (held_quiet rec place.core None refl refl q) q
+quiet_by s me rec Free place value h q = either (is_some (rec.held place.core)) _ rec (held_quiet rec place.core None (λ signal. refl) q) q
 
 quiet_after : (s : SetupView) (me : ℕ) (rec : Record) (e : Event) → is_quiet e.access e.place ≡ true → IsQuietRecord rec → IsQuietRecord (record_after s me rec e)
 unfolding act_of
@@ -119,7 +125,7 @@ quiet_from s me rec (e ∷ es) h q =
     quiet_from s me (record_after s me rec e) es each.1 (quiet_after s me rec e each.0 q)
 
 blank_quiet : IsQuietRecord blank
-blank_quiet = record { stage = refl; post = refl; notes = λ j. refl; sent = λ core. refl; ready = λ core. refl }
+blank_quiet = record { stage = refl; post = refl; notes = λ j. refl; flags = λ signal core. refl }
 
 pub quiet_record : (sight : Sight) → are_quiet sight.events ≡ true → IsQuietRecord (record_in sight)
 unfolding record_in record_of
@@ -130,10 +136,10 @@ quiet_record sight h = quiet_from sight.seat.setup sight.seat.rank blank sight.e
 pub quiet_sound : (sight : Sight) → are_quiet sight.events ≡ true → IsSoundPort sight
 quiet_sound sight h = let q = quiet_record sight h in record {
   heads = λ j header e. absurd (clash (q.notes j) e);
-  sent_clear = λ j word peers e drafting. absurd (clash (q.sent _) e);
-  ready_clear = λ j word e taking. absurd (clash (q.ready _) e);
-  sent_set = λ j word header e seen. absurd (clash (q.sent _) e);
-  ready_set = λ j word e answered. absurd (clash (q.ready _) e);
+  sent_clear = λ j word peers e drafting. absurd (clash (q.flags Sent _) e);
+  ready_clear = λ j word e taking. absurd (clash (q.flags Ready _) e);
+  sent_set = λ j word header e seen. absurd (clash (q.flags Sent _) e);
+  ready_set = λ j word e answered. absurd (clash (q.flags Ready _) e);
 }
   where
     clash : {A : Type 0} {o : Option A} {x : A} → o ≡ None → o ≡ Some x → ⊥

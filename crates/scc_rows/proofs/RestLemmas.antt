@@ -4,6 +4,7 @@ use Rattle.scc_base.specs.Places.{LineAt, WordAt, line_of_word}
 use Rattle.scc_base.specs.Setups.{IsSetup, host_of, place_of}
 use Rattle.scc_base.specs.Events.{load_of, store_of}
 use Rattle.scc_base.specs.declared.events.Event.{Event}
+use Rattle.scc_base.specs.declared.signals.Signal.{Signal}
 use Rattle.scc_base.specs.declared.signals.Signal.TheVariants.{Sent, Ready}
 use Rattle.scc_proto.specs.Stages.{Stage, Idle, Record}
 use Rattle.scc_proto.specs.Moves.{Move, LookSignal, LookGather, LookRelease, NoMove, stage_after, read_chunk, look_ready}
@@ -29,16 +30,20 @@ either_act : (size : ℕ) (rec : Record) (b : Bool) (m n : Act) → (after_act s
 either_act size rec true m n x y = x
 either_act size rec false m n x y = y
 
+-- a look at a signal's flags leaves a rank idle
+idle_looks : (size : ℕ) (rec : Record) (signal : Signal) (is_set : ℕ → Bool) → rec.stage ≡ Idle → stage_after size (LookSignal signal is_set) rec ≡ Idle
+idle_looks size rec Sent is_set idle = idle
+idle_looks size rec Ready is_set idle = ap (λ (st : Stage). look_ready is_set st) idle
+
 module _ (seat : Seat) (rec : Record) (place : WordAt) (value : ℕ) (idle : rec.stage ≡ Idle) where
   by_role : (role : Role) → (after_act (chunk_of seat.setup) (load_act seat.setup seat.rank rec place value role) rec).stage ≡ Idle
   by_role (HeaderWord owner k) = idle
   by_role (ChunkWord owner k) = ap (λ (st : Stage). read_chunk owner k value st) idle
-  by_role (SignalFlag Sent from to) = either (chunk_of seat.setup) rec (to == seat.rank) (LookSignal Sent (look_at from value)) NoMove idle idle
-  by_role (SignalFlag Ready to from) = either (chunk_of seat.setup) rec (from == seat.rank) (LookSignal Ready (look_at to value)) NoMove (ap (λ (st : Stage). look_ready (look_at to value) st) idle) idle
-  by_role (SignalFlags Sent owner) = either_act (chunk_of seat.setup) rec (is_some (rec.held place.core)) (NotingSignal Sent place.core value) (Moving (load_by seat.setup seat.rank value (SignalFlags Sent owner))) idle
-      (either (chunk_of seat.setup) rec (owner == seat.rank) (LookSignal Sent (look_at_bits seat.setup seat.rank value)) NoMove idle idle)
-  by_role (SignalFlags Ready owner) = either_act (chunk_of seat.setup) rec (is_some (rec.held place.core)) (NotingSignal Ready place.core value) (Moving (load_by seat.setup seat.rank value (SignalFlags Ready owner))) idle
-      (either (chunk_of seat.setup) rec (owner == seat.rank) (LookSignal Ready (look_at_bits seat.setup seat.rank value)) NoMove (ap (λ (st : Stage). look_ready (look_at_bits seat.setup seat.rank value) st) idle) idle)
+  by_role (SignalFlag signal by at) =
+      either (chunk_of seat.setup) rec (at == seat.rank) (LookSignal signal (look_at by value)) NoMove (idle_looks (chunk_of seat.setup) rec signal (look_at by value) idle) idle
+  by_role (SignalFlags signal at) = either_act (chunk_of seat.setup) rec (is_some (rec.held place.core)) (NotingSignal signal place.core value) (Moving (load_by seat.setup seat.rank value (SignalFlags signal at))) idle
+      (either (chunk_of seat.setup) rec (at == seat.rank) (LookSignal signal (look_at_bits seat.setup seat.rank value)) NoMove
+      (idle_looks (chunk_of seat.setup) rec signal (look_at_bits seat.setup seat.rank value) idle) idle)
   by_role (GatherFlag comm owner) = either (chunk_of seat.setup) rec (leads seat.setup comm seat.rank owner) (LookGather comm owner (place_of seat.setup comm owner) value) NoMove
       (ap (λ (st : Stage). stage_after (chunk_of seat.setup) (LookGather comm owner (place_of seat.setup comm owner) value) (record rec { stage = st })) idle) idle
   by_role (ReleaseFlag comm owner) = either (chunk_of seat.setup) rec ((owner == seat.rank) && not (leads seat.setup comm seat.rank seat.rank)) (LookRelease comm value) NoMove

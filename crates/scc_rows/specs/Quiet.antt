@@ -4,7 +4,7 @@ use Rattle.scc_base.specs.Places.{first_heap, WordAt}
 use Rattle.scc_base.specs.declared.events.Access.{Access}
 use Rattle.scc_base.specs.declared.events.Access.TheVariants.{Load, Store, Take, Free}
 use Rattle.scc_base.specs.declared.events.Event.{Event}
-use Rattle.scc_base.specs.declared.signals.Signal.TheVariants.{Sent, Ready}
+use Rattle.scc_base.specs.declared.signals.Signal.{Signal}
 use Rattle.scc_proto.specs.Stages.{Idle, Record}
 use Rattle.scc_proto.specs.Records.{flags_noted}
 
@@ -25,5 +25,4 @@ pub record IsQuietRecord (rec : Record) : Type 0 where
   pub stage : rec.stage ≡ Idle
   pub post : rec.post ≡ None
   pub notes : (j : ℕ) → rec.notes j ≡ None
-  pub sent : (core : ℕ) → flags_noted Sent rec core ≡ None
-  pub ready : (core : ℕ) → flags_noted Ready rec core ≡ None
+  pub flags : (signal : Signal) (core : ℕ) → flags_noted signal rec core ≡ None

@@ -3,7 +3,6 @@ use Rattle.std.proofs.Common.{◌≡◌, ℕ, Bool, true, false, ◌==◌, if◌
 use Rattle.scc_base.specs.Places.{WordAt}
 use Rattle.scc_base.specs.Setups.{SetupView}
 use Rattle.scc_base.specs.Events.{load_of, store_of}
-use Rattle.scc_base.specs.declared.signals.Signal.TheVariants.{Sent, Ready}
 use Rattle.scc_proto.specs.Tables.{put}
 use Rattle.scc_proto.specs.Stages.{FlagWords, Record}
 use Rattle.scc_proto.specs.Words.{Role, HeaderWord, ChunkWord, SignalFlag, SignalFlags, GatherFlag, ReleaseFlag, HeapWord, IdleWord, role_of}

@@ -11,9 +11,10 @@ use Rattle.scc_base.specs.declared.events.Access.{Access}
 use Rattle.scc_base.specs.declared.events.Access.TheVariants.{Load, Store, Take, Free}
 use Rattle.scc_base.specs.declared.layouts.Layout.{Layout}
 use Rattle.scc_base.specs.declared.layouts.Layout.TheVariants.{LineFlags, BitFlags}
+use Rattle.scc_base.specs.declared.signals.Signal.{Signal}
 use Rattle.scc_base.specs.declared.signals.Signal.TheVariants.{Sent, Ready}
 use Rattle.scc_proto.specs.Words.{Role, HeaderWord, ChunkWord, SignalFlag, SignalFlags, GatherFlag, ReleaseFlag, HeapWord, IdleWord, are_peers, barrier_comm, barrier_role, flag_role, if_peers, if_present, is_present, rank_below, rank_on, role_at, role_of, role_where}
-use Rattle.trace_writer.specs.Lines.{comment_words, header_word_name, role_words}
+use Rattle.trace_writer.specs.Lines.{comment_words, header_word_name, role_words, signal_name}
 use Rattle.trace_laws.proofs.ByteLemmas.{IsFrom, at_most, decimal_from, from_append, from_lower}
 
 -- ---- the numbers of a role
@@ -21,8 +22,7 @@ use Rattle.trace_laws.proofs.ByteLemmas.{IsFrom, at_most, decimal_from, from_app
 abbrev pub IsLowRole : Role → Type 0
 IsLowRole (HeaderWord owner k) = owner < 48
 IsLowRole (ChunkWord owner k) = (owner < 48) × (k < 10000)
-IsLowRole (SignalFlag Sent from to) = (from < 1000) × (to < 1000)
-IsLowRole (SignalFlag Ready to from) = (from < 1000) × (to < 1000)
+IsLowRole (SignalFlag signal by at) = (by < 1000) × (at < 1000)
 IsLowRole (SignalFlags signal at) = at < 48
 IsLowRole (GatherFlag comm owner) = (comm < 1000) × (owner < 48)
 IsLowRole (ReleaseFlag comm owner) = (comm < 1000) × (owner < 48)
@@ -38,7 +38,7 @@ flag_low LineFlags s owner line word low below =
     either (word == 0) (if nat_le line 48 then if_peers s (line - 1) owner (SignalFlag Sent (line - 1) owner) else if_peers s owner (line - 49) (SignalFlag Ready (line - 49) owner)) IdleWord
     (either (nat_le line 48) (if_peers s (line - 1) owner (SignalFlag Sent (line - 1) owner)) (if_peers s owner (line - 49) (SignalFlag Ready (line - 49) owner))
     (either (are_peers s (line - 1) owner) (SignalFlag Sent (line - 1) owner) IdleWord (omega (arith, below), omega (arith, low)) tt)
-    (either (are_peers s owner (line - 49)) (SignalFlag Ready (line - 49) owner) IdleWord (omega (arith, low), omega (arith, below)) tt))
+    (either (are_peers s owner (line - 49)) (SignalFlag Ready (line - 49) owner) IdleWord (omega (arith, below), omega (arith, low)) tt))
     tt
 flag_low BitFlags s owner line word low below = either (word == 0) (SignalFlags Sent owner) (if word == 1 then SignalFlags Ready owner else IdleWord) low (either (word == 1) (SignalFlags Ready owner) IdleWord low tt)
 
@@ -122,14 +122,35 @@ name_is k = by (k == 0) (k == 1) (k == 2)
     by false false true = refl
     by false false false = refl
 
+signal_long : (signal : Signal) → length (signal_name signal) ≤ 5
+signal_long Sent = at_most 4 5 (codes "sent") refl (omega arith)
+signal_long Ready = at_most 5 5 (codes "ready") refl (omega arith)
+
+signal_is : (signal : Signal) → IsFrom 32 (signal_name signal)
+signal_is Sent = refl
+signal_is Ready = refl
+
 four_texts : (a x b y : List ℕ) (i j : ℕ) → length a ≡ i → length b ≡ j → i + length x + j + length y ≤ 25 → IsFrom 32 a → IsFrom 32 x → IsFrom 32 b → IsFrom 32 y → IsComment (joined (a ∷ x ∷ b ∷ y ∷ []))
 four_texts a x b y i j of_i of_j few of_a of_x of_b of_y = record {
   short = simp length-append (omega (arith, of_i, of_j, few));
   bytes = from_append 32 a (x ++ (b ++ (y ++ []))) of_a (from_append 32 x (b ++ (y ++ [])) of_x (from_append 32 b (y ++ []) of_b (from_append 32 y [] of_y refl)));
 }
 
-two_texts : (a x : List ℕ) (i : ℕ) → length a ≡ i → i + length x ≤ 25 → IsFrom 32 a → IsFrom 32 x → IsComment (joined (a ∷ x ∷ []))
-two_texts a x i of_i few of_a of_x = record { short = simp length-append (omega (arith, of_i, few)); bytes = from_append 32 a (x ++ []) of_a (from_append 32 x [] of_x refl) }
+-- the flag of a signal, between two ranks
+five_texts : (a b x d y : List ℕ) (i j : ℕ) → length b ≡ i → length d ≡ j → length a + i + length x + j + length y ≤ 25 → IsFrom 32 a → IsFrom 32 b → IsFrom 32 x → IsFrom 32 d → IsFrom 32 y
+    → IsComment (joined (a ∷ b ∷ x ∷ d ∷ y ∷ []))
+five_texts a b x d y i j of_i of_j few of_a of_b of_x of_d of_y = record {
+  short = simp length-append (omega (arith, of_i, of_j, few));
+  bytes = from_append 32 a (b ++ (x ++ (d ++ (y ++ [])))) of_a
+      (from_append 32 b (x ++ (d ++ (y ++ []))) of_b (from_append 32 x (d ++ (y ++ [])) of_x (from_append 32 d (y ++ []) of_d (from_append 32 y [] of_y refl))));
+}
+
+-- the flags of a signal, at a rank
+three_texts : (a b x : List ℕ) (i : ℕ) → length b ≡ i → length a + i + length x ≤ 25 → IsFrom 32 a → IsFrom 32 b → IsFrom 32 x → IsComment (joined (a ∷ b ∷ x ∷ []))
+three_texts a b x i of_i few of_a of_b of_x = record {
+  short = simp length-append (omega (arith, of_i, few));
+  bytes = from_append 32 a (b ++ (x ++ [])) of_a (from_append 32 b (x ++ []) of_b (from_append 32 x [] of_x refl));
+}
 
 one_text : (a : List ℕ) (i : ℕ) → i ≡ length a → i ≤ 25 → IsFrom 32 a → IsComment (joined (a ∷ []))
 one_text a i of_i few of_a = record { short = simp length-append (omega (arith, of_i, few)); bytes = from_append 32 a [] of_a refl }
@@ -143,16 +164,16 @@ role_comment (ChunkWord owner k) (low, few) =
     let a = four k few in
     let b = two owner low in
     four_texts (codes "chunk word ") (decimal k) (codes " of ") (decimal owner) 11 4 refl refl (omega (arith, a, b)) refl (number_is k few) refl (number_is owner (omega (arith, low)))
-role_comment (SignalFlag Sent from to) (low, few) =
-    let a = three from low in
-    let b = three to few in
-    four_texts (codes "sent of ") (decimal from) (codes " to ") (decimal to) 8 4 refl refl (omega (arith, a, b)) refl (number_is from (omega (arith, low))) refl (number_is to (omega (arith, few)))
-role_comment (SignalFlag Ready to from) (low, few) =
-    let a = three from low in
-    let b = three to few in
-    four_texts (codes "ready of ") (decimal to) (codes " to ") (decimal from) 9 4 refl refl (omega (arith, a, b)) refl (number_is to (omega (arith, few))) refl (number_is from (omega (arith, low)))
-role_comment (SignalFlags Sent owner) low = let a = two owner low in two_texts (codes "sent flags of ") (decimal owner) 14 refl (omega (arith, a)) refl (number_is owner (omega (arith, low)))
-role_comment (SignalFlags Ready owner) low = let a = two owner low in two_texts (codes "ready flags of ") (decimal owner) 15 refl (omega (arith, a)) refl (number_is owner (omega (arith, low)))
+role_comment (SignalFlag signal by at) (low, few) =
+    let name = signal_long signal in
+    let a = three by low in
+    let b = three at few in
+    five_texts (signal_name signal) (codes " of ") (decimal by) (codes " to ") (decimal at) 4 4 refl refl (omega (arith, name, a, b))
+    (signal_is signal) refl (number_is by (omega (arith, low))) refl (number_is at (omega (arith, few)))
+role_comment (SignalFlags signal at) low =
+    let name = signal_long signal in
+    let a = two at low in
+    three_texts (signal_name signal) (codes " flags of ") (decimal at) 10 refl (omega (arith, name, a)) (signal_is signal) refl (number_is at (omega (arith, low)))
 role_comment (GatherFlag comm owner) (few, low) =
     let a = three comm few in
     let b = two owner low in

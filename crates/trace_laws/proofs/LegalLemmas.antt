@@ -9,7 +9,6 @@ use Rattle.scc_base.specs.declared.events.Access.TheVariants.{Load, Store, Take,
 use Rattle.scc_base.specs.declared.events.Event.{Event}
 use Rattle.scc_base.specs.declared.layouts.Layout.{Layout}
 use Rattle.scc_base.specs.declared.layouts.Layout.TheVariants.{LineFlags, BitFlags}
-use Rattle.scc_base.specs.declared.signals.Signal.TheVariants.{Sent, Ready}
 use Rattle.scc_proto.specs.Histories.{IsPermittedRun, records_from}
 use Rattle.scc_proto.specs.Moves.{Move, LowerSignal, RaiseSignal}
 use Rattle.scc_proto.specs.Records.{Act, ChangingSignal, act_by, act_of, after_act, change_at, chunk_of, load_act, permits_by, permits_act, flags_noted, record_after, store_act}

@@ -1,16 +1,15 @@
 -- The lines of the communicators that are splits are read back.
-use Rattle.std.proofs.Common.{◌≡◌, ◌≢◌, ℕ, zero, suc, ◌+◌, ◌<◌, ◌≤◌, true, cond, ◌&&◌, List, [], ◌∷◌, ◌++◌, get_or, length, length-append, map, replicate, set, codes, decimal, Option, Some, None, Result, refl, sym, ap, subst, ◌∙◌, append_assoc, arith}
+use Rattle.std.proofs.Common.{◌≡◌, ◌≢◌, ℕ, suc, ◌+◌, ◌<◌, ◌≤◌, true, cond, List, [], ◌∷◌, ◌++◌, get_or, length, length-append, map, replicate, set, codes, decimal, Option, Some, None, Result, refl, sym, ap, subst, ◌∙◌, append_assoc, arith}
 use Rattle.std.specs.Prelude.{nat_lt}
 use Rattle.std.specs.List.{range_with_len}
 use Rattle.std.specs.Option.{ok_or}
-use Rattle.std.specs.Str.{bytes_eq}
-use Rattle.std.proofs.lemmas.Bool.{cond-false, cond-true, le-ltb}
+use Rattle.std.proofs.lemmas.Bool.{cond-false, le-ltb}
 use Rattle.std.proofs.lemmas.Fmt.{length-decimal-le}
 use Rattle.std.proofs.lemmas.List.{append-nil}
 use Rattle.rcce_io.specs.Sending.{joined}
-use Rattle.rcce_audit.specs.Grammar.{begins_comm, comm_said, is_present, rule_named}
+use Rattle.rcce_audit.specs.Grammar.{begins_comm, is_present, rule_named}
 use Rattle.rcce_audit.specs.Texts.{line_of, rule_lines, split_words, table_lines, text_of}
-use Rattle.rcce_audit.specs.Words.{◌>>=◌, only_if, range_said, words_of}
+use Rattle.rcce_audit.specs.Words.{◌>>=◌, words_of}
 use Rattle.rcce_audit.specs.declared.lines.CommSplit.{CommSplit}
 use Rattle.rcce_audit.proofs.TextLemmas.{split_pieces, text_of-append}
 use Rattle.rcce_audit.proofs.WritingLemmas.{present_before, set-middle, split_told}

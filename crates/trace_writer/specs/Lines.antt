@@ -14,6 +14,7 @@ use Rattle.scc_base.specs.declared.events.Access.{Access}
 use Rattle.scc_base.specs.declared.events.Access.TheVariants.{Load, Store, Take, Free}
 use Rattle.scc_base.specs.declared.layouts.Layout.{Layout}
 use Rattle.scc_base.specs.declared.layouts.Layout.TheVariants.{LineFlags, BitFlags}
+use Rattle.scc_base.specs.declared.signals.Signal.{Signal}
 use Rattle.scc_base.specs.declared.signals.Signal.TheVariants.{Sent, Ready}
 use Rattle.scc_proto.specs.Words.{Role, HeaderWord, ChunkWord, SignalFlag, SignalFlags, GatherFlag, ReleaseFlag, HeapWord, IdleWord, RankEvent, role_of}
 
@@ -33,14 +34,17 @@ access_name Free = codes "free"
 abbrev pub header_word_name : ℕ → List ℕ
 header_word_name word = if word == 0 then codes "kind" else if word == 1 then codes "comm" else if word == 2 then codes "length" else codes "posted"
 
+-- the name of a signal
+abbrev pub signal_name : Signal → List ℕ
+signal_name Sent = codes "sent"
+signal_name Ready = codes "ready"
+
 -- what a word is for, told to people
 abbrev pub role_words : Role → List (List ℕ)
 role_words (HeaderWord owner word) = codes "header of " ∷ decimal owner ∷ codes ": " ∷ header_word_name word ∷ []
 role_words (ChunkWord owner word) = codes "chunk word " ∷ decimal word ∷ codes " of " ∷ decimal owner ∷ []
-role_words (SignalFlag Sent from to) = codes "sent of " ∷ decimal from ∷ codes " to " ∷ decimal to ∷ []
-role_words (SignalFlag Ready to from) = codes "ready of " ∷ decimal to ∷ codes " to " ∷ decimal from ∷ []
-role_words (SignalFlags Sent owner) = codes "sent flags of " ∷ decimal owner ∷ []
-role_words (SignalFlags Ready owner) = codes "ready flags of " ∷ decimal owner ∷ []
+role_words (SignalFlag signal by at) = signal_name signal ∷ codes " of " ∷ decimal by ∷ codes " to " ∷ decimal at ∷ []
+role_words (SignalFlags signal at) = signal_name signal ∷ codes " flags of " ∷ decimal at ∷ []
 role_words (GatherFlag comm owner) = codes "gather of " ∷ decimal owner ∷ codes " in comm " ∷ decimal comm ∷ []
 role_words (ReleaseFlag comm owner) = codes "release of " ∷ decimal owner ∷ codes " in comm " ∷ decimal comm ∷ []
 role_words HeapWord = codes "heap" ∷ []

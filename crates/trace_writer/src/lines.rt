@@ -1,15 +1,15 @@
 //! The lines of a trace. No memory is taken.
 
-ghost use Rattle.std.specs.Prelude.{◌≡◌, ◌<◌, [], ◌∷◌, decimal, map};
+ghost use Rattle.std.specs.Prelude.{◌≡◌, ◌<◌, [], ◌∷◌, codes, decimal, map};
 ghost use Rattle.std.specs.List.{range_with_len};
 ghost use Rattle.rcce_io.specs.Sending.{Sends, joined};
 ghost use Rattle.record_machine.specs.Uses.{role_meant};
-ghost use Rattle.trace_writer.specs.Lines.{access_name, comm_line, comma_before, comm_line_behind, comment_words, event_line, first_lines, header_word_name, host_words, layout_name, place_words, role_words, split_line};
+ghost use Rattle.trace_writer.specs.Lines.{access_name, comm_line, comma_before, comm_line_behind, comment_words, event_line, first_lines, header_word_name, host_words, layout_name, place_words, role_words, signal_name, split_line};
 
 use rcce_io::Piece::{Number, Text};
 use rcce_io::{Sink, TextSource, WriteFault, write_all, write_hex, write_texts};
 use record_machine::{Use, use_of};
-use scc_base::{Access, CommRule, Event, Layout, Rank, Setup};
+use scc_base::{Access, CommRule, Event, Layout, Rank, Setup, Signal};
 
 /// The first lines of a trace: its head, and the communicators that are splits.
 #[derive(Clone, Copy)]
@@ -53,6 +53,15 @@ fn header_word_name(word: u8) -> &'static str
         1 => "comm",
         2 => "length",
         _ => "posted",
+    }
+}
+
+fn signal_name(signal: Signal) -> &'static str
+    ensures { result.now ≡ signal_name signal }
+{
+    match signal {
+        Signal::Sent => "sent",
+        Signal::Ready => "ready",
     }
 }
 
@@ -168,6 +177,37 @@ fn write_numbered<'a, S: Sink>(
     )
 }
 
+/// Writes whose flag of a signal a word is: it lies at the one rank, and the other raises it.
+fn write_flag<S: Sink>(sink: &mut S, signal: Signal, by: Rank, at: Rank) -> Result<(), WriteFault>
+    ensures { Sends (joined (signal_name signal ∷ codes " of " ∷ decimal by ∷ codes " to " ∷ decimal at ∷ []))
+        (S.seen sink.old) (S.seen sink.new) result }
+{
+    write_texts(
+        sink,
+        &[
+            Text(signal_name(signal)),
+            Text(" of "),
+            Number(u64::from(by.number())),
+            Text(" to "),
+            Number(u64::from(at.number())),
+        ],
+    )
+}
+
+/// Writes whose word of a signal's flags a word is.
+fn write_flags<S: Sink>(sink: &mut S, signal: Signal, at: Rank) -> Result<(), WriteFault>
+    ensures { Sends (joined (signal_name signal ∷ codes " flags of " ∷ decimal at ∷ [])) (S.seen sink.old) (S.seen sink.new) result }
+{
+    write_texts(
+        sink,
+        &[
+            Text(signal_name(signal)),
+            Text(" flags of "),
+            Number(u64::from(at.number())),
+        ],
+    )
+}
+
 /// Writes what a word is for.
 fn write_use<S: Sink>(sink: &mut S, of: Use) -> Result<(), WriteFault>
     ensures { Sends (joined (role_words (role_meant of))) (S.seen sink.old) (S.seen sink.new) result }
@@ -185,28 +225,8 @@ fn write_use<S: Sink>(sink: &mut S, of: Use) -> Result<(), WriteFault>
         Use::Chunk { owner, word } => {
             write_numbered(sink, "chunk word ", word, " of ", owner.number())
         }
-        Use::Sent { from, to } => write_numbered(
-            sink,
-            "sent of ",
-            u16::from(from.number()),
-            " to ",
-            to.number(),
-        ),
-        Use::Ready { from, to } => write_numbered(
-            sink,
-            "ready of ",
-            u16::from(to.number()),
-            " to ",
-            from.number(),
-        ),
-        Use::SentBits { owner } => write_texts(
-            sink,
-            &[Text("sent flags of "), Number(u64::from(owner.number()))],
-        ),
-        Use::ReadyBits { owner } => write_texts(
-            sink,
-            &[Text("ready flags of "), Number(u64::from(owner.number()))],
-        ),
+        Use::SignalFlag { signal, by, at } => write_flag(sink, signal, by, at),
+        Use::SignalFlags { signal, at } => write_flags(sink, signal, at),
         Use::Gather { comm, owner } => write_numbered(
             sink,
             "gather of ",

@@ -136,7 +136,7 @@ module _ (seat : Seat) (memory : Memory) (records : ℕ → Record) (agrees : Ag
   slot_waits slot aim stands idle is tells =
       let (j, to_is, unset) = slot_told s.layout memory (host_of s.hosts me) slot.to slot.seen aim is tells in
       let (post, there, same) = post_of rec.post j (sym to_is ∙ stands.to) in
-      record { stage = idle; post = post; is_posted = there; vain = subst (λ (k : ℕ). view.ready me k ≢ 1) same unset }
+      record { stage = idle; post = post; is_posted = there; vain = subst (λ (k : ℕ). view.signal Ready k me ≢ 1) same unset }
 
   abbrev SendWaits : SendAt → Type 0
   SendWaits op = SlotWaits view me rec ⊎ ((op.posted ≡ false) × RaiseWaits s view me op.to op.head (records me))

@@ -3,6 +3,7 @@ use Rattle.std.proofs.Common.{◌≡◌, ℕ, List, ◌++◌, Option, Some, None
 use Rattle.scc_base.specs.Calls.{DataCall}
 use Rattle.scc_base.specs.Setups.{SetupView, IsSetup, setup_key}
 use Rattle.scc_base.specs.declared.events.Event.{Event}
+use Rattle.scc_base.specs.declared.signals.Signal.TheVariants.{Sent, Ready}
 use Rattle.scc_proto.specs.Tables.{put}
 use Rattle.scc_proto.specs.Stages.{Stage, Idle, Drafting, Sending, Between, Taking, Barrier, OnItsWay, FlagWords, Record}
 use Rattle.scc_proto.specs.Moves.{Move, after}
@@ -15,7 +16,7 @@ use Rattle.scc_proto.specs.Legality.{Outgoing, IsLegal, Grows}
 use Rattle.scc_proto.specs.Passed.{passed_open, passed_calls, slot_by, slot_of}
 use Rattle.scc_proto.specs.Agreement.{RecordsAgree, PairsAgree, SendersAgree, GroupsAgree, RegistersAgree, WordsAgree, CallsAgree, Agrees}
 use Rattle.scc_proto.proofs.Layouts.MoveFacts.{IsViewStep, SameView}
-use Rattle.scc_proto.proofs.Tests.{same_or_other, put_here, put_there, peers_are}
+use Rattle.scc_proto.proofs.Tests.{same_or_other, put_here, put_there, peers_are, peers_swap}
 use Rattle.scc_proto.proofs.Pairs.PairFrames.{same_pair}
 use Rattle.scc_proto.proofs.Agreement.SingleLaw.{single_kept}
 use Rattle.scc_proto.proofs.Pairs.SenderLaw.{sender_kept, header_left, chunk_left}
@@ -30,7 +31,7 @@ module _ (s : SetupView) (one other : View) (same : SameView s one other) (recor
   pairs_same pairs from to peers =
       let p = peers_are s from to peers in
       same_pair (chunk_of s) (pair_of from to one (records from) (records to)) (pair_of from to other (records from) (records to))
-      (sym (same.sent from to peers)) (sym (same.ready from to peers)) refl refl refl (λ i k. sym (same.header from k p.one) i) (λ i k. sym (same.chunk from k p.one) i) refl refl (pairs from to peers)
+      (sym (same.signal Sent from to peers)) (sym (same.signal Ready to from (peers_swap s from to peers))) refl refl refl (λ i k. sym (same.header from k p.one) i) (λ i k. sym (same.chunk from k p.one) i) refl refl (pairs from to peers)
 
   pub senders_same : SendersAgree s one records → SendersAgree s other records
   senders_same senders r below =

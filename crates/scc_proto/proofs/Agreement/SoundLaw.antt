@@ -1,7 +1,8 @@
 -- Where words and records agree, each rank's record is sound.
 use Rattle.std.proofs.Common.{◌≡◌, ℕ, ◌<◌, Bool, true, false, ◌==◌, if◌then◌else◌, Option, Some, None, option_and_then, refl, sym, ◌∙◌, ap, subst}
 use Rattle.std.specs.Int.{bit_at}
-use Rattle.scc_base.specs.Layouts.{signal_at}
+use Rattle.scc_base.specs.Layouts.{signal_at, signal_word}
+use Rattle.scc_base.specs.declared.signals.Signal.{Signal}
 use Rattle.scc_base.specs.declared.signals.Signal.TheVariants.{Sent, Ready}
 use Rattle.scc_base.specs.Setups.{SetupView, host_of}
 use Rattle.scc_base.specs.declared.layouts.Layout.{Layout}
@@ -10,7 +11,7 @@ use Rattle.scc_proto.specs.Messages.{Notes, StandsIn, Progress, begun}
 use Rattle.scc_proto.specs.Stages.{Filling, Raised, Answered, Stage, Idle, Drafting, Sending, Between, Taking, Barrier, OnItsWay, FlagWords, Record}
 use Rattle.scc_proto.specs.Permission.{is_answered_by}
 use Rattle.scc_proto.specs.Words.{Memory, are_peers}
-use Rattle.scc_proto.specs.Records.{chunk_of}
+use Rattle.scc_proto.specs.Records.{chunk_of, flags_in}
 use Rattle.scc_proto.specs.Views.{view_of, flag_in, word_of_flag}
 use Rattle.scc_proto.specs.Singles.{IsConsistent, IsStage, IsPosted}
 use Rattle.scc_proto.specs.Pairs.{Resting, Offering, Awaiting, Receiving, resumed, side_of_post, sending_side, taking_side, NotesStand, pair_of}
@@ -23,25 +24,14 @@ use Rattle.scc_proto.proofs.Pairs.OfferFacts.{offers}
 
 -- ---- a noted word of bit flags is the word
 
-sent_bit : (layout : Layout) (held : Option FlagWords) (memory : Memory) (core b w : ℕ) → NotedFlags layout held (memory.word core 1) → option_and_then (λ (flags : FlagWords). flags.sent) held ≡ Some w
-    → flag_in layout (word_of_flag memory core (signal_at layout Sent b)) (signal_at layout Sent b) ≡ bit_at w b
-sent_bit LineFlags None memory core b w is noted_is = absurd (cc)
-sent_bit LineFlags (Some flags) memory core b w is noted_is = absurd (cc (is.0, noted_is))
-sent_bit BitFlags None memory core b w is noted_is = absurd (cc)
-sent_bit BitFlags (Some flags) memory core b w is noted_is = of flags.sent is.0 noted_is
+signal_bit : (layout : Layout) (signal : Signal) (held : Option FlagWords) (memory : Memory) (core b w : ℕ) → NotedFlags layout held (memory.word core 1) → option_and_then (λ (flags : FlagWords). flags_in signal flags) held ≡ Some w
+    → flag_in layout (word_of_flag memory core (signal_at layout signal b)) (signal_at layout signal b) ≡ bit_at w b
+signal_bit LineFlags signal None memory core b w is noted_is = absurd (cc)
+signal_bit LineFlags signal (Some flags) memory core b w is noted_is = let a : None ≡ Some w = sym (is signal) ∙ noted_is in absurd (cc)
+signal_bit BitFlags signal None memory core b w is noted_is = absurd (cc)
+signal_bit BitFlags signal (Some flags) memory core b w is noted_is = of (flags_in signal flags) (is signal) noted_is
   where
-    of : (o : Option ℕ) → IsNotedWord o (memory.word core 1 0) → o ≡ Some w → bit_at (memory.word core 1 0) b ≡ bit_at w b
-    of None n e = absurd (cc)
-    of (Some v) n e = let same : v ≡ w = cc (e) in ap (λ x. bit_at x b) (n ∙ same)
-
-ready_bit : (layout : Layout) (held : Option FlagWords) (memory : Memory) (core b w : ℕ) → NotedFlags layout held (memory.word core 1) → option_and_then (λ (flags : FlagWords). flags.ready) held ≡ Some w
-    → flag_in layout (word_of_flag memory core (signal_at layout Ready b)) (signal_at layout Ready b) ≡ bit_at w b
-ready_bit LineFlags None memory core b w is noted_is = absurd (cc)
-ready_bit LineFlags (Some flags) memory core b w is noted_is = absurd (cc (is.1, noted_is))
-ready_bit BitFlags None memory core b w is noted_is = absurd (cc)
-ready_bit BitFlags (Some flags) memory core b w is noted_is = of flags.ready is.1 noted_is
-  where
-    of : (o : Option ℕ) → IsNotedWord o (memory.word core 1 1) → o ≡ Some w → bit_at (memory.word core 1 1) b ≡ bit_at w b
+    of : (o : Option ℕ) → IsNotedWord o (memory.word core 1 (signal_word signal)) → o ≡ Some w → bit_at (memory.word core 1 (signal_word signal)) b ≡ bit_at w b
     of None n e = absurd (cc)
     of (Some v) n e = let same : v ≡ w = cc (e) in ap (λ x. bit_at x b) (n ∙ same)
 
@@ -148,15 +138,15 @@ module _ (s : SetupView) (memory : Memory) (records : ℕ → Record) (agrees : 
     sent_clear = λ j word peers noted_is drafting.
         let rest = drafting_rests j (records me).stage (records me).post drafting in
         let p = at_rest (chunk_of s) (pair_of me j (view_of s memory) (records me) (records j)) rest.0 rest.1 (agrees.pairs me j peers) in
-        sym (sent_bit s.layout ((records me).held (host_of s.hosts j)) memory (host_of s.hosts j) me word ((agrees.registers (host_of s.hosts j)).noted me below) noted_is) ∙ p.sent_flag;
+        sym (signal_bit s.layout Sent ((records me).held (host_of s.hosts j)) memory (host_of s.hosts j) me word ((agrees.registers (host_of s.hosts j)).noted me below) noted_is) ∙ p.sent_flag;
     ready_clear = λ j word noted_is taking.
         let t = takes_from s me j (records me).stage single.stage taking in
         let p = when_taking (chunk_of s) (pair_of j me (view_of s memory) (records j) (records me)) t.message t.words t.side (agrees.pairs j me (peers_swap s me j t.peers)) in
-        sym (ready_bit s.layout ((records me).held (host_of s.hosts j)) memory (host_of s.hosts j) me word ((agrees.registers (host_of s.hosts j)).noted me below) noted_is) ∙ p.2.ready_flag;
+        sym (signal_bit s.layout Ready ((records me).held (host_of s.hosts j)) memory (host_of s.hosts j) me word ((agrees.registers (host_of s.hosts j)).noted me below) noted_is) ∙ p.2.ready_flag;
     sent_set = λ j word header noted_is is.
-        sym (sent_bit s.layout ((records me).held (host_of s.hosts me)) memory (host_of s.hosts me) j word ((agrees.registers (host_of s.hosts me)).noted me below) noted_is) ∙ (raised j header is).is.sent_flag;
+        sym (signal_bit s.layout Sent ((records me).held (host_of s.hosts me)) memory (host_of s.hosts me) j word ((agrees.registers (host_of s.hosts me)).noted me below) noted_is) ∙ (raised j header is).is.sent_flag;
     ready_set = λ j word noted_is answered.
         let a = answered_by s me j (records me).stage (records me).post single.stage single.post answered in
         let p = when_answered (chunk_of s) (pair_of me j (view_of s memory) (records me) (records j)) a.is_post a.message a.chunk a.side (agrees.pairs me j a.peers) in
-        sym (ready_bit s.layout ((records me).held (host_of s.hosts me)) memory (host_of s.hosts me) j word ((agrees.registers (host_of s.hosts me)).noted me below) noted_is) ∙ p.1.ready_flag;
+        sym (signal_bit s.layout Ready ((records me).held (host_of s.hosts me)) memory (host_of s.hosts me) j word ((agrees.registers (host_of s.hosts me)).noted me below) noted_is) ∙ p.1.ready_flag;
   }

@@ -3,8 +3,8 @@ use Rattle.std.proofs.Common.{◌≡◌, ◌≢◌, ℕ, ◌<◌, Bool, true, fa
 use Rattle.std.specs.Prelude.{IsTrue}
 use Rattle.std.specs.Int.{bit_at}
 use Rattle.scc_base.specs.Places.{WordAt}
-use Rattle.scc_base.specs.Layouts.{signal_at}
-use Rattle.scc_base.specs.declared.signals.Signal.TheVariants.{Sent, Ready}
+use Rattle.scc_base.specs.Layouts.{signal_at, signal_word}
+use Rattle.scc_base.specs.declared.signals.Signal.{Signal}
 use Rattle.scc_base.specs.Setups.{SetupView, IsSetup, host_of, place_of}
 use Rattle.scc_base.specs.Events.{IsAccess, IsEvent}
 use Rattle.scc_base.specs.declared.layouts.Layout.{Layout}
@@ -12,20 +12,20 @@ use Rattle.scc_base.specs.declared.layouts.Layout.TheVariants.{LineFlags, BitFla
 use Rattle.scc_base.specs.declared.events.Access.{Access}
 use Rattle.scc_base.specs.declared.events.Access.TheVariants.{Load, Store, Take, Free}
 use Rattle.scc_base.specs.declared.events.Event.{Event}
-use Rattle.scc_proto.specs.Tables.{put, put_two}
+use Rattle.scc_proto.specs.Tables.{put, put_two, put_signal}
 use Rattle.scc_proto.specs.Stages.{FlagWords, Record}
 use Rattle.scc_proto.specs.Moves.{Move, DraftHeader, DraftChunk, RaiseSignal, LowerSignal, FlipGather, WriteRelease, NoMove, Misplaced, after}
 use Rattle.scc_proto.specs.Permission.{permits}
 use Rattle.scc_proto.specs.Words.{Memory, word_at, IsStep, IsStepBy, memory_after, Role, HeaderWord, ChunkWord, SignalFlag, SignalFlags, GatherFlag, ReleaseFlag, HeapWord, IdleWord, role_of, are_peers}
-use Rattle.scc_proto.specs.Records.{Act, Moving, NotingSignal, Holding, act_of, load_act, store_act, load_by, store_by, last_of, leads, raises_bit, lowered_below, move_at, change_at, flags_noted, note_flags, forget_flags, chunk_of, after_act, permits_act, permits_by, IsPermitted, record_after}
+use Rattle.scc_proto.specs.Records.{Act, Moving, NotingSignal, Holding, act_of, load_act, store_act, load_by, store_by, last_of, leads, raises_bit, lowered_below, move_at, change_at, flags_in, flags_noted, note_flags, forget_flags, chunk_of, after_act, permits_act, permits_by, IsPermitted, record_after}
 use Rattle.scc_proto.specs.Registers.{IsNotedWord, NotedFlags}
 use Rattle.scc_proto.specs.Views.{View, flag_in, word_of_flag, view_of, shown}
 use Rattle.scc_proto.specs.Agreement.{RegistersAgree}
 use Rattle.scc_proto.proofs.Layouts.MoveFacts.{IsMoveOf, Tells, IsViewStep, SameView}
-use Rattle.scc_proto.proofs.Tests.{same_or_other, put_two_here, put_two_first, put_two_second, both_first, both_second, peers_from, peers_swap}
+use Rattle.scc_proto.proofs.Tests.{same_or_other, put_two_here, put_two_first, put_two_second, put_signal_alike, both_first, both_second, peers_from, peers_swap}
 use Rattle.scc_proto.proofs.Layouts.Roles.{if_yes, if_no, eq_is, eq_not, IsOwn, Stands, role_stands}
 use Rattle.scc_proto.proofs.Words.FlagBits.{raises_is, lowers_is, lowered_below-is}
-use Rattle.scc_proto.proofs.Layouts.ViewStores.{view_stored, store_shows}
+use Rattle.scc_proto.proofs.Layouts.ViewStores.{bits_at, view_stored, store_shows}
 use Rattle.scc_proto.proofs.Layouts.LayoutLoads.{same_view, view_is, view_then, either, leads_member, LoadsAs, no_move, loads_as}
 
 -- an event is this move of a rank on the view, and leaves these registers held
@@ -36,32 +36,20 @@ pub record IsMadeBy (s : SetupView) (memory : Memory) (rec : Record) (me : ℕ) 
 
 -- ---- one bit of a word of flags is put
 
-bit_put_first : (table : ℕ → ℕ → ℕ) (i owner b old new : ℕ) → bit_at new i ≡ b → ((k : ℕ) → k ≢ i → bit_at new k ≡ bit_at old k) → ((k : ℕ) → table k owner ≡ bit_at old k)
+bit_put : (table : ℕ → ℕ → ℕ) (i owner b old new : ℕ) → bit_at new i ≡ b → ((k : ℕ) → k ≢ i → bit_at new k ≡ bit_at old k) → ((k : ℕ) → table k owner ≡ bit_at old k)
     → (k l : ℕ) → put_two table i owner b k l ≡ (if l == owner then bit_at new k else table k l)
-bit_put_first table i owner b old new here there shows k l = same_or_other (put_two table i owner b k l ≡ (if l == owner then bit_at new k else table k l)) l owner
+bit_put table i owner b old new here there shows k l = same_or_other (put_two table i owner b k l ≡ (if l == owner then bit_at new k else table k l)) l owner
     (λ t e. same_or_other (put_two table i owner b k l ≡ (if l == owner then bit_at new k else table k l)) k i
     (λ u f. (λ n. put_two table i owner b (f n) (e n)) ∙ put_two_here table i owner b ∙ sym here ∙ ap (bit_at new) (sym f) ∙ sym (if_yes (l == owner) (bit_at new k) (table k l) t))
     (λ u ne. put_two_first table i owner b k l ne ∙ ap (table k) e ∙ shows k ∙ sym (there k ne) ∙ sym (if_yes (l == owner) (bit_at new k) (table k l) t)))
     (λ t ne. put_two_second table i owner b k l ne ∙ sym (if_no (l == owner) (bit_at new k) (table k l) t))
 
-bit_put_second : (table : ℕ → ℕ → ℕ) (owner i b old new : ℕ) → bit_at new i ≡ b → ((k : ℕ) → k ≢ i → bit_at new k ≡ bit_at old k) → ((k : ℕ) → table owner k ≡ bit_at old k)
-    → (k l : ℕ) → put_two table owner i b k l ≡ (if k == owner then bit_at new l else table k l)
-bit_put_second table owner i b old new here there shows k l = same_or_other (put_two table owner i b k l ≡ (if k == owner then bit_at new l else table k l)) k owner
-    (λ t e. same_or_other (put_two table owner i b k l ≡ (if k == owner then bit_at new l else table k l)) l i
-    (λ u f. (λ n. put_two table owner i b (e n) (f n)) ∙ put_two_here table owner i b ∙ sym here ∙ ap (bit_at new) (sym f) ∙ sym (if_yes (k == owner) (bit_at new l) (table k l) t))
-    (λ u ne. put_two_second table owner i b k l ne ∙ ap (λ (x : ℕ). table x l) e ∙ shows l ∙ sym (there l ne) ∙ sym (if_yes (k == owner) (bit_at new l) (table k l) t)))
-    (λ t ne. put_two_first table owner i b k l ne ∙ sym (if_no (k == owner) (bit_at new l) (table k l) t))
-
 -- the word that is noted under a register is the word
-pub sent_noted_is : (layout : Layout) (held : Option FlagWords) (words : ℕ → ℕ) (old : ℕ) → NotedFlags layout held words → option_and_then (λ (flags : FlagWords). flags.sent) held ≡ Some old → words 0 ≡ old
-sent_noted_is layout None words old noted is = absurd (cc)
-sent_noted_is LineFlags (Some flags) words old noted is = let a : None ≡ Some old = sym noted.0 ∙ is in absurd (cc)
-sent_noted_is BitFlags (Some flags) words old noted is = subst (λ (o : Option ℕ). IsNotedWord o (words 0)) is noted.0
-
-pub ready_noted_is : (layout : Layout) (held : Option FlagWords) (words : ℕ → ℕ) (old : ℕ) → NotedFlags layout held words → option_and_then (λ (flags : FlagWords). flags.ready) held ≡ Some old → words 1 ≡ old
-ready_noted_is layout None words old noted is = absurd (cc)
-ready_noted_is LineFlags (Some flags) words old noted is = let a : None ≡ Some old = sym noted.1 ∙ is in absurd (cc)
-ready_noted_is BitFlags (Some flags) words old noted is = subst (λ (o : Option ℕ). IsNotedWord o (words 1)) is noted.1
+pub noted_is : (layout : Layout) (signal : Signal) (held : Option FlagWords) (words : ℕ → ℕ) (old : ℕ) → NotedFlags layout held words → option_and_then (λ (flags : FlagWords). flags_in signal flags) held ≡ Some old
+    → words (signal_word signal) ≡ old
+noted_is layout signal None words old noted is = absurd (cc)
+noted_is LineFlags signal (Some flags) words old noted is = let a : None ≡ Some old = sym (noted signal) ∙ is in absurd (cc)
+noted_is BitFlags signal (Some flags) words old noted is = subst (λ (o : Option ℕ). IsNotedWord o (words (signal_word signal))) is (noted signal)
 
 -- ---- stores
 
@@ -83,70 +71,42 @@ module _ (s : SetupView) (memory : Memory) (rec : Record) (me : ℕ) (below : me
   Stored role move = IfPermitted s rec (StoresAs s me (view_of s memory) role value) move
 
   -- a bit that is not put shows the noted word
-  sent_shows_old : (owner old : ℕ) → IsOwn s place owner 1 0 → s.layout ≡ BitFlags → flags_noted Sent rec place.core ≡ Some old → (from : ℕ) → (view_of s memory).sent from owner ≡ bit_at old from
-  sent_shows_old owner old own bits is from =
-      ap (λ (layout : Layout). flag_in layout (word_of_flag memory (host_of s.hosts owner) (signal_at layout Sent from)) (signal_at layout Sent from)) bits
-      ∙ ap (λ (w : ℕ). bit_at w from) (ap (λ (core : ℕ). memory.word core 1 0) (sym own.on) ∙ sent_noted_is s.layout (rec.held place.core) (memory.word place.core 1) old noted is)
+  shows_old : (signal : Signal) (owner old : ℕ) → IsOwn s place owner 1 (signal_word signal) → s.layout ≡ BitFlags → flags_noted signal rec place.core ≡ Some old → (by : ℕ) → (view_of s memory).signal signal by owner ≡ bit_at old by
+  shows_old signal owner old own bits is by =
+      ap (λ (layout : Layout). flag_in layout (word_of_flag memory (host_of s.hosts owner) (signal_at layout signal by)) (signal_at layout signal by)) bits
+      ∙ ap (λ (w : ℕ). bit_at w by)
+      (ap (λ (core : ℕ). memory.word core 1 (signal_word signal)) (sym own.on) ∙ noted_is s.layout signal (rec.held place.core) (memory.word place.core 1) old noted is)
 
-  ready_shows_old : (owner old : ℕ) → IsOwn s place owner 1 1 → s.layout ≡ BitFlags → flags_noted Ready rec place.core ≡ Some old → (to : ℕ) → (view_of s memory).ready owner to ≡ bit_at old to
-  ready_shows_old owner old own bits is to =
-      ap (λ (layout : Layout). flag_in layout (word_of_flag memory (host_of s.hosts owner) (signal_at layout Ready to)) (signal_at layout Ready to)) bits
-      ∙ ap (λ (w : ℕ). bit_at w to) (ap (λ (core : ℕ). memory.word core 1 1) (sym own.on) ∙ ready_noted_is s.layout (rec.held place.core) (memory.word place.core 1) old noted is)
-
-  sent_bits : (owner old new i b : ℕ) → IsOwn s place owner 1 0 → s.layout ≡ BitFlags → flags_noted Sent rec place.core ≡ Some old → bit_at new i ≡ b → ((k : ℕ) → k ≢ i → bit_at new k ≡ bit_at old k)
-      → SameView s (record (view_of s memory) { sent = put_two (view_of s memory).sent i owner b }) (view_stored (SignalFlags Sent owner) new (view_of s memory))
-  sent_bits owner old new i b own bits is here there = record {
-    sent = λ from to peers. bit_put_first (view_of s memory).sent i owner b old new here there (sent_shows_old owner old own bits is) from to;
-    ready = λ from to peers. refl;
+  bits_put : (signal : Signal) (owner old new i b : ℕ) → IsOwn s place owner 1 (signal_word signal) → s.layout ≡ BitFlags → flags_noted signal rec place.core ≡ Some old → bit_at new i ≡ b
+      → ((k : ℕ) → k ≢ i → bit_at new k ≡ bit_at old k)
+      → SameView s (record (view_of s memory) { signal = put_signal (view_of s memory).signal signal (put_two ((view_of s memory).signal signal) i owner b) }) (view_stored (SignalFlags signal owner) new (view_of s memory))
+  bits_put signal owner old new i b own bits is here there = record {
+    signal = λ other by at peers. put_signal_alike (view_of s memory).signal signal other (put_two ((view_of s memory).signal signal) i owner b) (bits_at ((view_of s memory).signal signal) owner new) by at
+        (bit_put ((view_of s memory).signal signal) i owner b old new here there (shows_old signal owner old own bits is) by at);
     header = λ r k lt. refl;
     chunk = λ r k lt. refl;
     gather = λ comm r present lt. refl;
     release = λ comm r present lt. refl;
   }
 
-  ready_bits : (owner old new i b : ℕ) → IsOwn s place owner 1 1 → s.layout ≡ BitFlags → flags_noted Ready rec place.core ≡ Some old → bit_at new i ≡ b → ((k : ℕ) → k ≢ i → bit_at new k ≡ bit_at old k)
-      → SameView s (record (view_of s memory) { ready = put_two (view_of s memory).ready owner i b }) (view_stored (SignalFlags Ready owner) new (view_of s memory))
-  ready_bits owner old new i b own bits is here there = record {
-    sent = λ from to peers. refl;
-    ready = λ from to peers. bit_put_second (view_of s memory).ready owner i b old new here there (ready_shows_old owner old own bits is) from to;
-    header = λ r k lt. refl;
-    chunk = λ r k lt. refl;
-    gather = λ comm r present lt. refl;
-    release = λ comm r present lt. refl;
-  }
-
-  sent_lowers : (owner old : ℕ) (o : Option ℕ) → lowered_below me old value s.nue ≡ o → owner ≡ me → IsOwn s place owner 1 0 → s.layout ≡ BitFlags → flags_noted Sent rec place.core ≡ Some old → Stored (SignalFlags Sent owner) (move_at (LowerSignal Sent) o)
-  sent_lowers owner old None low e own bits is = misplaced s rec
-  sent_lowers owner old (Some j) low e own bits is = let l = lowered_below-is me old value s.nue j low in let w = lowers_is j old value l.lowers in
+  lowers : (signal : Signal) (owner old : ℕ) (o : Option ℕ) → lowered_below me old value s.nue ≡ o → owner ≡ me → IsOwn s place owner 1 (signal_word signal) → s.layout ≡ BitFlags → flags_noted signal rec place.core ≡ Some old
+      → Stored (SignalFlags signal owner) (move_at (LowerSignal signal) o)
+  lowers signal owner old None low e own bits is = misplaced s rec
+  lowers signal owner old (Some j) low e own bits is = let l = lowered_below-is me old value s.nue j low in let w = lowers_is j old value l.lowers in
       λ t. record {
         own = peers_from s me j below l.below (λ x. l.other (sym x));
         told = tt;
-        shows = subst (λ (x : ℕ). SameView s (record (view_of s memory) { sent = put_two (view_of s memory).sent j x 0 }) (view_stored (SignalFlags Sent owner) value (view_of s memory))) e (sent_bits owner old value j 0 own bits is w.here w.there);
+        shows = subst (λ (x : ℕ). SameView s (record (view_of s memory) { signal = put_signal (view_of s memory).signal signal (put_two ((view_of s memory).signal signal) j x 0) }) (view_stored (SignalFlags signal owner) value (view_of s memory))) e
+            (bits_put signal owner old value j 0 own bits is w.here w.there);
       }
 
-  ready_lowers : (owner old : ℕ) (o : Option ℕ) → lowered_below me old value s.nue ≡ o → owner ≡ me → IsOwn s place owner 1 1 → s.layout ≡ BitFlags → flags_noted Ready rec place.core ≡ Some old → Stored (SignalFlags Ready owner) (move_at (LowerSignal Ready) o)
-  ready_lowers owner old None low e own bits is = misplaced s rec
-  ready_lowers owner old (Some j) low e own bits is = let l = lowered_below-is me old value s.nue j low in let w = lowers_is j old value l.lowers in
-      λ t. record {
-        own = peers_from s me j below l.below (λ x. l.other (sym x));
-        told = tt;
-        shows = subst (λ (x : ℕ). SameView s (record (view_of s memory) { ready = put_two (view_of s memory).ready x j 0 }) (view_stored (SignalFlags Ready owner) value (view_of s memory))) e (ready_bits owner old value j 0 own bits is w.here w.there);
-      }
-
-  sent_changes : (owner : ℕ) (o : Option ℕ) → flags_noted Sent rec place.core ≡ o → IsOwn s place owner 1 0 → s.layout ≡ BitFlags → Stored (SignalFlags Sent owner) (change_at (LowerSignal Sent) (RaiseSignal Sent) s me owner value o)
-  sent_changes owner None is own bits = misplaced s rec
-  sent_changes owner (Some old) is own bits = either (Stored (SignalFlags Sent owner)) (owner == me) _ _
-      (λ t. sent_lowers owner old (lowered_below me old value s.nue) refl (eq_is owner me t) own bits is)
-      (λ f. either (Stored (SignalFlags Sent owner)) (raises_bit me old value) (RaiseSignal Sent owner) Misplaced
-      (λ t may. let w = raises_is me old value t in record { own = peers_from s me owner below own.below (λ x. eq_not owner me f (sym x)); told = tt; shows = sent_bits owner old value me 1 own bits is w.here w.there })
-      (λ g. misplaced s rec))
-
-  ready_changes : (owner : ℕ) (o : Option ℕ) → flags_noted Ready rec place.core ≡ o → IsOwn s place owner 1 1 → s.layout ≡ BitFlags → Stored (SignalFlags Ready owner) (change_at (LowerSignal Ready) (RaiseSignal Ready) s me owner value o)
-  ready_changes owner None is own bits = misplaced s rec
-  ready_changes owner (Some old) is own bits = either (Stored (SignalFlags Ready owner)) (owner == me) _ _
-      (λ t. ready_lowers owner old (lowered_below me old value s.nue) refl (eq_is owner me t) own bits is)
-      (λ f. either (Stored (SignalFlags Ready owner)) (raises_bit me old value) (RaiseSignal Ready owner) Misplaced
-      (λ t may. let w = raises_is me old value t in record { own = peers_from s me owner below own.below (λ x. eq_not owner me f (sym x)); told = tt; shows = ready_bits owner old value me 1 own bits is w.here w.there })
+  changes : (signal : Signal) (owner : ℕ) (o : Option ℕ) → flags_noted signal rec place.core ≡ o → IsOwn s place owner 1 (signal_word signal) → s.layout ≡ BitFlags
+      → Stored (SignalFlags signal owner) (change_at (LowerSignal signal) (RaiseSignal signal) s me owner value o)
+  changes signal owner None is own bits = misplaced s rec
+  changes signal owner (Some old) is own bits = either (Stored (SignalFlags signal owner)) (owner == me) _ _
+      (λ t. lowers signal owner old (lowered_below me old value s.nue) refl (eq_is owner me t) own bits is)
+      (λ f. either (Stored (SignalFlags signal owner)) (raises_bit me old value) (RaiseSignal signal owner) Misplaced
+      (λ t may. let w = raises_is me old value t in record { own = peers_from s me owner below own.below (λ x. eq_not owner me f (sym x)); told = tt; shows = bits_put signal owner old value me 1 own bits is w.here w.there })
       (λ g. misplaced s rec))
 
   stores_as : (role : Role) → Stands s place role → Stored role (store_by s me rec place value role)
@@ -156,38 +116,22 @@ module _ (s : SetupView) (memory : Memory) (rec : Record) (me : ℕ) (below : me
   stores_as (ChunkWord owner k) st = either (Stored (ChunkWord owner k)) (owner == me) (DraftChunk k value) Misplaced
       (λ t may. record { own = tt; told = tt; shows = view_is s _ _ (ap (λ (x : ℕ). record (view_of s memory) { chunk = put_two (view_of s memory).chunk x k value }) (sym (eq_is owner me t))) })
       (λ f. misplaced s rec)
-  stores_as (SignalFlag Sent from to) st = either (Stored (SignalFlag Sent from to)) ((from == me) && (value == 1)) (RaiseSignal Sent to) _
-      (λ t may. let own = eq_is from me (both_first (from == me) (value == 1) t) in let set = eq_is value 1 (both_second (from == me) (value == 1) t) in
+  stores_as (SignalFlag signal by at) st = either (Stored (SignalFlag signal by at)) ((by == me) && (value == 1)) (RaiseSignal signal at) _
+      (λ t may. let own = eq_is by me (both_first (by == me) (value == 1) t) in let set = eq_is value 1 (both_second (by == me) (value == 1) t) in
       record {
-        own = subst (λ (x : ℕ). are_peers s x to ≡ true) own st.1;
+        own = subst (λ (x : ℕ). are_peers s x at ≡ true) own st.1;
         told = tt;
-        shows = view_is s _ _ (λ i. record (view_of s memory) { sent = put_two (view_of s memory).sent (sym own i) to (sym set i) });
+        shows = view_is s _ _ (λ i. record (view_of s memory) { signal = put_signal (view_of s memory).signal signal (put_two ((view_of s memory).signal signal) (sym own i) at (sym set i)) });
       })
-      (λ f. either (Stored (SignalFlag Sent from to)) ((to == me) && (value == 0)) (LowerSignal Sent from) Misplaced
-      (λ t may. let own = eq_is to me (both_first (to == me) (value == 0) t) in let clear = eq_is value 0 (both_second (to == me) (value == 0) t) in
+      (λ f. either (Stored (SignalFlag signal by at)) ((at == me) && (value == 0)) (LowerSignal signal by) Misplaced
+      (λ t may. let own = eq_is at me (both_first (at == me) (value == 0) t) in let clear = eq_is value 0 (both_second (at == me) (value == 0) t) in
       record {
-        own = peers_swap s from me (subst (λ (x : ℕ). are_peers s from x ≡ true) own st.1);
+        own = peers_swap s by me (subst (λ (x : ℕ). are_peers s by x ≡ true) own st.1);
         told = tt;
-        shows = view_is s _ _ (λ i. record (view_of s memory) { sent = put_two (view_of s memory).sent from (sym own i) (sym clear i) });
-      })
-      (λ g. misplaced s rec))
-  stores_as (SignalFlag Ready to from) st = either (Stored (SignalFlag Ready to from)) ((to == me) && (value == 1)) (RaiseSignal Ready from) _
-      (λ t may. let own = eq_is to me (both_first (to == me) (value == 1) t) in let set = eq_is value 1 (both_second (to == me) (value == 1) t) in
-      record {
-        own = peers_swap s from me (subst (λ (x : ℕ). are_peers s from x ≡ true) own st.1);
-        told = tt;
-        shows = view_is s _ _ (λ i. record (view_of s memory) { ready = put_two (view_of s memory).ready from (sym own i) (sym set i) });
-      })
-      (λ f. either (Stored (SignalFlag Ready to from)) ((from == me) && (value == 0)) (LowerSignal Ready to) Misplaced
-      (λ t may. let own = eq_is from me (both_first (from == me) (value == 0) t) in let clear = eq_is value 0 (both_second (from == me) (value == 0) t) in
-      record {
-        own = subst (λ (x : ℕ). are_peers s x to ≡ true) own st.1;
-        told = tt;
-        shows = view_is s _ _ (λ i. record (view_of s memory) { ready = put_two (view_of s memory).ready (sym own i) to (sym clear i) });
+        shows = view_is s _ _ (λ i. record (view_of s memory) { signal = put_signal (view_of s memory).signal signal (put_two ((view_of s memory).signal signal) by (sym own i) (sym clear i)) });
       })
       (λ g. misplaced s rec))
-  stores_as (SignalFlags Sent owner) st = sent_changes owner (flags_noted Sent rec place.core) refl st.0 st.1
-  stores_as (SignalFlags Ready owner) st = ready_changes owner (flags_noted Ready rec place.core) refl st.0 st.1
+  stores_as (SignalFlags signal at) st = changes signal at (flags_noted signal rec place.core) refl st.0 st.1
   stores_as (GatherFlag comm owner) st = either (Stored (GatherFlag comm owner)) (owner == me) (FlipGather comm value (last_of s comm me)) Misplaced
       (λ t may. record { own = (st.1, refl); told = tt; shows = view_is s _ _ (ap (λ (x : ℕ). record (view_of s memory) { gather = put_two (view_of s memory).gather comm x value }) (sym (eq_is owner me t))) })
       (λ f. misplaced s rec)
@@ -223,10 +167,8 @@ module _ (s : SetupView) (valid : IsSetup s) (memory : Memory) (rec : Record) (m
   notes_or noting held move false is none loads = moves move loads
 
   load_acts : word_at memory place ≡ value → (role : Role) → Stands s place role → ActsAs (load_act s me rec place value role)
-  load_acts tells (SignalFlags Sent owner) st = notes_or (NotingSignal Sent place.core value) (put rec.held place.core (option_map (note_flags Sent value) (rec.held place.core))) _ (is_some (rec.held place.core)) refl
-      (no_move s memory rec me below place value tells) (loads_as s memory rec me below place value tells (SignalFlags Sent owner) st)
-  load_acts tells (SignalFlags Ready owner) st = notes_or (NotingSignal Ready place.core value) (put rec.held place.core (option_map (note_flags Ready value) (rec.held place.core))) _ (is_some (rec.held place.core)) refl
-      (no_move s memory rec me below place value tells) (loads_as s memory rec me below place value tells (SignalFlags Ready owner) st)
+  load_acts tells (SignalFlags signal at) st = notes_or (NotingSignal signal place.core value) (put rec.held place.core (option_map (note_flags signal value) (rec.held place.core))) _ (is_some (rec.held place.core)) refl
+      (no_move s memory rec me below place value tells) (loads_as s memory rec me below place value tells (SignalFlags signal at) st)
   load_acts tells role st = moves (load_by s me value role) (loads_as s memory rec me below place value tells role st)
 
   load_made : place.word < 4 → word_at memory place ≡ value → IsMade s memory rec me (made Load)

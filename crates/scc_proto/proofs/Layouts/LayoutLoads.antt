@@ -3,8 +3,8 @@ use Rattle.std.proofs.Common.{◌≡◌, ◌≢◌, ℕ, ◌+◌, ◌*◌, ◌/�
 use Rattle.std.specs.Prelude.{nat_lt}
 use Rattle.std.specs.Int.{bit_at}
 use Rattle.scc_base.specs.Places.{WordAt}
-use Rattle.scc_base.specs.Layouts.{signal_at, first_chunk, chunk_lines}
-use Rattle.scc_base.specs.declared.signals.Signal.TheVariants.{Sent, Ready}
+use Rattle.scc_base.specs.Layouts.{first_signal, signal_at, signal_word, first_chunk, chunk_lines}
+use Rattle.scc_base.specs.declared.signals.Signal.{Signal}
 use Rattle.scc_base.specs.Setups.{SetupView, host_of, setup_key, place_of}
 use Rattle.scc_base.specs.declared.layouts.Layout.{Layout}
 use Rattle.scc_base.specs.declared.layouts.Layout.TheVariants.{LineFlags, BitFlags}
@@ -22,15 +22,14 @@ use Rattle.scc_proto.proofs.Layouts.Roles.{if_yes, lt_yes, eq_is, IsOwn, own_is,
 -- ---- views
 
 pub same_view : (s : SetupView) (view : View) → SameView s view view
-same_view s view = record { sent = λ from to peers. refl; ready = λ from to peers. refl; header = λ r k lt. refl; chunk = λ r k lt. refl; gather = λ comm r present lt. refl; release = λ comm r present lt. refl }
+same_view s view = record { signal = λ signal by at peers. refl; header = λ r k lt. refl; chunk = λ r k lt. refl; gather = λ comm r present lt. refl; release = λ comm r present lt. refl }
 
 pub view_is : (s : SetupView) (one other : View) → one ≡ other → SameView s one other
 view_is s one other e = subst (λ (view : View). SameView s one view) e (same_view s one)
 
 pub view_then : (s : SetupView) (one other third : View) → SameView s one other → SameView s other third → SameView s one third
 view_then s one other third a b = record {
-  sent = λ from to peers. a.sent from to peers ∙ b.sent from to peers;
-  ready = λ from to peers. a.ready from to peers ∙ b.ready from to peers;
+  signal = λ signal by at peers. a.signal signal by at peers ∙ b.signal signal by at peers;
   header = λ r k lt. a.header r k lt ∙ b.header r k lt;
   chunk = λ r k lt. a.chunk r k lt ∙ b.chunk r k lt;
   gather = λ comm r present lt. a.gather comm r present lt ∙ b.gather comm r present lt;
@@ -68,17 +67,14 @@ module _ (s : SetupView) (memory : Memory) (rec : Record) (me : ℕ) (below : me
   word_is : (owner line word : ℕ) → IsOwn s place owner line word → memory.word (host_of s.hosts owner) line word ≡ value
   word_is owner line word own = ap (word_at memory) (sym (own_is s place owner line word own)) ∙ tells
 
-  sent_line_is : (from to : ℕ) → IsOwn s place to (1 + from) 0 → s.layout ≡ LineFlags → (view_of s memory).sent from to ≡ value
-  sent_line_is from to own lines = ap (λ (layout : Layout). flag_in layout (word_of_flag memory (host_of s.hosts to) (signal_at layout Sent from)) (signal_at layout Sent from)) lines ∙ word_is to (1 + from) 0 own
+  line_is : (signal : Signal) (by at : ℕ) → IsOwn s place at (first_signal signal + by) 0 → s.layout ≡ LineFlags → (view_of s memory).signal signal by at ≡ value
+  line_is signal by at own lines =
+      ap (λ (layout : Layout). flag_in layout (word_of_flag memory (host_of s.hosts at) (signal_at layout signal by)) (signal_at layout signal by)) lines ∙ word_is at (first_signal signal + by) 0 own
 
-  ready_line_is : (from to : ℕ) → IsOwn s place from (49 + to) 0 → s.layout ≡ LineFlags → (view_of s memory).ready from to ≡ value
-  ready_line_is from to own lines = ap (λ (layout : Layout). flag_in layout (word_of_flag memory (host_of s.hosts from) (signal_at layout Ready to)) (signal_at layout Ready to)) lines ∙ word_is from (49 + to) 0 own
-
-  sent_bit_is : (owner from : ℕ) → IsOwn s place owner 1 0 → s.layout ≡ BitFlags → (view_of s memory).sent from owner ≡ bit_at value from
-  sent_bit_is owner from own bits = ap (λ (layout : Layout). flag_in layout (word_of_flag memory (host_of s.hosts owner) (signal_at layout Sent from)) (signal_at layout Sent from)) bits ∙ ap (λ (w : ℕ). bit_at w from) (word_is owner 1 0 own)
-
-  ready_bit_is : (owner to : ℕ) → IsOwn s place owner 1 1 → s.layout ≡ BitFlags → (view_of s memory).ready owner to ≡ bit_at value to
-  ready_bit_is owner to own bits = ap (λ (layout : Layout). flag_in layout (word_of_flag memory (host_of s.hosts owner) (signal_at layout Ready to)) (signal_at layout Ready to)) bits ∙ ap (λ (w : ℕ). bit_at w to) (word_is owner 1 1 own)
+  bit_is : (signal : Signal) (owner by : ℕ) → IsOwn s place owner 1 (signal_word signal) → s.layout ≡ BitFlags → (view_of s memory).signal signal by owner ≡ bit_at value by
+  bit_is signal owner by own bits =
+      ap (λ (layout : Layout). flag_in layout (word_of_flag memory (host_of s.hosts owner) (signal_at layout signal by)) (signal_at layout signal by)) bits
+      ∙ ap (λ (w : ℕ). bit_at w by) (word_is owner 1 (signal_word signal) own)
 
   pub loads_as : (role : Role) → Stands s place role → LoadsAs s me (view_of s memory) rec (load_by s me value role)
   loads_as (HeaderWord owner k) st = record { own = tt; told = word_is owner 0 k st; permitted = refl; shows = refl }
@@ -88,38 +84,20 @@ module _ (s : SetupView) (memory : Memory) (rec : Record) (me : ℕ) (below : me
     permitted = refl;
     shows = refl;
   }
-  loads_as (SignalFlag Sent from to) st = either (LoadsAs s me (view_of s memory) rec) (to == me) (LookSignal Sent (look_at from value)) NoMove
-      (λ t. let own = eq_is to me t in record {
-        own = λ j u. let same = eq_is j from (both_first (j == from) (value == 1) u) in
-            subst (λ (x : ℕ). are_peers s me x ≡ true) (sym same) (peers_swap s from me (subst (λ (x : ℕ). are_peers s from x ≡ true) own st.1));
-        told = λ j u. let same = eq_is j from (both_first (j == from) (value == 1) u) in
-            ap (λ (x : ℕ). (view_of s memory).sent x me) same ∙ ap (λ (x : ℕ). (view_of s memory).sent from x) (sym own) ∙ sent_line_is from to st.0 st.2 ∙ eq_is value 1 (both_second (j == from) (value == 1) u);
+  loads_as (SignalFlag signal by at) st = either (LoadsAs s me (view_of s memory) rec) (at == me) (LookSignal signal (look_at by value)) NoMove
+      (λ t. let own = eq_is at me t in record {
+        own = λ j u. let same = eq_is j by (both_first (j == by) (value == 1) u) in
+            subst (λ (x : ℕ). are_peers s me x ≡ true) (sym same) (peers_swap s by me (subst (λ (x : ℕ). are_peers s by x ≡ true) own st.1));
+        told = λ j u. let same = eq_is j by (both_first (j == by) (value == 1) u) in
+            ap (λ (x : ℕ). (view_of s memory).signal signal x me) same ∙ ap (λ (x : ℕ). (view_of s memory).signal signal by x) (sym own) ∙ line_is signal by at st.0 st.2 ∙ eq_is value 1 (both_second (j == by) (value == 1) u);
         permitted = refl;
         shows = refl;
       })
       (λ f. no_move)
-  loads_as (SignalFlag Ready to from) st = either (LoadsAs s me (view_of s memory) rec) (from == me) (LookSignal Ready (look_at to value)) NoMove
-      (λ t. let own = eq_is from me t in record {
-        own = λ j u. let same = eq_is j to (both_first (j == to) (value == 1) u) in
-            subst (λ (x : ℕ). are_peers s me x ≡ true) (sym same) (subst (λ (x : ℕ). are_peers s x to ≡ true) own st.1);
-        told = λ j u. let same = eq_is j to (both_first (j == to) (value == 1) u) in
-            ap (λ (x : ℕ). (view_of s memory).ready me x) same ∙ ap (λ (x : ℕ). (view_of s memory).ready x to) (sym own) ∙ ready_line_is from to st.0 st.2 ∙ eq_is value 1 (both_second (j == to) (value == 1) u);
-        permitted = refl;
-        shows = refl;
-      })
-      (λ f. no_move)
-  loads_as (SignalFlags Sent owner) st = either (LoadsAs s me (view_of s memory) rec) (owner == me) (LookSignal Sent (look_at_bits s me value)) NoMove
-      (λ t. let own = eq_is owner me t in record {
+  loads_as (SignalFlags signal at) st = either (LoadsAs s me (view_of s memory) rec) (at == me) (LookSignal signal (look_at_bits s me value)) NoMove
+      (λ t. let own = eq_is at me t in record {
         own = λ j u. both_first (are_peers s me j) (bit_at value j == 1) u;
-        told = λ j u. ap (λ (x : ℕ). (view_of s memory).sent j x) (sym own) ∙ sent_bit_is owner j st.0 st.1 ∙ eq_is (bit_at value j) 1 (both_second (are_peers s me j) (bit_at value j == 1) u);
-        permitted = refl;
-        shows = refl;
-      })
-      (λ f. no_move)
-  loads_as (SignalFlags Ready owner) st = either (LoadsAs s me (view_of s memory) rec) (owner == me) (LookSignal Ready (look_at_bits s me value)) NoMove
-      (λ t. let own = eq_is owner me t in record {
-        own = λ j u. both_first (are_peers s me j) (bit_at value j == 1) u;
-        told = λ j u. ap (λ (x : ℕ). (view_of s memory).ready x j) (sym own) ∙ ready_bit_is owner j st.0 st.1 ∙ eq_is (bit_at value j) 1 (both_second (are_peers s me j) (bit_at value j == 1) u);
+        told = λ j u. ap (λ (x : ℕ). (view_of s memory).signal signal j x) (sym own) ∙ bit_is signal at j st.0 st.1 ∙ eq_is (bit_at value j) 1 (both_second (are_peers s me j) (bit_at value j == 1) u);
         permitted = refl;
         shows = refl;
       })

@@ -2,7 +2,7 @@
 -- read tells the word, and that the record permits it.
 use Rattle.std.proofs.Common.{◌≡◌, ◌≢◌, ℕ, ◌<◌, true}
 use Rattle.scc_base.specs.Setups.{SetupView, place_of, root_of}
-use Rattle.scc_base.specs.declared.signals.Signal.TheVariants.{Sent, Ready}
+use Rattle.scc_base.specs.declared.signals.Signal.{Signal}
 use Rattle.scc_proto.specs.Stages.{Record}
 use Rattle.scc_proto.specs.Moves.{Move, RaiseSignal, LookSignal, ReadHeader, ReadChunk, LowerSignal, FlipGather, LookGather, WriteRelease, LookRelease}
 use Rattle.scc_proto.specs.Permission.{permits}
@@ -22,8 +22,7 @@ pub record IsMember (s : SetupView) (me comm r place : ℕ) : Type 0 where
 abbrev pub IsMoveOf : SetupView → ℕ → Move → Type 0
 IsMoveOf s me (RaiseSignal signal to) = are_peers s me to ≡ true
 IsMoveOf s me (LookSignal signal is_set) = (j : ℕ) → is_set j ≡ true → are_peers s me j ≡ true
-IsMoveOf s me (LowerSignal Sent from) = are_peers s me from ≡ true
-IsMoveOf s me (LowerSignal Ready by) = are_peers s me by ≡ true
+IsMoveOf s me (LowerSignal signal by) = are_peers s me by ≡ true
 IsMoveOf s me (FlipGather comm value last) = (is_present s comm ≡ true) × (last ≡ last_of s comm me)
 IsMoveOf s me (LookGather comm from place value) = IsMember s me comm from place
 IsMoveOf s me (WriteRelease comm to place value last) = IsMember s me comm to place × (last ≡ last_of s comm me)
@@ -32,10 +31,9 @@ IsMoveOf s me move = Unit {0}
 
 -- what a load tells of the words
 abbrev pub Tells : ℕ → Move → View → Type 0
-Tells me (LookSignal Sent is_set) view = (j : ℕ) → is_set j ≡ true → view.sent j me ≡ 1
+Tells me (LookSignal signal is_set) view = (j : ℕ) → is_set j ≡ true → view.signal signal j me ≡ 1
 Tells me (ReadHeader from k v) view = view.header from k ≡ v
 Tells me (ReadChunk from k v) view = view.chunk from k ≡ v
-Tells me (LookSignal Ready is_set) view = (j : ℕ) → is_set j ≡ true → view.ready me j ≡ 1
 Tells me (LookGather comm from place value) view = view.gather comm from ≡ value
 Tells me (LookRelease comm value) view = view.release comm me ≡ value
 Tells me move view = Unit {0}
@@ -48,8 +46,7 @@ pub record IsViewStep (s : SetupView) (me : ℕ) (view : View) (rec : Record) (m
 
 -- two views that show the same of all ranks and communicators of the run
 pub record SameView (s : SetupView) (one other : View) : Type 0 where
-  pub sent : (from to : ℕ) → are_peers s from to ≡ true → one.sent from to ≡ other.sent from to
-  pub ready : (from to : ℕ) → are_peers s from to ≡ true → one.ready from to ≡ other.ready from to
+  pub signal : (signal : Signal) (by at : ℕ) → are_peers s by at ≡ true → one.signal signal by at ≡ other.signal signal by at
   pub header : (r k : ℕ) → r < s.nue → one.header r k ≡ other.header r k
   pub chunk : (r k : ℕ) → r < s.nue → one.chunk r k ≡ other.chunk r k
   pub gather : (comm r : ℕ) → is_present s comm ≡ true → r < s.nue → one.gather comm r ≡ other.gather comm r

@@ -3,7 +3,7 @@ use Rattle.std.proofs.Common.{◌≡◌, ◌≢◌, ℕ, zero, suc, ◌+◌, ◌
 use Rattle.std.specs.Prelude.{nat_lt, nat_le}
 use Rattle.std.proofs.lemmas.Bool.Decides.{nat_tests}
 use Rattle.scc_base.specs.Places.{first_heap, WordAt, flag_word}
-use Rattle.scc_base.specs.Layouts.{signal_at, signal_word, gather_at, release_at, first_gather, first_release, first_chunk, chunk_lines}
+use Rattle.scc_base.specs.Layouts.{first_signal, signal_at, signal_word, gather_at, release_at, first_gather, first_release, first_chunk, chunk_lines}
 use Rattle.scc_base.specs.declared.signals.Signal.{Signal}
 use Rattle.scc_base.specs.declared.signals.Signal.TheVariants.{Sent, Ready}
 use Rattle.scc_base.specs.Setups.{SetupView, IsSetup, AreApart, host_of}
@@ -121,10 +121,8 @@ role_on s valid owner line word lt = ap (λ (o : Option ℕ). role_where s o lin
 abbrev pub Stands : SetupView → WordAt → Role → Type 0
 Stands s place (HeaderWord owner k) = IsOwn s place owner 0 k
 Stands s place (ChunkWord owner k) = IsOwn s place owner (first_chunk s.layout + k / 4) (k % 4) × (k < 4 * chunk_lines s.layout)
-Stands s place (SignalFlag Sent from to) = IsOwn s place to (1 + from) 0 × (are_peers s from to ≡ true) × (s.layout ≡ LineFlags)
-Stands s place (SignalFlag Ready to from) = IsOwn s place from (49 + to) 0 × (are_peers s from to ≡ true) × (s.layout ≡ LineFlags)
-Stands s place (SignalFlags Sent owner) = IsOwn s place owner 1 0 × (s.layout ≡ BitFlags)
-Stands s place (SignalFlags Ready owner) = IsOwn s place owner 1 1 × (s.layout ≡ BitFlags)
+Stands s place (SignalFlag signal by at) = IsOwn s place at (first_signal signal + by) 0 × (are_peers s by at ≡ true) × (s.layout ≡ LineFlags)
+Stands s place (SignalFlags signal at) = IsOwn s place at 1 (signal_word signal) × (s.layout ≡ BitFlags)
 Stands s place (GatherFlag comm owner) = IsOwn s place owner (first_gather s.layout + comm % 8) (comm / 8) × (is_present s comm ≡ true)
 Stands s place (ReleaseFlag comm owner) = IsOwn s place owner (first_release s.layout + comm % 8) (comm / 8) × (is_present s comm ≡ true)
 Stands s place HeapWord = first_heap ≤ place.line
@@ -144,7 +142,7 @@ module _ (s : SetupView) (place : WordAt) (owner : ℕ) (below : owner < s.nue) 
       (λ le. if_stands s place (are_peers s (place.line - 1) owner) (SignalFlag Sent (place.line - 1) owner) IdleWord
       (λ peers. (own (1 + (place.line - 1)) 0 (omega (arith, some)) (eq_is place.word 0 t), peers, is)) (λ f. tt))
       (λ le. let high = le_not place.line 48 le in if_stands s place (are_peers s owner (place.line - 49)) (SignalFlag Ready (place.line - 49) owner) IdleWord
-      (λ peers. (own (49 + (place.line - 49)) 0 (omega (arith, high)) (eq_is place.word 0 t), peers, is)) (λ f. tt)))
+      (λ peers. (own (49 + (place.line - 49)) 0 (omega (arith, high)) (eq_is place.word 0 t), peers_swap s owner (place.line - 49) peers, is)) (λ f. tt)))
       (λ f. tt)
   flag_stands BitFlags is some low = if_stands s place (place.word == 0) (SignalFlags Sent owner) _
       (λ t. (own 1 0 (omega (arith, some, low)) (eq_is place.word 0 t), is))
@@ -222,51 +220,47 @@ ready_line s from to peers = let back : 49 + to - 49 ≡ to = omega arith in
     if_no (nat_le (49 + to) 48) _ (if_peers s from (49 + to - 49) (SignalFlag Ready (49 + to - 49) from)) (le_no (49 + to) 48 (omega arith))
     ∙ ap (λ (r : ℕ). if_peers s from r (SignalFlag Ready r from)) back ∙ if_yes (are_peers s from to) (SignalFlag Ready to from) IdleWord peers
 
--- the flag `sent` of the messages from one rank to another, at the core of the other one
-pub role_sent : (s : SetupView) → IsSetup s → (from to : ℕ) → are_peers s from to ≡ true → role_of s (flag_word (host_of s.hosts to) (signal_at s.layout Sent from)) ≡ signal_role s.layout Sent from to
-role_sent s valid from to peers = by s.layout refl
-  where
-    p : ArePeers s from to
-    p = peers_are s from to peers
+-- the lines of a signal's flags are among those of flags
+signal_lines : (signal : Signal) → (1 ≤ first_signal signal) × (first_signal signal ≤ 49)
+signal_lines Sent = (omega arith, omega arith)
+signal_lines Ready = (omega arith, omega arith)
 
-    by : (layout : Layout) → s.layout ≡ layout → role_of s (flag_word (host_of s.hosts to) (signal_at layout Sent from)) ≡ signal_role layout Sent from to
-    by LineFlags e = let w = valid.ranks_within in let below = p.one in let g : first_gather s.layout ≡ 97 = ap first_gather e in
-        role_on s valid to (1 + from) 0 p.other ∙ role_at-low s to (1 + from) 0 (omega arith) (omega (arith, w, below, g))
-        ∙ ap (λ (layout : Layout). flag_role layout s to (1 + from) 0) e ∙ sent_line s valid from to peers
-    by BitFlags e = let a = first_gather-above s.layout in
-        role_on s valid to 1 0 p.other ∙ role_at-low s to 1 0 (omega arith) (omega (arith, a)) ∙ ap (λ (layout : Layout). flag_role layout s to 1 0) e
+line_some : (first by : ℕ) → 1 ≤ first → first + by ≢ 0
+line_some first by low = λ z. absurd (omega (arith, low, z))
 
--- the flag `ready` of the same messages, at the core of the first one
-pub role_ready : (s : SetupView) → IsSetup s → (from to : ℕ) → are_peers s from to ≡ true → role_of s (flag_word (host_of s.hosts from) (signal_at s.layout Ready to)) ≡ signal_role s.layout Ready to from
-role_ready s valid from to peers = by s.layout refl
-  where
-    p : ArePeers s from to
-    p = peers_are s from to peers
+line_low : (first by nue gather : ℕ) → first ≤ 49 → by < nue → nue ≤ 48 → gather ≡ 97 → first + by < gather
+line_low first by nue gather high below within is = omega (arith, high, below, within, is)
 
-    by : (layout : Layout) → s.layout ≡ layout → role_of s (flag_word (host_of s.hosts from) (signal_at layout Ready to)) ≡ signal_role layout Ready to from
-    by LineFlags e = let w = valid.ranks_within in let below = p.other in let g : first_gather s.layout ≡ 97 = ap first_gather e in
-        role_on s valid from (49 + to) 0 p.one ∙ role_at-low s from (49 + to) 0 (omega arith) (omega (arith, w, below, g))
-        ∙ ap (λ (layout : Layout). flag_role layout s from (49 + to) 0) e ∙ ready_line s from to peers
-    by BitFlags e = let a = first_gather-above s.layout in
-        role_on s valid from 1 1 p.one ∙ role_at-low s from 1 1 (omega arith) (omega (arith, a)) ∙ ap (λ (layout : Layout). flag_role layout s from 1 1) e
+signal_line : (s : SetupView) → IsSetup s → (signal : Signal) (by at : ℕ) → are_peers s by at ≡ true → flag_role LineFlags s at (first_signal signal + by) 0 ≡ SignalFlag signal by at
+signal_line s valid Sent by at peers = sent_line s valid by at peers
+signal_line s valid Ready by at peers = ready_line s at by (peers_swap s by at peers)
 
--- the words of bit flags, also where the run has no other rank
-pub role_sent_bits : (s : SetupView) → IsSetup s → s.layout ≡ BitFlags → (owner : ℕ) → owner < s.nue → role_of s (own_word s owner 1 0) ≡ SignalFlags Sent owner
-role_sent_bits s valid e owner lt = let a = first_gather-above s.layout in
-    role_on s valid owner 1 0 lt ∙ role_at-low s owner 1 0 (omega arith) (omega (arith, a)) ∙ ap (λ (layout : Layout). flag_role layout s owner 1 0) e
-
-pub role_ready_bits : (s : SetupView) → IsSetup s → s.layout ≡ BitFlags → (owner : ℕ) → owner < s.nue → role_of s (own_word s owner 1 1) ≡ SignalFlags Ready owner
-role_ready_bits s valid e owner lt = let a = first_gather-above s.layout in
-    role_on s valid owner 1 1 lt ∙ role_at-low s owner 1 1 (omega arith) (omega (arith, a)) ∙ ap (λ (layout : Layout). flag_role layout s owner 1 1) e
+signal_bits : (s : SetupView) (owner : ℕ) (signal : Signal) → flag_role BitFlags s owner 1 (signal_word signal) ≡ SignalFlags signal owner
+signal_bits s owner Sent = refl
+signal_bits s owner Ready = refl
 
 -- the flag of a signal that one rank raises, at the core of the other
 pub role_signal : (s : SetupView) → IsSetup s → (signal : Signal) (by at : ℕ) → are_peers s by at ≡ true → role_of s (flag_word (host_of s.hosts at) (signal_at s.layout signal by)) ≡ signal_role s.layout signal by at
-role_signal s valid Sent by at peers = role_sent s valid by at peers
-role_signal s valid Ready by at peers = role_ready s valid at by (peers_swap s by at peers)
+role_signal s valid signal by at peers = by_layout s.layout refl
+  where
+    p : ArePeers s by at
+    p = peers_are s by at peers
 
+    by_layout : (layout : Layout) → s.layout ≡ layout → role_of s (flag_word (host_of s.hosts at) (signal_at layout signal by)) ≡ signal_role layout signal by at
+    by_layout LineFlags e =
+        role_on s valid at (first_signal signal + by) 0 p.other
+        ∙ role_at-low s at (first_signal signal + by) 0 (line_some (first_signal signal) by (signal_lines signal).0)
+        (line_low (first_signal signal) by s.nue (first_gather s.layout) (signal_lines signal).1 p.one valid.ranks_within (ap first_gather e))
+        ∙ ap (λ (layout : Layout). flag_role layout s at (first_signal signal + by) 0) e ∙ signal_line s valid signal by at peers
+    by_layout BitFlags e = let a = first_gather-above s.layout in
+        role_on s valid at 1 (signal_word signal) p.other ∙ role_at-low s at 1 (signal_word signal) (omega arith) (omega (arith, a))
+        ∙ ap (λ (layout : Layout). flag_role layout s at 1 (signal_word signal)) e ∙ signal_bits s at signal
+
+-- the words of bit flags, also where the run has no other rank
 pub role_signal_bits : (s : SetupView) → IsSetup s → s.layout ≡ BitFlags → (signal : Signal) (owner : ℕ) → owner < s.nue → role_of s (own_word s owner 1 (signal_word signal)) ≡ SignalFlags signal owner
-role_signal_bits s valid e Sent owner lt = role_sent_bits s valid e owner lt
-role_signal_bits s valid e Ready owner lt = role_ready_bits s valid e owner lt
+role_signal_bits s valid e signal owner lt = let a = first_gather-above s.layout in
+    role_on s valid owner 1 (signal_word signal) lt ∙ role_at-low s owner 1 (signal_word signal) (omega arith) (omega (arith, a))
+    ∙ ap (λ (layout : Layout). flag_role layout s owner 1 (signal_word signal)) e ∙ signal_bits s owner signal
 
 -- the other words of the lines of flags
 pub role_spare_line : (s : SetupView) → IsSetup s → s.layout ≡ LineFlags → (owner line word : ℕ) → owner < s.nue → 1 ≤ line → line < first_gather s.layout → word ≢ 0 → role_of s (own_word s owner line word) ≡ IdleWord

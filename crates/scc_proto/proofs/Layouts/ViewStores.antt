@@ -3,44 +3,29 @@ use Rattle.std.proofs.Common.{◌≡◌, ◌≢◌, ℕ, ◌+◌, ◌*◌, ◌/�
 use Rattle.std.specs.Prelude.{nat_lt}
 use Rattle.std.specs.Int.{bit_at}
 use Rattle.scc_base.specs.Places.{WordAt, flag_word}
-use Rattle.scc_base.specs.Layouts.{signal_at, gather_at, release_at, first_gather, first_release, first_chunk, chunk_lines}
+use Rattle.scc_base.specs.Layouts.{first_signal, signal_at, signal_word, gather_at, release_at, first_gather, first_release, first_chunk, chunk_lines}
 use Rattle.scc_base.specs.declared.signals.Signal.{Signal}
-use Rattle.scc_base.specs.declared.signals.Signal.TheVariants.{Sent, Ready}
 use Rattle.scc_base.specs.Setups.{SetupView, IsSetup, host_of}
 use Rattle.scc_base.specs.declared.layouts.Layout.{Layout}
 use Rattle.scc_base.specs.declared.layouts.Layout.TheVariants.{LineFlags, BitFlags}
 use Rattle.scc_base.specs.declared.events.Access.TheVariants.{Store}
-use Rattle.scc_proto.specs.Tables.{put_two}
+use Rattle.scc_proto.specs.Tables.{put_two, put_signal}
 use Rattle.scc_proto.specs.Words.{Memory, word_at, is_at, memory_by, Role, HeaderWord, ChunkWord, SignalFlag, SignalFlags, GatherFlag, ReleaseFlag, HeapWord, IdleWord, are_peers, is_present, role_of}
 use Rattle.scc_proto.specs.Views.{View, flag_in, view_of}
 use Rattle.scc_proto.proofs.Layouts.MoveFacts.{SameView}
-use Rattle.scc_proto.proofs.Tests.{same_or_other, eqb_same, eqb_other, put_two_here, put_two_first, put_two_second}
-use Rattle.scc_proto.proofs.Layouts.Roles.{if_yes, if_no, lt_yes, lt_no, lt_is, lt_not, own_word, own_is, Stands, role_stands, signal_role, role_header, role_chunk, role_sent, role_ready, role_gather, role_release}
+use Rattle.scc_proto.proofs.Tests.{same_or_other, eqb_same, eqb_other, put_two_here, put_two_first, put_two_second, put_signal_here, put_signal_left}
+use Rattle.scc_proto.proofs.Layouts.Roles.{if_yes, if_no, lt_yes, lt_no, lt_is, lt_not, own_word, own_is, Stands, role_stands, signal_role, role_header, role_chunk, role_signal, role_gather, role_release}
 
--- the flags `sent`, and the flags `ready`, with this signal's flag from a rank to another stored
-abbrev sent_put : Signal → (by at v : ℕ) → (ℕ → ℕ → ℕ) → ℕ → ℕ → ℕ
-sent_put Sent by at v sent = put_two sent by at v
-sent_put Ready by at v sent = sent
-
-abbrev ready_put : Signal → (by at v : ℕ) → (ℕ → ℕ → ℕ) → ℕ → ℕ → ℕ
-ready_put Sent by at v ready = ready
-ready_put Ready by at v ready = put_two ready at by v
-
--- the same with a word of this signal's bits at a rank stored
-abbrev sent_bits_put : Signal → (at v : ℕ) → (ℕ → ℕ → ℕ) → ℕ → ℕ → ℕ
-sent_bits_put Sent at v sent = λ from to. if to == at then bit_at v from else sent from to
-sent_bits_put Ready at v sent = sent
-
-abbrev ready_bits_put : Signal → (at v : ℕ) → (ℕ → ℕ → ℕ) → ℕ → ℕ → ℕ
-ready_bits_put Sent at v ready = ready
-ready_bits_put Ready at v ready = λ from to. if from == at then bit_at v to else ready from to
+-- the flags of a signal at a rank, as bits of a word
+abbrev pub bits_at : (ℕ → ℕ → ℕ) → (at v : ℕ) → ℕ → ℕ → ℕ
+bits_at flags at v = λ by core. if core == at then bit_at v by else flags by core
 
 -- the view with a word of this use stored
 abbrev pub view_stored : Role → ℕ → View → View
 view_stored (HeaderWord owner k) v view = record view { header = put_two view.header owner k v }
 view_stored (ChunkWord owner k) v view = record view { chunk = put_two view.chunk owner k v }
-view_stored (SignalFlag signal by at) v view = record view { sent = sent_put signal by at v view.sent; ready = ready_put signal by at v view.ready }
-view_stored (SignalFlags signal at) v view = record view { sent = sent_bits_put signal at v view.sent; ready = ready_bits_put signal at v view.ready }
+view_stored (SignalFlag signal by at) v view = record view { signal = put_signal view.signal signal (put_two (view.signal signal) by at v) }
+view_stored (SignalFlags signal at) v view = record view { signal = put_signal view.signal signal (bits_at (view.signal signal) at v) }
 view_stored (GatherFlag comm owner) v view = record view { gather = put_two view.gather comm owner v }
 view_stored (ReleaseFlag comm owner) v view = record view { release = put_two view.release comm owner v }
 view_stored HeapWord v view = view
@@ -80,21 +65,15 @@ module _ (s : SetupView) (valid : IsSetup s) (place : WordAt) (value : ℕ) (mem
 
   -- ---- another word is stored: each use keeps the words of the others
 
-  sent_left : (role : Role) → Stands s place role → (from to : ℕ) → place ≢ flag_word (host_of s.hosts to) (signal_at s.layout Sent from)
-      → (view_stored role value (view_of s memory)).sent from to ≡ (view_of s memory).sent from to
-  sent_left (SignalFlag Sent a b) st from to ne = two_left (view_of s memory).sent a b value from to
-      (λ e f. ne (own_is s place b (1 + a) 0 st.0 ∙ (λ i. own_word s (sym f i) (1 + sym e i) 0) ∙ ap (λ (layout : Layout). flag_word (host_of s.hosts to) (signal_at layout Sent from)) (sym st.2)))
-  sent_left (SignalFlags Sent owner) st from to ne = if_no (to == owner) _ _
-      (eqb_other to owner (λ e. ne (own_is s place owner 1 0 st.0 ∙ (λ i. own_word s (sym e i) 1 0) ∙ ap (λ (layout : Layout). flag_word (host_of s.hosts to) (signal_at layout Sent from)) (sym st.1))))
-  sent_left role st from to ne = refl
-
-  ready_left : (role : Role) → Stands s place role → (from to : ℕ) → place ≢ flag_word (host_of s.hosts from) (signal_at s.layout Ready to)
-      → (view_stored role value (view_of s memory)).ready from to ≡ (view_of s memory).ready from to
-  ready_left (SignalFlag Ready b a) st from to ne = two_left (view_of s memory).ready a b value from to
-      (λ e f. ne (own_is s place a (49 + b) 0 st.0 ∙ (λ i. own_word s (sym e i) (49 + sym f i) 0) ∙ ap (λ (layout : Layout). flag_word (host_of s.hosts from) (signal_at layout Ready to)) (sym st.2)))
-  ready_left (SignalFlags Ready owner) st from to ne = if_no (from == owner) _ _
-      (eqb_other from owner (λ e. ne (own_is s place owner 1 1 st.0 ∙ (λ i. own_word s (sym e i) 1 1) ∙ ap (λ (layout : Layout). flag_word (host_of s.hosts from) (signal_at layout Ready to)) (sym st.1))))
-  ready_left role st from to ne = refl
+  signal_left : (role : Role) → Stands s place role → (other : Signal) (by at : ℕ) → place ≢ flag_word (host_of s.hosts at) (signal_at s.layout other by)
+      → (view_stored role value (view_of s memory)).signal other by at ≡ (view_of s memory).signal other by at
+  signal_left (SignalFlag signal a b) st other by at ne = put_signal_left (view_of s memory).signal signal other (put_two ((view_of s memory).signal signal) a b value) by at
+      (λ same. two_left ((view_of s memory).signal signal) a b value by at
+      (λ e f. ne (own_is s place b (first_signal signal + a) 0 st.0 ∙ (λ i. own_word s (sym f i) (first_signal (same i) + sym e i) 0) ∙ ap (λ (layout : Layout). flag_word (host_of s.hosts at) (signal_at layout other by)) (sym st.2))))
+  signal_left (SignalFlags signal b) st other by at ne = put_signal_left (view_of s memory).signal signal other (bits_at ((view_of s memory).signal signal) b value) by at
+      (λ same. if_no (at == b) (bit_at value by) ((view_of s memory).signal signal by at)
+      (eqb_other at b (λ f. ne (own_is s place b 1 (signal_word signal) st.0 ∙ (λ i. own_word s (sym f i) 1 (signal_word (same i))) ∙ ap (λ (layout : Layout). flag_word (host_of s.hosts at) (signal_at layout other by)) (sym st.1)))))
+  signal_left role st other by at ne = refl
 
   header_left : (role : Role) → Stands s place role → (r k : ℕ) → place ≢ own_word s r 0 k
       → (view_stored role value (view_of s memory)).header r k ≡ (view_of s memory).header r k
@@ -122,31 +101,22 @@ module _ (s : SetupView) (valid : IsSetup s) (place : WordAt) (value : ℕ) (mem
 
   -- ---- the word itself is stored
 
-  sent_here : (layout : Layout) (from to : ℕ) → (view_stored (signal_role layout Sent from to) value (view_of s memory)).sent from to ≡ flag_in layout value (signal_at layout Sent from)
-  sent_here LineFlags from to = put_two_here (view_of s memory).sent from to value
-  sent_here BitFlags from to = if_yes (to == to) (bit_at value from) ((view_of s memory).sent from to) (eqb_same to)
-
-  ready_here : (layout : Layout) (from to : ℕ) → (view_stored (signal_role layout Ready to from) value (view_of s memory)).ready from to ≡ flag_in layout value (signal_at layout Ready to)
-  ready_here LineFlags from to = put_two_here (view_of s memory).ready from to value
-  ready_here BitFlags from to = if_yes (from == from) (bit_at value to) ((view_of s memory).ready from to) (eqb_same from)
+  signal_here : (layout : Layout) (signal : Signal) (by at : ℕ) → (view_stored (signal_role layout signal by at) value (view_of s memory)).signal signal by at ≡ flag_in layout value (signal_at layout signal by)
+  signal_here LineFlags signal by at =
+      ap (λ (flags : ℕ → ℕ → ℕ). flags by at) (put_signal_here (view_of s memory).signal signal (put_two ((view_of s memory).signal signal) by at value)) ∙ put_two_here ((view_of s memory).signal signal) by at value
+  signal_here BitFlags signal by at =
+      ap (λ (flags : ℕ → ℕ → ℕ). flags by at) (put_signal_here (view_of s memory).signal signal (bits_at ((view_of s memory).signal signal) at value))
+      ∙ if_yes (at == at) (bit_at value by) ((view_of s memory).signal signal by at) (eqb_same at)
 
   -- ---- each part of the view
 
-  sent_shows : Stands s place (role_of s place) → (from to : ℕ) → are_peers s from to ≡ true → (view_stored (role_of s place) value (view_of s memory)).sent from to ≡ (view_of s late).sent from to
-  sent_shows st from to peers =
-      let q = flag_word (host_of s.hosts to) (signal_at s.layout Sent from) in
-      same_word ((view_stored (role_of s place) value (view_of s memory)).sent from to ≡ (view_of s late).sent from to) place q
-      (λ e. ap (λ (role : Role). (view_stored role value (view_of s memory)).sent from to) (ap (role_of s) e ∙ role_sent s valid from to peers) ∙ sent_here s.layout from to
-      ∙ ap (λ (word : ℕ). flag_in s.layout word (signal_at s.layout Sent from)) (sym (stored_here place value memory q e)))
-      (λ ne. sent_left (role_of s place) st from to ne ∙ ap (λ (word : ℕ). flag_in s.layout word (signal_at s.layout Sent from)) (sym (stored_there place value memory q ne)))
-
-  ready_shows : Stands s place (role_of s place) → (from to : ℕ) → are_peers s from to ≡ true → (view_stored (role_of s place) value (view_of s memory)).ready from to ≡ (view_of s late).ready from to
-  ready_shows st from to peers =
-      let q = flag_word (host_of s.hosts from) (signal_at s.layout Ready to) in
-      same_word ((view_stored (role_of s place) value (view_of s memory)).ready from to ≡ (view_of s late).ready from to) place q
-      (λ e. ap (λ (role : Role). (view_stored role value (view_of s memory)).ready from to) (ap (role_of s) e ∙ role_ready s valid from to peers) ∙ ready_here s.layout from to
-      ∙ ap (λ (word : ℕ). flag_in s.layout word (signal_at s.layout Ready to)) (sym (stored_here place value memory q e)))
-      (λ ne. ready_left (role_of s place) st from to ne ∙ ap (λ (word : ℕ). flag_in s.layout word (signal_at s.layout Ready to)) (sym (stored_there place value memory q ne)))
+  signal_shows : Stands s place (role_of s place) → (signal : Signal) (by at : ℕ) → are_peers s by at ≡ true → (view_stored (role_of s place) value (view_of s memory)).signal signal by at ≡ (view_of s late).signal signal by at
+  signal_shows st signal by at peers =
+      let q = flag_word (host_of s.hosts at) (signal_at s.layout signal by) in
+      same_word ((view_stored (role_of s place) value (view_of s memory)).signal signal by at ≡ (view_of s late).signal signal by at) place q
+      (λ e. ap (λ (role : Role). (view_stored role value (view_of s memory)).signal signal by at) (ap (role_of s) e ∙ role_signal s valid signal by at peers) ∙ signal_here s.layout signal by at
+      ∙ ap (λ (word : ℕ). flag_in s.layout word (signal_at s.layout signal by)) (sym (stored_here place value memory q e)))
+      (λ ne. signal_left (role_of s place) st signal by at ne ∙ ap (λ (word : ℕ). flag_in s.layout word (signal_at s.layout signal by)) (sym (stored_there place value memory q ne)))
 
   header_shows : Stands s place (role_of s place) → (r k : ℕ) → r < s.nue → (view_stored (role_of s place) value (view_of s memory)).header r k ≡ (view_of s late).header r k
   header_shows st r k lt =
@@ -200,4 +170,4 @@ module _ (s : SetupView) (valid : IsSetup s) (place : WordAt) (value : ℕ) (mem
   pub store_shows : place.word < 4 → SameView s (view_stored (role_of s place) value (view_of s memory)) (view_of s late)
   store_shows word =
       let st = role_stands s place word in
-      record { sent = sent_shows st; ready = ready_shows st; header = header_shows st; chunk = chunk_shows st; gather = gather_shows st; release = release_shows st }
+      record { signal = signal_shows st; header = header_shows st; chunk = chunk_shows st; gather = gather_shows st; release = release_shows st }

@@ -168,14 +168,10 @@ module _ (s : SetupView) (me : ℕ) where
   load_comes rec place value (HeaderWord owner k) = look_comes (load_by s me value (HeaderWord owner k)) refl rec
   load_comes rec place value (ChunkWord owner k) = look_comes (load_by s me value (ChunkWord owner k)) refl rec
   load_comes rec place value (SignalFlag signal by at) = look_comes (load_by s me value (SignalFlag signal by at)) (load_looks s me value (SignalFlag signal by at)) rec
-  load_comes rec place value (SignalFlags Sent owner) =
-      if_comes (is_some (rec.held place.core)) (NotingSignal Sent place.core value) (Moving (load_by s me value (SignalFlags Sent owner))) rec
+  load_comes rec place value (SignalFlags signal at) =
+      if_comes (is_some (rec.held place.core)) (NotingSignal signal place.core value) (Moving (load_by s me value (SignalFlags signal at))) rec
       (inl (record { stage = refl; post = refl; flips = λ comm. refl; calls = refl }))
-      (look_comes (load_by s me value (SignalFlags Sent owner)) (load_looks s me value (SignalFlags Sent owner)) rec)
-  load_comes rec place value (SignalFlags Ready owner) =
-      if_comes (is_some (rec.held place.core)) (NotingSignal Ready place.core value) (Moving (load_by s me value (SignalFlags Ready owner))) rec
-      (inl (record { stage = refl; post = refl; flips = λ comm. refl; calls = refl }))
-      (look_comes (load_by s me value (SignalFlags Ready owner)) (load_looks s me value (SignalFlags Ready owner)) rec)
+      (look_comes (load_by s me value (SignalFlags signal at)) (load_looks s me value (SignalFlags signal at)) rec)
   load_comes rec place value (GatherFlag comm owner) = look_comes (load_by s me value (GatherFlag comm owner)) (load_looks s me value (GatherFlag comm owner)) rec
   load_comes rec place value (ReleaseFlag comm owner) = look_comes (load_by s me value (ReleaseFlag comm owner)) (load_looks s me value (ReleaseFlag comm owner)) rec
   load_comes rec place value HeapWord = look_comes NoMove refl rec

@@ -4,6 +4,8 @@ use Rattle.std.proofs.lemmas.Option.{same_Some}
 use Rattle.scc_base.specs.Calls.{Message}
 use Rattle.scc_base.specs.Heads.{MessageHead}
 use Rattle.scc_base.specs.Setups.{SetupView, place_of, root_of}
+use Rattle.scc_base.specs.declared.signals.Signal.{Signal}
+use Rattle.scc_base.specs.declared.signals.Signal.TheVariants.{Sent, Ready}
 use Rattle.scc_proto.specs.Messages.{Notes, Progress, begun, is_last, with_chunk, sent_messages, received_messages}
 use Rattle.scc_proto.specs.Stages.{Stage, Idle, Drafting, Sending, Between, Taking, Barrier, OnItsWay, Record}
 use Rattle.scc_proto.specs.Words.{Memory, are_peers}
@@ -14,7 +16,7 @@ use Rattle.scc_proto.specs.Pairs.{SendingSide, Resting, Offering, side_of_post, 
 use Rattle.scc_proto.specs.Groups.{holds_back, releases}
 use Rattle.scc_proto.specs.Registers.{Holder, Nobody, HeldBy}
 use Rattle.scc_proto.specs.Agreement.{Agrees}
-use Rattle.scc_proto.proofs.Tests.{same_or_other}
+use Rattle.scc_proto.proofs.Tests.{same_or_other, peers_swap}
 
 -- what was sent and not received is one message at most
 one_message : (size : ℕ) (p : Bool) (m : Progress) (c : Notes) → length (pending size p m c) + length (settling size p m c) ≡ 1
@@ -136,13 +138,16 @@ module _ (s : SetupView) (one other : Memory) (records recs : ℕ → Record) (a
   like_flags : (from to : ℕ) → are_peers s from to ≡ true → SameFlags (pair_of from to (view_of s one) (records from) (records to)) (pair_of from to (view_of s other) (recs from) (recs to))
   like_flags from to peers = flags_by (chunk_of s) _ _ (same_records from to) (a.pairs from to peers) (b.pairs from to peers)
 
+  like_signal : (signal : Signal) (by at : ℕ) → are_peers s by at ≡ true → (view_of s one).signal signal by at ≡ (view_of s other).signal signal by at
+  like_signal Sent by at peers = (like_flags by at peers).sent_flag
+  like_signal Ready by at peers = (like_flags at by (peers_swap s by at peers)).ready_flag
+
   same_releases : (comm place r : ℕ) → releases comm place (records r) ≡ releases comm place (recs r)
   same_releases comm place r = λ i. if holds_back comm place ((like r).stage i) then (like r).flips comm i - 1 else (like r).flips comm i
 
   pub flags_like : SameFlagWords s (view_of s one) (view_of s other)
   flags_like = record {
-    sent = λ from to peers. (like_flags from to peers).sent_flag;
-    ready = λ from to peers. (like_flags from to peers).ready_flag;
+    signal = like_signal;
     gather = λ comm r present below.
         (a.groups comm r present below).gather_flag ∙ ap (λ (n : ℕ). n % 2) ((like r).flips comm) ∙ sym (b.groups comm r present below).gather_flag;
     release = λ comm r present below. let g = a.groups comm r present below in let h = b.groups comm r present below in

@@ -7,7 +7,6 @@ use Rattle.scc_base.specs.Setups.{SetupView, place_of}
 use Rattle.scc_base.specs.declared.events.Access.{Access}
 use Rattle.scc_base.specs.declared.events.Access.TheVariants.{Load, Store, Take, Free}
 use Rattle.scc_base.specs.declared.events.Event.{Event}
-use Rattle.scc_base.specs.declared.signals.Signal.TheVariants.{Sent, Ready}
 use Rattle.scc_proto.specs.Stages.{HeapStore, Record, blank}
 use Rattle.scc_proto.specs.Moves.{Move, DraftHeader, DraftChunk, RaiseSignal, LookSignal, LowerSignal, FlipGather, LookGather, WriteRelease, LookRelease, NoMove, Misplaced, heap_after}
 use Rattle.scc_proto.specs.Words.{Memory, IsStep, Role, HeaderWord, ChunkWord, SignalFlag, SignalFlags, GatherFlag, ReleaseFlag, HeapWord, IdleWord, role_of}
@@ -57,8 +56,7 @@ module _ (s : SetupView) (me : ℕ) where
       by : (role : Role) → Contains (heap_after (store_by s me rec place value role) heap) x → Contains heap x ⊎ (record { place = place; value = value } ≡ x)
       by (HeaderWord owner k) has = same _ (quiet_if (owner == me) (DraftHeader k value) Misplaced (λ h. refl) (λ h. refl)) has
       by (ChunkWord owner k) has = same _ (quiet_if (owner == me) (DraftChunk k value) Misplaced (λ h. refl) (λ h. refl)) has
-      by (SignalFlag Sent from to) has = same _ (quiet_if ((from == me) && (value == 1)) (RaiseSignal Sent to) _ (λ h. refl) (quiet_if ((to == me) && (value == 0)) (LowerSignal Sent from) Misplaced (λ h. refl) (λ h. refl))) has
-      by (SignalFlag Ready to from) has = same _ (quiet_if ((to == me) && (value == 1)) (RaiseSignal Ready from) _ (λ h. refl) (quiet_if ((from == me) && (value == 0)) (LowerSignal Ready to) Misplaced (λ h. refl) (λ h. refl))) has
+      by (SignalFlag signal rank at) has = same _ (quiet_if ((rank == me) && (value == 1)) (RaiseSignal signal at) _ (λ h. refl) (quiet_if ((at == me) && (value == 0)) (LowerSignal signal rank) Misplaced (λ h. refl) (λ h. refl))) has
       by (SignalFlags signal at) has = same _ (change_quiet (LowerSignal signal) (RaiseSignal signal) at value (flags_noted signal rec place.core) (λ j h. refl) (λ j h. refl)) has
       by (GatherFlag comm owner) has = same _ (quiet_if (owner == me) (FlipGather comm value (last_of s comm me)) Misplaced (λ h. refl) (λ h. refl)) has
       by (ReleaseFlag comm owner) has = same _ (quiet_if (leads s comm me owner) (WriteRelease comm owner (place_of s comm owner) value (last_of s comm me)) Misplaced (λ h. refl) (λ h. refl)) has
@@ -78,12 +76,9 @@ module _ (s : SetupView) (me : ℕ) where
       by : (role : Role) → Contains (after_act (chunk_of s) (load_act s me rec place value role) rec).heap x → Contains rec.heap x
       by (HeaderWord owner k) has = has
       by (ChunkWord owner k) has = has
-      by (SignalFlag Sent from to) has = moving (load_by s me value (SignalFlag Sent from to)) (load_quiet value (SignalFlag Sent from to)) has
-      by (SignalFlag Ready to from) has = moving (load_by s me value (SignalFlag Ready to from)) (load_quiet value (SignalFlag Ready to from)) has
-      by (SignalFlags Sent owner) has = subst (λ (h : List HeapStore). Contains h x)
-          (noting (is_some (rec.held place.core)) (NotingSignal Sent place.core value) (Moving (load_by s me value (SignalFlags Sent owner))) refl (load_quiet value (SignalFlags Sent owner) rec.heap)) has
-      by (SignalFlags Ready owner) has = subst (λ (h : List HeapStore). Contains h x)
-          (noting (is_some (rec.held place.core)) (NotingSignal Ready place.core value) (Moving (load_by s me value (SignalFlags Ready owner))) refl (load_quiet value (SignalFlags Ready owner) rec.heap)) has
+      by (SignalFlag signal rank at) has = moving (load_by s me value (SignalFlag signal rank at)) (load_quiet value (SignalFlag signal rank at)) has
+      by (SignalFlags signal at) has = subst (λ (h : List HeapStore). Contains h x)
+          (noting (is_some (rec.held place.core)) (NotingSignal signal place.core value) (Moving (load_by s me value (SignalFlags signal at))) refl (load_quiet value (SignalFlags signal at) rec.heap)) has
       by (GatherFlag comm owner) has = moving (load_by s me value (GatherFlag comm owner)) (load_quiet value (GatherFlag comm owner)) has
       by (ReleaseFlag comm owner) has = moving (load_by s me value (ReleaseFlag comm owner)) (load_quiet value (ReleaseFlag comm owner)) has
       by HeapWord has = has

@@ -2,6 +2,7 @@
 use Rattle.std.proofs.Common.{◌≡◌, ◌≢◌, ℕ, ◌<◌, ◌≤◌, Bool, true, false, ◌==◌, if◌then◌else◌, ◌⊎◌, ⊎_elim, Option, Some, None, is_some, is_none, option_map, option_and_then, refl, sym, ◌∙◌, ap, subst, arith, inl, inr}
 use Rattle.std.specs.Prelude.{IsTrue}
 use Rattle.scc_base.specs.Places.{WordAt}
+use Rattle.scc_base.specs.Layouts.{signal_word}
 use Rattle.scc_base.specs.Setups.{SetupView, IsSetup}
 use Rattle.scc_base.specs.Events.{IsAccess, IsEvent}
 use Rattle.scc_base.specs.declared.layouts.Layout.{Layout}
@@ -9,13 +10,14 @@ use Rattle.scc_base.specs.declared.layouts.Layout.TheVariants.{LineFlags, BitFla
 use Rattle.scc_base.specs.declared.events.Access.{Access}
 use Rattle.scc_base.specs.declared.events.Access.TheVariants.{Load, Store, Take, Free}
 use Rattle.scc_base.specs.declared.events.Event.{Event}
+use Rattle.scc_base.specs.declared.signals.Signal.{Signal}
 use Rattle.scc_base.specs.declared.signals.Signal.TheVariants.{Sent, Ready}
 use Rattle.scc_proto.specs.Tables.{put}
 use Rattle.scc_proto.specs.Stages.{FlagWords, Record}
 use Rattle.scc_proto.specs.Moves.{Move, LowerSignal, RaiseSignal, NoMove}
 use Rattle.scc_proto.specs.Permission.{permits}
 use Rattle.scc_proto.specs.Words.{Memory, word_at, IsStep, IsStepBy, memory_by, memory_after, Role, HeaderWord, ChunkWord, SignalFlag, SignalFlags, GatherFlag, ReleaseFlag, HeapWord, IdleWord, role_of}
-use Rattle.scc_proto.specs.Records.{Moving, Holding, NotingSignal, act_of, load_act, store_act, change_at, note_flags, forget_flags, chunk_of, after_act, permits_act, permits_by, IsPermitted, record_after}
+use Rattle.scc_proto.specs.Records.{Moving, Holding, NotingSignal, act_of, load_act, store_act, change_at, flags_in, set_flags, note_flags, forget_flags, chunk_of, after_act, permits_act, permits_by, IsPermitted, record_after}
 use Rattle.scc_proto.specs.Registers.{Holder, Nobody, HeldBy, IsNotedWord, NotedFlags, RegisterAgrees}
 use Rattle.scc_proto.specs.Agreement.{RegistersAgree}
 use Rattle.scc_proto.proofs.Tests.{same_or_other, put_here, put_there, true_not_false}
@@ -62,10 +64,10 @@ word_same : (n : Option ℕ) {x y : ℕ} → y ≡ x → IsNotedWord n x → IsN
 word_same None e is = tt
 word_same (Some v) e is = e ∙ is
 
-noted_same : (layout : Layout) (o : Option FlagWords) (words late : ℕ → ℕ) → late 0 ≡ words 0 → late 1 ≡ words 1 → NotedFlags layout o words → NotedFlags layout o late
-noted_same layout None words late a b noted = tt
-noted_same LineFlags (Some flags) words late a b noted = noted
-noted_same BitFlags (Some flags) words late a b noted = (word_same flags.sent a noted.0, word_same flags.ready b noted.1)
+noted_same : (layout : Layout) (o : Option FlagWords) (words late : ℕ → ℕ) → ((signal : Signal) → late (signal_word signal) ≡ words (signal_word signal)) → NotedFlags layout o words → NotedFlags layout o late
+noted_same layout None words late same noted = tt
+noted_same LineFlags (Some flags) words late same noted = noted
+noted_same BitFlags (Some flags) words late same noted = λ signal. word_same (flags_in signal flags) (same signal) (noted signal)
 
 noted_lines : (layout : Layout) → layout ≡ LineFlags → (o : Option FlagWords) (words late : ℕ → ℕ) → NotedFlags layout o words → NotedFlags layout o late
 noted_lines layout e None words late noted = tt
@@ -105,15 +107,19 @@ same_quiet s memory held noted = record { register = λ core. refl; keeps = λ c
 
 -- ---- a load notes a word of flags under a register
 
-noting_sent : (layout : Layout) → layout ≡ BitFlags → (o : Option FlagWords) (words : ℕ → ℕ) (value : ℕ) → words 0 ≡ value → NotedFlags layout o words → NotedFlags layout (option_map (note_flags Sent value) o) words
-noting_sent layout e None words value is noted = tt
-noting_sent LineFlags e (Some flags) words value is noted = absurd (cc)
-noting_sent BitFlags e (Some flags) words value is noted = (is, noted.1)
+-- what is noted of a signal's word, where that of a signal was set
+set_noted : (signal other : Signal) (word : Option ℕ) (flags : FlagWords) (n : ℕ) → (signal ≡ other → IsNotedWord word n) → (signal ≢ other → IsNotedWord (flags_in other flags) n)
+    → IsNotedWord (flags_in other (set_flags signal word flags)) n
+set_noted Sent Sent word flags n here there = here refl
+set_noted Sent Ready word flags n here there = there (λ e. absurd (cc (e)))
+set_noted Ready Sent word flags n here there = there (λ e. absurd (cc (e)))
+set_noted Ready Ready word flags n here there = here refl
 
-noting_ready : (layout : Layout) → layout ≡ BitFlags → (o : Option FlagWords) (words : ℕ → ℕ) (value : ℕ) → words 1 ≡ value → NotedFlags layout o words → NotedFlags layout (option_map (note_flags Ready value) o) words
-noting_ready layout e None words value is noted = tt
-noting_ready LineFlags e (Some flags) words value is noted = absurd (cc)
-noting_ready BitFlags e (Some flags) words value is noted = (noted.0, is)
+noting : (layout : Layout) → layout ≡ BitFlags → (signal : Signal) (o : Option FlagWords) (words : ℕ → ℕ) (value : ℕ) → words (signal_word signal) ≡ value → NotedFlags layout o words → NotedFlags layout (option_map (note_flags signal value) o) words
+noting layout e signal None words value is noted = tt
+noting LineFlags e signal (Some flags) words value is noted = absurd (cc)
+noting BitFlags e signal (Some flags) words value is noted = λ other.
+    set_noted signal other (Some value) flags (words (signal_word other)) (λ same. subst (λ (x : Signal). words (signal_word x) ≡ value) same is) (λ apart. noted other)
 
 -- the flags under one register are changed, and those under the others are as they were
 at_core : (P : ℕ → Option FlagWords → Type 0) (held : ℕ → Option FlagWords) (c : ℕ) (x : Option FlagWords) (core : ℕ) → P c x → (core ≢ c → P core (held core)) → P core (put held c x core)
@@ -134,30 +140,29 @@ module _ (s : SetupView) (memory : Memory) (rec : Record) (me : ℕ) (place : Wo
     others = λ core o none is. is;
   }
 
-  load_sent : (b : Bool) (move : Move) (owner : ℕ) → Stands s place (SignalFlags Sent owner) → IsQuiet s memory memory rec.held (after_act (chunk_of s) (if b then NotingSignal Sent place.core value else Moving move) rec).held
-  load_sent true move owner st = notes_quiet (note_flags Sent value) (noting_sent s.layout st.1 (rec.held place.core) (memory.word place.core 1) value (word_read owner 0 st.0) (noted place.core))
-  load_sent false move owner st = same_quiet s memory rec.held noted
-
-  load_ready : (b : Bool) (move : Move) (owner : ℕ) → Stands s place (SignalFlags Ready owner) → IsQuiet s memory memory rec.held (after_act (chunk_of s) (if b then NotingSignal Ready place.core value else Moving move) rec).held
-  load_ready true move owner st = notes_quiet (note_flags Ready value) (noting_ready s.layout st.1 (rec.held place.core) (memory.word place.core 1) value (word_read owner 1 st.0) (noted place.core))
-  load_ready false move owner st = same_quiet s memory rec.held noted
+  load_flags : (signal : Signal) (b : Bool) (move : Move) (at : ℕ) → Stands s place (SignalFlags signal at) → IsQuiet s memory memory rec.held (after_act (chunk_of s) (if b then NotingSignal signal place.core value else Moving move) rec).held
+  load_flags signal true move at st = notes_quiet (note_flags signal value) (noting s.layout st.1 signal (rec.held place.core) (memory.word place.core 1) value (word_read at (signal_word signal) st.0) (noted place.core))
+  load_flags signal false move at st = same_quiet s memory rec.held noted
 
   load_quiet : (role : Role) → Stands s place role → IsQuiet s memory memory rec.held (after_act (chunk_of s) (load_act s me rec place value role) rec).held
-  load_quiet (SignalFlags Sent owner) st = load_sent (is_some (rec.held place.core)) _ owner st
-  load_quiet (SignalFlags Ready owner) st = load_ready (is_some (rec.held place.core)) _ owner st
+  load_quiet (SignalFlags signal at) st = load_flags signal (is_some (rec.held place.core)) _ at st
   load_quiet role st = same_quiet s memory rec.held noted
 
 -- ---- a store of a word of flags forgets what was noted of it
 
-forgetting_sent : (layout : Layout) → layout ≡ BitFlags → (o : Option FlagWords) (words late : ℕ → ℕ) → late 1 ≡ words 1 → NotedFlags layout o words → NotedFlags layout (option_map (forget_flags Sent) o) late
-forgetting_sent layout e None words late b noted = tt
-forgetting_sent LineFlags e (Some flags) words late b noted = absurd (cc)
-forgetting_sent BitFlags e (Some flags) words late b noted = (tt, word_same flags.ready b noted.1)
+-- a word of flags is one signal's alone
+word_tells : (one other : Signal) → signal_word one ≡ signal_word other → one ≡ other
+word_tells Sent Sent e = refl
+word_tells Sent Ready e = absurd (omega (arith, e))
+word_tells Ready Sent e = absurd (omega (arith, e))
+word_tells Ready Ready e = refl
 
-forgetting_ready : (layout : Layout) → layout ≡ BitFlags → (o : Option FlagWords) (words late : ℕ → ℕ) → late 0 ≡ words 0 → NotedFlags layout o words → NotedFlags layout (option_map (forget_flags Ready) o) late
-forgetting_ready layout e None words late b noted = tt
-forgetting_ready LineFlags e (Some flags) words late b noted = absurd (cc)
-forgetting_ready BitFlags e (Some flags) words late b noted = (word_same flags.sent b noted.0, tt)
+forgetting : (layout : Layout) → layout ≡ BitFlags → (signal : Signal) (o : Option FlagWords) (words late : ℕ → ℕ) → ((other : Signal) → signal ≢ other → late (signal_word other) ≡ words (signal_word other))
+    → NotedFlags layout o words → NotedFlags layout (option_map (forget_flags signal) o) late
+forgetting layout e signal None words late same noted = tt
+forgetting LineFlags e signal (Some flags) words late same noted = absurd (cc)
+forgetting BitFlags e signal (Some flags) words late same noted = λ other.
+    set_noted signal other None flags (late (signal_word other)) (λ here. tt) (λ apart. word_same (flags_in other flags) (same other apart) (noted other))
 
 module _ (s : SetupView) (memory : Memory) (rec : Record) (me : ℕ) (place : WordAt) (value : ℕ) (noted : (core : ℕ) → NotedFlags s.layout (rec.held core) (memory.word core 1)) where
   abbrev stored : Memory
@@ -171,7 +176,7 @@ module _ (s : SetupView) (memory : Memory) (rec : Record) (me : ℕ) (place : Wo
   plain_noted : (s.layout ≡ LineFlags) ⊎ (place.line ≢ 1) → (core : ℕ) (o : Option FlagWords) → NotedFlags s.layout o (memory.word core 1) → NotedFlags s.layout o (stored.word core 1)
   plain_noted apart core o is = ⊎_elim
       (λ (lines : s.layout ≡ LineFlags). noted_lines s.layout lines o (memory.word core 1) (stored.word core 1) is)
-      (λ (ne : place.line ≢ 1). noted_same s.layout o (memory.word core 1) (stored.word core 1) (left core 0 (λ a b c. ne b)) (left core 1 (λ a b c. ne b)) is)
+      (λ (ne : place.line ≢ 1). noted_same s.layout o (memory.word core 1) (stored.word core 1) (λ signal. left core (signal_word signal) (λ a b c. ne b)) is)
       apart
 
   plain_quiet : (s.layout ≡ LineFlags) ⊎ (place.line ≢ 1) → IsQuiet s memory stored rec.held rec.held
@@ -183,20 +188,17 @@ module _ (s : SetupView) (memory : Memory) (rec : Record) (me : ℕ) (place : Wo
     register = λ core. refl;
     keeps = changed_here change rec.held place.core;
     mine = λ core. at_core (λ (k : ℕ) (o : Option FlagWords). NotedFlags s.layout o (stored.word k 1)) rec.held place.core (option_map change (rec.held place.core)) core is
-        (λ ne. noted_same s.layout (rec.held core) (memory.word core 1) (stored.word core 1) (left core 0 (λ a b c. ne (sym a))) (left core 1 (λ a b c. ne (sym a))) (noted core));
+        (λ ne. noted_same s.layout (rec.held core) (memory.word core 1) (stored.word core 1) (λ signal. left core (signal_word signal) (λ a b c. ne (sym a))) (noted core));
     others = λ core o none was. same_or_other (NotedFlags s.layout o (stored.word core 1)) core place.core
         (λ t e. subst (λ (x : Option FlagWords). NotedFlags s.layout x (stored.word core 1)) (sym (none (ap (λ (k : ℕ). is_some (rec.held k)) e ∙ held))) tt)
-        (λ t ne. noted_same s.layout o (memory.word core 1) (stored.word core 1) (left core 0 (λ a b c. ne (sym a))) (left core 1 (λ a b c. ne (sym a))) was);
+        (λ t ne. noted_same s.layout o (memory.word core 1) (stored.word core 1) (λ signal. left core (signal_word signal) (λ a b c. ne (sym a))) was);
   }
 
   -- a change of a word of flags is a move only where the word was noted under its register
-  sent_held : (owner : ℕ) (o : Option FlagWords) → permits (chunk_of s) (change_at (LowerSignal Sent) (RaiseSignal Sent) s me owner value (option_and_then (λ (flags : FlagWords). flags.sent) o)) rec ≡ true → is_some o ≡ true
-  sent_held owner None may = absurd (cc)
-  sent_held owner (Some flags) may = refl
-
-  ready_held : (owner : ℕ) (o : Option FlagWords) → permits (chunk_of s) (change_at (LowerSignal Ready) (RaiseSignal Ready) s me owner value (option_and_then (λ (flags : FlagWords). flags.ready) o)) rec ≡ true → is_some o ≡ true
-  ready_held owner None may = absurd (cc)
-  ready_held owner (Some flags) may = refl
+  flags_held : (signal : Signal) (at : ℕ) (o : Option FlagWords) → permits (chunk_of s) (change_at (LowerSignal signal) (RaiseSignal signal) s me at value (option_and_then (λ (flags : FlagWords). flags_in signal flags) o)) rec ≡ true
+      → is_some o ≡ true
+  flags_held signal at None may = absurd (cc)
+  flags_held signal at (Some flags) may = refl
 
   apart_line : (line : ℕ) → place.line ≡ line → 2 ≤ line → place.line ≢ 1
   apart_line line e high = λ is. absurd (omega (arith, e, high, is))
@@ -204,14 +206,11 @@ module _ (s : SetupView) (memory : Memory) (rec : Record) (me : ℕ) (place : Wo
   store_quiet : (role : Role) → Stands s place role → permits_act (chunk_of s) (store_act s me rec place value role) rec ≡ true → IsQuiet s memory stored rec.held (after_act (chunk_of s) (store_act s me rec place value role) rec).held
   store_quiet (HeaderWord owner k) st may = let line = st.at_line in plain_quiet (inr (λ e. absurd (omega (arith, line, e))))
   store_quiet (ChunkWord owner k) st may = let a = first_chunk-is s.layout in let b = first_gather-above s.layout in plain_quiet (inr (apart_line _ st.0.at_line (omega (arith, a, b))))
-  store_quiet (SignalFlag Sent from to) st may = plain_quiet (inl st.2)
-  store_quiet (SignalFlag Ready to from) st may = plain_quiet (inl st.2)
-  store_quiet (SignalFlags Sent owner) st may =
-      flag_quiet (forget_flags Sent) (sent_held owner (rec.held place.core) may)
-      (forgetting_sent s.layout st.1 (rec.held place.core) (memory.word place.core 1) (stored.word place.core 1) (left place.core 1 (λ a b c. absurd (omega (arith, c, st.0.at_word)))) (noted place.core))
-  store_quiet (SignalFlags Ready owner) st may =
-      flag_quiet (forget_flags Ready) (ready_held owner (rec.held place.core) may)
-      (forgetting_ready s.layout st.1 (rec.held place.core) (memory.word place.core 1) (stored.word place.core 1) (left place.core 0 (λ a b c. absurd (omega (arith, c, st.0.at_word)))) (noted place.core))
+  store_quiet (SignalFlag signal by at) st may = plain_quiet (inl st.2)
+  store_quiet (SignalFlags signal at) st may =
+      flag_quiet (forget_flags signal) (flags_held signal at (rec.held place.core) may)
+      (forgetting s.layout st.1 signal (rec.held place.core) (memory.word place.core 1) (stored.word place.core 1)
+      (λ other apart. left place.core (signal_word other) (λ a b c. apart (word_tells signal other (sym st.0.at_word ∙ c)))) (noted place.core))
   store_quiet (GatherFlag comm owner) st may = let b = first_gather-above s.layout in plain_quiet (inr (apart_line _ st.0.at_line (omega (arith, b))))
   store_quiet (ReleaseFlag comm owner) st may = let a = first_release-is s.layout in let b = first_gather-above s.layout in plain_quiet (inr (apart_line _ st.0.at_line (omega (arith, a, b))))
   store_quiet HeapWord st may = plain_quiet (inr (λ e. absurd (omega (arith, st, e))))
@@ -253,9 +252,13 @@ module _ (s : SetupView) (memory : Memory) (records : ℕ → Record) (me : ℕ)
       (λ t e. subst (λ (i : ℕ). RegisterAgrees s (record memory { register = put memory.register c register }) i holds) (sym e) here)
       (λ t ne. agrees_there register core ne (agrees core))
 
+none_in : (signal : Signal) → flags_in signal (record { sent = None; ready = None }) ≡ None
+none_in Sent = refl
+none_in Ready = refl
+
 blank_noted : (layout : Layout) (words : ℕ → ℕ) → NotedFlags layout (Some (record { sent = None; ready = None })) words
-blank_noted LineFlags words = (refl, refl)
-blank_noted BitFlags words = (tt, tt)
+blank_noted LineFlags words = λ signal. none_in signal
+blank_noted BitFlags words = λ signal. subst (λ (o : Option ℕ). IsNotedWord o (words (signal_word signal))) (sym (none_in signal)) tt
 
 -- a free register is held by nobody
 nobody_holds : (nue register core : ℕ) (records : ℕ → Record) → register ≡ 0 → Holder nue register core records → (k : ℕ) → k < nue → (records k).held core ≡ None

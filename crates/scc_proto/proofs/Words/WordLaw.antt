@@ -9,7 +9,6 @@ use Rattle.scc_base.specs.Events.{IsAccess, IsEvent}
 use Rattle.scc_base.specs.declared.events.Access.{Access}
 use Rattle.scc_base.specs.declared.events.Access.TheVariants.{Load, Store, Take, Free}
 use Rattle.scc_base.specs.declared.events.Event.{Event}
-use Rattle.scc_base.specs.declared.signals.Signal.TheVariants.{Sent, Ready}
 use Rattle.scc_proto.specs.Tables.{put}
 use Rattle.scc_proto.specs.Stages.{HeapStore, Record}
 use Rattle.scc_proto.specs.Moves.{Move, LowerSignal, RaiseSignal, StoreHeap, Misplaced, heap_after, after}
@@ -22,7 +21,7 @@ use Rattle.scc_proto.proofs.Tests.{same_or_other, put_here, put_there, peers_fro
 use Rattle.scc_proto.proofs.Layouts.Roles.{if_yes, eq_is, eq_not, Stands, role_stands}
 use Rattle.scc_proto.proofs.Words.FlagBits.{raises_is, lowers_is, lowered_below-is}
 use Rattle.scc_proto.proofs.Layouts.ViewStores.{stored_here, stored_there, same_word}
-use Rattle.scc_proto.proofs.Layouts.LayoutLaw.{sent_noted_is, ready_noted_is, event_made}
+use Rattle.scc_proto.proofs.Layouts.LayoutLaw.{noted_is, event_made}
 
 -- ---- what was stored in the heap stays
 
@@ -97,13 +96,9 @@ module _ (s : SetupView) (memory : Memory) (records : ℕ → Record) (me : ℕ)
     stored = subst (λ (r : Record). Contains r.heap (record { place = place; value = value })) (sym (put_here records me (after (chunk_of s) (StoreHeap place value) (records me)))) (Contains-push (records me).heap (record { place = place; value = value }));
   })
   stored_agrees IdleWord st may agrees = absurd (cc)
-  stored_agrees (SignalFlags Sent owner) st may agrees =
-      let c = change_is s (records me) me below value (LowerSignal Sent) (RaiseSignal Sent) owner (flags_noted Sent (records me) place.core) st.0.below may in
-      let word : word_at memory place ≡ c.old = (λ i. memory.word place.core (st.0.at_line i) (st.0.at_word i)) ∙ sent_noted_is s.layout ((records me).held place.core) (memory.word place.core 1) c.old noted c.noted in
-      λ b f. c.same b f ∙ ap (λ (w : ℕ). bit_at w b) (sym word) ∙ agrees b f
-  stored_agrees (SignalFlags Ready owner) st may agrees =
-      let c = change_is s (records me) me below value (LowerSignal Ready) (RaiseSignal Ready) owner (flags_noted Ready (records me) place.core) st.0.below may in
-      let word : word_at memory place ≡ c.old = (λ i. memory.word place.core (st.0.at_line i) (st.0.at_word i)) ∙ ready_noted_is s.layout ((records me).held place.core) (memory.word place.core 1) c.old noted c.noted in
+  stored_agrees (SignalFlags signal at) st may agrees =
+      let c = change_is s (records me) me below value (LowerSignal signal) (RaiseSignal signal) at (flags_noted signal (records me) place.core) st.0.below may in
+      let word : word_at memory place ≡ c.old = (λ i. memory.word place.core (st.0.at_line i) (st.0.at_word i)) ∙ noted_is s.layout signal ((records me).held place.core) (memory.word place.core 1) c.old noted c.noted in
       λ b f. c.same b f ∙ ap (λ (w : ℕ). bit_at w b) (sym word) ∙ agrees b f
   stored_agrees role st may agrees = tt
 

@@ -7,10 +7,10 @@ use Rattle.scc_base.specs.Events.{store_of, take_of}
 use Rattle.scc_base.specs.declared.events.Event.{Event}
 use Rattle.scc_base.specs.declared.layouts.Layout.{Layout}
 use Rattle.scc_base.specs.declared.layouts.Layout.TheVariants.{LineFlags, BitFlags}
-use Rattle.scc_base.specs.declared.signals.Signal.TheVariants.{Sent, Ready}
+use Rattle.scc_base.specs.declared.signals.Signal.{Signal}
 use Rattle.scc_proto.specs.Words.{role_of, are_peers}
 use Rattle.scc_proto.specs.Ports.{Seat, Sight, Did}
-use Rattle.scc_proto.proofs.Layouts.Roles.{signal_role, role_sent, role_ready}
+use Rattle.scc_proto.proofs.Layouts.Roles.{signal_role, role_signal}
 use Rattle.write_combine.specs.declared.combiner.Out.{Out}
 use Rattle.put_get.specs.Accesses.{loads_of, stores_of}
 use Rattle.put_get.specs.Cores.{Private}
@@ -25,19 +25,12 @@ use Rattle.send_recv.specs.Turns.{is_no_draft}
 abbrev pub IsFlagWord : SetupView → ℕ → FlagPlace → Type 0
 IsFlagWord setup core flag = is_message_word (role_of setup (flag_word core flag)) ≡ false
 
-sent_no_message : (layout : Layout) (from to : ℕ) → is_message_word (signal_role layout Sent from to) ≡ false
-sent_no_message LineFlags from to = refl
-sent_no_message BitFlags from to = refl
+signal_no_message : (layout : Layout) (signal : Signal) (by at : ℕ) → is_message_word (signal_role layout signal by at) ≡ false
+signal_no_message LineFlags signal by at = refl
+signal_no_message BitFlags signal by at = refl
 
-ready_no_message : (layout : Layout) (from to : ℕ) → is_message_word (signal_role layout Ready to from) ≡ false
-ready_no_message LineFlags from to = refl
-ready_no_message BitFlags from to = refl
-
-pub sent_is_flag : (seat : Seat) → IsSetup seat.setup → (from to : ℕ) → are_peers seat.setup from to ≡ true → IsFlagWord seat.setup (core_of seat to) (signal_flag seat Sent from)
-sent_is_flag seat valid from to peers = ap is_message_word (role_sent seat.setup valid from to peers) ∙ sent_no_message seat.setup.layout from to
-
-pub ready_is_flag : (seat : Seat) → IsSetup seat.setup → (from to : ℕ) → are_peers seat.setup from to ≡ true → IsFlagWord seat.setup (core_of seat from) (signal_flag seat Ready to)
-ready_is_flag seat valid from to peers = ap is_message_word (role_ready seat.setup valid from to peers) ∙ ready_no_message seat.setup.layout from to
+pub signal_is_flag : (seat : Seat) → IsSetup seat.setup → (signal : Signal) (by at : ℕ) → are_peers seat.setup by at ≡ true → IsFlagWord seat.setup (core_of seat at) (signal_flag seat signal by)
+signal_is_flag seat valid signal by at peers = ap is_message_word (role_signal seat.setup valid signal by at peers) ∙ signal_no_message seat.setup.layout signal by at
 
 pub look_drafts_none : (setup : SetupView) (line : LineAt) (words : List ℕ) → list_all (is_no_draft setup) (loads_of line words) ≡ true
 look_drafts_none setup line words = refl

@@ -20,7 +20,7 @@ use Rattle.scc_proto.specs.Soundness.{is_answered}
 use Rattle.scc_proto.specs.Words.{are_peers}
 use Rattle.scc_proto.specs.Records.{chunk_of}
 use Rattle.scc_proto.specs.Ports.{Seat, Sight, record_in}
-use Rattle.scc_proto.proofs.Tests.{eqb_same}
+use Rattle.scc_proto.proofs.Tests.{eqb_same, peers_swap}
 use Rattle.scc_proto.proofs.PortLaws.{did_nothing, seat_kept}
 use Rattle.scc_proto.proofs.Layouts.Roles.{if_yes}
 use Rattle.put_get.specs.Accesses.{loads_of}
@@ -35,7 +35,7 @@ use Rattle.send_recv.specs.Tries.{aim_at}
 use Rattle.send_recv.specs.Turns.{HoldsNone, OnlyTries, NoLoad, waits_at}
 use Rattle.send_recv.specs.Ranks.{SlotHolder, with_slot}
 use Rattle.send_recv.proofs.Posts.SlotApart.{is_apart, apart_in}
-use Rattle.send_recv.proofs.Lines.DraftNone.{ready_is_flag, look_drafts_none, change_drafts_none}
+use Rattle.send_recv.proofs.Lines.DraftNone.{signal_is_flag, look_drafts_none, change_drafts_none}
 use Rattle.send_recv.proofs.Looks.FlagMoves.{MovesFlag, may_change, flag_moved, signal_lowers, ready_turns}
 use Rattle.send_recv.proofs.Looks.LookLemmas.{looks_at}
 use Rattle.send_recv.proofs.Receiving.LookTurn.{looked_post, looked_rest, looked_calls}
@@ -296,7 +296,7 @@ lower_goes s t c d slot to valid h empty hands full seen changes =
         calls = ap (λ (r : Record). r.calls) is ∙ calls_free size (record_in s).stage (record_in s).calls f.free;
         post = λ same. absurd (cc (same ∙ full));
         rest = record { flips = ap (λ (x : Record). x.flips) is; hold = ap (λ (x : Record). x.held) is; heap = ap (λ (x : Record). x.heap) is };
-        no_drafts = change_drafts_none s t c d own (signal_flag s.seat Ready to) false true empty (ready_is_flag s.seat valid s.seat.rank to peers) changes facts.events facts.did;
+        no_drafts = change_drafts_none s t c d own (signal_flag s.seat Ready to) false true empty (signal_is_flag s.seat valid Ready to s.seat.rank (peers_swap s.seat.setup s.seat.rank to peers)) changes facts.events facts.did;
         held = facts.held;
         work = change_work layout true (load_count facts.events) c.evictions d.evictions (slot_spot s.seat slot) (Register own) (λ e. spot_seen s.seat slot to full seen ∙ spot_bits layout own to e) facts.work;
         buffer = facts.out;
@@ -328,7 +328,7 @@ lower_waits s t c d slot to valid h empty hands full seen changes =
         calls = ap (λ (r : Record). r.calls) m.same;
         post = λ same. post_kept (record_in s).post (record_in t).post (ap (λ (x : Record). x.post) m.same);
         rest = record { flips = ap (λ (x : Record). x.flips) m.same; hold = ap (λ (x : Record). x.held) m.same; heap = ap (λ (x : Record). x.heap) m.same };
-        no_drafts = change_drafts_none s t c d own (signal_flag s.seat Ready to) false false empty (ready_is_flag s.seat valid s.seat.rank to peers) changes facts.events facts.did;
+        no_drafts = change_drafts_none s t c d own (signal_flag s.seat Ready to) false false empty (signal_is_flag s.seat valid Ready to s.seat.rank (peers_swap s.seat.setup s.seat.rank to peers)) changes facts.events facts.did;
         held = facts.held;
         work = change_work layout false (load_count facts.events) c.evictions d.evictions (slot_spot s.seat slot) (Register own) (λ e. spot_seen s.seat slot to full seen ∙ spot_bits layout own to e) facts.work;
         buffer = facts.out;

@@ -34,7 +34,7 @@ use Rattle.send_recv.proofs.Receiving.LookTurn.{recv_does, Turns, stands_after}
 use Rattle.send_recv.proofs.Receiving.HeadTurn.{post_kept}
 use Rattle.send_recv.proofs.Looks.FlagMoves.{MovesFlag, may_change, flag_moved, signal_lowers, sent_turns}
 use Rattle.send_recv.proofs.Looks.ChangeFacts.{change_facts}
-use Rattle.send_recv.proofs.Lines.DraftNone.{sent_is_flag, change_drafts_none}
+use Rattle.send_recv.proofs.Lines.DraftNone.{signal_is_flag, change_drafts_none}
 
 -- ---- taking the chunk
 
@@ -210,7 +210,7 @@ lower_goes b s t c d op bytes lines valid r lower changes =
         fewer = taken_fewer b layout size op lower;
         rests = λ spot w. absurd (cc);
         only = tt;
-        no_drafts = change_drafts_none s t c d (own_core s.seat) (signal_flag s.seat Sent op.from) false true r.empty (sent_is_flag s.seat valid op.from s.seat.rank (peers_swap s.seat.setup s.seat.rank op.from r.peers)) changes facts.events facts.did;
+        no_drafts = change_drafts_none s t c d (own_core s.seat) (signal_flag s.seat Sent op.from) false true r.empty (signal_is_flag s.seat valid Sent op.from s.seat.rank (peers_swap s.seat.setup s.seat.rank op.from r.peers)) changes facts.events facts.did;
         same = (refl, refl);
         means = (taken_left b size op lines lower r.in_hand, ap (λ (x : Record). x.calls) is, ap is_received lower, open_taken b);
         rest = rest;

@@ -36,7 +36,7 @@ use Rattle.send_recv.proofs.Receiving.LookTurn.{recv_does, Turns, stands_after, 
 use Rattle.send_recv.proofs.Receiving.HeadTurn.{post_kept}
 use Rattle.send_recv.proofs.Looks.TryLemmas.{le_self}
 use Rattle.send_recv.proofs.Looks.ChangeFacts.{change_facts}
-use Rattle.send_recv.proofs.Lines.DraftNone.{IsFlagWord, sent_is_flag, ready_is_flag, change_drafts_none}
+use Rattle.send_recv.proofs.Lines.DraftNone.{IsFlagWord, signal_is_flag, change_drafts_none}
 use Rattle.send_recv.proofs.Receiving.FlagTurns.{went_on, gain_work, lower_goes, change_elsewhere, at_lower}
 use Rattle.send_recv.proofs.Receiving.RaiseTurn.{is_raising, ready_is_raised, raised_calls, raised_stage, started, next_start, next_few, next_below, next_left, next_gain, last_gain}
 
@@ -107,7 +107,7 @@ pub lower_turn : (gone : Bool) (s t : Sight) (c d : Private) (op : RecvAt) (byte
     → Turns s c op bytes t d (after_lower (chunk_of s.seat.setup) gone op) bytes (recv_or_waits gone (Register (own_core s.seat)))
 lower_turn true s t c d op bytes valid r lower changes = lower_goes (lines_now (chunk_of s.seat.setup) op == 0) s t c d op bytes refl valid r lower changes
 lower_turn false s t c d op bytes valid r lower changes = register_waits s t c d op bytes (own_core s.seat) (signal_flag s.seat Sent op.from) false valid r
-    (sent_is_flag s.seat valid op.from s.seat.rank (peers_swap s.seat.setup s.seat.rank op.from r.peers))
+    (signal_is_flag s.seat valid Sent op.from s.seat.rank (peers_swap s.seat.setup s.seat.rank op.from r.peers))
     (at_lower s.seat op lower) changes (recv_does (receiving s c op bytes) Lower false t d lower changes)
 
 -- ---- raising `ready`
@@ -196,7 +196,7 @@ raise_last s t c d op bytes last valid r raise changes =
         rests = λ spot w. absurd (cc);
         only = tt;
         no_drafts = change_drafts_none s t c d (core_of s.seat op.from) (signal_flag s.seat Ready s.seat.rank) true true r.empty
-            (ready_is_flag s.seat valid op.from s.seat.rank (peers_swap s.seat.setup s.seat.rank op.from r.peers)) changes facts.events facts.did;
+            (signal_is_flag s.seat valid Ready s.seat.rank op.from r.peers) changes facts.events facts.did;
         same = (refl, refl);
         means = (refl, refl, ends.1 ∙ ap (λ st. (record_in s).calls ++ (if is_received st then [] else Recv op.from op.head bytes ∷ [])) (sym raise));
         rest = rest;
@@ -251,7 +251,7 @@ raise_next s t c d op bytes more valid r raise changes =
         rests = λ spot w. absurd (cc);
         only = tt;
         no_drafts = change_drafts_none s t c d (core_of s.seat op.from) (signal_flag s.seat Ready s.seat.rank) true true r.empty
-            (ready_is_flag s.seat valid op.from s.seat.rank (peers_swap s.seat.setup s.seat.rank op.from r.peers)) changes facts.events facts.did;
+            (signal_is_flag s.seat valid Ready s.seat.rank op.from r.peers) changes facts.events facts.did;
         same = (refl, refl);
         means = (
           left_raise size op raise ∙ next_left layout op.head.len op.chunk low
@@ -287,5 +287,5 @@ pub raise_turn : (gone : Bool) (s t : Sight) (c d : Private) (op : RecvAt) (byte
     → Turns s c op bytes t d (after_raise (chunk_of s.seat.setup) gone op) bytes (raise_answer (chunk_of s.seat.setup) gone (Register (core_of s.seat op.from)) op)
 raise_turn true s t c d op bytes valid r raise changes = raise_by (is_last_chunk (chunk_of s.seat.setup) op.head.len op.chunk) s t c d op bytes refl valid r raise changes
 raise_turn false s t c d op bytes valid r raise changes = register_waits s t c d op bytes (core_of s.seat op.from) (signal_flag s.seat Ready s.seat.rank) true valid r
-    (ready_is_flag s.seat valid op.from s.seat.rank (peers_swap s.seat.setup s.seat.rank op.from r.peers))
+    (signal_is_flag s.seat valid Ready s.seat.rank op.from r.peers)
     (at_raise s.seat op raise) changes (recv_does (receiving s c op bytes) Raise false t d raise changes)

@@ -17,7 +17,7 @@ use Rattle.scc_proto.specs.Soundness.{is_answered}
 use Rattle.scc_proto.specs.Words.{are_peers}
 use Rattle.scc_proto.specs.Records.{chunk_of}
 use Rattle.scc_proto.specs.Ports.{Seat, Sight, record_in}
-use Rattle.scc_proto.proofs.Tests.{eqb_same, eqb_other}
+use Rattle.scc_proto.proofs.Tests.{eqb_same, eqb_other, peers_swap}
 use Rattle.scc_proto.proofs.PortLaws.{seat_kept}
 use Rattle.scc_proto.proofs.Layouts.Roles.{if_yes, if_no, le_is, le_not}
 use Rattle.put_get.specs.Accesses.{whole_line}
@@ -39,7 +39,7 @@ use Rattle.send_recv.proofs.Looks.ChangeFacts.{change_facts}
 use Rattle.send_recv.proofs.Receiving.FlagTurns.{went_on}
 use Rattle.send_recv.proofs.Receiving.RaiseTurn.{whole, longer, last_is, next_below}
 use Rattle.send_recv.proofs.Looks.FlagMoves.{MovesFlag, may_change, flag_moved, signal_lowers, ready_turns}
-use Rattle.send_recv.proofs.Lines.DraftNone.{ready_is_flag, change_drafts_none}
+use Rattle.send_recv.proofs.Lines.DraftNone.{signal_is_flag, change_drafts_none}
 use Rattle.send_recv.proofs.Lines.DraftNotes.{no_lines}
 use Rattle.send_recv.proofs.Lines.DraftWhole.{AreBytes, as_receive, drafted_read}
 use Rattle.send_recv.proofs.Sending.SendFacts.{SendTurns, send_does, slot_kept, stands_at, at_stage, left_at, spot_at}
@@ -206,7 +206,7 @@ lower_goes b s t c d op slot bytes last valid small r lower changes =
         means = lower_means b s t c d op slot bytes small last at.3 r.long r.in_hand lower at.0
             (r.slot_stands.to ∙ ap (λ (o : Option OnItsWay). option_map (λ (p : OnItsWay). p.to) o) at.1) is;
         rest = record { flips = ap (λ (x : Record). x.flips) is; hold = ap (λ (x : Record). x.held) is; heap = ap (λ (x : Record). x.heap) is };
-        drafts = no_stores s.seat.setup c facts.events (change_drafts_none s t c d own (signal_flag s.seat Ready op.to) false true at.2 (ready_is_flag s.seat valid s.seat.rank op.to r.peers) changes facts.events facts.did);
+        drafts = no_stores s.seat.setup c facts.events (change_drafts_none s t c d own (signal_flag s.seat Ready op.to) false true at.2 (signal_is_flag s.seat valid Ready op.to s.seat.rank (peers_swap s.seat.setup s.seat.rank op.to r.peers)) changes facts.events facts.did);
         held = facts.held;
         work = change_work layout true (load_count facts.events) c.evictions d.evictions (send_spot s.seat op slot) (Register own)
             (λ e. spot_at s.seat op slot Lower lower ∙ spot_bits layout own (core_of s.seat op.to) op.to (slot_spot s.seat slot) e) facts.work;
@@ -219,7 +219,7 @@ lower_by : (gone b : Bool) (s t : Sight) (c d : Private) (op : SendAt) (slot : S
 lower_by true b s t c d op slot bytes last valid small r lower changes = lower_goes b s t c d op slot bytes last valid small r lower changes
 lower_by false b s t c d op slot bytes last valid small r lower changes =
     let at = at_stage s.seat (record_in s) c op slot bytes Lower r lower in
-    register_waits s t c d op slot bytes (own_core s.seat) (signal_flag s.seat Ready op.to) false valid r at.2 (ready_is_flag s.seat valid s.seat.rank op.to r.peers)
+    register_waits s t c d op slot bytes (own_core s.seat) (signal_flag s.seat Ready op.to) false valid r at.2 (signal_is_flag s.seat valid Ready op.to s.seat.rank (peers_swap s.seat.setup s.seat.rank op.to r.peers))
     (λ e. spot_at s.seat op slot Lower lower ∙ spot_bits s.seat.setup.layout (own_core s.seat) (core_of s.seat op.to) op.to (slot_spot s.seat slot) e) changes
     (send_does (sending s c op slot bytes) Lower false false t d lower refl changes)
 

@@ -35,7 +35,7 @@ use Rattle.send_recv.specs.Tries.{aim_at}
 use Rattle.send_recv.specs.Turns.{KeepsAllButMessages, OnlyTries, LastHeld, NoLoad, StoresFromBuffer}
 use Rattle.send_recv.proofs.Looks.ChangeFacts.{change_facts}
 use Rattle.send_recv.proofs.Receiving.FlagTurns.{went_on}
-use Rattle.send_recv.proofs.Lines.DraftNone.{IsFlagWord, sent_is_flag, store_drafts_none, drafts_none_by}
+use Rattle.send_recv.proofs.Lines.DraftNone.{IsFlagWord, signal_is_flag, store_drafts_none, drafts_none_by}
 use Rattle.send_recv.proofs.Lines.DraftWhole.{AreBytes}
 use Rattle.send_recv.proofs.Sending.SendFacts.{SendTurns, send_does, slot_kept, stands_at, at_stage, left_at, spot_at}
 use Rattle.send_recv.proofs.Sending.SendMoves.{SentRaised, sent_is_raised}
@@ -184,7 +184,7 @@ raise_goes b s t c d op slot bytes posts valid small r raise changes =
     let core = core_of s.seat op.to in
     let at = at_stage s.seat (record_in s) c op slot bytes Raise r raise in
     let up = sent_is_raised s t c d op slot bytes valid small r raise changes in
-    let facts = facts_by layout s t c d op bytes core (signal_flag s.seat Sent s.seat.rank) (sent_is_flag s.seat valid s.seat.rank op.to r.peers) at.1 changes in
+    let facts = facts_by layout s t c d op bytes core (signal_flag s.seat Sent s.seat.rank) (signal_is_flag s.seat valid Sent s.seat.rank op.to r.peers) at.1 changes in
     let a = after_raise b s t c d op slot bytes posts small r raise up facts.out in
     record {
       stands = subst (λ (x : Seat). IsSending x (record_in t) d (next_op b op) (next_slot b op slot) bytes) (sym (seat_kept s facts.events t facts.did))
@@ -225,7 +225,7 @@ raise_by false b s t c d op slot bytes posts valid small r raise changes =
     let layout = s.seat.setup.layout in
     let core = core_of s.seat op.to in
     register_waits s t c d op slot bytes core (signal_flag s.seat Sent s.seat.rank) true valid r (empty_by layout s t c d op bytes core (signal_flag s.seat Sent s.seat.rank) at.1 changes)
-    (sent_is_flag s.seat valid s.seat.rank op.to r.peers)
+    (signal_is_flag s.seat valid Sent s.seat.rank op.to r.peers)
     (λ e. spot_at s.seat op slot Raise raise ∙ spot_bits layout (own_core s.seat) core op.to (slot_spot s.seat slot) e) changes
     (send_does (sending s c op slot bytes) Raise false false t d raise refl changes)
 

@@ -11,12 +11,15 @@ returns-in-Chunk g c =
     subst (λ (u : Use). Sends (joined (role_words (role_meant u))) (g.S.Sink.seen c.args.sink.now) (g.S.Sink.seen c.write_numbered.new.sink) c.write_numbered.result)
     (sym c.in-Chunk.is) told
 
-pub returns-in-ReadyBits : goal.returns-in-ReadyBits
-returns-in-ReadyBits g c =
-    let owner = c.from-in-ReadyBits.ensures ∙ c.number-in-ReadyBits.ensures.gives in
-    let told = rw owner at c.write_texts-in-ReadyBits.ensures in
-    subst (λ (u : Use). Sends (joined (role_words (role_meant u))) (g.S.Sink.seen c.args.sink.now) (g.S.Sink.seen c.write_texts-in-ReadyBits.new.sink) c.write_texts-in-ReadyBits.result)
-    (sym c.in-ReadyBits.is) told
+pub returns-in-SignalFlag : goal.returns-in-SignalFlag
+returns-in-SignalFlag g c =
+    subst (λ (u : Use). Sends (joined (role_words (role_meant u))) (g.S.Sink.seen c.args.sink.now) (g.S.Sink.seen c.write_flag.new.sink) c.write_flag.result)
+    (sym c.in-SignalFlag.is) c.write_flag.ensures
+
+pub returns-in-SignalFlags : goal.returns-in-SignalFlags
+returns-in-SignalFlags g c =
+    subst (λ (u : Use). Sends (joined (role_words (role_meant u))) (g.S.Sink.seen c.args.sink.now) (g.S.Sink.seen c.write_flags.new.sink) c.write_flags.result)
+    (sym c.in-SignalFlags.is) c.write_flags.ensures
 
 pub returns-in-Release : goal.returns-in-Release
 returns-in-Release g c =

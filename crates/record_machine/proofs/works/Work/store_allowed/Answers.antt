@@ -1,6 +1,5 @@
 use Rattle.std.proofs.Common.{◌≡◌, if◌then◌else◌, Bool, refl, sym, ◌∙◌, ap}
 use Rattle.record_machine.specs.Next.{store_allowed}
-use Rattle.record_machine.specs.declared.next.NextStore.{NextStore}
 use Rattle.record_machine.specs.declared.next.NextStore.TheVariants as may
 use Rattle.record_machine.specs.declared.works.Standing.TheVariants as standing
 use Rattle.scc_proto.specs.Stages.{Stage}
