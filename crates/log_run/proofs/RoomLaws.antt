@@ -17,7 +17,7 @@ use Rattle.script_plain.specs.CallLists.{called, calls_from, calls_of}
 use Rattle.script_plain.specs.Lengths.{Lengths, lengths_after}
 use Rattle.script_plain.specs.Program.{Prim, program_of}
 use Rattle.script_plain.specs.Rooms.{nothing_held}
-use Rattle.script_plain.proofs.Lengths.RoomLaws.{start_held}
+use Rattle.script_plain.proofs.ProgramLengths.RoomLaws.{start_held}
 use Rattle.log_run.specs.Sizes.{bytes_by, calls_by, has_room_for_all}
 
 -- ---- one primitive more

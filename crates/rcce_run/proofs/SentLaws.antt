@@ -24,7 +24,7 @@ use Rattle.script_plain.specs.Ready.{IsReady}
 use Rattle.script_plain.proofs.OwnWays.CameDid.{logged}
 use Rattle.script_plain.proofs.Runs.Costs.{Lowers}
 use Rattle.script_plain.proofs.Runs.PlainLaws.{state_lowers}
-use Rattle.script_plain.proofs.Lengths.ReadyLemmas.{ready-law}
+use Rattle.script_plain.proofs.ProgramLengths.ReadyLemmas.{ready-law}
 use Rattle.rcce_ue.specs.Standing as ue
 use Rattle.rcce_ue.specs.Standing.{Tied, bytes_sent}
 use Rattle.rcce_ue.specs.Ues.{UeView, is_sending}

@@ -19,7 +19,7 @@ use Rattle.script_plain.specs.Next.{Next}
 use Rattle.script_plain.specs.Next.Next.{Recvs}
 use Rattle.script_plain.specs.Ready.{IsReady}
 use Rattle.script_plain.proofs.OwnWays.CameDid.{came_matched}
-use Rattle.script_plain.proofs.Lengths.ReadyLemmas.{ready-law}
+use Rattle.script_plain.proofs.ProgramLengths.ReadyLemmas.{ready-law}
 use Rattle.script_plain.proofs.OwnWays.StoppedLaws.{stopped_ends}
 use Rattle.rcce_ue.specs.Standing as ue
 use Rattle.rcce_ue.specs.Ues.{UeView}

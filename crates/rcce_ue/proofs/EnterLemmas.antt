@@ -28,7 +28,7 @@ use Rattle.script_plain.specs.Next.{Next}
 use Rattle.script_plain.specs.Next.Next.{Ends, Goes, Posts, Sends, Recvs, Bars}
 use Rattle.script_plain.specs.Ready.{IsReady}
 use Rattle.script_plain.specs.declared.posts.Posted.{Posted}
-use Rattle.script_plain.proofs.Lengths.ReadyLemmas.{ready-law}
+use Rattle.script_plain.proofs.ProgramLengths.ReadyLemmas.{ready-law}
 use Rattle.script_plain.proofs.Runs.StepLaws as steps
 use Rattle.script_plain.proofs.OwnWays.StoppedLaws.{stopped_ends}
 use Rattle.rcce_ue.specs.Left.{left_of, next_bound, open_left, rest_behind, rest_of, unless}

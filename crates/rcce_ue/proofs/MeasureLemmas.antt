@@ -24,7 +24,7 @@ use Rattle.script_plain.specs.Local.{Local, asked_head, local_next, next_by_act,
 use Rattle.script_plain.specs.Next.{Next}
 use Rattle.script_plain.specs.Next.Next.{Ends, Goes, Posts, Sends, Recvs, Bars}
 use Rattle.script_plain.specs.Program.{Act, Prim}
-use Rattle.script_plain.proofs.Lengths.RoomLaws.{lengths_next}
+use Rattle.script_plain.proofs.ProgramLengths.RoomLaws.{lengths_next}
 use Rattle.rcce_ue.specs.Left.{barrier_bound, bound_of, bounds_left, next_bound, open_left, rest_of}
 use Rattle.rcce_ue.specs.Ues.{opened}
 use Rattle.rcce_ue.specs.declared.calls.Open.TheVariants.{Sending}

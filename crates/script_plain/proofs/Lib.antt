@@ -1,9 +1,9 @@
 pub mod Runs
 pub mod Orders
 pub mod Walks
-pub mod Code
+pub mod CodeSteps
 pub mod Messages
 pub mod OwnWays
-pub mod Lengths
+pub mod ProgramLengths
 pub mod Collectives
 pub mod Arrivals

@@ -18,9 +18,9 @@ use Rattle.script_plain.specs.Local.{register_at}
 use Rattle.script_plain.specs.Meaning.{IsPlainStep, State, keys_of, start_of}
 use Rattle.script_plain.specs.Program.{can_call, collective_of, setup_of}
 use Rattle.script_plain.specs.Step.{Configuration}
-use Rattle.script_plain.proofs.Lengths.CallableLaws.{callable}
+use Rattle.script_plain.proofs.ProgramLengths.CallableLaws.{callable}
 use Rattle.script_plain.proofs.Collectives.CollectivePaths.{through_both}
-use Rattle.script_plain.proofs.Lengths.LengthLaws.{rank_within, reduced_to_all_whole, reduced_whole}
+use Rattle.script_plain.proofs.ProgramLengths.LengthLaws.{rank_within, reduced_to_all_whole, reduced_whole}
 
 -- a rank that stands at a collective call may make it
 module _ (script : Script) (whole : IsWhole script.nue script.items) (rank : ℕ) (below : rank < script.nue) (u : State) where

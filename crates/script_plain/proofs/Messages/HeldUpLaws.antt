@@ -24,7 +24,7 @@ use Rattle.script_plain.specs.Next.{Next, call_of, is_at_barrier}
 use Rattle.script_plain.specs.Next.Next.{Ends, Goes, Posts, Sends, Recvs, Bars}
 use Rattle.script_plain.specs.Program.{Act, Prim}
 use Rattle.script_plain.specs.Step.{Configuration, all_at_barrier, next_at, slot_at, step_of}
-use Rattle.script_plain.proofs.Lengths.AimLemmas.{AreAimed, IsAimedAct, program_aimed}
+use Rattle.script_plain.proofs.ProgramLengths.AimLemmas.{AreAimed, IsAimedAct, program_aimed}
 use Rattle.script_plain.proofs.Messages.KeptLaws.{AllKept, KeepsNext, kept_runs}
 use Rattle.script_plain.proofs.Messages.MessageLaws.{empty_slot, to_plain_end}
 use Rattle.script_plain.proofs.OwnWays.OwnWayLaws.{start_cell}

@@ -18,7 +18,7 @@ use Rattle.script_plain.specs.Paths.{Did}
 use Rattle.script_plain.specs.Paths.Did.{Here, Own, Left, Sent, Got, Met}
 use Rattle.script_plain.specs.Program.{Act, Prim}
 use Rattle.script_plain.specs.Program.Act.{Set, Send, Post, Recv, Gather}
-use Rattle.script_plain.proofs.Lengths.RoomLaws.{after, length_index, lengths_next, prim_left}
+use Rattle.script_plain.proofs.ProgramLengths.RoomLaws.{after, length_index, lengths_next, prim_left}
 
 -- the call of a primitive is the one that stands next there
 called_next : (u : Local) (line : ℕ) (act : Act) → called (lengths_of u) act ≡ option_to_list (call_of (next_by_act u line act))

@@ -27,7 +27,7 @@ use Rattle.script_reader.specs.declared.effect.Nesting.{Nesting}
 use Rattle.script_reader.specs.declared.effect.Nesting.TheVariants as nesting
 use Rattle.script_plain.specs.declared.prims.Operands.{Operands}
 use Rattle.script_plain.specs.Program.{Prim, Unrolled, acts_of, begins, call_steps, can_call, collective_of, in_front, marked, marks_by, marks_in, part_of, parts_of, program_of, setup_of}
-use Rattle.script_plain.proofs.Lengths.CallableLaws.{callable, known}
+use Rattle.script_plain.proofs.ProgramLengths.CallableLaws.{callable, known}
 use Rattle.script_plain.proofs.Walks.MarkLaws.{fewer_prims, program_is}
 use Rattle.script_plain.proofs.Collectives.ReductionPaths.{fold_operands}
 use Rattle.script_plain.proofs.Runs.StepLaws as steps

@@ -1,7 +1,7 @@
 use Rattle.std.proofs.Common.{◌∙◌, ◌==◌, ℕ, ap}
 use Rattle.scc_base.specs.Groups.{root_in}
 use Rattle.scc_base.specs.Setups.{setup_key}
-use Rattle.script_plain.proofs.Code.GroupLaws.{same_group}
+use Rattle.script_plain.proofs.CodeSteps.GroupLaws.{same_group}
 use Rattle.script_plain.proofs.barriers.is_with.Goals as goal
 
 pub returns : goal.returns

@@ -1,5 +1,5 @@
 use Rattle.std.proofs.Common.{◌∙◌, sym}
-use Rattle.script_plain.proofs.Code.GroupLaws.{absent_root, past_sixteen}
+use Rattle.script_plain.proofs.CodeSteps.GroupLaws.{absent_root, past_sixteen}
 use Rattle.script_plain.proofs.barriers.root_of.Goals as goal
 
 -- no rule makes the communicator

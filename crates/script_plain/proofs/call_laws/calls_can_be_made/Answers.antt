@@ -1,4 +1,4 @@
-use Rattle.script_plain.proofs.Lengths.ReadyLemmas.{ready-law}
+use Rattle.script_plain.proofs.ProgramLengths.ReadyLemmas.{ready-law}
 use Rattle.script_plain.proofs.call_laws.calls_can_be_made.Goals as goal
 
 pub returns : goal.returns

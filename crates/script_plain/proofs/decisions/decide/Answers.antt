@@ -3,7 +3,7 @@ use Rattle.std.proofs.lemmas.Option.{slice_get_read}
 use Rattle.scc_base.specs.Setups.{setup_key}
 use Rattle.script_plain.specs.Code.{call_decision, decision}
 use Rattle.script_plain.specs.declared.steps.Step.TheVariants as step
-use Rattle.script_plain.proofs.Code.StandLaws.{decided, decided_going}
+use Rattle.script_plain.proofs.CodeSteps.StandLaws.{decided, decided_going}
 use Rattle.script_plain.proofs.decisions.decide.Goals as goal
 
 pub returns-then-is_going : goal.returns-then-is_going

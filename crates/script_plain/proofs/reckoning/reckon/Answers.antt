@@ -6,7 +6,7 @@ use Rattle.script_plain.specs.Program.{Prim, program_of}
 use Rattle.script_plain.specs.Rooms.{nothing_held, rooms_of}
 use Rattle.script_plain.specs.declared.prims.Primitive.{Primitive}
 use Rattle.script_plain.specs.Walk.{WalkView, prim_meant}
-use Rattle.script_plain.proofs.Lengths.RoomLaws.{held_by, none_found, wider_same, wider_wider, within_before, within_end, within_within}
+use Rattle.script_plain.proofs.ProgramLengths.RoomLaws.{held_by, none_found, wider_same, wider_wider, within_before, within_end, within_within}
 use Rattle.script_plain.proofs.reckoning.reckon.Goals as goal
 
 pub loop-prim-preserved : goal.loop-prim-preserved

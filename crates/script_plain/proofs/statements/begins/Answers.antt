@@ -2,7 +2,7 @@ use Rattle.std.proofs.Common.{◌∙◌, ap, sym}
 use Rattle.groups.specs.Collectives.{steps_of}
 use Rattle.groups.specs.declared.collectives.Coll.{Coll}
 use Rattle.script_plain.specs.Program.{begins}
-use Rattle.script_plain.proofs.Lengths.BegunLaws.{cast_begins}
+use Rattle.script_plain.proofs.ProgramLengths.BegunLaws.{cast_begins}
 use Rattle.script_plain.proofs.statements.begins.Goals as goal
 
 pub returns-in-Bcast : goal.returns-in-Bcast

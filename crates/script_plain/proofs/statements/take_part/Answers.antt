@@ -1,6 +1,6 @@
 use Rattle.std.proofs.Common.{◌∙◌, ap, sym, Some}
 use Rattle.script_plain.specs.Program.{part_of}
-use Rattle.script_plain.proofs.Lengths.BegunLaws.{steps_made}
+use Rattle.script_plain.proofs.ProgramLengths.BegunLaws.{steps_made}
 use Rattle.script_plain.proofs.Walks.WalkLaws.{part_called}
 use Rattle.script_plain.proofs.statements.take_part.Goals as goal
 

@@ -4,7 +4,7 @@ use Rattle.scc_base.specs.Setups.{setup_key}
 use Rattle.script_plain.specs.Code.{HasLength, HasSent, HasTaken, IsAtReceive, IsAtSend}
 use Rattle.script_plain.specs.Local.{Local, local_next}
 use Rattle.script_plain.specs.Moves.{length_in}
-use Rattle.script_plain.proofs.Code.StandLaws.{delivered, delivered_long, receiver_stands, sender_stands, sender_there}
+use Rattle.script_plain.proofs.CodeSteps.StandLaws.{delivered, delivered_long, receiver_stands, sender_stands, sender_there}
 use Rattle.script_plain.proofs.steps.deliver.Goals as goal
 
 pub bounds-ues-from : goal.bounds-ues-from

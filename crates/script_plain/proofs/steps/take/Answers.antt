@@ -5,9 +5,9 @@ use Rattle.script_plain.specs.Code.{HasTaken, IsAtReceive, config}
 use Rattle.script_plain.specs.Local.{Local, local_next}
 use Rattle.script_plain.specs.Moves.{length_in}
 use Rattle.script_plain.specs.declared.posts.Posted.{Posted}
-use Rattle.script_plain.proofs.Code.CodeLaws.{fetched, fetcher_there, fetches, slot_here}
-use Rattle.script_plain.proofs.Code.StandLaws.{fetcher_stands, slot_within}
-use Rattle.script_plain.proofs.Code.UeLaws.{fetched_long}
+use Rattle.script_plain.proofs.CodeSteps.CodeLaws.{fetched, fetcher_there, fetches, slot_here}
+use Rattle.script_plain.proofs.CodeSteps.StandLaws.{fetcher_stands, slot_within}
+use Rattle.script_plain.proofs.CodeSteps.UeLaws.{fetched_long}
 use Rattle.script_plain.proofs.steps.take.Goals as goal
 
 pub bounds-slots-from : goal.bounds-slots-from

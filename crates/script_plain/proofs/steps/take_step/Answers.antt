@@ -6,7 +6,7 @@ use Rattle.script_plain.specs.Local.{Local, local_next}
 use Rattle.script_plain.specs.Next.{is_going}
 use Rattle.script_plain.specs.Next.Next.{Goes}
 use Rattle.script_plain.specs.Step.{step_of}
-use Rattle.script_plain.proofs.Code.StandLaws.{goes_step, going_stands, group_stands, passes_step, refusal_stands, refuses_step}
+use Rattle.script_plain.proofs.CodeSteps.StandLaws.{goes_step, going_stands, group_stands, passes_step, refusal_stands, refuses_step}
 use Rattle.script_plain.proofs.steps.take_step.Goals as goal
 
 pub go-requires : goal.go-requires

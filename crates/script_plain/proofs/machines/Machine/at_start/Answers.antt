@@ -4,7 +4,7 @@ use Rattle.script_plain.specs.Holds.{local_with, rooms_with}
 use Rattle.script_plain.specs.Lengths.{lengths_of}
 use Rattle.script_plain.specs.Rooms.{nothing_held, rooms_of}
 use Rattle.script_plain.specs.declared.prims.Standing.TheVariants as standing
-use Rattle.script_plain.proofs.Lengths.RoomLaws.{held_by, lengths_unset}
+use Rattle.script_plain.proofs.ProgramLengths.RoomLaws.{held_by, lengths_unset}
 use Rattle.script_plain.proofs.machines.Machine.at_start.Goals as goal
 
 pub invariant_of-result : goal.invariant_of-result

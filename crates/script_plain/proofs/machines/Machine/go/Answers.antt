@@ -8,8 +8,8 @@ use Rattle.script_plain.specs.Moves.{went}
 use Rattle.script_plain.specs.Next.{Next, is_going}
 use Rattle.script_plain.specs.Program.{Prim}
 use Rattle.script_plain.specs.Walk.{WalkView, prim_meant}
-use Rattle.script_plain.proofs.Lengths.HoldLaws.{after_went, next_here, none_asked, room_for, worked_local, worked_rooms}
-use Rattle.script_plain.proofs.Lengths.RoomLaws.{after, held_by, prim_here, rooms_next}
+use Rattle.script_plain.proofs.ProgramLengths.HoldLaws.{after_went, next_here, none_asked, room_for, worked_local, worked_rooms}
+use Rattle.script_plain.proofs.ProgramLengths.RoomLaws.{after, held_by, prim_here, rooms_next}
 use Rattle.script_plain.proofs.machines.Machine.go.Goals as goal
 
 pub work-requires : goal.work-requires

@@ -5,7 +5,7 @@ use Rattle.script_plain.specs.Program.{program_of}
 use Rattle.script_plain.specs.Rooms.{nothing_held, rooms_of}
 use Rattle.script_plain.specs.Walk.{WalkView}
 use Rattle.script_plain.specs.declared.prims.Standing.TheVariants as standing
-use Rattle.script_plain.proofs.Lengths.RoomLaws.{held_by, register_count}
+use Rattle.script_plain.proofs.ProgramLengths.RoomLaws.{held_by, register_count}
 use Rattle.script_plain.proofs.machines.Machine.new.Goals as goal
 
 pub at_start-requires : goal.at_start-requires

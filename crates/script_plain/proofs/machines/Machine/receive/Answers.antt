@@ -7,7 +7,7 @@ use Rattle.script_plain.specs.Program.Act.{Recv, Gather}
 use Rattle.script_plain.specs.Rooms.{local_by, rooms_by}
 use Rattle.script_plain.specs.Walk.{WalkView}
 use Rattle.script_plain.specs.declared.prims.Action.TheVariants as action
-use Rattle.script_plain.proofs.Lengths.RoomLaws.{after, asked_here, got_fits, held_by, prim_here, put_fits, rooms_next}
+use Rattle.script_plain.proofs.ProgramLengths.RoomLaws.{after, asked_here, got_fits, held_by, prim_here, put_fits, rooms_next}
 use Rattle.script_plain.proofs.machines.Machine.receive.Goals as goal
 
 pub write-requires : goal.write-requires

@@ -3,7 +3,7 @@ use Rattle.script_plain.specs.Lengths.{lengths_of}
 use Rattle.script_plain.specs.Program.{Prim}
 use Rattle.script_plain.specs.Rooms.{AreWithin, PrintsView, local_by, rooms_by}
 use Rattle.script_plain.specs.Walk.{WalkView}
-use Rattle.script_plain.proofs.Lengths.RoomLaws.{held_by, within_now}
+use Rattle.script_plain.proofs.ProgramLengths.RoomLaws.{held_by, within_now}
 use Rattle.script_plain.proofs.machines.Machine.take_items.Goals as goal
 
 pub invariant_of-self : goal.invariant_of-self

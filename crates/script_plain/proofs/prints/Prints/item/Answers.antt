@@ -1,6 +1,6 @@
 use Rattle.std.proofs.Common.{ℕ, List, ◌∙◌, ap, arith, sym, length, Some, take, drop}
 use Rattle.script_plain.specs.Rooms.{PrintsView}
-use Rattle.script_plain.proofs.Lengths.RoomLaws.{item_there, piece}
+use Rattle.script_plain.proofs.ProgramLengths.RoomLaws.{item_there, piece}
 use Rattle.script_plain.proofs.prints.Prints.item.Goals as goal
 
 pub slice_bounds-rest-count : goal.slice_bounds-rest-count

@@ -4,7 +4,7 @@ use Rattle.script_plain.specs.Lengths.{printed_bytes}
 use Rattle.script_plain.specs.Rooms.{AreCut, PrintsView, cut}
 use Rattle.script_plain.specs.Printed.{Printed}
 use Rattle.script_plain.specs.declared.prints.Entry.{Entry}
-use Rattle.script_plain.proofs.Lengths.RoomLaws.{cut_last, cut_more, cut_push, printed_more}
+use Rattle.script_plain.proofs.ProgramLengths.RoomLaws.{cut_last, cut_more, cut_push, printed_more}
 use Rattle.script_plain.proofs.prints.Prints.print.Goals as goal
 
 pub invariant_of-self : goal.invariant_of-self

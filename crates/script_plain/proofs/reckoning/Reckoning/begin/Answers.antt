@@ -1,6 +1,6 @@
 use Rattle.std.proofs.Common.{◌∙◌, ℕ, ap, arith, refl, sym}
 use Rattle.script_plain.specs.Rooms.{ReckoningView, greater}
-use Rattle.script_plain.proofs.Lengths.RoomLaws.{more_within, wider_by, within_by}
+use Rattle.script_plain.proofs.ProgramLengths.RoomLaws.{more_within, wider_by, within_by}
 use Rattle.script_plain.proofs.reckoning.Reckoning.begin.Goals as goal
 
 pub returns-clause-wider : goal.returns-clause-wider

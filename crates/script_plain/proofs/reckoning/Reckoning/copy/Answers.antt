@@ -1,6 +1,6 @@
 use Rattle.std.proofs.Common.{ap, arith, sym}
 use Rattle.script_plain.specs.Rooms.{ReckoningView}
-use Rattle.script_plain.proofs.Lengths.RoomLaws.{greater_old, wider_by, within_same}
+use Rattle.script_plain.proofs.ProgramLengths.RoomLaws.{greater_old, wider_by, within_same}
 use Rattle.script_plain.proofs.reckoning.Reckoning.copy.Goals as goal
 
 pub returns-clause-wider : goal.returns-clause-wider

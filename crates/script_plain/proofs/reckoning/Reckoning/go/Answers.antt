@@ -1,4 +1,4 @@
-use Rattle.script_plain.proofs.Lengths.RoomLaws.{wider_same}
+use Rattle.script_plain.proofs.ProgramLengths.RoomLaws.{wider_same}
 use Rattle.script_plain.proofs.reckoning.Reckoning.go.Goals as goal
 
 pub returns-clause-wider : goal.returns-clause-wider

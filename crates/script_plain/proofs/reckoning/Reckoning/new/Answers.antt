@@ -1,5 +1,5 @@
 use Rattle.script_plain.specs.Rooms.{nothing_held}
-use Rattle.script_plain.proofs.Lengths.RoomLaws.{within_by, within_same}
+use Rattle.script_plain.proofs.ProgramLengths.RoomLaws.{within_by, within_same}
 use Rattle.script_plain.proofs.reckoning.Reckoning.new.Goals as goal
 
 pub invariant_of-result : goal.invariant_of-result

@@ -1,7 +1,7 @@
 use Rattle.std.proofs.Common.{ap, arith, refl, sym}
 use Rattle.script_plain.specs.Lengths.{length_at, with_register}
 use Rattle.script_plain.specs.Rooms.{ReckoningView, greater}
-use Rattle.script_plain.proofs.Lengths.RoomLaws.{raised_within, raised_wider, wider_by, within_by}
+use Rattle.script_plain.proofs.ProgramLengths.RoomLaws.{raised_within, raised_wider, wider_by, within_by}
 use Rattle.script_plain.proofs.reckoning.Reckoning.set.Goals as goal
 
 pub invariant_of-self : goal.invariant_of-self

@@ -1,7 +1,7 @@
 use Rattle.std.proofs.Common.{◌∙◌, [], ap, List, ℕ, slice_index_or, slice_set}
 use Rattle.script_plain.specs.Local.{folded}
 use Rattle.script_plain.specs.Rooms.{RegistersView}
-use Rattle.script_plain.proofs.Lengths.RoomLaws.{room_fold, room_put}
+use Rattle.script_plain.proofs.ProgramLengths.RoomLaws.{room_fold, room_put}
 use Rattle.script_plain.proofs.rooms.Registers.fold.Goals as goal
 
 pub returns-then-reg-len : goal.returns-then-reg-len

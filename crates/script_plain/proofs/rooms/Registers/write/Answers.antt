@@ -1,6 +1,6 @@
 use Rattle.std.proofs.Common.{◌∙◌, ap, slice_set}
 use Rattle.script_plain.specs.Rooms.{RegistersView}
-use Rattle.script_plain.proofs.Lengths.RoomLaws.{room_put}
+use Rattle.script_plain.proofs.ProgramLengths.RoomLaws.{room_put}
 use Rattle.script_plain.proofs.rooms.Registers.write.Goals as goal
 
 pub returns-then-reg-len : goal.returns-then-reg-len

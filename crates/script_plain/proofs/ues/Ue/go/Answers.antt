@@ -4,8 +4,8 @@ use Rattle.script_plain.specs.Local.{local_next}
 use Rattle.script_plain.specs.Machine.{MachineView}
 use Rattle.script_plain.specs.Next.{is_going}
 use Rattle.script_plain.specs.Next.Next.{Goes}
-use Rattle.script_plain.proofs.Lengths.LengthPaths.{fits_next}
-use Rattle.script_plain.proofs.Code.UeLaws.{fits_went, went_goes}
+use Rattle.script_plain.proofs.ProgramLengths.LengthPaths.{fits_next}
+use Rattle.script_plain.proofs.CodeSteps.UeLaws.{fits_went, went_goes}
 use Rattle.script_plain.proofs.ues.Ue.go.Goals as goal
 
 pub go-requires : goal.go-requires

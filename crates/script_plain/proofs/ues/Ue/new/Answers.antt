@@ -1,7 +1,7 @@
 use Rattle.std.proofs.Common.{arith, subst, sym}
 use Rattle.script_plain.specs.Kept.{Fits, reckoned_at}
 use Rattle.script_plain.specs.Machine.{MachineView}
-use Rattle.script_plain.proofs.Lengths.LengthLaws.{sound_started}
+use Rattle.script_plain.proofs.ProgramLengths.LengthLaws.{sound_started}
 use Rattle.script_plain.proofs.ues.Ue.new.Goals as goal
 
 pub invariant_of-result : goal.invariant_of-result

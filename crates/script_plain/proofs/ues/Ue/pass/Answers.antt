@@ -3,8 +3,8 @@ use Rattle.script_plain.specs.Kept.{Fits, reckoned_at}
 use Rattle.script_plain.specs.Local.{local_next}
 use Rattle.script_plain.specs.Machine.{MachineView}
 use Rattle.script_plain.specs.Next.{is_at_barrier, past_barrier}
-use Rattle.script_plain.proofs.Lengths.LengthPaths.{fits_next}
-use Rattle.script_plain.proofs.Code.UeLaws.{barrier_passable, barrier_past, fits_passed}
+use Rattle.script_plain.proofs.ProgramLengths.LengthPaths.{fits_next}
+use Rattle.script_plain.proofs.CodeSteps.UeLaws.{barrier_passable, barrier_past, fits_passed}
 use Rattle.script_plain.proofs.ues.Ue.pass.Goals as goal
 
 pub pass-requires : goal.pass-requires

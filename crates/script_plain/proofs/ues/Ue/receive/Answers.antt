@@ -5,8 +5,8 @@ use Rattle.script_plain.specs.Local.{Local, local_next}
 use Rattle.script_plain.specs.Machine.{MachineView}
 use Rattle.script_plain.specs.Moves.{length_in}
 use Rattle.script_plain.specs.Next.{Next}
-use Rattle.script_plain.proofs.Lengths.LengthPaths.{fits_next}
-use Rattle.script_plain.proofs.Code.UeLaws.{fits_taken, receiving, taken_as}
+use Rattle.script_plain.proofs.ProgramLengths.LengthPaths.{fits_next}
+use Rattle.script_plain.proofs.CodeSteps.UeLaws.{fits_taken, receiving, taken_as}
 use Rattle.script_plain.proofs.ues.Ue.receive.Goals as goal
 
 pub receive-requires-clause-at_receive : goal.receive-requires-clause-at_receive

@@ -4,8 +4,8 @@ use Rattle.script_plain.specs.Kept.{Fits, reckoned_at}
 use Rattle.script_plain.specs.Local.{Local, local_next}
 use Rattle.script_plain.specs.Machine.{MachineView}
 use Rattle.script_plain.specs.Next.{Next}
-use Rattle.script_plain.proofs.Lengths.LengthPaths.{fits_next}
-use Rattle.script_plain.proofs.Code.UeLaws.{fits_refused, receiving, refused_as}
+use Rattle.script_plain.proofs.ProgramLengths.LengthPaths.{fits_next}
+use Rattle.script_plain.proofs.CodeSteps.UeLaws.{fits_refused, receiving, refused_as}
 use Rattle.script_plain.proofs.ues.Ue.refuse.Goals as goal
 
 pub refuse-requires : goal.refuse-requires

@@ -4,8 +4,8 @@ use Rattle.script_plain.specs.Kept.{Fits, reckoned_at}
 use Rattle.script_plain.specs.Local.{Local, local_next}
 use Rattle.script_plain.specs.Machine.{MachineView}
 use Rattle.script_plain.specs.Next.{Next}
-use Rattle.script_plain.proofs.Lengths.LengthPaths.{fits_next}
-use Rattle.script_plain.proofs.Code.UeLaws.{fits_passed, send_passable, sent_as, sent_long}
+use Rattle.script_plain.proofs.ProgramLengths.LengthPaths.{fits_next}
+use Rattle.script_plain.proofs.CodeSteps.UeLaws.{fits_passed, send_passable, sent_as, sent_long}
 use Rattle.script_plain.proofs.ues.Ue.send.Goals as goal
 
 pub pass-requires : goal.pass-requires

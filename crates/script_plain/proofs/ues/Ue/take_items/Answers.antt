@@ -2,7 +2,7 @@ use Rattle.std.proofs.Common.{◌≡◌, ap, subst, sym}
 use Rattle.script_plain.specs.Kept.{Fits, reckoned_at}
 use Rattle.script_plain.specs.Local.{local_next}
 use Rattle.script_plain.specs.Machine.{MachineView}
-use Rattle.script_plain.proofs.Code.UeLaws.{fits_end}
+use Rattle.script_plain.proofs.CodeSteps.UeLaws.{fits_end}
 use Rattle.script_plain.proofs.ues.Ue.take_items.Goals as goal
 
 pub invariant_of-self : goal.invariant_of-self

@@ -25,10 +25,10 @@ use Rattle.script_plain.specs.Next.{Next, is_at_barrier, past_barrier}
 use Rattle.script_plain.specs.Next.Next.{Ends, Goes, Posts, Sends, Recvs, Bars}
 use Rattle.script_plain.specs.Program.{setup_of}
 use Rattle.script_plain.specs.Step.{Configuration, all_at_barrier, by_rank, next_at, past_if, same_head, slot_at}
-use Rattle.script_plain.proofs.Lengths.LengthLemmas.{IsEven, Reckons, reckoned}
+use Rattle.script_plain.proofs.ProgramLengths.LengthLemmas.{IsEven, Reckons, reckoned}
 use Rattle.script_plain.specs.Kept.{Holds, reckoned_at}
-use Rattle.script_plain.proofs.Lengths.LengthPaths.{AreFitting, IsSound, SoundNext, fitting_before, sound_next, sound_through}
-use Rattle.script_plain.proofs.Lengths.LengthPrograms.{keeps_items}
+use Rattle.script_plain.proofs.ProgramLengths.LengthPaths.{AreFitting, IsSound, SoundNext, fitting_before, sound_next, sound_through}
+use Rattle.script_plain.proofs.ProgramLengths.LengthPrograms.{keeps_items}
 use Rattle.script_plain.proofs.Messages.MessageLaws.{cell_other, cell_there, empty_slot, same_heads}
 use Rattle.script_plain.proofs.OwnWays.OwnWayLaws.{stands, start_cell}
 use Rattle.script_plain.proofs.Runs.RunLaws.{get-by_rank, stands_there}

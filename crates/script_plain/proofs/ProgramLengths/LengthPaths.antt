@@ -18,7 +18,7 @@ use Rattle.script_plain.specs.Next.Next.{Ends, Goes, Posts, Sends, Recvs, Bars}
 use Rattle.script_plain.specs.Program.{Act, Prim}
 use Rattle.script_plain.proofs.Collectives.CollectivePaths.{grows}
 use Rattle.script_plain.proofs.Messages.MessageLaws.{Logs, logs}
-use Rattle.script_plain.proofs.Lengths.RoomLaws.{after, length_same, lengths_next}
+use Rattle.script_plain.proofs.ProgramLengths.RoomLaws.{after, length_same, lengths_next}
 
 -- a register is written
 holds_set : (had : ℕ → Option ℕ) (registers : List (List ℕ)) (reg : ℕ) (bytes : List ℕ) → Holds (had reg) (length bytes) → ((r : ℕ) → Holds (had r) (length (get_or registers r []))) → (r : ℕ) → Holds (had r) (length (get_or (set registers reg bytes) r []))

@@ -17,8 +17,8 @@ use Rattle.script_plain.specs.Local.{Local, asked_head, local_next, next_by_act,
 use Rattle.script_plain.specs.Next.{Next}
 use Rattle.script_plain.specs.Next.Next.{Ends, Goes, Posts, Sends, Recvs, Bars}
 use Rattle.script_plain.specs.Program.{Act, Prim}
-use Rattle.script_plain.proofs.Lengths.AimLemmas.{AreAimed, IsAimedAct}
-use Rattle.script_plain.proofs.Lengths.RoomLaws.{after, length_same, lengths_next}
+use Rattle.script_plain.proofs.ProgramLengths.AimLemmas.{AreAimed, IsAimedAct}
+use Rattle.script_plain.proofs.ProgramLengths.RoomLaws.{after, length_same, lengths_next}
 
 -- a register is written
 short_set : (registers : List (List ℕ)) (reg : ℕ) (bytes : List ℕ) → length bytes ≤ 65536 → ((r : ℕ) → length (get_or registers r []) ≤ 65536) → (r : ℕ) → length (get_or (set registers reg bytes) r []) ≤ 65536

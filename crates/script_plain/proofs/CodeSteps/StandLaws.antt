@@ -16,10 +16,10 @@ use Rattle.script_plain.specs.Moves.{length_in}
 use Rattle.script_plain.specs.Next.{Next, call_of, is_going}
 use Rattle.script_plain.specs.Next.Next.{Ends, Goes, Posts, Sends, Recvs, Bars}
 use Rattle.script_plain.specs.Step.{all_at_barrier, by_rank, next_at, past_if, same_head, slot_at, step_of}
-use Rattle.script_plain.proofs.Code.CodeLaws.{fetches}
+use Rattle.script_plain.proofs.CodeSteps.CodeLaws.{fetches}
 use Rattle.script_plain.proofs.Runs.RunLaws.{there}
 use Rattle.script_plain.proofs.Runs.StepLaws as steps
-use Rattle.script_plain.proofs.Code.UeLaws.{same_long}
+use Rattle.script_plain.proofs.CodeSteps.UeLaws.{same_long}
 
 -- a post of a rank whose slot is empty
 pub record IsPost (ues : List Local) (slots : List (Option Posted)) (i : ℕ) : Type 0 where

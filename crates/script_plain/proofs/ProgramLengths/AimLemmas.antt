@@ -33,7 +33,7 @@ use Rattle.script_reader.specs.declared.effect.Nesting.{Nesting}
 use Rattle.script_reader.specs.declared.effect.Nesting.TheVariants as nesting
 use Rattle.script_plain.specs.declared.prims.Operands.{Operands}
 use Rattle.script_plain.specs.Program.{Act, Prim, Unrolled, acts_of, begins, call_steps, can_call, copies, in_front, nesting_at, part_of, parts_of, prims_of, program_of, repeated, setup_of, unrolled}
-use Rattle.script_plain.proofs.Lengths.LengthLemmas.{at-found}
+use Rattle.script_plain.proofs.ProgramLengths.LengthLemmas.{at-found}
 use Rattle.script_plain.proofs.Runs.StepLaws as steps
 
 -- a rule that is there

@@ -17,7 +17,7 @@ use Rattle.script_reader.specs.Settled.{IsSettled, IsWhole, run_with}
 use Rattle.script_reader.specs.declared.script.Item.{Item}
 use Rattle.script_reader.specs.declared.script.Stmt.{Stmt}
 use Rattle.script_reader.specs.declared.script.Stmt.TheVariants as stmt
-use Rattle.script_plain.proofs.Lengths.LengthLemmas.{at-found}
+use Rattle.script_plain.proofs.ProgramLengths.LengthLemmas.{at-found}
 use Rattle.script_reader.proofs.SettledLemmas.{present-low}
 use Rattle.script_plain.specs.declared.prims.Collective.{Collective}
 use Rattle.script_plain.specs.Program.{can_call, collective_of, setup_of}

@@ -13,12 +13,12 @@ use Rattle.script_plain.specs.Next.Next.{Ends, Goes, Posts, Sends, Recvs, Bars}
 use Rattle.script_plain.specs.Paths.{Came}
 use Rattle.script_plain.specs.Paths.Came.{Began, Went, Leaves, Passed, Took, Joined}
 use Rattle.script_plain.specs.Ready.{IsReady}
-use Rattle.script_plain.proofs.Lengths.AimLemmas.{program_aimed}
+use Rattle.script_plain.proofs.ProgramLengths.AimLemmas.{program_aimed}
 use Rattle.script_plain.specs.Kept.{reckoned_at}
-use Rattle.script_plain.proofs.Lengths.LengthLaws.{sound_started}
+use Rattle.script_plain.proofs.ProgramLengths.LengthLaws.{sound_started}
 use Rattle.script_plain.specs.Kept.{FitsNext}
-use Rattle.script_plain.proofs.Lengths.LengthPaths.{IsSound, SoundNext, fits_next, sound_next}
-use Rattle.script_plain.proofs.Lengths.SaneLemmas.{IsSane, SaneNext, sane_next}
+use Rattle.script_plain.proofs.ProgramLengths.LengthPaths.{IsSound, SoundNext, fits_next, sound_next}
+use Rattle.script_plain.proofs.ProgramLengths.SaneLemmas.{IsSane, SaneNext, sane_next}
 
 -- at the start no register has bytes
 unset : (n reg : ℕ) → length (slice_index_or {A = List ℕ} (replicate n []) reg []) ≤ 65536

@@ -8,7 +8,7 @@ use Rattle.groups.specs.Collectives.{IsCallable, head_of, other_steps, others_of
 use Rattle.groups.specs.declared.collectives.Coll.{Coll}
 use Rattle.groups.specs.declared.collectives.Coll.TheVariants as coll
 use Rattle.script_plain.specs.Program.{begins, call_steps, can_call}
-use Rattle.script_plain.proofs.Lengths.AimLemmas.{called}
+use Rattle.script_plain.proofs.ProgramLengths.AimLemmas.{called}
 
 sends_begin : (head : MessageHead) (others : List ℕ) → begins (send_each head others) ≡ false
 sends_begin head [] = refl

@@ -15,7 +15,7 @@ use Rattle.script_plain.specs.Moves.{bytes_out, is_passable, is_receiving, lengt
 use Rattle.script_plain.specs.Next.{Next, is_at_barrier, is_going, past_barrier}
 use Rattle.script_plain.specs.Next.Next.{Ends, Goes, Posts, Sends, Recvs, Bars}
 use Rattle.script_plain.specs.Step.{same_head, slot_at}
-use Rattle.script_plain.proofs.Code.CodeLaws.{fetches}
+use Rattle.script_plain.proofs.CodeSteps.CodeLaws.{fetches}
 use Rattle.script_plain.proofs.Runs.StepLaws.{both_true}
 
 module _ (had : ℕ → Option ℕ) where

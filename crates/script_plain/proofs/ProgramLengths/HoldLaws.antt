@@ -14,7 +14,7 @@ use Rattle.script_plain.specs.Program.{Prim}
 use Rattle.script_plain.specs.Program.Act.{Set, Apply, Print, Begin, Accept, Finish}
 use Rattle.script_plain.specs.Rooms.{AreWithin}
 use Rattle.script_plain.specs.Walk.{WalkView, act_meant, content_of}
-use Rattle.script_plain.proofs.Lengths.RoomLaws.{after, fits_next, length_index, put_fits}
+use Rattle.script_plain.proofs.ProgramLengths.RoomLaws.{after, fits_next, length_index, put_fits}
 
 module _ (h : Held) (walk : WalkView) (state : Standing) (line : ℕ) where
   -- the rooms have room for the statement that stands next

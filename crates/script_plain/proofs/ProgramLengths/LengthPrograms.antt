@@ -18,7 +18,7 @@ use Rattle.script_reader.specs.Script.{has_rank}
 use Rattle.script_reader.specs.declared.script.Item.{Item}
 use Rattle.script_reader.specs.declared.script.Stmt.{Stmt}
 use Rattle.script_reader.specs.declared.script.Stmt.TheVariants as stmt
-use Rattle.script_plain.proofs.Lengths.LengthLemmas.{Reckons}
+use Rattle.script_plain.proofs.ProgramLengths.LengthLemmas.{Reckons}
 use Rattle.script_reader.specs.declared.effect.Nesting.{Nesting}
 use Rattle.script_reader.specs.declared.effect.Nesting.TheVariants as nesting
 use Rattle.script_plain.specs.declared.prims.Operands.{Operands}
