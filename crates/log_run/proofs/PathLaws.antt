@@ -22,7 +22,7 @@ use Rattle.script_plain.specs.Paths.Came.{Began, Went, Leaves, Passed, Took, Joi
 use Rattle.script_plain.specs.Paths.Did.{Here, Own, Left, Sent, Got, Met}
 use Rattle.script_plain.specs.Ready.{IsReady}
 use Rattle.script_plain.proofs.OwnWays.CallListLaws.{calls_did}
-use Rattle.script_plain.proofs.Lengths.ReadyLemmas.{ready-law}
+use Rattle.script_plain.proofs.ProgramLengths.ReadyLemmas.{ready-law}
 use Rattle.rcce_run.specs.Sweep.{Stood}
 use Rattle.rcce_run.specs.Sweep.Stood.{Running, Stopped}
 use Rattle.log_run.specs.LogRuns.{IsOwnCall}
