@@ -2,7 +2,7 @@
 use Rattle.std.proofs.Common.{◌≡◌, ◌≢◌, ℕ, ◌/◌, ◌%◌, ◌<◌, Bool, List, [], ◌∷◌, ◌++◌, Some, slice_index, refl, sym, ◌∙◌, ap, subst, arith}
 use Rattle.scc_base.specs.Calls.{DataCall, Bar}
 use Rattle.scc_base.specs.Places.{WordAt, line_of_word}
-use Rattle.scc_base.specs.Setups.{SetupView, IsSetup}
+use Rattle.scc_base.specs.Setups.{IsSetup}
 use Rattle.scc_base.specs.declared.events.Spot.TheVariants.{Flag}
 use Rattle.scc_base.specs.declared.events.Turn.TheVariants as turn
 use Rattle.scc_proto.specs.Stages.{Idle, Record}
@@ -32,13 +32,13 @@ pub record Awaiting (s : Sight) (c : Private) (op : BarAt) (values : List Bool) 
   pub below : s.seat.rank < s.seat.setup.nue
   pub waits_for : value ≡ flag_value (value_at values op.comm)
 
-pub awaiting : {s : Sight} {c : Private} {op : BarAt} {values : List Bool} → BarStands s c op values → (value k own : ℕ) (su : SetupView) → op.stage ≡ Await
-    → su ≡ s.seat.setup → IsSetup su → own ≡ s.seat.rank → own < s.seat.setup.nue → k ≡ op.comm → value ≡ flag_value (value_at values k)
+pub awaiting : {s : Sight} {c : Private} {op : BarAt} {values : List Bool} → BarStands s c op values → (value k own : ℕ) → op.stage ≡ Await
+    → IsSetup s.seat.setup → own ≡ s.seat.rank → own < s.seat.setup.nue → k ≡ op.comm → value ≡ flag_value (value_at values k)
     → Awaiting s c op values value
-awaiting {s} {values = values} st value k own su stage a valid b below e v = record {
+awaiting {s} {values = values} st value k own stage valid b below e v = record {
   stands = st;
   stage = stage;
-  valid = subst (λ (x : SetupView). IsSetup x) a valid;
+  valid = valid;
   below = subst (λ (x : ℕ). x < s.seat.setup.nue) b below;
   waits_for = v ∙ ap (λ (x : ℕ). flag_value (value_at values x)) e;
 }

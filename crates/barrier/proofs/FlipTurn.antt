@@ -3,7 +3,7 @@ use Rattle.std.proofs.Common.{◌≡◌, ◌≢◌, ℕ, suc, ◌-◌, ◌*◌, 
 use Rattle.std.specs.List.{list_any}
 use Rattle.scc_base.specs.Calls.{DataCall, Bar}
 use Rattle.scc_base.specs.Places.{WordAt}
-use Rattle.scc_base.specs.Setups.{SetupView, IsSetup, setup_key}
+use Rattle.scc_base.specs.Setups.{IsSetup, setup_key}
 use Rattle.scc_base.specs.Events.{store_of}
 use Rattle.scc_base.specs.declared.events.Turn.TheVariants as turn
 use Rattle.scc_base.proofs.GroupFacts.{place_below}
@@ -61,14 +61,14 @@ pub record Flipping (s : Sight) (c : Private) (op : BarAt) (values later : List 
   pub flips : IsFlipped values later op.comm
   pub writes : value ≡ flag_value (value_at later op.comm)
 
-pub flipping : {s : Sight} {c : Private} {op : BarAt} {values : List Bool} → BarStands s c op values → (later : List Bool) (value k own : ℕ) (su : SetupView) → op.stage ≡ Flip
-    → su ≡ s.seat.setup → IsSetup su → own ≡ s.seat.rank → own < s.seat.setup.nue → k ≡ op.comm
+pub flipping : {s : Sight} {c : Private} {op : BarAt} {values : List Bool} → BarStands s c op values → (later : List Bool) (value k own : ℕ) → op.stage ≡ Flip
+    → IsSetup s.seat.setup → own ≡ s.seat.rank → own < s.seat.setup.nue → k ≡ op.comm
     → value_at later k ≡ not (value_at values k) → ((x : ℕ) → x ≢ k → value_at later x ≡ value_at values x) → value ≡ flag_value (value_at later k)
     → Flipping s c op values later value
-flipping {s} {values = values} st later value k own su stage a valid b below e flipped others v = record {
+flipping {s} {values = values} st later value k own stage valid b below e flipped others v = record {
   stands = st;
   stage = stage;
-  valid = subst (λ (x : SetupView). IsSetup x) a valid;
+  valid = valid;
   below = subst (λ (x : ℕ). x < s.seat.setup.nue) b below;
   flips = subst (λ (x : ℕ). IsFlipped values later x) e (record { flipped = flipped; others = others });
   writes = v ∙ ap (λ (x : ℕ). flag_value (value_at later x)) e;

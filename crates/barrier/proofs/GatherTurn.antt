@@ -1,7 +1,7 @@
 -- The root looks at the gather flag of its next member.
 use Rattle.std.proofs.Common.{◌≡◌, ◌≢◌, ℕ, ◌+◌, ◌/◌, ◌%◌, ◌<◌, Bool, List, Some, slice_index, refl, sym, ◌∙◌, ap, subst, arith}
 use Rattle.scc_base.specs.Places.{WordAt, line_of_word}
-use Rattle.scc_base.specs.Setups.{SetupView, IsSetup, IsMemberAt}
+use Rattle.scc_base.specs.Setups.{IsSetup, IsMemberAt}
 use Rattle.scc_base.specs.declared.events.Spot.TheVariants.{Flag}
 use Rattle.scc_base.specs.declared.events.Turn.TheVariants as turn
 use Rattle.scc_proto.specs.Stages.{Barrier, Record}
@@ -32,14 +32,14 @@ pub record Looking (s : Sight) (c : Private) (op : BarAt) (values : List Bool) (
   pub member : IsMemberAt s.seat.setup op.comm s.seat.rank (seen + 1) m
   pub waits_for : value ≡ flag_value (value_at values op.comm)
 
-pub looking : {s : Sight} {c : Private} {op : BarAt} {values : List Bool} → BarStands s c op values → (seen m value k own : ℕ) (su : SetupView) → op.stage ≡ Gather seen
-    → su ≡ s.seat.setup → IsSetup su → own ≡ s.seat.rank → own < s.seat.setup.nue → k ≡ op.comm
+pub looking : {s : Sight} {c : Private} {op : BarAt} {values : List Bool} → BarStands s c op values → (seen m value k own : ℕ) → op.stage ≡ Gather seen
+    → IsSetup s.seat.setup → own ≡ s.seat.rank → own < s.seat.setup.nue → k ≡ op.comm
     → m ≡ member_at s.seat.setup k s.seat.rank (seen + 1) → IsMemberAt s.seat.setup k s.seat.rank (seen + 1) m → value ≡ flag_value (value_at values k)
     → Looking s c op values seen m value
-looking {s} {values = values} st seen m value k own su stage a valid b below e is member v = record {
+looking {s} {values = values} st seen m value k own stage valid b below e is member v = record {
   stands = st;
   stage = stage;
-  valid = subst (λ (x : SetupView). IsSetup x) a valid;
+  valid = valid;
   below = subst (λ (x : ℕ). x < s.seat.setup.nue) b below;
   is = is ∙ ap (λ (x : ℕ). member_at s.seat.setup x s.seat.rank (seen + 1)) e;
   member = subst (λ (x : ℕ). IsMemberAt s.seat.setup x s.seat.rank (seen + 1) m) e member;

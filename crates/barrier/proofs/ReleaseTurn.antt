@@ -3,7 +3,7 @@ use Rattle.std.proofs.Common.{◌≡◌, ◌≢◌, ℕ, suc, ◌+◌, ◌-◌, 
 use Rattle.std.specs.List.{list_any}
 use Rattle.scc_base.specs.Calls.{DataCall, Bar}
 use Rattle.scc_base.specs.Places.{WordAt}
-use Rattle.scc_base.specs.Setups.{SetupView, IsSetup, IsMemberAt, place_of}
+use Rattle.scc_base.specs.Setups.{IsSetup, IsMemberAt, place_of}
 use Rattle.scc_base.specs.Events.{store_of}
 use Rattle.scc_base.specs.declared.events.Turn.TheVariants as turn
 use Rattle.scc_proto.specs.Stages.{Stage, Idle, Barrier, Record}
@@ -37,14 +37,14 @@ pub record Releasing (s : Sight) (c : Private) (op : BarAt) (values : List Bool)
   pub member : IsMemberAt s.seat.setup op.comm s.seat.rank (released + 1) m
   pub waits_for : value ≡ flag_value (value_at values op.comm)
 
-pub releasing : {s : Sight} {c : Private} {op : BarAt} {values : List Bool} → BarStands s c op values → (released m value k : ℕ) (su : SetupView) → op.stage ≡ Release released
-    → su ≡ s.seat.setup → IsSetup su → k ≡ op.comm
+pub releasing : {s : Sight} {c : Private} {op : BarAt} {values : List Bool} → BarStands s c op values → (released m value k : ℕ) → op.stage ≡ Release released
+    → IsSetup s.seat.setup → k ≡ op.comm
     → m ≡ member_at s.seat.setup k s.seat.rank (released + 1) → IsMemberAt s.seat.setup k s.seat.rank (released + 1) m → value ≡ flag_value (value_at values k)
     → Releasing s c op values released m value
-releasing {s} {values = values} st released m value k su stage a valid e is member v = record {
+releasing {s} {values = values} st released m value k stage valid e is member v = record {
   stands = st;
   stage = stage;
-  valid = subst (λ (x : SetupView). IsSetup x) a valid;
+  valid = valid;
   is = is ∙ ap (λ (x : ℕ). member_at s.seat.setup x s.seat.rank (released + 1)) e;
   member = subst (λ (x : ℕ). IsMemberAt s.seat.setup x s.seat.rank (released + 1) m) e member;
   waits_for = v ∙ ap (λ (x : ℕ). flag_value (value_at values x)) e;

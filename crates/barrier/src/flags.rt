@@ -1,13 +1,20 @@
 //! The flags of a barrier: where they lie.
 
 ghost use Rattle.std.specs.Prelude.{◌≡◌, ◌≢◌, ◌<◌};
-ghost use Rattle.scc_base.specs.Setups.{IsMemberAt, size_of};
+ghost use Rattle.scc_base.specs.Setups.{IsMemberAt, IsSetup, size_of};
 ghost use Rattle.scc_base.specs.Communicators.{rule_of};
 ghost use Rattle.scc_base.specs.declared.communicators.CommRule.TheVariants.{Absent};
 ghost use Rattle.barrier.specs.Flags.{gather_word, release_word, member_at};
 
 use scc_base::{Place, Rank};
 use scc_proto::Port;
+
+/// Does nothing. It tells a proof that the port's setup is one that a run may have.
+pub(crate) fn known<P: Port>(port: &P)
+    ensures valid { IsSetup (P.sight port.now).seat.setup }
+{
+    let _ = port.setup().nue();
+}
 
 /// The gather flag at a rank.
 pub(crate) fn gather_flag<P: Port>(port: &P, comm: u8, r: Rank) -> Place

@@ -1,6 +1,6 @@
 //! One barrier, one turn at a time.
 
-use crate::flags::{gather_flag, member, release_flag};
+use crate::flags::{gather_flag, known, member, release_flag};
 use crate::parities::Parity;
 use crate::stages::{BarStage, stage_after_flip, stage_after_release, stage_after_seen};
 use line_cache::Evict;
@@ -73,7 +73,7 @@ impl BarOp {
         let flag = gather_flag(port, self.comm, own);
         parity.flip(self.comm);
         let value = parity.value(self.comm);
-        let _ = port.setup().nue();
+        known(port);
         store_word(core, port, flag, value);
         self.stage = stage_after_flip(size, place);
         if size == 1 {
@@ -101,7 +101,7 @@ impl BarOp {
         let next = member(port, self.comm, seen + 1);
         let flag = gather_flag(port, self.comm, next);
         let value = parity.value(self.comm);
-        let _ = port.setup().nue();
+        known(port);
         if look_word(core, port, flag) != value {
             return Turn::Waiting(Spot::Flag {
                 place: flag,
@@ -131,7 +131,7 @@ impl BarOp {
         let next = member(port, self.comm, released + 1);
         let flag = release_flag(port, self.comm, next);
         let value = parity.value(self.comm);
-        let _ = port.setup().nue();
+        known(port);
         store_word(core, port, flag, value);
         self.stage = stage_after_release(size, released);
         if size - released == 2 {
@@ -156,7 +156,7 @@ impl BarOp {
         let own = port.rank();
         let flag = release_flag(port, self.comm, own);
         let value = parity.value(self.comm);
-        let _ = port.setup().nue();
+        known(port);
         if look_word(core, port, flag) != value {
             return Turn::Waiting(Spot::Flag {
                 place: flag,

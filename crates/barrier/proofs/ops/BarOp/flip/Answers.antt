@@ -8,7 +8,7 @@ use Rattle.barrier.proofs.ops.BarOp.flip.Goals as goal
 pub store_word-requires-clause-permitted : goal.store_word-requires-clause-permitted
 store_word-requires-clause-permitted g c =
     let k = ap (λ (x : BarAt). x.comm) c.self.view_is in
-    let l = flipping c.requires.stands c.flip.new.self _ c.self.inside.comm _ _ c.requires.stage c.setup-3.ensures.gives c.nue.ensures.valid c.rank-own.ensures.gives c.rank-own.ensures.below
+    let l = flipping c.requires.stands c.flip.new.self _ c.self.inside.comm _ c.requires.stage c.known.ensures.valid c.rank-own.ensures.gives c.rank-own.ensures.below
     k c.flip.ensures.flipped c.flip.ensures.others c.value-value.ensures.gives in
     let at = c.gather_flag-flag.ensures.gives ∙ (λ i. gather_word (g.P.Port.sight c.args.port.now).seat (k i) (c.rank-own.ensures.gives i)) in
     flip_may l _ at
@@ -16,7 +16,7 @@ store_word-requires-clause-permitted g c =
 pub returns-then-size-eq1-clause-stands : goal.returns-then-size-eq1-clause-stands
 returns-then-size-eq1-clause-stands g c =
     let k = ap (λ (x : BarAt). x.comm) c.self.view_is in
-    let l = flipping c.requires.stands c.flip.new.self _ c.self.inside.comm _ _ c.requires.stage c.setup-3.ensures.gives c.nue.ensures.valid c.rank-own.ensures.gives c.rank-own.ensures.below
+    let l = flipping c.requires.stands c.flip.new.self _ c.self.inside.comm _ c.requires.stage c.known.ensures.valid c.rank-own.ensures.gives c.rank-own.ensures.below
     k c.flip.ensures.flipped c.flip.ensures.others c.value-value.ensures.gives in
     let at = c.gather_flag-flag.ensures.gives ∙ (λ i. gather_word (g.P.Port.sight c.args.port.now).seat (k i) (c.rank-own.ensures.gives i)) in
     let size = size_here (g.P.Port.sight c.args.port.now) c.args.self.now _ c.self.inside.comm _ _ c.setup.ensures.gives k c.rank-own.ensures.gives c.group_size-size.ensures.gives in
@@ -27,7 +27,7 @@ returns-then-size-eq1-clause-stands g c =
 pub returns-then-size-eq1-clause-turned : goal.returns-then-size-eq1-clause-turned
 returns-then-size-eq1-clause-turned g c =
     let k = ap (λ (x : BarAt). x.comm) c.self.view_is in
-    let l = flipping c.requires.stands c.flip.new.self _ c.self.inside.comm _ _ c.requires.stage c.setup-3.ensures.gives c.nue.ensures.valid c.rank-own.ensures.gives c.rank-own.ensures.below
+    let l = flipping c.requires.stands c.flip.new.self _ c.self.inside.comm _ c.requires.stage c.known.ensures.valid c.rank-own.ensures.gives c.rank-own.ensures.below
     k c.flip.ensures.flipped c.flip.ensures.others c.value-value.ensures.gives in
     let at = c.gather_flag-flag.ensures.gives ∙ (λ i. gather_word (g.P.Port.sight c.args.port.now).seat (k i) (c.rank-own.ensures.gives i)) in
     let size = size_here (g.P.Port.sight c.args.port.now) c.args.self.now _ c.self.inside.comm _ _ c.setup.ensures.gives k c.rank-own.ensures.gives c.group_size-size.ensures.gives in
@@ -38,7 +38,7 @@ returns-then-size-eq1-clause-turned g c =
 pub returns-clause-stands : goal.returns-clause-stands
 returns-clause-stands g c =
     let k = ap (λ (x : BarAt). x.comm) c.self.view_is in
-    let l = flipping c.requires.stands c.flip.new.self _ c.self.inside.comm _ _ c.requires.stage c.setup-3.ensures.gives c.nue.ensures.valid c.rank-own.ensures.gives c.rank-own.ensures.below
+    let l = flipping c.requires.stands c.flip.new.self _ c.self.inside.comm _ c.requires.stage c.known.ensures.valid c.rank-own.ensures.gives c.rank-own.ensures.below
     k c.flip.ensures.flipped c.flip.ensures.others c.value-value.ensures.gives in
     let at = c.gather_flag-flag.ensures.gives ∙ (λ i. gather_word (g.P.Port.sight c.args.port.now).seat (k i) (c.rank-own.ensures.gives i)) in
     let size = size_here (g.P.Port.sight c.args.port.now) c.args.self.now _ c.self.inside.comm _ _ c.setup.ensures.gives k c.rank-own.ensures.gives c.group_size-size.ensures.gives in
@@ -49,7 +49,7 @@ returns-clause-stands g c =
 pub returns-clause-turned : goal.returns-clause-turned
 returns-clause-turned g c =
     let k = ap (λ (x : BarAt). x.comm) c.self.view_is in
-    let l = flipping c.requires.stands c.flip.new.self _ c.self.inside.comm _ _ c.requires.stage c.setup-3.ensures.gives c.nue.ensures.valid c.rank-own.ensures.gives c.rank-own.ensures.below
+    let l = flipping c.requires.stands c.flip.new.self _ c.self.inside.comm _ c.requires.stage c.known.ensures.valid c.rank-own.ensures.gives c.rank-own.ensures.below
     k c.flip.ensures.flipped c.flip.ensures.others c.value-value.ensures.gives in
     let at = c.gather_flag-flag.ensures.gives ∙ (λ i. gather_word (g.P.Port.sight c.args.port.now).seat (k i) (c.rank-own.ensures.gives i)) in
     let size = size_here (g.P.Port.sight c.args.port.now) c.args.self.now _ c.self.inside.comm _ _ c.setup.ensures.gives k c.rank-own.ensures.gives c.group_size-size.ensures.gives in

@@ -7,14 +7,14 @@ use Rattle.barrier.proofs.ops.BarOp.release.Goals as goal
 pub store_word-requires-clause-permitted : goal.store_word-requires-clause-permitted
 store_word-requires-clause-permitted g c =
     let k = ap (λ (x : BarAt). x.comm) c.self.view_is in
-    let l = releasing c.requires.stands c.args.released _ _ c.self.inside.comm _ c.requires.stage c.setup-2.ensures.gives c.nue.ensures.valid
+    let l = releasing c.requires.stands c.args.released _ _ c.self.inside.comm c.requires.stage c.known.ensures.valid
     k c.member-next.ensures.gives c.member-next.ensures.placed c.value-value.ensures.gives in
     release_may l c.self.inside.comm k _ c.release_flag-flag.ensures.gives
 
 pub returns-then-size-released-eq2-clause-stands : goal.returns-then-size-released-eq2-clause-stands
 returns-then-size-released-eq2-clause-stands g c =
     let k = ap (λ (x : BarAt). x.comm) c.self.view_is in
-    let l = releasing c.requires.stands c.args.released _ _ c.self.inside.comm _ c.requires.stage c.setup-2.ensures.gives c.nue.ensures.valid
+    let l = releasing c.requires.stands c.args.released _ _ c.self.inside.comm c.requires.stage c.known.ensures.valid
     k c.member-next.ensures.gives c.member-next.ensures.placed c.value-value.ensures.gives in
     let size = size_here (g.P.Port.sight c.args.port.now) c.args.self.now _ c.self.inside.comm _ _ c.setup.ensures.gives k c.rank-own.ensures.gives c.group_size-size.ensures.gives in
     let test = c.if-size-released-eq2.true in
@@ -24,7 +24,7 @@ returns-then-size-released-eq2-clause-stands g c =
 pub returns-then-size-released-eq2-clause-turned : goal.returns-then-size-released-eq2-clause-turned
 returns-then-size-released-eq2-clause-turned g c =
     let k = ap (λ (x : BarAt). x.comm) c.self.view_is in
-    let l = releasing c.requires.stands c.args.released _ _ c.self.inside.comm _ c.requires.stage c.setup-2.ensures.gives c.nue.ensures.valid
+    let l = releasing c.requires.stands c.args.released _ _ c.self.inside.comm c.requires.stage c.known.ensures.valid
     k c.member-next.ensures.gives c.member-next.ensures.placed c.value-value.ensures.gives in
     let size = size_here (g.P.Port.sight c.args.port.now) c.args.self.now _ c.self.inside.comm _ _ c.setup.ensures.gives k c.rank-own.ensures.gives c.group_size-size.ensures.gives in
     let test = c.if-size-released-eq2.true in
@@ -34,7 +34,7 @@ returns-then-size-released-eq2-clause-turned g c =
 pub returns-clause-stands : goal.returns-clause-stands
 returns-clause-stands g c =
     let k = ap (λ (x : BarAt). x.comm) c.self.view_is in
-    let l = releasing c.requires.stands c.args.released _ _ c.self.inside.comm _ c.requires.stage c.setup-2.ensures.gives c.nue.ensures.valid
+    let l = releasing c.requires.stands c.args.released _ _ c.self.inside.comm c.requires.stage c.known.ensures.valid
     k c.member-next.ensures.gives c.member-next.ensures.placed c.value-value.ensures.gives in
     let size = size_here (g.P.Port.sight c.args.port.now) c.args.self.now _ c.self.inside.comm _ _ c.setup.ensures.gives k c.rank-own.ensures.gives c.group_size-size.ensures.gives in
     let more : c.args.released + 2 ≢ c.group_size-size.result = λ q. c.if-size-released-eq2.false (omega (arith, q)) in
@@ -43,7 +43,7 @@ returns-clause-stands g c =
 pub returns-clause-turned : goal.returns-clause-turned
 returns-clause-turned g c =
     let k = ap (λ (x : BarAt). x.comm) c.self.view_is in
-    let l = releasing c.requires.stands c.args.released _ _ c.self.inside.comm _ c.requires.stage c.setup-2.ensures.gives c.nue.ensures.valid
+    let l = releasing c.requires.stands c.args.released _ _ c.self.inside.comm c.requires.stage c.known.ensures.valid
     k c.member-next.ensures.gives c.member-next.ensures.placed c.value-value.ensures.gives in
     let size = size_here (g.P.Port.sight c.args.port.now) c.args.self.now _ c.self.inside.comm _ _ c.setup.ensures.gives k c.rank-own.ensures.gives c.group_size-size.ensures.gives in
     let more : c.args.released + 2 ≢ c.group_size-size.result = λ q. c.if-size-released-eq2.false (omega (arith, q)) in
