@@ -85,10 +85,7 @@ returns-clause-kept g c = λ script fresh k d low planned.
     subst (λ (n : ℕ). 0 < n) (sym stands.goes.count) (fresh_some script c.args.chip.now c.args.crew.now c.setup.result.now fresh c.setup.ensures.gives c.nue.ensures.valid.some_ranks) in
     let first = some_worker crew some in
     let rests = subst (λ (n : ℕ). AllRest ue_loggers c.run_by_sweeps-end.new.chip c.run_by_sweeps-end.new.crew n) stands.is_crew.each c.run_by_sweeps-end.ensures.rests in
-    kept_at script chip crew memory agrees stands.is_crew all some d
-    (λ rank. c.calls_are_known_before.ensures.law script rank) (λ rank less. c.calls_can_be_made.ensures.law script fresh.read rank less)
-    (ranks_are script chip crew memory agrees stands.is_crew all some d)
-    c.kept_law.ensures.law c.room_law.ensures.law k low planned
+    kept_at script chip crew memory agrees stands.is_crew all some d fresh.read (ranks_are script chip crew memory agrees stands.is_crew all some d) k low planned
 
 pub returns-clause-long : goal.returns-clause-long
 returns-clause-long g c = λ script fresh k low.
@@ -101,8 +98,7 @@ returns-clause-long g c = λ script fresh k low.
     subst (λ (n : ℕ). 0 < n) (sym stands.goes.count) (fresh_some script c.args.chip.now c.args.crew.now c.setup.result.now fresh c.setup.ensures.gives c.nue.ensures.valid.some_ranks) in
     let first = some_worker crew some in
     let rests = subst (λ (n : ℕ). AllRest ue_loggers c.run_by_sweeps-end.new.chip c.run_by_sweeps-end.new.crew n) stands.is_crew.each c.run_by_sweeps-end.ensures.rests in
-    (first_at script chip crew memory agrees stands.is_crew all some first
-    (λ rank. c.calls_are_known_before.ensures.law script rank) (λ rank less. c.calls_can_be_made.ensures.law script fresh.read rank less)
+    (first_at script chip crew memory agrees stands.is_crew all some first fresh.read
     (ranks_are script chip crew memory agrees stands.is_crew all some first) k low).long
 
 pub returns-clause-own : goal.returns-clause-own
@@ -116,8 +112,7 @@ returns-clause-own g c = λ script fresh k low.
     subst (λ (n : ℕ). 0 < n) (sym stands.goes.count) (fresh_some script c.args.chip.now c.args.crew.now c.setup.result.now fresh c.setup.ensures.gives c.nue.ensures.valid.some_ranks) in
     let first = some_worker crew some in
     let rests = subst (λ (n : ℕ). AllRest ue_loggers c.run_by_sweeps-end.new.chip c.run_by_sweeps-end.new.crew n) stands.is_crew.each c.run_by_sweeps-end.ensures.rests in
-    (first_at script chip crew memory agrees stands.is_crew all some first
-    (λ rank. c.calls_are_known_before.ensures.law script rank) (λ rank less. c.calls_can_be_made.ensures.law script fresh.read rank less)
+    (first_at script chip crew memory agrees stands.is_crew all some first fresh.read
     (ranks_are script chip crew memory agrees stands.is_crew all some first) k low).own
 
 pub returns-clause-room : goal.returns-clause-room
@@ -131,7 +126,4 @@ returns-clause-room g c = λ script fresh k low planned.
     subst (λ (n : ℕ). 0 < n) (sym stands.goes.count) (fresh_some script c.args.chip.now c.args.crew.now c.setup.result.now fresh c.setup.ensures.gives c.nue.ensures.valid.some_ranks) in
     let first = some_worker crew some in
     let rests = subst (λ (n : ℕ). AllRest ue_loggers c.run_by_sweeps-end.new.chip c.run_by_sweeps-end.new.crew n) stands.is_crew.each c.run_by_sweeps-end.ensures.rests in
-    room_at script chip crew memory agrees stands.is_crew all some first
-    (λ rank. c.calls_are_known_before.ensures.law script rank) (λ rank less. c.calls_can_be_made.ensures.law script fresh.read rank less)
-    (ranks_are script chip crew memory agrees stands.is_crew all some first)
-    c.room_law.ensures.law k low planned
+    room_at script chip crew memory agrees stands.is_crew all some first fresh.read (ranks_are script chip crew memory agrees stands.is_crew all some first) k low planned
