@@ -1,15 +1,12 @@
-use Rattle.std.proofs.Common.{◌+◌, ◌≤◌, get_or, arith}
+use Rattle.std.proofs.Common.{arith}
 use Rattle.mesh_load.specs.Mesh.{link_at}
-use Rattle.mesh_load.specs.Tables.{in_row, total}
+use Rattle.mesh_load.specs.Tables.{in_row}
 use Rattle.mesh_load.proofs.TableLaws.{left_out, sum_within, taken_in}
 use Rattle.mesh_load.proofs.tables.along_rows.Goals as goal
 use Rattle.mesh_load.proofs.tables.along_rows.Goals.{then-is_in_row, else-is_in_row}
 
 pub overflow_add-sum : goal.overflow_add-sum
-overflow_add-sum c =
-    let here : c.loop-cell.sum + get_or c.args.rows.now c.loop-cell.cell 0 ≤ total c.args.rows.now =
-    sum_within (in_row (link_at c.args.x c.args.y c.args.dir)) c.args.rows.now c.loop-cell.cell c.loop-cell.sum c.loop-cell.invariant in
-    omega (arith, here, c.requires.few)
+overflow_add-sum c = omega (arith, sum_within (in_row (link_at c.args.x c.args.y c.args.dir)) c.args.rows.now c.loop-cell.cell c.loop-cell.sum c.loop-cell.invariant, c.requires.few)
 
 pub loop-cell-preserved : goal.loop-cell-preserved
 loop-cell-preserved c =
@@ -21,7 +18,4 @@ loop-cell-preserved c =
     ]
 
 pub returns-clause-few : goal.returns-clause-few
-returns-clause-few c =
-    let here : c.loop-cell.sum + get_or c.args.rows.now c.loop-cell.cell 0 ≤ total c.args.rows.now =
-    sum_within (in_row (link_at c.args.x c.args.y c.args.dir)) c.args.rows.now c.loop-cell.cell c.loop-cell.sum c.loop-cell.invariant in
-    omega (arith, here, c.requires.few)
+returns-clause-few c = omega (arith, sum_within (in_row (link_at c.args.x c.args.y c.args.dir)) c.args.rows.now c.loop-cell.cell c.loop-cell.sum c.loop-cell.invariant, c.requires.few)
