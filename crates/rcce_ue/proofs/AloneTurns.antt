@@ -11,7 +11,7 @@ use Rattle.scc_base.specs.Setups.{host_of}
 use Rattle.scc_proto.specs.Ports.{Sight, record_in}
 use Rattle.scc_proto.proofs.PortLaws.{did_nothing, seat_kept}
 use Rattle.put_get.specs.Cores.{Private}
-use Rattle.sync_flags.specs.Tries.{Aim, NoTry, Vain, Fruitful, Tried}
+use Rattle.sync_flags.specs.Tries.{Aim, NoTry, Tried}
 use Rattle.send_recv.specs.Ops.{SlotAt, slot_left, slot_left_by}
 use Rattle.send_recv.specs.Sending.{IsSameOrEmpty, SlotDoes, SlotStands, SlotTurned, slot_spot_by}
 use Rattle.send_recv.specs.Steps.{moves_on}
@@ -30,7 +30,7 @@ use Rattle.rcce_ue.specs.Turns.{AloneDoes, Behind, IsStill, Turns, Within, slot_
 use Rattle.rcce_ue.specs.Ues.{UeView, entered}
 use Rattle.rcce_ue.specs.declared.calls.Open.TheVariants.{Nothing}
 use Rattle.rcce_ue.proofs.EnterLemmas.{entered_left, entered_tied, holds_none}
-use Rattle.rcce_ue.proofs.KeepLemmas.{begun_at, behind_by, kept_tied, not_over, parity_kept, turned_by, unless_below, unless_falls, unless_one}
+use Rattle.rcce_ue.proofs.KeepLemmas.{begun_at, behind_by, kept_tied, no_try, not_over, parity_kept, turned_by, unless_below, unless_falls, unless_one}
 use Rattle.rcce_ue.proofs.MeasureLemmas.{falls}
 use Rattle.rcce_ue.proofs.PathLemmas.{goes_on, stood_went}
 use Rattle.rcce_ue.proofs.RecvTurns.{none_stored}
@@ -65,11 +65,6 @@ no_spot LineFlags own true = refl
 no_spot LineFlags own false = refl
 no_spot BitFlags own true = refl
 no_spot BitFlags own false = refl
-
-no_try : (events : List Event) (spot : Spot) → Tried None events (Some spot) → ⊥
-no_try events spot (NoTry none waits) = absurd (cc)
-no_try events spot (Vain at is one vain waits) = absurd (cc)
-no_try events spot (Fruitful at is one vain waits) = absurd (cc)
 
 slot_tries : (layout : Layout) (own : ℕ) (to : Option ℕ) (seen : Bool) (events : List Event) (spot : Spot) → Tried (aim_at layout (slot_spot_by layout own to seen)) events (Some spot) → is_none to ≡ false
 slot_tries layout own None seen events spot tried = absurd (no_try events spot (subst (λ (o : Option Spot). Tried (aim_at layout o) events (Some spot)) (no_spot layout own seen) tried))

@@ -45,7 +45,7 @@ use Rattle.rcce_ue.specs.Ues.{UeView, entered}
 use Rattle.rcce_ue.specs.declared.calls.Open.TheVariants.{Meeting}
 use Rattle.rcce_ue.proofs.CountLemmas.{bytes_same, sends_same}
 use Rattle.rcce_ue.proofs.EnterLemmas.{entered_left, entered_tied, holds_none}
-use Rattle.rcce_ue.proofs.KeepLemmas.{begun_at, behind_by, hands_kept, is_calling, kept_tied, moved_within, not_at_end, not_ended, not_going, not_over, turned_by, unless_below, unless_one}
+use Rattle.rcce_ue.proofs.KeepLemmas.{begun_at, behind_by, hands_kept, is_calling, kept_tied, moved_within, not_at_end, not_ended, not_going, no_try, not_over, turned_by, unless_below, unless_one}
 use Rattle.rcce_ue.proofs.MeasureLemmas.{falls}
 use Rattle.rcce_ue.proofs.PathLemmas.{goes_on, stood_met}
 
@@ -81,11 +81,6 @@ held_by seat comm stage.Finished value s t c d events on did does = absurd (cc)
 -- a turn that waits has looked
 looked_rests : (s t : Sight) (c d : Private) (events : List Event) (place : WordAt) (found : ℕ) → Did s events t → LooksAt s c place found t d → list_all is_resting events ≡ true
 looked_rests s t c d events place found did looks = ap (list_all is_resting) (same_events s t events (loads_of (line_of_word place) looks.words) did looks.looks.did)
-
-no_try : (events : List Event) (spot : Spot) → Tried None events (Some spot) → ⊥
-no_try events spot (NoTry none waits) = absurd (cc)
-no_try events spot (Vain at is one vain waits) = absurd (cc)
-no_try events spot (Fruitful at is one vain waits) = absurd (cc)
 
 rests_by : (seat : Seat) (comm : ℕ) (at : BarStage) (value : ℕ) (s t : Sight) (c d : Private) (events : List Event) (spot : Spot) → Did s events t → Does seat comm at value s c t d
     → Tried (aim_at seat comm at value) events (Some spot) → list_all is_resting events ≡ true

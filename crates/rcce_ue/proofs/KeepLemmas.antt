@@ -1,5 +1,5 @@
 -- What turns have in common: a UE that is in the midst of a call stays there, or comes to what stands next.
-use Rattle.std.proofs.Common.{◌≡◌, ℕ, ◌+◌, ◌<◌, ◌%◌, ◌&&◌, ◌||◌, Bool, true, false, List, length, Option, None, refl, sym, ap, subst, ◌∙◌, inl, inr, sum_by, arith}
+use Rattle.std.proofs.Common.{◌≡◌, ℕ, ◌+◌, ◌<◌, ◌%◌, ◌&&◌, ◌||◌, Bool, true, false, List, length, Option, Some, None, refl, sym, ap, subst, ◌∙◌, inl, inr, sum_by, arith}
 use Rattle.std.specs.List.{count_by, list_all}
 use Rattle.std.proofs.lemmas.Bool.{true≢false}
 use Rattle.scc_base.specs.Calls.{DataCall}
@@ -16,7 +16,7 @@ use Rattle.send_recv.specs.Sending.{IsSameOrEmpty, SlotStands}
 use Rattle.send_recv.specs.Steps.{moves_on}
 use Rattle.send_recv.specs.Tries.{aim_at}
 use Rattle.send_recv.specs.Turns.{LastHeld, OnlyTries, StoresFromBuffer, waits_at}
-use Rattle.sync_flags.specs.Tries.{Tried}
+use Rattle.sync_flags.specs.Tries.{NoTry, Vain, Fruitful, Tried}
 use Rattle.barrier.specs.Flags.{IsParityOf}
 use Rattle.script_plain.specs.Collectives.{started}
 use Rattle.script_plain.specs.Local.{Local, local_next}
@@ -52,6 +52,12 @@ not_ended _ calls = refl
 pub not_going : (n : Next Local) → is_calling n ≡ true → is_going n ≡ false
 not_going (Goes after) calls = absurd (cc)
 not_going _ calls = refl
+
+-- a turn that tries for nothing waits nowhere
+pub no_try : (events : List Event) (spot : Spot) → Tried None events (Some spot) → ⊥
+no_try events spot (NoTry none waits) = absurd (cc)
+no_try events spot (Vain at is one vain waits) = absurd (cc)
+no_try events spot (Fruitful at is one vain waits) = absurd (cc)
 
 -- a turn of a UE, by what the turn of its call was
 pub turned_by : (ue : UeView) (s : Sight) (now : UeView) (t : Sight) (answer : Turn) (events : List Event) → Did s events t → UeDoes ue s now.parity ue.op (moves_on answer) t now.core
