@@ -100,43 +100,37 @@ module _ (seat : Seat) (rec : Record) (valid : IsSetup seat.setup) (comm r : ℕ
   release_of c value low other false e = idle_loaded seat rec (release_word seat c r) value
       (role_release_any seat.setup valid c r low lt ∙ if_no (is_present seat.setup c) (ReleaseFlag c r) IdleWord e)
 
-  -- the other words of the line of a gather flag
-  pub gather_line : (w value : ℕ) → w < 4 → w ≢ comm / 8 → Makes seat rec (load_of (word_of_line (line_of_word (gather_word seat comm r)) w) value) rec
-  gather_line w value four other = by (nat_lt w 2) refl
+  -- the other words of the line of a flag: one is the flag of the communicator that shares the line, and two are spare
+  other_word : (core first w value : ℕ) → w ≢ comm / 8
+      → ((c : ℕ) → c < 16 → c ≢ comm → Makes seat rec (load_of (record { core = core; line = first + c % 8; word = c / 8 }) value) rec)
+      → (2 ≤ w → Makes seat rec (load_of (record { core = core; line = first + comm % 8; word = w }) value) rec)
+      → Makes seat rec (load_of (record { core = core; line = first + comm % 8; word = w }) value) rec
+  other_word core first w value other flag spare = by (nat_lt w 2) refl
     where
-      by : (b : Bool) → nat_lt w 2 ≡ b → Makes seat rec (load_of (word_of_line (line_of_word (gather_word seat comm r)) w) value) rec
+      by : (b : Bool) → nat_lt w 2 ≡ b → Makes seat rec (load_of (record { core = core; line = first + comm % 8; word = w }) value) rec
       by true e =
           let low : w < 2 = lt_is w 2 e in
           let rest : (8 * w + comm % 8) % 8 ≡ comm % 8 = omega arith in
           let word : (8 * w + comm % 8) / 8 ≡ w = omega arith in
           let apart : 8 * w + comm % 8 ≢ comm = λ q. other (omega (arith, q)) in
-          subst (λ (p : WordAt). Makes seat rec (load_of p value) rec)
-          (λ i. record { core = (gather_word seat comm r).core; line = first_gather seat.setup.layout + rest i; word = word i })
-          (gather_of (8 * w + comm % 8) value (omega (arith, low)) apart (is_present seat.setup (8 * w + comm % 8)) refl)
-      by false e =
-          let high : 2 ≤ w = lt_not w 2 e in
-          let c = first_chunk-is seat.setup.layout in
-          idle_loaded seat rec (word_of_line (line_of_word (gather_word seat comm r)) w) value
-          (role_spare_barrier seat.setup valid r (first_gather seat.setup.layout + comm % 8) w lt (omega arith) (omega (arith, c)) high)
+          subst (λ (p : WordAt). Makes seat rec (load_of p value) rec) (λ i. record { core = core; line = first + rest i; word = word i })
+          (flag (8 * w + comm % 8) (omega (arith, low)) apart)
+      by false e = spare (lt_not w 2 e)
+
+  pub gather_line : (w value : ℕ) → w < 4 → w ≢ comm / 8 → Makes seat rec (load_of (word_of_line (line_of_word (gather_word seat comm r)) w) value) rec
+  gather_line w value four other =
+      let c = first_chunk-is seat.setup.layout in
+      other_word (gather_word seat comm r).core (first_gather seat.setup.layout) w value other (λ c low apart. gather_of c value low apart (is_present seat.setup c) refl)
+      (λ high. idle_loaded seat rec (word_of_line (line_of_word (gather_word seat comm r)) w) value
+      (role_spare_barrier seat.setup valid r (first_gather seat.setup.layout + comm % 8) w lt (omega arith) (omega (arith, c)) high))
 
   pub release_line : (w value : ℕ) → w < 4 → w ≢ comm / 8 → Makes seat rec (load_of (word_of_line (line_of_word (release_word seat comm r)) w) value) rec
-  release_line w value four other = by (nat_lt w 2) refl
-    where
-      by : (b : Bool) → nat_lt w 2 ≡ b → Makes seat rec (load_of (word_of_line (line_of_word (release_word seat comm r)) w) value) rec
-      by true e =
-          let low : w < 2 = lt_is w 2 e in
-          let rest : (8 * w + comm % 8) % 8 ≡ comm % 8 = omega arith in
-          let word : (8 * w + comm % 8) / 8 ≡ w = omega arith in
-          let apart : 8 * w + comm % 8 ≢ comm = λ q. other (omega (arith, q)) in
-          subst (λ (p : WordAt). Makes seat rec (load_of p value) rec)
-          (λ i. record { core = (release_word seat comm r).core; line = first_release seat.setup.layout + rest i; word = word i })
-          (release_of (8 * w + comm % 8) value (omega (arith, low)) apart (is_present seat.setup (8 * w + comm % 8)) refl)
-      by false e =
-          let high : 2 ≤ w = lt_not w 2 e in
-          let a = first_release-is seat.setup.layout in
-          let c = first_chunk-is seat.setup.layout in
-          idle_loaded seat rec (word_of_line (line_of_word (release_word seat comm r)) w) value
-          (role_spare_barrier seat.setup valid r (first_release seat.setup.layout + comm % 8) w lt (omega (arith, a)) (omega (arith, a, c)) high)
+  release_line w value four other =
+      let a = first_release-is seat.setup.layout in
+      let c = first_chunk-is seat.setup.layout in
+      other_word (release_word seat comm r).core (first_release seat.setup.layout) w value other (λ c low apart. release_of c value low apart (is_present seat.setup c) refl)
+      (λ high. idle_loaded seat rec (word_of_line (line_of_word (release_word seat comm r)) w) value
+      (role_spare_barrier seat.setup valid r (first_release seat.setup.layout + comm % 8) w lt (omega (arith, a)) (omega (arith, a, c)) high))
 
 -- ---- the flag itself
 

@@ -1,8 +1,10 @@
 -- What a tap has read after one access more.
+use base.Stored.{Coded-set, coded_list, coded_ℕ}
 use Rattle.std.proofs.Common.{◌≡◌, ℕ, List, [], ◌∷◌, ◌++◌, Some, sym, ◌∙◌, subst}
-use Rattle.std.proofs.Math.Logic.{∥∥₁_map}
+use Rattle.std.proofs.Math.Logic.{∥∥₁_elim, ∥∥₁_map}
 use Rattle.scc_base.specs.Calls.{DataCall, call_of}
 use Rattle.scc_base.specs.Setups.{SetupView}
+use Rattle.scc_base.specs.contracts.calls.Call.{the_row}
 use Rattle.scc_base.specs.declared.calls.Call.{Call}
 use Rattle.scc_base.specs.declared.events.Event.{Event}
 use Rattle.scc_proto.specs.Ports.{Sight, Did}
@@ -12,7 +14,7 @@ use Rattle.scc_proto.proofs.PortLaws.{record_of-nil, record_of-push}
 use Rattle.record_machine.specs.Following.{Adds, FollowsRecord, moved_by}
 use Rattle.call_tap.specs.declared.kept.Kept.{Kept}
 use Rattle.call_tap.specs.declared.taps.Tap.{Tap}
-use Rattle.call_tap.specs.Kept.{IsKept}
+use Rattle.call_tap.specs.Kept.{AreKept, HasRoom, IsKept}
 use Rattle.call_tap.specs.Taps.{HasRead, Reads}
 
 -- a tap of a rank that has made no access
@@ -49,3 +51,10 @@ kept_more kept call bytes before now adds notes = subst (λ (calls : List DataCa
 -- a port that was continued by one event
 pub read_there : (tap : Tap) (old now : Sight) (e : Event) → Did old (e ∷ []) now → HasRead tap old.seat.setup old.seat.rank (old.events ++ e ∷ []) → HasRead tap now.seat.setup now.seat.rank now.events
 read_there tap old now e did read = subst (λ (x : Sight). HasRead tap x.seat.setup x.seat.rank x.events) (sym did.continues) read
+
+-- a tap keeps the calls of the events that it has read, where it has room for them
+pub kept_calls : (tap : Tap) (s : SetupView) (rank : ℕ) (events : List Event) → HasRead tap s rank events → HasRoom (record_of s rank events).calls → AreKept tap.kept (record_of s rank events).calls
+kept_calls tap s rank events read room = record {
+  calls_are = ∥∥₁_elim read.reads (Coded-set (coded_list the_row.coded) _ _) (λ r. (r.kept room).calls_are);
+  bytes_are = ∥∥₁_elim read.reads (Coded-set (coded_list coded_ℕ) _ _) (λ r. (r.kept room).bytes_are);
+}

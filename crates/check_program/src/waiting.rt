@@ -9,7 +9,7 @@ ghost use Rattle.script_plain.specs.Meaning.{keys_of, plain_ends};
 ghost use Rattle.check_program.specs.Waiting.{is_waiting, lowest_absent, waits_by_call, waits_for};
 
 use scc_base::{Call, Rank, Setup};
-use script_plain::{End, UeEnd, ends_are_explained, is_with, setup_of};
+use script_plain::{End, UeEnd, is_with, setup_of};
 use script_reader::Scripts;
 
 /// The rank that a rank waits for at the end of a script. No memory is taken.
@@ -23,7 +23,6 @@ pub fn waits_for(end: &End, scripts: &Scripts, rank: Rank) -> Option<Rank>
     ensures other { IfSome result (λ on. IsPeer scripts.now.nue rank on) }
 {
     scripts.acceptance_law();
-    ends_are_explained();
     wait_of(end, scripts, rank)
 }
 

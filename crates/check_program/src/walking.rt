@@ -9,7 +9,7 @@ ghost use Rattle.check_program.specs.Waiting.{IsCause, cause_of, is_waiting, lea
 use crate::causes::Cause;
 use crate::waiting::waits_for;
 use scc_base::Rank;
-use script_plain::{End, UeEnd, ends_are_explained};
+use script_plain::{End, UeEnd};
 use script_reader::Scripts;
 
 /// Why a rank waits at the end of a script: what a walk from rank to rank comes to, each to the one that is waited for. No
@@ -25,7 +25,6 @@ pub fn cause(end: &End, scripts: &Scripts, rank: Rank) -> Option<Cause>
     ensures means { IfSome result (λ why. IsCause (waits_for (keys_of scripts.now) end.now) end.now rank why) }
 {
     scripts.acceptance_law();
-    ends_are_explained();
     waits_for(end, scripts, rank)?;
     let last = walk(end, scripts, rank);
     match waits_for(end, scripts, last) {

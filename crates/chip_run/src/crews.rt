@@ -26,9 +26,9 @@ pub(crate) fn sweep<W: Worker + Drop>(chip: &mut Chip, crew: &mut [Member<W>]) -
     ensures swept { SweepStands (members_of W.conduct) result (length crew.old) chip.old crew.old chip.new crew.new }
     ensures order { TurnsOf (members_of W.conduct) (range_with_len 0 (length crew.old)) chip.old crew.old chip.new crew.new }
 {
-    let _ = chip.setup().nue();
+    let ranks = chip.setup().nue() as usize;
     let mut so_far = Rest::Finished;
-    for at in 0..crew.len() {
+    for at in 0..ranks {
         let came = turn_at_home(chip, Rank::of(at as u8), &mut crew[at].worker);
         so_far = so_far.and(came);
     }

@@ -13,7 +13,5 @@ pub trait Gate {
 pub struct Open;
 
 impl Gate for Open {
-    fn pass(&self, rank: Rank) {
-        let _ = rank;
-    }
+    fn pass(&self, _rank: Rank) {}
 }

@@ -19,9 +19,9 @@ fn sweep<W: Worker>(chip: &mut Chip, crew: &mut [W]) -> Rest
     ensures swept { SweepStands W.conduct result (length crew.old) chip.old crew.old chip.new crew.new }
     ensures order { TurnsOf W.conduct (range_with_len 0 (length crew.old)) chip.old crew.old chip.new crew.new }
 {
-    let _ = chip.setup().nue();
+    let ranks = chip.setup().nue() as usize;
     let mut so_far = Rest::Finished;
-    for at in 0..crew.len() {
+    for at in 0..ranks {
         let came = turn_at_home(chip, Rank::of(at as u8), &mut crew[at]);
         so_far = so_far.and(came);
     }

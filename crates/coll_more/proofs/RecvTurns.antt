@@ -18,7 +18,7 @@ use Rattle.send_recv.specs.declared.answers.RecvTurn.{RecvTurn}
 use Rattle.send_recv.specs.declared.answers.RecvTurn.TheVariants as turn
 use Rattle.send_recv.specs.Ranks.{receiving}
 use Rattle.send_recv.proofs.Starts.{free_after_received, slot_after}
-use Rattle.coll_more.specs.Ops.{HasOwn, MoreAt, bytes_by, data_by, data_of, ended_calls, is_taking, table_of, window, taking_part}
+use Rattle.coll_more.specs.Ops.{HasOwn, MoreAt, Participant, bytes_by, data_by, data_of, ended_calls, is_taking, table_of, window, taking_part}
 use Rattle.coll_more.specs.Standing.{IsFit, IsRecvOf, MoreStands, Stands}
 use Rattle.coll_more.specs.Tables.{dst_len_of, has_own, src_len_of}
 use Rattle.coll_more.specs.Turns.{Turns, left_from}
@@ -28,7 +28,7 @@ use Rattle.coll_more.specs.declared.kinds.Way.TheVariants.{Gives, Shares, Takes}
 use Rattle.coll_more.specs.declared.ops.Stage.TheVariants.{Between, Receiving}
 use Rattle.coll_more.proofs.GoodLemmas.{IsApart, IsGood, is_of_dst, later_behind, rising_calls}
 use Rattle.coll_more.proofs.ListLemmas.{next_taken, same_taken}
-use Rattle.coll_more.proofs.TurnLemmas.{good_here}
+use Rattle.coll_more.proofs.TurnLemmas.{good_here, turned_by}
 use Rattle.coll_more.proofs.WindowLemmas.{same_parts, window_back, window_front}
 
 -- the call that is finished
@@ -52,13 +52,23 @@ old_bytes src dst later call y Shares before same = sym (window_front dst later 
 old_bytes src dst later call y Takes before same = sym (window_front dst later y.first call.first call.len (before refl) same)
 
 module _ (m : MoreAt) (s t : Sight) (c d : Private) (call : PieceCall) (op next : RecvAt) (slot : SlotAt) (src dst later : List ℕ) where
+  -- the rank before the turn, after it, and after the turn that ends the message
+  abbrev old : Participant
+  old = taking_part s c (record m { stage = Receiving call op }) slot src dst
+
+  abbrev now : Participant
+  now = taking_part t d (record m { stage = Receiving call next }) slot src later
+
+  abbrev past : Participant
+  past = taking_part t d (record m { ended = m.ended + 1; stage = Between }) slot src later
+
   abbrev Turned : RecvTurn → Type 0
   Turned answer = RecvTurned (receiving s c op (window call.first call.len dst)) (receiving t d next (window call.first call.len later)) answer
 
   later_of : IsRecvOf call op → (next.from ≡ op.from) × (next.head ≡ op.head) → is_received next.stage ≡ false → IsRecvOf call next
   later_of of same unended = record { way = of.way; from = same.0 ∙ of.from; head = same.1 ∙ of.head; unended = unended }
 
-  module _ (few : s.seat.setup.nue ≤ 48) (low : s.seat.rank < s.seat.setup.nue) (fit : Stands (taking_part s c (record m { stage = Receiving call op }) slot src dst))
+  module _ (few : s.seat.setup.nue ≤ 48) (low : s.seat.rank < s.seat.setup.nue) (fit : Stands old)
       (there : RecvStands t d next (window call.first call.len later)) (long : length later ≡ length dst) (front : take call.first later ≡ take call.first dst)
       (behind : drop (call.first + call.len) later ≡ drop (call.first + call.len) dst) where
     here : IsRecvOf call op
@@ -96,8 +106,7 @@ module _ (m : MoreAt) (s t : Sight) (c d : Private) (call : PieceCall) (op next 
       own_there : HasOwn m.more s.seat.rank m.len src dst → HasOwn m.more t.seat.rank m.len src later
       own_there old = subst (λ (x : Seat). HasOwn m.more x.rank m.len src later) (sym seat) (kept_own old)
 
-      kept : is_received next.stage ≡ false → (record_in t).calls ≡ (record_in s).calls → (base : List DataCall) → MoreStands base (taking_part s c (record m { stage = Receiving call op }) slot src dst)
-          → MoreStands base (taking_part t d (record m { stage = Receiving call next }) slot src later)
+      kept : is_received next.stage ≡ false → (record_in t).calls ≡ (record_in s).calls → (base : List DataCall) → MoreStands base old → MoreStands base now
       kept unended calls base st = record {
         fits = fits_there st.fits;
         calls = calls ∙ st.calls ∙ ap (λ (x : List DataCall). base ++ x) kept_calls ∙ ap (λ (x : Seat). base ++ ended_calls x m src later) (sym seat);
@@ -105,74 +114,31 @@ module _ (m : MoreAt) (s t : Sight) (c d : Private) (call : PieceCall) (op next 
         at = (subst (λ (x : Seat). slice_get (table_of x m) m.ended ≡ Some call) (sym seat) st.at.0, later_of st.at.1 r.same unended, slot_after r.events r.did r.post st.at.2, there);
       }
 
-    pub recv_moved : Turned turn.Moved → Turns (taking_part s c (record m { stage = Receiving call op }) slot src dst) (taking_part t d (record m { stage = Receiving call next }) slot src later) turn.Moved
+    pub recv_moved : Turned turn.Moved → Turns old now turn.Moved
     recv_moved r = record {
       stands = kept turn.Moved r r.means.3 r.means.1;
-      turned = record {
-        events = r.events;
-        did = r.did;
-        does = r.does;
-        tried = r.tried;
-        freed = r.freed;
-        rests = λ spot same. absurd (cc);
-        only = r.only;
-        same = (refl, refl);
-        means = (less, refl);
-        rest = r.rest;
-        drafts = none_stored s.seat.setup c r.events r.no_drafts;
-        held = r.held;
-      };
+      turned = turned_by old now turn.Moved r.events r.did r.does r.tried r.freed (λ spot same. absurd (cc)) r.only (refl, refl)
+          (less, refl) r.rest (none_stored s.seat.setup c r.events r.no_drafts) r.held;
     }
       where
         less : (1 + recv_left (chunk_of s.seat.setup) next) + left_from s.seat m (m.ended + 1) < (1 + recv_left (chunk_of s.seat.setup) op) + left_from s.seat m (m.ended + 1)
         less = let fewer = r.means.0 in omega (arith, fewer)
 
-    pub recv_waited : (spot : Spot) → Turned (turn.Waiting spot)
-        → Turns (taking_part s c (record m { stage = Receiving call op }) slot src dst) (taking_part t d (record m { stage = Receiving call next }) slot src later) (turn.Waiting spot)
+    pub recv_waited : (spot : Spot) → Turned (turn.Waiting spot) → Turns old now (turn.Waiting spot)
     recv_waited spot r = record {
       stands = kept (turn.Waiting spot) r (ap (λ (x : RecvAt). is_received x.stage) r.means.0 ∙ here.unended) r.means.2.calls;
-      turned = record {
-        events = r.events;
-        did = r.did;
-        does = r.does;
-        tried = r.tried;
-        freed = r.freed;
-        rests = λ at same. r.rests spot refl;
-        only = r.only;
-        same = (refl, refl);
-        means = (record { same_op = (λ i. record m { stage = Receiving call (r.means.0 i) }); same_slot = refl; same_dst = same_parts dst later call.first call.len front r.means.1 behind; rest = r.means.2 }, refl);
-        rest = r.rest;
-        drafts = none_stored s.seat.setup c r.events r.no_drafts;
-        held = r.held;
-      };
+      turned = turned_by old now (turn.Waiting spot) r.events r.did r.does r.tried r.freed (λ at same. r.rests spot refl) r.only (refl, refl)
+          (record { same_op = (λ i. record m { stage = Receiving call (r.means.0 i) }); same_slot = refl; same_dst = same_parts dst later call.first call.len front r.means.1 behind; rest = r.means.2 }, refl) r.rest (none_stored s.seat.setup c r.events r.no_drafts) r.held;
     }
 
-    pub recv_refused : (sent : MessageHead) → Turned (turn.Mismatch sent)
-        → Turns (taking_part s c (record m { stage = Receiving call op }) slot src dst) (taking_part t d (record m { stage = Receiving call next }) slot src later) (turn.Mismatch sent)
+    pub recv_refused : (sent : MessageHead) → Turned (turn.Mismatch sent) → Turns old now (turn.Mismatch sent)
     recv_refused sent r = record {
       stands = kept (turn.Mismatch sent) r (ap (λ (x : RecvAt). is_received x.stage) r.means.0 ∙ here.unended) r.means.3.calls;
-      turned = record {
-        events = r.events;
-        did = r.did;
-        does = r.does;
-        tried = r.tried;
-        freed = r.freed;
-        rests = λ spot same. absurd (cc);
-        only = r.only;
-        same = (refl, refl);
-        means = (
-          record { same_op = (λ i. record m { stage = Receiving call (r.means.0 i) }); same_slot = refl; same_dst = same_parts dst later call.first call.len front r.means.1 behind; rest = r.means.3 },
-          refl,
-          (r.means.2, λ same. r.means.4 (same ∙ sym here.head), r.means.5, subst (λ (j : ℕ). (record_in t).notes j ≡ Some r.means.5) here.from r.means.6, r.means.7),
-        );
-        rest = r.rest;
-        drafts = none_stored s.seat.setup c r.events r.no_drafts;
-        held = r.held;
-      };
+      turned = turned_by old now (turn.Mismatch sent) r.events r.did r.does r.tried r.freed (λ spot same. absurd (cc)) r.only (refl, refl)
+          (record { same_op = (λ i. record m { stage = Receiving call (r.means.0 i) }); same_slot = refl; same_dst = same_parts dst later call.first call.len front r.means.1 behind; rest = r.means.3 }, refl, (r.means.2, λ same. r.means.4 (same ∙ sym here.head), r.means.5, subst (λ (j : ℕ). (record_in t).notes j ≡ Some r.means.5) here.from r.means.6, r.means.7)) r.rest (none_stored s.seat.setup c r.events r.no_drafts) r.held;
     }
 
-    pub recv_done : Turned turn.Done
-        → Turns (taking_part s c (record m { stage = Receiving call op }) slot src dst) (taking_part t d (record m { ended = m.ended + 1; stage = Between }) slot src later) turn.Moved
+    pub recv_done : Turned turn.Done → Turns old past turn.Moved
     recv_done r = record {
       stands = λ base st. record {
         fits = fits_there turn.Done r st.fits;
@@ -180,20 +146,8 @@ module _ (m : MoreAt) (s t : Sight) (c d : Private) (call : PieceCall) (op next 
         own = λ is. own_there turn.Done r (st.own refl);
         at = free_after_received st.at.2 r there;
       };
-      turned = record {
-        events = r.events;
-        did = r.did;
-        does = r.does;
-        tried = r.tried;
-        freed = r.freed;
-        rests = λ spot same. absurd (cc);
-        only = r.only;
-        same = (refl, refl);
-        means = (less, refl);
-        rest = r.rest;
-        drafts = none_stored s.seat.setup c r.events r.no_drafts;
-        held = r.held;
-      };
+      turned = turned_by old past turn.Moved r.events r.did r.does r.tried r.freed (λ spot same. absurd (cc)) r.only (refl, refl)
+          (less, refl) r.rest (none_stored s.seat.setup c r.events r.no_drafts) r.held;
     }
       where
         less : left_from s.seat m (m.ended + 1) < (1 + recv_left (chunk_of s.seat.setup) op) + left_from s.seat m (m.ended + 1)
@@ -205,7 +159,7 @@ module _ (m : MoreAt) (s t : Sight) (c d : Private) (call : PieceCall) (op next 
             ∙ ap (λ (x : List ℕ). Recv call.peer (plain_head call.len) x ∷ []) (sym r.means.1)
             ∙ ap (λ (x : DataCall). x ∷ []) (got_data call.way call.peer call.len call.first src later here.way)
 
-        more : (base : List DataCall) → MoreStands base (taking_part s c (record m { stage = Receiving call op }) slot src dst)
+        more : (base : List DataCall) → MoreStands base old
             → (record_in t).calls ≡ base ++ ended_calls t.seat (record m { ended = m.ended + 1 }) src later
         more base st =
             r.means.2

@@ -15,7 +15,7 @@ use Rattle.send_recv.specs.Sending.{SendStands, SendTurned, send_call, send_left
 use Rattle.send_recv.specs.declared.answers.RecvTurn.TheVariants as receive
 use Rattle.send_recv.specs.Ranks.{sending}
 use Rattle.send_recv.proofs.Starts.{free_after_sent}
-use Rattle.coll_more.specs.Ops.{HasOwn, MoreAt, bytes_of, data_by, data_of, ended_calls, is_taking, table_of, taking_part}
+use Rattle.coll_more.specs.Ops.{HasOwn, MoreAt, Participant, bytes_of, data_by, data_of, ended_calls, is_taking, table_of, taking_part}
 use Rattle.coll_more.specs.Standing.{IsFit, IsSendOf, MoreStands, Stands}
 use Rattle.coll_more.specs.Turns.{Turns, left_from}
 use Rattle.coll_more.specs.declared.kinds.PieceCall.{PieceCall}
@@ -23,6 +23,7 @@ use Rattle.coll_more.specs.declared.kinds.Way.{Way}
 use Rattle.coll_more.specs.declared.kinds.Way.TheVariants.{Gives, Shares, Takes}
 use Rattle.coll_more.specs.declared.ops.Stage.TheVariants.{Between, Sending}
 use Rattle.coll_more.proofs.ListLemmas.{next_taken}
+use Rattle.coll_more.proofs.TurnLemmas.{turned_by}
 
 -- the call that is finished
 sent_call : (op : SendAt) (to : ℕ) (head : MessageHead) (bytes : List ℕ) → op.to ≡ to → op.head ≡ head → op.posted ≡ false → is_sent op.stage ≡ false → send_call op bytes ≡ Send to head bytes ∷ []
@@ -34,13 +35,23 @@ sent_data Shares peer len bytes is = refl
 sent_data Takes peer len bytes is = absurd (cc)
 
 module _ (m : MoreAt) (s t : Sight) (c d : Private) (call : PieceCall) (op next : SendAt) (slot after : SlotAt) (src dst : List ℕ) where
+  -- the rank before the turn, after it, and after the turn that ends the message
+  abbrev old : Participant
+  old = taking_part s c (record m { stage = Sending call op }) slot src dst
+
+  abbrev now : Participant
+  now = taking_part t d (record m { stage = Sending call next }) after src dst
+
+  abbrev past : Participant
+  past = taking_part t d (record m { ended = m.ended + 1; stage = Between }) after src dst
+
   abbrev Turned : Turn → Type 0
   Turned answer = SendTurned (sending s c op slot (bytes_of call src dst)) (sending t d next after (bytes_of call src dst)) answer
 
   later_of : IsSendOf call op → (next.to ≡ op.to) × (next.head ≡ op.head) × (next.posted ≡ op.posted) → is_sent next.stage ≡ false → IsSendOf call next
   later_of of same unended = record { way = of.way; to = same.0 ∙ of.to; head = same.1 ∙ of.head; plain = same.2 ∙ of.plain; unended = unended }
 
-  module _ (fit : Stands (taking_part s c (record m { stage = Sending call op }) slot src dst)) (there : SendStands t d next after (bytes_of call src dst)) where
+  module _ (fit : Stands old) (there : SendStands t d next after (bytes_of call src dst)) where
     here : IsSendOf call op
     here = fit.1.at.1
 
@@ -54,8 +65,7 @@ module _ (m : MoreAt) (s t : Sight) (c d : Private) (call : PieceCall) (op next 
       own_there : HasOwn m.more s.seat.rank m.len src dst → HasOwn m.more t.seat.rank m.len src dst
       own_there old = subst (λ (x : Seat). HasOwn m.more x.rank m.len src dst) (sym seat) old
 
-      kept : is_sent next.stage ≡ false → (record_in t).calls ≡ (record_in s).calls → (base : List DataCall) → MoreStands base (taking_part s c (record m { stage = Sending call op }) slot src dst)
-          → MoreStands base (taking_part t d (record m { stage = Sending call next }) after src dst)
+      kept : is_sent next.stage ≡ false → (record_in t).calls ≡ (record_in s).calls → (base : List DataCall) → MoreStands base old → MoreStands base now
       kept unended calls base st = record {
         fits = fits_there st.fits;
         calls = calls ∙ st.calls ∙ ap (λ (x : Seat). base ++ ended_calls x m src dst) (sym seat);
@@ -63,51 +73,25 @@ module _ (m : MoreAt) (s t : Sight) (c d : Private) (call : PieceCall) (op next 
         at = (subst (λ (x : Seat). slice_get (table_of x m) m.ended ≡ Some call) (sym seat) st.at.0, later_of st.at.1 r.same unended, there);
       }
 
-    pub send_moved : Turned turn.Moved → Turns (taking_part s c (record m { stage = Sending call op }) slot src dst) (taking_part t d (record m { stage = Sending call next }) after src dst) receive.Moved
+    pub send_moved : Turned turn.Moved → Turns old now receive.Moved
     send_moved r = record {
       stands = kept turn.Moved r r.means.3 r.means.1;
-      turned = record {
-        events = r.events;
-        did = r.did;
-        does = r.does;
-        tried = r.tried;
-        freed = r.freed;
-        rests = λ spot same. absurd (cc);
-        only = r.only;
-        same = (refl, refl);
-        means = (less, refl);
-        rest = r.rest;
-        drafts = r.drafts;
-        held = r.held;
-      };
+      turned = turned_by old now receive.Moved r.events r.did r.does r.tried r.freed (λ spot same. absurd (cc)) r.only (refl, refl)
+          (less, refl) r.rest r.drafts r.held;
     }
       where
         less : (1 + send_left s.seat.setup.layout (chunk_of s.seat.setup) next after) + left_from s.seat m (m.ended + 1)
             < (1 + send_left s.seat.setup.layout (chunk_of s.seat.setup) op slot) + left_from s.seat m (m.ended + 1)
         less = let fewer = r.means.0 in omega (arith, fewer)
 
-    pub send_waited : (spot : Spot) → Turned (turn.Waiting spot)
-        → Turns (taking_part s c (record m { stage = Sending call op }) slot src dst) (taking_part t d (record m { stage = Sending call next }) after src dst) (receive.Waiting spot)
+    pub send_waited : (spot : Spot) → Turned (turn.Waiting spot) → Turns old now (receive.Waiting spot)
     send_waited spot r = record {
       stands = kept (turn.Waiting spot) r (ap (λ (x : SendAt). is_sent x.stage) r.means.0 ∙ here.unended) r.means.2.calls;
-      turned = record {
-        events = r.events;
-        did = r.did;
-        does = r.does;
-        tried = r.tried;
-        freed = r.freed;
-        rests = λ at same. r.rests spot refl;
-        only = r.only;
-        same = (refl, refl);
-        means = (record { same_op = (λ i. record m { stage = Sending call (r.means.0 i) }); same_slot = r.means.1; same_dst = refl; rest = r.means.2 }, refl);
-        rest = r.rest;
-        drafts = r.drafts;
-        held = r.held;
-      };
+      turned = turned_by old now (receive.Waiting spot) r.events r.did r.does r.tried r.freed (λ at same. r.rests spot refl) r.only (refl, refl)
+          (record { same_op = (λ i. record m { stage = Sending call (r.means.0 i) }); same_slot = r.means.1; same_dst = refl; rest = r.means.2 }, refl) r.rest r.drafts r.held;
     }
 
-    pub send_done : Turned turn.Done
-        → Turns (taking_part s c (record m { stage = Sending call op }) slot src dst) (taking_part t d (record m { ended = m.ended + 1; stage = Between }) after src dst) receive.Moved
+    pub send_done : Turned turn.Done → Turns old past receive.Moved
     send_done r = record {
       stands = λ base st. record {
         fits = fits_there turn.Done r st.fits;
@@ -115,26 +99,14 @@ module _ (m : MoreAt) (s t : Sight) (c d : Private) (call : PieceCall) (op next 
         own = λ is. own_there turn.Done r (st.own refl);
         at = free_after_sent r there;
       };
-      turned = record {
-        events = r.events;
-        did = r.did;
-        does = r.does;
-        tried = r.tried;
-        freed = r.freed;
-        rests = λ spot same. absurd (cc);
-        only = r.only;
-        same = (refl, refl);
-        means = (less, refl);
-        rest = r.rest;
-        drafts = r.drafts;
-        held = r.held;
-      };
+      turned = turned_by old past receive.Moved r.events r.did r.does r.tried r.freed (λ spot same. absurd (cc)) r.only (refl, refl)
+          (less, refl) r.rest r.drafts r.held;
     }
       where
         less : left_from s.seat m (m.ended + 1) < (1 + send_left s.seat.setup.layout (chunk_of s.seat.setup) op slot) + left_from s.seat m (m.ended + 1)
         less = omega arith
 
-        more : (base : List DataCall) → MoreStands base (taking_part s c (record m { stage = Sending call op }) slot src dst)
+        more : (base : List DataCall) → MoreStands base old
             → (record_in t).calls ≡ base ++ ended_calls t.seat (record m { ended = m.ended + 1 }) src dst
         more base st =
             r.means.2

@@ -1,22 +1,31 @@
--- Turns of a collective call that make no event: the own piece is copied, the next message begins, or nothing is left.
-use Rattle.std.proofs.Common.{◌≡◌, ℕ, ◌+◌, ◌<◌, ◌≤◌, false, List, [], ◌++◌, length, map, take, Option, Some, None, is_none, slice_get, refl, sym, ap, ◌∙◌, subst, arith, inl}
+-- Turns of a collective call: by the turn of the message in hand; and those that make no event, where the own piece is copied, the next message begins, or nothing is left.
+use Rattle.std.proofs.Common.{◌≡◌, ℕ, ◌+◌, ◌<◌, ◌≤◌, true, false, List, [], ◌++◌, length, map, take, Option, Some, None, is_none, slice_get, refl, sym, ap, ◌∙◌, subst, arith, inl}
+use Rattle.std.specs.List.{list_all}
 use Rattle.scc_base.specs.Calls.{DataCall}
 use Rattle.scc_base.specs.Heads.{IsHead, plain_head}
-use Rattle.scc_proto.specs.Ports.{Sight}
+use Rattle.scc_base.specs.declared.events.Event.{Event}
+use Rattle.scc_base.specs.declared.events.Spot.{Spot}
+use Rattle.scc_proto.specs.Ports.{Did, Sight, record_in}
 use Rattle.scc_proto.specs.Records.{chunk_of}
+use Rattle.scc_proto.specs.Resting.{is_resting}
 use Rattle.scc_proto.proofs.PortLaws.{did_nothing}
 use Rattle.scc_proto.proofs.Tests.{peers_from}
 use Rattle.put_get.specs.Cores.{Private}
 use Rattle.send_recv.specs.Calling.{IsBetweenMessages}
 use Rattle.send_recv.specs.Ops.{SlotAt}
-use Rattle.send_recv.specs.Turns.{NoLoad}
+use Rattle.send_recv.specs.Receiving.{recv_waits}
+use Rattle.send_recv.specs.Sights.{layout_at}
+use Rattle.send_recv.specs.Steps.{goes_on}
+use Rattle.send_recv.specs.Tries.{aim_at}
+use Rattle.send_recv.specs.Turns.{KeepsAllButMessages, LastHeld, NoLoad, OnlyTries, StoresFromBuffer}
+use Rattle.send_recv.specs.declared.answers.RecvTurn.{RecvTurn}
 use Rattle.send_recv.specs.declared.answers.RecvTurn.TheVariants as turn
 use Rattle.send_recv.proofs.Starts.{new_receive_left, new_send_left, receive_starts, send_starts}
-use Rattle.sync_flags.specs.Tries.{NoTry}
-use Rattle.coll_more.specs.Ops.{HasOwn, MoreAt, begun_at, begun_by, bytes_by, bytes_of, data_of, ended_calls, is_taking, table_of, window, taking_part}
+use Rattle.sync_flags.specs.Tries.{NoTry, Tried, changing_after}
+use Rattle.coll_more.specs.Ops.{HasOwn, MoreAt, Participant, begun_at, begun_by, bytes_by, bytes_of, data_of, ended_calls, is_taking, table_of, window, taking_part}
 use Rattle.coll_more.specs.Standing.{IsFit, MoreStands, Stands, StandsAt}
 use Rattle.coll_more.specs.Tables.{dst_len_of, has_own, src_len_of}
-use Rattle.coll_more.specs.Turns.{Turns, call_bound, left_by, left_from}
+use Rattle.coll_more.specs.Turns.{MoreDoes, MoreMeans, MoreTurned, Turns, aim_by, call_bound, left_by, left_from}
 use Rattle.coll_more.specs.declared.kinds.PieceCall.{PieceCall}
 use Rattle.coll_more.specs.declared.kinds.Way.{Way}
 use Rattle.coll_more.specs.declared.kinds.Way.TheVariants.{Gives, Shares, Takes}
@@ -27,6 +36,27 @@ use Rattle.coll_more.proofs.WindowLemmas.{window_long}
 
 pub plain_valid : (len : ℕ) → len ≤ 65536 → IsHead (plain_head len)
 plain_valid len short = record { kind_below = omega arith; comm_below = omega arith; len_within = short; plain_in_world = λ same. refl }
+
+-- a turn of a call, by what the turn of its message was
+pub turned_by : (old now : Participant) (answer : RecvTurn) (events : List Event) → Did old.sight events now.sight → MoreDoes old old.op.stage (goes_on answer) now.sight now.core
+    → Tried (aim_by old.sight.seat old.slot old.op.stage) events (recv_waits answer) → changing_after false events ≡ false
+    → ((spot : Spot) → answer ≡ turn.Waiting spot → list_all is_resting events ≡ true) → OnlyTries (aim_at (layout_at old.sight) (recv_waits answer)) events
+    → (now.op.more ≡ old.op.more) × (now.op.len ≡ old.op.len) → MoreMeans old now answer → KeepsAllButMessages (record_in old.sight) (record_in now.sight)
+    → StoresFromBuffer old.sight.seat.setup old.core events → LastHeld events old.core.evictions now.core → MoreTurned old now answer
+turned_by old now answer events did does tried freed rests only same means rest drafts held = record {
+  events = events;
+  did = did;
+  does = does;
+  tried = tried;
+  freed = freed;
+  rests = rests;
+  only = only;
+  same = same;
+  means = means;
+  rest = rest;
+  drafts = drafts;
+  held = held;
+}
 
 -- a turn without events
 module _ (m : MoreAt) (s : Sight) (c : Private) (slot : SlotAt) (src dst : List ℕ) where

@@ -17,8 +17,7 @@ impl outcomes::Report for Report {
         write_lines(sink, self.job.more, self.job.nue, self.team.as_slice())
     }
 
-    fn write_err<S: Sink>(&self, sink: &mut S) -> Result<(), WriteFault> {
-        let _ = sink;
+    fn write_err<S: Sink>(&self, _sink: &mut S) -> Result<(), WriteFault> {
         Ok(())
     }
 }

@@ -82,11 +82,11 @@ fn place_after(entries: &[Entry], new: Line, line: Line) -> Option<usize>
 }
 
 /// The place at which the line stands that an evictor names, once this one was brought in.
-fn leaving(core: &Core<Named>, new: Line, evict: &Option<HeapLine>) -> Option<usize>
-    ensures { (words : List ℕ) → IsPlaceIn evict.now (filled core.now.lines new words) result }
+fn leaving(entries: &[Entry], new: Line, evict: &Option<HeapLine>) -> Option<usize>
+    ensures { (words : List ℕ) → IsPlaceIn evict.now (filled entries.now new words) result }
 {
     match evict {
-        Some(evict) => place_after(core.lines(), new, evict.line()),
+        Some(evict) => place_after(entries, new, evict.line()),
         None => None,
     }
 }
@@ -102,8 +102,7 @@ pub(crate) fn load_line(
     requires new { held core.old.lines at ≡ None }
     ensures loads { LoadsLine evict.now core.old chip.old at result core.new chip.new }
 {
-    let _lines = core.lines();
-    let leaves = leaving(core, at.line(), evict);
+    let leaves = leaving(core.lines(), at.line(), evict);
     let _ = core.evict_by(Named::new(leaves));
     let words = core.fetch(chip, at.line());
     chip.tells();

@@ -56,7 +56,6 @@ impl Evict for Never {
         ensures once { None ≡ asked_after None }
         ensures never { result ≡ None }
     {
-        let _ = held;
         None
     }
 }

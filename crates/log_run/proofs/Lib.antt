@@ -3,3 +3,4 @@ pub mod LoggerLaws
 pub mod LogEnds
 pub mod RoomLaws
 pub mod FreshLaws
+pub mod RunLeaves

@@ -1,11 +1,9 @@
 -- What a run of UEs whose calls are kept leaves.
-use Rattle.std.proofs.Common.{◌≡◌, ⊎_elim, ℕ, ◌<◌, ◌≤◌, true, List, [], ◌++◌, append-nil, length, map, slice_get, slice_index_or, Option, Some, None, option_and_then, refl, sym, ◌∙◌, ap, subst}
-use Rattle.std.specs.Prelude.{All}
+use Rattle.std.proofs.Common.{◌≡◌, ⊎_elim, ℕ, ◌<◌, ◌≤◌, true, List, [], ◌++◌, append-nil, length, slice_get, slice_index_or, Option, Some, None, option_and_then, refl, sym, ◌∙◌, ap, subst}
 use Rattle.std.proofs.lemmas.Bool.{cases_lt}
-use Rattle.scc_base.specs.Calls.{DataCall, HasItsBytes}
+use Rattle.scc_base.specs.Calls.{DataCall}
 use Rattle.scc_base.specs.Calls as calls
 use Rattle.scc_base.specs.Setups.{SetupView, setup_key}
-use Rattle.scc_base.specs.declared.calls.Call.{Call}
 use Rattle.scc_base.specs.declared.events.Event.{Event}
 use Rattle.scc_proto.specs.Agreement.{Agrees}
 use Rattle.scc_proto.specs.Legality.{IsLegal}
@@ -16,21 +14,19 @@ use Rattle.scc_proto.specs.Words.{Memory}
 use Rattle.scc_proto.proofs.PortLaws.{record_of-nil}
 use Rattle.scc_mesh.specs.Scenes.{ChipView, about_in, events_in, records_in}
 use Rattle.script_reader.specs.Script.{Script}
-use Rattle.script_plain.specs.CallLists.{calls_from, calls_of}
+use Rattle.script_reader.specs.Settled.{IsWhole}
+use Rattle.script_plain.specs.CallLists.{calls_of}
 use Rattle.script_plain.specs.Collectives.{started}
 use Rattle.script_plain.specs.Ends.{Ended}
-use Rattle.script_plain.specs.Lengths.{lengths_of}
-use Rattle.script_plain.specs.Local.{Local, local_next, local_start}
+use Rattle.script_plain.specs.Local.{Local, local_next}
 use Rattle.script_plain.specs.Meaning.{State, next_of, plain_end, recorded}
 use Rattle.script_plain.specs.Next.{Next, call_of}
 use Rattle.script_plain.specs.Next.Next.{Ends, Goes, Posts, Sends, Recvs, Bars}
-use Rattle.script_plain.specs.Paths.{Came, Did}
-use Rattle.script_plain.specs.Ready.{IsReady}
-use Rattle.script_plain.specs.declared.posts.Posted.{Posted}
 use Rattle.call_tap.specs.declared.taps.Tap.{Tap}
-use Rattle.call_tap.specs.Kept.{AreKept, HasRoom}
+use Rattle.call_tap.specs.Kept.{HasRoom}
 use Rattle.call_tap.specs.Planned.{has_room_for}
-use Rattle.call_tap.specs.Taps.{HasRead}
+use Rattle.call_tap.proofs.PlannedLaws.{planned_room}
+use Rattle.call_tap.proofs.TapLaws.{kept_calls}
 use Rattle.rcce_ue.specs.Ues.{UeView}
 use Rattle.chip_run.specs.Crews.{AllRest, IsCrew}
 use Rattle.rcce_run.specs.Crews.{AllRun, IsAtEnd, locals_of}
@@ -64,10 +60,9 @@ loggers_run = record {
 }
 
 -- a tap in its place keeps what it has read, where it has room
-tap_keeps : (kept : (tap : Tap) (s : SetupView) (rank : ℕ) (events : List Event) → HasRead tap s rank events → HasRoom (record_of s rank events).calls → AreKept tap.kept (record_of s rank events).calls)
-    → (tap : Option Tap) (s : SetupView) (rank : ℕ) (events : List Event) → IsTapped tap s rank events → HasRoom (record_of s rank events).calls → KeepsCalls tap (record_of s rank events).calls
-tap_keeps kept None s rank events tapped room = tapped
-tap_keeps kept (Some tap) s rank events tapped room = kept tap s rank events tapped room
+tap_keeps : (tap : Option Tap) (s : SetupView) (rank : ℕ) (events : List Event) → IsTapped tap s rank events → HasRoom (record_of s rank events).calls → KeepsCalls tap (record_of s rank events).calls
+tap_keeps None s rank events tapped room = tapped
+tap_keeps (Some tap) s rank events tapped room = kept_calls tap s rank events tapped room
 
 module _ (script : Script) (chip : ChipView) (crew : List (Logger UeView)) (memory : Memory) (agrees : Agrees (about_in chip) memory (records_in chip)) (is_crew : IsCrew ue_loggers chip crew)
     (all_run : AllRun ue_of script crew) (some : 0 < length crew) (d : Logger UeView) where
@@ -87,30 +82,25 @@ module _ (script : Script) (chip : ChipView) (crew : List (Logger UeView)) (memo
   fit_at k low = fit ue_loggers ue_of loggers_run script chip crew memory agrees is_crew all_run some d k low
 
   -- the finished calls of a rank are the first of those that its program names
-  module _ (known : (rank : ℕ) (u : Local) (last : Option Posted) (done : List DataCall) → Did local_next u last (local_start script rank) None done → calls_of script rank ≡ map calls.call_of done ++ calls_from (lengths_of u) u.left)
-      (ready : (rank : ℕ) → rank < script.nue → (u : State) (last : Option Posted) → Came next_of (started script rank) u last → IsReady script rank (local_next u.local))
-      (ranks : s.nue ≡ script.nue) where
+  module _ (read : IsWhole script.nue script.items) (ranks : s.nue ≡ script.nue) where
     pub first_at : (k : ℕ) → k < script.nue → AreFirst script k (records k).calls
     first_at k low =
         let below : k < s.nue = subst (λ (n : ℕ). k < n) (sym ranks) low in
         let fits = fit_at k below in
-        are_first script k (known k) (ready k low) s (records k) (state_of (locals k) (records k)) fits.last
+        are_first script k read low s (records k) (state_of (locals k) (records k)) fits.last
         (subst (λ (x : Script). Stood next_of s k (started x k) (records k) (state_of (locals k) (records k)) fits.last) (all_run k d (within k below)) fits.stood)
 
     -- there is room for them, where there is for the program's
-    pub room_at : ((planned rest : List Call) (done : List DataCall) → has_room_for planned ≡ true → planned ≡ map calls.call_of done ++ rest → All HasItsBytes done → HasRoom done)
-        → (k : ℕ) → k < script.nue → has_room_for (calls_of script k) ≡ true → HasRoom (records k).calls
-    room_at room k low planned =
+    pub room_at : (k : ℕ) → k < script.nue → has_room_for (calls_of script k) ≡ true → HasRoom (records k).calls
+    room_at k low planned =
         let first = first_at k low in
-        room (calls_of script k) first.rest (records k).calls planned first.planned first.long
+        planned_room (calls_of script k) first.rest (records k).calls planned first.planned first.long
 
     -- and its tap keeps them
-    pub kept_at : ((tap : Tap) (s : SetupView) (rank : ℕ) (events : List Event) → HasRead tap s rank events → HasRoom (record_of s rank events).calls → AreKept tap.kept (record_of s rank events).calls)
-        → ((planned rest : List Call) (done : List DataCall) → has_room_for planned ≡ true → planned ≡ map calls.call_of done ++ rest → All HasItsBytes done → HasRoom done)
-        → (k : ℕ) → k < script.nue → has_room_for (calls_of script k) ≡ true → KeepsCalls (slice_index_or crew k d).tap (records k).calls
-    kept_at kept room k low planned =
+    pub kept_at : (k : ℕ) → k < script.nue → has_room_for (calls_of script k) ≡ true → KeepsCalls (slice_index_or crew k d).tap (records k).calls
+    kept_at k low planned =
         let below : k < s.nue = subst (λ (n : ℕ). k < n) (sym ranks) low in
-        tap_keeps kept (slice_index_or crew k d).tap s k (events_in chip k) (is_crew.ties k d (within k below)).tapped (room_at room k low planned)
+        tap_keeps (slice_index_or crew k d).tap s k (events_in chip k) (is_crew.ties k d (within k below)).tapped (room_at k low planned)
 
   pub ranks_are : s.nue ≡ script.nue
   ranks_are =

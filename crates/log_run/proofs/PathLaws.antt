@@ -1,5 +1,5 @@
 -- The calls that a rank has done on its way are the first of those that its program names, and have their bytes.
-use Rattle.std.proofs.Common.{◌≡◌, ℕ, List, ◌++◌, map, Option, Some, None, refl, sym, ap, ◌∙◌, subst}
+use Rattle.std.proofs.Common.{◌≡◌, ℕ, ◌<◌, List, ◌++◌, map, Option, Some, None, refl, sym, ap, ◌∙◌, subst}
 use Rattle.std.specs.Prelude.{All}
 use Rattle.std.proofs.lemmas.List.Elements.{All-nil, All-cons}
 use Rattle.scc_base.specs.Calls.{DataCall, HasItsBytes, call_of}
@@ -8,6 +8,7 @@ use Rattle.scc_base.specs.Setups.{SetupView}
 use Rattle.scc_base.specs.declared.calls.Call.{Call}
 use Rattle.scc_proto.specs.Stages.{Record}
 use Rattle.script_reader.specs.Script.{Script}
+use Rattle.script_reader.specs.Settled.{IsWhole}
 use Rattle.script_plain.specs.declared.posts.Posted.{Posted}
 use Rattle.script_plain.specs.CallLists.{calls_from, calls_of}
 use Rattle.script_plain.specs.Collectives.{started}
@@ -20,6 +21,8 @@ use Rattle.script_plain.specs.Paths.{Came, Did}
 use Rattle.script_plain.specs.Paths.Came.{Began, Went, Leaves, Passed, Took, Joined}
 use Rattle.script_plain.specs.Paths.Did.{Here, Own, Left, Sent, Got, Met}
 use Rattle.script_plain.specs.Ready.{IsReady}
+use Rattle.script_plain.proofs.OwnWays.CallListLaws.{calls_did}
+use Rattle.script_plain.proofs.ProgramLengths.ReadyLemmas.{ready-law}
 use Rattle.rcce_run.specs.Sweep.{Stood}
 use Rattle.rcce_run.specs.Sweep.Stood.{Running, Stopped}
 use Rattle.log_run.specs.LogRuns.{IsOwnCall}
@@ -111,13 +114,14 @@ pub record AreFirst (script : Script) (rank : ℕ) (done : List DataCall) : Type
   pub long : All HasItsBytes done
   pub own : All (IsOwnCall script rank) done
 
-module _ (script : Script) (rank : ℕ)
-    (known : (u : Local) (last : Option Posted) (done : List DataCall) → Did local_next u last (local_start script rank) None done → calls_of script rank ≡ map call_of done ++ calls_from (lengths_of u) u.left)
-    (ready : (u : State) (last : Option Posted) → Came next_of (started script rank) u last → IsReady script rank (local_next u.local)) where
+module _ (script : Script) (rank : ℕ) (whole : IsWhole script.nue script.items) (within : rank < script.nue) where
+  ready : (u : State) (last : Option Posted) → Came next_of (started script rank) u last → IsReady script rank (local_next u.local)
+  ready = ready-law script rank whole within
+
   first_by : (v : State) (end : Option Posted) (done : List DataCall) → Did next_of v end (started script rank) None done → AreFirst script rank done
   first_by v end done did = record {
     rest = calls_from (lengths_of v.local) v.local.left;
-    planned = known v.local end done (did_local v end (started script rank) None done did);
+    planned = calls_did v.local end (local_start script rank) None done (did_local v end (started script rank) None done did);
     long = calls_long script rank (started script rank) ready v end (started script rank) None done Began did;
     own = calls_own script rank (started script rank) ready v end (started script rank) None done Began did;
   }

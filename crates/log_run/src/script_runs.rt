@@ -141,6 +141,5 @@ fn run_crew(
     ensures { IsOver scripts.now setup.now chip.new crew.new result }
 {
     scripts.acceptance_law();
-    let _ = setup.nue();
     log_run(chip, crew)
 }

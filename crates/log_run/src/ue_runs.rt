@@ -16,12 +16,10 @@ ghost use Rattle.log_run.specs.declared.loggers.Logger.{Logger};
 ghost use Rattle.log_run.specs.LogRuns.{AreLegalCalls, IsFreshCrew, IsOwnCall, KeepsCalls, plain_calls};
 
 use crate::loggers::Logger;
-use call_tap::{kept_law, room_law};
 use chip_run::{RunEnd, run_by_sweeps};
 use line_cache::Evict;
 use rcce_ue::Ue;
 use scc_mesh::Chip;
-use script_plain::{calls_are_known_before, calls_can_be_made};
 
 /// Runs the UEs of a chip, each with a tap on its port, by sweeps in rank order until one in which none moves. What holds of
 /// the whole chip then, `Chip::agrees` tells.
@@ -56,9 +54,5 @@ pub fn log_run<V: Evict + Drop>(chip: &mut Chip, crew: &mut [Logger<Ue<'_, V>>])
     let _ = chip.setup().nue();
     let end = run_by_sweeps(chip, crew);
     chip.agrees();
-    calls_are_known_before();
-    calls_can_be_made();
-    kept_law();
-    room_law();
     end
 }

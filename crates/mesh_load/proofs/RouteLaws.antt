@@ -22,46 +22,47 @@ apart link (suc n) tile dir is =
     ∙ ap (λ (b : Bool). b || holds link (links_from n (neighbour tile dir) dir)) (other_any (link.tile.x == tile.x) (link.tile.y == tile.y))
     ∙ apart link n (neighbour tile dir) dir is
 
+-- whether a link stands among n links in its own direction, from a tile on
+abbrev is_along : Dir → Link → Tile → ℕ → Bool
+is_along East link tile n = (link.tile.y == tile.y) && (nat_le tile.x link.tile.x && nat_lt link.tile.x (tile.x + n))
+is_along West link tile n = (link.tile.y == tile.y) && (nat_lt tile.x (link.tile.x + n) && nat_le link.tile.x tile.x)
+is_along North link tile n = (link.tile.x == tile.x) && (nat_le tile.y link.tile.y && nat_lt link.tile.y (tile.y + n))
+is_along South link tile n = (link.tile.x == tile.x) && (nat_lt tile.y (link.tile.y + n) && nat_le link.tile.y tile.y)
+
+-- it is none of no links
+among_none : (dir : Dir) (link : Link) (tile : Tile) → false ≡ is_along dir link tile 0
+among_none East link tile = grind (arith, nat_tests)
+among_none West link tile = grind (arith, nat_tests)
+among_none North link tile = grind (arith, nat_tests)
+among_none South link tile = grind (arith, nat_tests)
+
+-- one link, and those from its neighbour on
+east : (x y a b n : ℕ) → (((x == a) && (y == b) && true) || ((y == b) && (nat_le (a + 1) x && nat_lt x (a + 1 + n)))) ≡ ((y == b) && (nat_le a x && nat_lt x (a + suc n)))
+east x y a b n = grind (arith, nat_tests)
+
+west : (x y a b n : ℕ) → (((x == a) && (y == b) && true) || ((y == b) && (nat_lt (a - 1) (x + n) && nat_le x (a - 1)))) ≡ ((y == b) && (nat_lt a (x + suc n) && nat_le x a))
+west x y a b n = grind (arith, nat_tests)
+
+north : (x y a b n : ℕ) → (((x == a) && (y == b) && true) || ((x == a) && (nat_le (b + 1) y && nat_lt y (b + 1 + n)))) ≡ ((x == a) && (nat_le b y && nat_lt y (b + suc n)))
+north x y a b n = grind (arith, nat_tests)
+
+south : (x y a b n : ℕ) → (((x == a) && (y == b) && true) || ((x == a) && (nat_lt (b - 1) (y + n) && nat_le y (b - 1)))) ≡ ((x == a) && (nat_lt b (y + suc n) && nat_le y b))
+south x y a b n = grind (arith, nat_tests)
+
+among_more : (dir : Dir) (link : Link) (tile : Tile) (n : ℕ)
+    → (((link.tile.x == tile.x) && (link.tile.y == tile.y) && same_dir dir dir) || is_along dir link (neighbour tile dir) n) ≡ is_along dir link tile (suc n)
+among_more East link tile n = east link.tile.x link.tile.y tile.x tile.y n
+among_more West link tile n = west link.tile.x link.tile.y tile.x tile.y n
+among_more North link tile n = north link.tile.x link.tile.y tile.x tile.y n
+among_more South link tile n = south link.tile.x link.tile.y tile.x tile.y n
+
 -- those in its own
-east : (link : Link) (n : ℕ) (tile : Tile) → link.dir ≡ East → holds link (links_from n tile East) ≡ ((link.tile.y == tile.y) && (nat_le tile.x link.tile.x && nat_lt link.tile.x (tile.x + n)))
-east link zero tile is = grind (arith, nat_tests)
-east link (suc n) tile is =
-    ap (λ (d : Dir). ((link.tile.x == tile.x) && (link.tile.y == tile.y) && same_dir d East) || holds link (links_from n (neighbour tile East) East)) is
-    ∙ ap (λ (b : Bool). ((link.tile.x == tile.x) && (link.tile.y == tile.y) && true) || b) (east link n (neighbour tile East) is)
-    ∙ joined link.tile.x link.tile.y tile.x tile.y n
-  where
-    joined : (x y a b n : ℕ) → (((x == a) && (y == b) && true) || ((y == b) && (nat_le (a + 1) x && nat_lt x (a + 1 + n)))) ≡ ((y == b) && (nat_le a x && nat_lt x (a + suc n)))
-    joined x y a b n = grind (arith, nat_tests)
-
-west : (link : Link) (n : ℕ) (tile : Tile) → link.dir ≡ West → holds link (links_from n tile West) ≡ ((link.tile.y == tile.y) && (nat_lt tile.x (link.tile.x + n) && nat_le link.tile.x tile.x))
-west link zero tile is = grind (arith, nat_tests)
-west link (suc n) tile is =
-    ap (λ (d : Dir). ((link.tile.x == tile.x) && (link.tile.y == tile.y) && same_dir d West) || holds link (links_from n (neighbour tile West) West)) is
-    ∙ ap (λ (b : Bool). ((link.tile.x == tile.x) && (link.tile.y == tile.y) && true) || b) (west link n (neighbour tile West) is)
-    ∙ joined link.tile.x link.tile.y tile.x tile.y n
-  where
-    joined : (x y a b n : ℕ) → (((x == a) && (y == b) && true) || ((y == b) && (nat_lt (a - 1) (x + n) && nat_le x (a - 1)))) ≡ ((y == b) && (nat_lt a (x + suc n) && nat_le x a))
-    joined x y a b n = grind (arith, nat_tests)
-
-north : (link : Link) (n : ℕ) (tile : Tile) → link.dir ≡ North → holds link (links_from n tile North) ≡ ((link.tile.x == tile.x) && (nat_le tile.y link.tile.y && nat_lt link.tile.y (tile.y + n)))
-north link zero tile is = grind (arith, nat_tests)
-north link (suc n) tile is =
-    ap (λ (d : Dir). ((link.tile.x == tile.x) && (link.tile.y == tile.y) && same_dir d North) || holds link (links_from n (neighbour tile North) North)) is
-    ∙ ap (λ (b : Bool). ((link.tile.x == tile.x) && (link.tile.y == tile.y) && true) || b) (north link n (neighbour tile North) is)
-    ∙ joined link.tile.x link.tile.y tile.x tile.y n
-  where
-    joined : (x y a b n : ℕ) → (((x == a) && (y == b) && true) || ((x == a) && (nat_le (b + 1) y && nat_lt y (b + 1 + n)))) ≡ ((x == a) && (nat_le b y && nat_lt y (b + suc n)))
-    joined x y a b n = grind (arith, nat_tests)
-
-south : (link : Link) (n : ℕ) (tile : Tile) → link.dir ≡ South → holds link (links_from n tile South) ≡ ((link.tile.x == tile.x) && (nat_lt tile.y (link.tile.y + n) && nat_le link.tile.y tile.y))
-south link zero tile is = grind (arith, nat_tests)
-south link (suc n) tile is =
-    ap (λ (d : Dir). ((link.tile.x == tile.x) && (link.tile.y == tile.y) && same_dir d South) || holds link (links_from n (neighbour tile South) South)) is
-    ∙ ap (λ (b : Bool). ((link.tile.x == tile.x) && (link.tile.y == tile.y) && true) || b) (south link n (neighbour tile South) is)
-    ∙ joined link.tile.x link.tile.y tile.x tile.y n
-  where
-    joined : (x y a b n : ℕ) → (((x == a) && (y == b) && true) || ((x == a) && (nat_lt (b - 1) (y + n) && nat_le y (b - 1)))) ≡ ((x == a) && (nat_lt b (y + suc n) && nat_le y b))
-    joined x y a b n = grind (arith, nat_tests)
+own : (link : Link) (n : ℕ) (tile : Tile) (dir : Dir) → link.dir ≡ dir → holds link (links_from n tile dir) ≡ is_along dir link tile n
+own link zero tile dir is = among_none dir link tile
+own link (suc n) tile dir is =
+    ap (λ (d : Dir). ((link.tile.x == tile.x) && (link.tile.y == tile.y) && same_dir d dir) || holds link (links_from n (neighbour tile dir) dir)) is
+    ∙ ap (λ (b : Bool). ((link.tile.x == tile.x) && (link.tile.y == tile.y) && same_dir dir dir) || b) (own link n (neighbour tile dir) dir is)
+    ∙ among_more dir link tile n
 
 -- the links of a route by its four parts
 parts : (link : Link) (a b : Tile) (e w n s : Bool) → let corner : Tile = record { x = b.x; y = a.y } in
@@ -104,23 +105,23 @@ held link a b = by link.dir refl
     by : (d : Dir) → link.dir ≡ d → holds link (route a b) ≡ (passes_row link a.y a.x b.x d || passes_column link b.x a.y b.y d)
     by East is =
         parts link a b ((link.tile.y == a.y) && (nat_le a.x link.tile.x && nat_lt link.tile.x (a.x + (b.x - a.x)))) false false false
-        (east link (b.x - a.x) a is) (apart link (a.x - b.x) a West (ap (λ (d : Dir). same_dir d West) is))
+        (own link (b.x - a.x) a East is) (apart link (a.x - b.x) a West (ap (λ (d : Dir). same_dir d West) is))
         (apart link (b.y - a.y) corner North (ap (λ (d : Dir). same_dir d North) is)) (apart link (a.y - b.y) corner South (ap (λ (d : Dir). same_dir d South) is))
         ∙ first link.tile.x link.tile.y a.y a.x b.x
     by West is =
         parts link a b false ((link.tile.y == a.y) && (nat_lt a.x (link.tile.x + (a.x - b.x)) && nat_le link.tile.x a.x)) false false
-        (apart link (b.x - a.x) a East (ap (λ (d : Dir). same_dir d East) is)) (west link (a.x - b.x) a is)
+        (apart link (b.x - a.x) a East (ap (λ (d : Dir). same_dir d East) is)) (own link (a.x - b.x) a West is)
         (apart link (b.y - a.y) corner North (ap (λ (d : Dir). same_dir d North) is)) (apart link (a.y - b.y) corner South (ap (λ (d : Dir). same_dir d South) is))
         ∙ second link.tile.x link.tile.y a.y a.x b.x
     by North is =
         parts link a b false false ((link.tile.x == b.x) && (nat_le a.y link.tile.y && nat_lt link.tile.y (a.y + (b.y - a.y)))) false
         (apart link (b.x - a.x) a East (ap (λ (d : Dir). same_dir d East) is)) (apart link (a.x - b.x) a West (ap (λ (d : Dir). same_dir d West) is))
-        (north link (b.y - a.y) corner is) (apart link (a.y - b.y) corner South (ap (λ (d : Dir). same_dir d South) is))
+        (own link (b.y - a.y) corner North is) (apart link (a.y - b.y) corner South (ap (λ (d : Dir). same_dir d South) is))
         ∙ third link.tile.y link.tile.x b.x a.y b.y
     by South is =
         parts link a b false false false ((link.tile.x == b.x) && (nat_lt a.y (link.tile.y + (a.y - b.y)) && nat_le link.tile.y a.y))
         (apart link (b.x - a.x) a East (ap (λ (d : Dir). same_dir d East) is)) (apart link (a.x - b.x) a West (ap (λ (d : Dir). same_dir d West) is))
-        (apart link (b.y - a.y) corner North (ap (λ (d : Dir). same_dir d North) is)) (south link (a.y - b.y) corner is)
+        (apart link (b.y - a.y) corner North (ap (λ (d : Dir). same_dir d North) is)) (own link (a.y - b.y) corner South is)
         ∙ fourth link.tile.y link.tile.x b.x a.y b.y
 
 -- lines that go over a link, by the two ways of the route

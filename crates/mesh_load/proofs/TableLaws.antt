@@ -41,6 +41,12 @@ chosen_more_le test (x ∷ values) zero = omega arith
 chosen_more_le test (x ∷ values) (suc i) =
     omega (arith, part-le (test 0) x, chosen_more_le (λ place. test (suc place)) values i)
 
+-- a sum so far, with the next value, is within the whole
+pub sum_within : (test : ℕ → Bool) (values : List ℕ) (i sum : ℕ) → sum ≡ chosen test (take i values) → sum + get_or values i 0 ≤ total values
+sum_within test values i sum is =
+    let bound : chosen test (take i values) + get_or values i 0 ≤ total values = chosen_more_le test values i in
+    omega (arith, is, bound)
+
 -- a table of zeros
 pub chosen-zeros : (test : ℕ → Bool) (n : ℕ) → chosen test (replicate n 0) ≡ 0
 chosen-zeros test zero = refl
@@ -58,6 +64,15 @@ added place values table i within there so_far test =
     chosen-set test table (place i) (get_or values i 0) there
     ∙ ap (λ (n : ℕ). n + cond (test (place i)) (get_or values i 0) 0) (so_far test)
     ∙ sym (chosen-more (λ (k : ℕ). test (place k)) values i within)
+
+-- the value to which the next one is added is within the whole with it
+pub added_within : (place : ℕ → ℕ) (values table : List ℕ) (i : ℕ) → ((test : ℕ → Bool) → chosen test table ≡ chosen (λ k. test (place k)) (take i values))
+    → get_or table (place i) 0 + get_or values i 0 ≤ total values
+added_within place values table i so_far =
+    let same : total table ≡ total (take i values) = so_far (λ (k : ℕ). true) in
+    let here : get_or table (place i) 0 ≤ total table = get_or-le table (place i) in
+    let bound : total (take i values) + get_or values i 0 ≤ total values = chosen_more_le (λ (k : ℕ). true) values i in
+    omega (arith, same, here, bound)
 
 -- a sum so far, and a value that is added to it or left out
 pub taken_in : (test : ℕ → Bool) (values : List ℕ) (i : ℕ) (b : Bool) (before sum : ℕ) → i < length values → b ≡ true → b ≡ test i → sum ≡ before + get_or values i 0 → before ≡ chosen test (take i values) → sum ≡ chosen test (take (i + 1) values)

@@ -14,7 +14,7 @@ use Rattle.scc_proto.specs.Ports.{Seat, record_in}
 use Rattle.scc_proto.specs.Stages.{Record}
 use Rattle.sync_flags.proofs.TurnLemmas.{record_at_start}
 use Rattle.scc_mesh.specs.AwayRanks.{Away}
-use Rattle.scc_mesh.specs.Scenes.{sight_away}
+use Rattle.scc_mesh.specs.Scenes.{ChipView, about_in, events_in, records_in, sight_away}
 use Rattle.ping_pong.specs.Rallies.{Ball, hits, serves}
 
 length-take_within : (xs : List Ball) (n : ℕ) → n < length xs → length (take n xs) ≡ n
@@ -135,3 +135,15 @@ module _ (s : SetupView) (records : ℕ → Record) (balls seen back : List Ball
   back_same there here = pair_same s 1 0 records seen back here
       (ap (λ (calls : List DataCall). bytes_in (sent_messages 0 calls)) hitting ∙ hit_back seen)
       (ap (λ (calls : List DataCall). bytes_in (received_messages 1 calls)) serving ∙ came_back balls back all_back) (all_seen ∙ sym all_back) ∙ seen_same there
+
+-- what a rally gives that both have played to its end, and that are home again
+pub rallied : (end : ChipView) (w : SetupView) (first second : List Event) (balls seen back : List Ball) → about_in end ≡ w → w.nue ≡ 2 → events_in end 0 ≡ first → events_in end 1 ≡ second
+    → ((from to : ℕ) → from < (about_in end).nue → PairMessages (about_in end) from to (records_in end)) → (record_of w 0 first).calls ≡ serves balls back
+    → (record_of w 1 second).calls ≡ hits seen → length seen ≡ length balls → length back ≡ length balls → (seen ≡ balls) × (back ≡ balls)
+rallied end w first second balls seen back about two events_0 events_1 messages serving hitting all_seen all_back =
+    let ranks : (about_in end).nue ≡ 2 = ap (λ (s : SetupView). s.nue) about ∙ two in
+    let there = messages 0 1 (omega (arith, ranks)) in
+    let here = messages 1 0 (omega (arith, ranks)) in (
+      seen_same (about_in end) (records_in end) balls seen back (same_calls 0 about events_0 ∙ serving) (same_calls 1 about events_1 ∙ hitting) all_seen all_back there,
+      back_same (about_in end) (records_in end) balls seen back (same_calls 0 about events_0 ∙ serving) (same_calls 1 about events_1 ∙ hitting) all_seen all_back there here,
+    )

@@ -8,6 +8,7 @@ pub mod SizeLemmas
 pub mod StandingLemmas
 pub mod StepLemmas
 pub mod TextLemmas
+pub mod ThreeWords
 pub mod VerdictLemmas
 pub mod WordLemmas
 pub mod WritingLemmas

@@ -11,7 +11,7 @@ use Rattle.scc_base.specs.Setups.{host_of}
 use Rattle.scc_proto.specs.Ports.{Sight, record_in}
 use Rattle.scc_proto.proofs.PortLaws.{did_nothing, seat_kept}
 use Rattle.put_get.specs.Cores.{Private}
-use Rattle.sync_flags.specs.Tries.{Aim, NoTry, Vain, Fruitful, Tried}
+use Rattle.sync_flags.specs.Tries.{Aim, NoTry, Tried}
 use Rattle.send_recv.specs.Ops.{SlotAt, slot_left, slot_left_by}
 use Rattle.send_recv.specs.Sending.{IsSameOrEmpty, SlotDoes, SlotStands, SlotTurned, slot_spot_by}
 use Rattle.send_recv.specs.Steps.{moves_on}
@@ -30,7 +30,7 @@ use Rattle.rcce_ue.specs.Turns.{AloneDoes, Behind, IsStill, Turns, Within, slot_
 use Rattle.rcce_ue.specs.Ues.{UeView, entered}
 use Rattle.rcce_ue.specs.declared.calls.Open.TheVariants.{Nothing}
 use Rattle.rcce_ue.proofs.EnterLemmas.{entered_left, entered_tied, holds_none}
-use Rattle.rcce_ue.proofs.KeepLemmas.{begun_at, behind_by, kept_tied, not_over, parity_kept, unless_below, unless_falls, unless_one}
+use Rattle.rcce_ue.proofs.KeepLemmas.{begun_at, behind_by, kept_tied, no_try, not_over, parity_kept, turned_by, unless_below, unless_falls, unless_one}
 use Rattle.rcce_ue.proofs.MeasureLemmas.{falls}
 use Rattle.rcce_ue.proofs.PathLemmas.{goes_on, stood_went}
 use Rattle.rcce_ue.proofs.RecvTurns.{none_stored}
@@ -65,11 +65,6 @@ no_spot LineFlags own true = refl
 no_spot LineFlags own false = refl
 no_spot BitFlags own true = refl
 no_spot BitFlags own false = refl
-
-no_try : (events : List Event) (spot : Spot) → Tried None events (Some spot) → ⊥
-no_try events spot (NoTry none waits) = absurd (cc)
-no_try events spot (Vain at is one vain waits) = absurd (cc)
-no_try events spot (Fruitful at is one vain waits) = absurd (cc)
 
 slot_tries : (layout : Layout) (own : ℕ) (to : Option ℕ) (seen : Bool) (events : List Event) (spot : Spot) → Tried (aim_at layout (slot_spot_by layout own to seen)) events (Some spot) → is_none to ≡ false
 slot_tries layout own None seen events spot tried = absurd (no_try events spot (subst (λ (o : Option Spot). Tried (aim_at layout o) events (Some spot)) (no_spot layout own seen) tried))
@@ -129,27 +124,15 @@ module _ (ue : UeView) (s : Sight) (tied : Tied (record ue { op = Nothing }) s) 
         tied = entered_tied (record ue { machine = record ue.machine { local = v } }) s tied.last (begun_at ue.machine v tied.begun) tied.setup_is tied.rank_is
             (stood_went (started ue.machine.script ue.machine.rank) (record_in s) ue.machine.local tied.last (record_in s) tied.stood on v is refl)
             free tied.hands tied.room tied.posted_is tied.target tied.sent_is tied.bytes_are;
-        turned = record {
-          events = [];
-          did = did_nothing s;
-          does = does_nothing (record ue { op = Nothing }) s true (is_stopped ue.machine.local) (is_ended (local_next ue.machine.local)) open_still;
-          program = (refl, refl, refl);
-          tried = NoTry (aim_none (is_stopped ue.machine.local) (is_ended (local_next ue.machine.local)) _ open_still) refl;
-          rests = λ spot same. absurd (cc);
-          only = tt;
-          means = (
-            let most = entered_left (record ue { machine = record ue.machine { local = v } }) (begun_at ue.machine v tied.begun) in
-                let rest = falls ue.machine.setup ue.machine.rank ue.machine.local (Goes v) is in
-                let less : slot_left ue.slot + rest_of ue.machine.setup ue.machine.rank v < left_of (record ue { op = Nothing }) =
-                unless_below (is_stopped ue.machine.local) _ _ on (omega (arith, rest)) in
-                omega (arith, most, less),
-            not_over (record ue { op = Nothing }) on open_still,
-            Behind (behind_by ue.machine.local v (Goes v) is refl) refl,
-          );
-          heap = refl;
-          drafts = none_stored s.seat.setup ue.core [] refl;
-          held = NoLoad refl;
-        };
+        turned = turned_by (record ue { op = Nothing }) s (gone_ue (Goes v)) s turn.Moved [] (did_nothing s) (does_nothing (record ue { op = Nothing }) s true (is_stopped ue.machine.local) (is_ended (local_next ue.machine.local)) open_still) (refl, refl, refl) (NoTry (aim_none (is_stopped ue.machine.local) (is_ended (local_next ue.machine.local)) _ open_still) refl) (λ spot same. absurd (cc)) tt (
+          let most = entered_left (record ue { machine = record ue.machine { local = v } }) (begun_at ue.machine v tied.begun) in
+              let rest = falls ue.machine.setup ue.machine.rank ue.machine.local (Goes v) is in
+              let less : slot_left ue.slot + rest_of ue.machine.setup ue.machine.rank v < left_of (record ue { op = Nothing }) =
+              unless_below (is_stopped ue.machine.local) _ _ on (omega (arith, rest)) in
+              omega (arith, most, less),
+          not_over (record ue { op = Nothing }) on open_still,
+          Behind (behind_by ue.machine.local v (Goes v) is refl) refl,
+        ) refl (none_stored s.seat.setup ue.core [] refl) (NoLoad refl);
       }
   goes_by (Posts message v) is going = absurd (cc)
   goes_by (Sends to head bytes v) is going = absurd (cc)
@@ -163,19 +146,8 @@ module _ (ue : UeView) (s : Sight) (tied : Tied (record ue { op = Nothing }) s) 
   pub stopped_done : is_stopped ue.machine.local ≡ true → Turns (record ue { op = Nothing }) s (record ue { op = Nothing }) s turn.Done
   stopped_done stopped = record {
     tied = tied;
-    turned = record {
-      events = [];
-      did = did_nothing s;
-      does = does_stopped (record ue { op = Nothing }) s true (is_stopped ue.machine.local) (is_ended (local_next ue.machine.local)) stopped;
-      program = (refl, refl, refl);
-      tried = NoTry (aim_stopped (is_stopped ue.machine.local) (is_ended (local_next ue.machine.local)) _ stopped) refl;
-      rests = λ spot same. absurd (cc);
-      only = tt;
-      means = (refl, refl, over_first (is_stopped ue.machine.local) _ stopped, ap (λ (n : Next Local). is_going n) (stopped_ends ue.machine.local stopped));
-      heap = refl;
-      drafts = none_stored s.seat.setup ue.core [] refl;
-      held = NoLoad refl;
-    };
+    turned = turned_by (record ue { op = Nothing }) s (record ue { op = Nothing }) s turn.Done [] (did_nothing s) (does_stopped (record ue { op = Nothing }) s true (is_stopped ue.machine.local) (is_ended (local_next ue.machine.local)) stopped) (refl, refl, refl) (NoTry (aim_stopped (is_stopped ue.machine.local) (is_ended (local_next ue.machine.local)) _ stopped) refl) (λ spot same. absurd (cc)) tt
+        (refl, refl, over_first (is_stopped ue.machine.local) _ stopped, ap (λ (n : Next Local). is_going n) (stopped_ends ue.machine.local stopped)) refl (none_stored s.seat.setup ue.core [] refl) (NoLoad refl);
   }
 
   -- a UE of which at most its slot is left
@@ -204,23 +176,11 @@ module _ (ue : UeView) (s : Sight) (tied : Tied (record ue { op = Nothing }) s) 
           let fewer = r.means.0 in
           record {
             tied = kept turn.Moved r r.means.1;
-            turned = record {
-              events = r.events;
-              did = r.did;
-              does = slot_did turn.Moved r;
-              program = (refl, refl, refl);
-              tried = tried_slot turn.Moved r;
-              rests = r.rests;
-              only = r.only;
-              means = (
-                unless_falls (is_stopped ue.machine.local) _ _ on (omega (arith, fewer)),
-                over_full (is_stopped ue.machine.local) (is_ended (local_next ue.machine.local)) (is_none ue.slot.to) on (slot_full ue.slot.to ue.slot.seen (slot_left now) fewer),
-                Within refl (unless_one (is_stopped ue.machine.local) _ _ on (omega (arith, fewer))),
-              );
-              heap = r.rest.heap;
-              drafts = none_stored s.seat.setup ue.core r.events r.no_drafts;
-              held = r.held;
-            };
+            turned = turned_by (record ue { op = Nothing }) s slot_ue t turn.Moved r.events r.did (slot_did turn.Moved r) (refl, refl, refl) (tried_slot turn.Moved r) r.rests r.only (
+              unless_falls (is_stopped ue.machine.local) _ _ on (omega (arith, fewer)),
+              over_full (is_stopped ue.machine.local) (is_ended (local_next ue.machine.local)) (is_none ue.slot.to) on (slot_full ue.slot.to ue.slot.seen (slot_left now) fewer),
+              Within refl (unless_one (is_stopped ue.machine.local) _ _ on (omega (arith, fewer))),
+            ) r.rest.heap (none_stored s.seat.setup ue.core r.events r.no_drafts) r.held;
           }
 
       pub slot_waited : (spot : Spot) → SlotTurned (with_slot s ue.core ue.slot) (with_slot t d now) (turn.Waiting spot) → Turns (record ue { op = Nothing }) s slot_ue t (turn.Waiting spot)
@@ -228,26 +188,14 @@ module _ (ue : UeView) (s : Sight) (tied : Tied (record ue { op = Nothing }) s) 
           let still : IsStill (record ue { op = Nothing }) slot_ue = (λ i. record ue { core = d; slot = r.means i; op = Nothing }) in
           record {
             tied = kept (turn.Waiting spot) r (inr (ap (λ (x : SlotAt). x.to) r.means));
-            turned = record {
-              events = r.events;
-              did = r.did;
-              does = slot_did (turn.Waiting spot) r;
-              program = (refl, refl, refl);
-              tried = tried_slot (turn.Waiting spot) r;
-              rests = r.rests;
-              only = r.only;
-              means = (
-                still,
-                ap left_of still,
-                record { stage = r.stage; post = r.post (ap (λ (x : SlotAt). x.to) r.means); rest = r.rest; calls = r.calls },
-                over_full (is_stopped ue.machine.local) (is_ended (local_next ue.machine.local)) (is_none ue.slot.to) on
-                    (slot_tries s.seat.setup.layout (host_of s.seat.setup.hosts s.seat.rank) ue.slot.to ue.slot.seen r.events spot r.tried),
-                idle,
-              );
-              heap = r.rest.heap;
-              drafts = none_stored s.seat.setup ue.core r.events r.no_drafts;
-              held = r.held;
-            };
+            turned = turned_by (record ue { op = Nothing }) s slot_ue t (turn.Waiting spot) r.events r.did (slot_did (turn.Waiting spot) r) (refl, refl, refl) (tried_slot (turn.Waiting spot) r) r.rests r.only (
+              still,
+              ap left_of still,
+              record { stage = r.stage; post = r.post (ap (λ (x : SlotAt). x.to) r.means); rest = r.rest; calls = r.calls },
+              over_full (is_stopped ue.machine.local) (is_ended (local_next ue.machine.local)) (is_none ue.slot.to) on
+                  (slot_tries s.seat.setup.layout (host_of s.seat.setup.hosts s.seat.rank) ue.slot.to ue.slot.seen r.events spot r.tried),
+              idle,
+            ) r.rest.heap (none_stored s.seat.setup ue.core r.events r.no_drafts) r.held;
           }
 
       pub slot_done : SlotTurned (with_slot s ue.core ue.slot) (with_slot t d now) turn.Done → Turns (record ue { op = Nothing }) s slot_ue t turn.Done
@@ -255,24 +203,12 @@ module _ (ue : UeView) (s : Sight) (tied : Tied (record ue { op = Nothing }) s) 
           let nothing = r.nothing refl in
           record {
             tied = kept turn.Done r (inl (ap (λ (x : SlotAt). x.to) r.means.1 ∙ r.means.0));
-            turned = record {
-              events = r.events;
-              did = r.did;
-              does = slot_did turn.Done r;
-              program = (refl, refl, refl);
-              tried = tried_slot turn.Done r;
-              rests = r.rests;
-              only = r.only;
-              means = (
-                (λ i. record ue { core = nothing.1 i; slot = r.means.1 i; op = Nothing }),
-                nothing.0,
-                over_both (is_stopped ue.machine.local) (is_ended (local_next ue.machine.local)) (is_none ue.slot.to) ended (ap (λ (o : Option ℕ). is_none o) r.means.0),
-                idle,
-              );
-              heap = r.rest.heap;
-              drafts = none_stored s.seat.setup ue.core r.events r.no_drafts;
-              held = r.held;
-            };
+            turned = turned_by (record ue { op = Nothing }) s slot_ue t turn.Done r.events r.did (slot_did turn.Done r) (refl, refl, refl) (tried_slot turn.Done r) r.rests r.only (
+              (λ i. record ue { core = nothing.1 i; slot = r.means.1 i; op = Nothing }),
+              nothing.0,
+              over_both (is_stopped ue.machine.local) (is_ended (local_next ue.machine.local)) (is_none ue.slot.to) ended (ap (λ (o : Option ℕ). is_none o) r.means.0),
+              idle,
+            ) r.rest.heap (none_stored s.seat.setup ue.core r.events r.no_drafts) r.held;
           }
 
       -- a turn of the slot, whatever it answers

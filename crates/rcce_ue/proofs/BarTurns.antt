@@ -35,60 +35,32 @@ use Rattle.barrier.specs.declared.stages.BarStage.{BarStage}
 use Rattle.barrier.specs.declared.stages.BarStage.TheVariants as stage
 use Rattle.script_plain.specs.Collectives.{started}
 use Rattle.script_plain.specs.Local.{Local, local_next}
-use Rattle.script_plain.specs.Moves.{is_ended, is_stopped, passed}
-use Rattle.script_plain.specs.Next.{Next, is_going}
-use Rattle.script_plain.specs.Next.Next.{Ends, Goes, Posts, Sends, Recvs, Bars}
+use Rattle.script_plain.specs.Moves.{is_stopped, passed}
+use Rattle.script_plain.specs.Next.{Next}
+use Rattle.script_plain.specs.Next.Next.{Bars}
 use Rattle.rcce_ue.specs.Left.{left_of, next_bound, rest_of}
 use Rattle.rcce_ue.specs.Standing.{IsBarOf, IsFree, Tied, keeping}
-use Rattle.rcce_ue.specs.Turns.{Behind, IsStill, Turns, Within}
+use Rattle.rcce_ue.specs.Turns.{Behind, IsStill, Turns}
 use Rattle.rcce_ue.specs.Ues.{UeView, entered}
 use Rattle.rcce_ue.specs.declared.calls.Open.TheVariants.{Meeting}
 use Rattle.rcce_ue.proofs.CountLemmas.{bytes_same, sends_same}
 use Rattle.rcce_ue.proofs.EnterLemmas.{entered_left, entered_tied, holds_none}
-use Rattle.rcce_ue.proofs.KeepLemmas.{begun_at, behind_by, hands_kept, kept_tied, not_over, unless_below, unless_falls, unless_one}
+use Rattle.rcce_ue.proofs.KeepLemmas.{begun_at, behind_by, hands_kept, is_calling, kept_tied, moved_within, not_at_end, not_ended, not_going, no_try, not_over, turned_by, unless_below, unless_one}
 use Rattle.rcce_ue.proofs.MeasureLemmas.{falls}
 use Rattle.rcce_ue.proofs.PathLemmas.{goes_on, stood_met}
 
--- a barrier stands next
-next_there : (op : BarAt) (n : Next Local) → IsBarOf op n → n ≡ Ends → ⊥
-next_there op Ends of = λ same. of
-next_there op (Goes after) of = λ same. of
-next_there op (Posts message after) of = λ same. of
-next_there op (Sends to head bytes after) of = λ same. of
-next_there op (Recvs from head take_in refuse) of = λ same. of
-next_there op (Bars comm after) of = λ same. absurd (cc)
-
-not_ended : (op : BarAt) (n : Next Local) → IsBarOf op n → is_ended n ≡ false
-not_ended op Ends of = absurd of
-not_ended op (Goes after) of = refl
-not_ended op (Posts message after) of = refl
-not_ended op (Sends to head bytes after) of = refl
-not_ended op (Recvs from head take_in refuse) of = refl
-not_ended op (Bars comm after) of = refl
-
-not_going : (op : BarAt) (n : Next Local) → IsBarOf op n → is_going n ≡ false
-not_going op Ends of = absurd of
-not_going op (Goes after) of = absurd of
-not_going op (Posts message after) of = refl
-not_going op (Sends to head bytes after) of = refl
-not_going op (Recvs from head take_in refuse) of = refl
-not_going op (Bars comm after) of = refl
+-- a call stands next
+calls_next : (op : BarAt) (n : Next Local) → IsBarOf op n → is_calling n ≡ true
+calls_next op (Bars comm after) of = refl
+calls_next op _ of = absurd of
 
 open_of : (op : BarAt) (n : Next Local) → IsBarOf op n → is_finished op.stage ≡ false
-open_of op Ends of = absurd of
-open_of op (Goes after) of = absurd of
-open_of op (Posts message after) of = absurd of
-open_of op (Sends to head bytes after) of = absurd of
-open_of op (Recvs from head take_in refuse) of = absurd of
 open_of op (Bars comm after) of = of.1
+open_of op _ of = absurd of
 
 still_of : (op now : BarAt) (n : Next Local) → now.comm ≡ op.comm → is_finished now.stage ≡ false → IsBarOf op n → IsBarOf now n
-still_of op now Ends same on of = of
-still_of op now (Goes after) same on of = of
-still_of op now (Posts message after) same on of = of
-still_of op now (Sends to head bytes after) same on of = of
-still_of op now (Recvs from head take_in refuse) same on of = of
 still_of op now (Bars comm after) same on of = (same ∙ of.0, on)
+still_of op now _ same on of = absurd of
 
 -- ---- the events of a turn
 
@@ -109,11 +81,6 @@ held_by seat comm stage.Finished value s t c d events on did does = absurd (cc)
 -- a turn that waits has looked
 looked_rests : (s t : Sight) (c d : Private) (events : List Event) (place : WordAt) (found : ℕ) → Did s events t → LooksAt s c place found t d → list_all is_resting events ≡ true
 looked_rests s t c d events place found did looks = ap (list_all is_resting) (same_events s t events (loads_of (line_of_word place) looks.words) did looks.looks.did)
-
-no_try : (events : List Event) (spot : Spot) → Tried None events (Some spot) → ⊥
-no_try events spot (NoTry none waits) = absurd (cc)
-no_try events spot (Vain at is one vain waits) = absurd (cc)
-no_try events spot (Fruitful at is one vain waits) = absurd (cc)
 
 rests_by : (seat : Seat) (comm : ℕ) (at : BarStage) (value : ℕ) (s t : Sight) (c d : Private) (events : List Event) (spot : Spot) → Did s events t → Does seat comm at value s c t d
     → Tried (aim_at seat comm at value) events (Some spot) → list_all is_resting events ≡ true
@@ -183,8 +150,11 @@ module _ (ue : UeView) (s t : Sight) (op : BarAt) (tied : Tied (record ue { op =
   of_next : IsBarOf op (local_next ue.machine.local)
   of_next = tied.stands.1
 
+  at_call : is_calling (local_next ue.machine.local) ≡ true
+  at_call = calls_next op (local_next ue.machine.local) of_next
+
   on : is_stopped ue.machine.local ≡ false
-  on = goes_on ue.machine.local (next_there op (local_next ue.machine.local) of_next)
+  on = goes_on ue.machine.local (not_at_end (local_next ue.machine.local) at_call)
 
   module _ (d : Private) (now : BarAt) (values : List Bool) (stands : BarStands t d now values) where
     abbrev Turned : Turn → Type 0
@@ -215,23 +185,8 @@ module _ (ue : UeView) (s t : Sight) (op : BarAt) (tied : Tied (record ue { op =
     pub bar_moved : Turned turn.Moved → Turns (record ue { op = Meeting op }) s later_bar t turn.Moved
     bar_moved r = record {
       tied = kept turn.Moved r r.means.3 r.means.1;
-      turned = record {
-        events = r.events;
-        did = r.did;
-        does = r.does;
-        program = (refl, refl, refl);
-        tried = r.tried;
-        rests = λ spot same. absurd (cc);
-        only = tt;
-        means = (
-          unless_falls (is_stopped ue.machine.local) _ _ on (omega (arith, one)),
-          not_over (record ue { op = Meeting op }) on (not_ended op (local_next ue.machine.local) of_next),
-          Within refl (unless_one (is_stopped ue.machine.local) _ _ on one),
-        );
-        heap = r.rest.heap;
-        drafts = drafts_here turn.Moved r;
-        held = held_here turn.Moved r;
-      };
+      turned = turned_by (record ue { op = Meeting op }) s later_bar t turn.Moved r.events r.did r.does (refl, refl, refl) r.tried (λ spot same. absurd (cc)) tt
+          (moved_within (record ue { op = Meeting op }) later_bar s t on (not_ended (local_next ue.machine.local) at_call) refl (unless_one (is_stopped ue.machine.local) _ _ on one)) r.rest.heap (drafts_here turn.Moved r) (held_here turn.Moved r);
     }
       where
         one : (slot_left ue.slot + 1 + lefts ue.machine.setup ue.machine.rank op) + (rest_of ue.machine.setup ue.machine.rank ue.machine.local - (1 + next_bound ue.machine.setup ue.machine.rank (local_next ue.machine.local)))
@@ -246,19 +201,8 @@ module _ (ue : UeView) (s t : Sight) (op : BarAt) (tied : Tied (record ue { op =
         let still : IsStill (record ue { op = Meeting op }) later_bar = (λ i. record ue { core = d; parity = values; op = Meeting (r.means.0 i) }) in
         record {
           tied = kept (turn.Waiting spot) r (ap (λ (x : BarAt). is_finished x.stage) r.means.0 ∙ open_of op (local_next ue.machine.local) of_next) (ap (λ (x : Record). x.calls) r.means.1);
-          turned = record {
-            events = r.events;
-            did = r.did;
-            does = r.does;
-            program = (refl, refl, refl);
-            tried = r.tried;
-            rests = λ at same. rests_by s.seat op.comm op.stage (flag_value (value_at values op.comm)) s t ue.core d r.events spot r.did r.does r.tried;
-            only = only_by s.seat op.comm op.stage (flag_value (value_at values op.comm)) s t ue.core d r.events spot r.did r.does r.tried;
-            means = (still, ap left_of still, at_rest (record_in s) (record_in t) r.means.1, not_over (record ue { op = Meeting op }) on (not_ended op (local_next ue.machine.local) of_next), not_going op (local_next ue.machine.local) of_next);
-            heap = r.rest.heap;
-            drafts = drafts_here (turn.Waiting spot) r;
-            held = held_here (turn.Waiting spot) r;
-          };
+          turned = turned_by (record ue { op = Meeting op }) s later_bar t (turn.Waiting spot) r.events r.did r.does (refl, refl, refl) r.tried (λ at same. rests_by s.seat op.comm op.stage (flag_value (value_at values op.comm)) s t ue.core d r.events spot r.did r.does r.tried) (only_by s.seat op.comm op.stage (flag_value (value_at values op.comm)) s t ue.core d r.events spot r.did r.does r.tried)
+              (still, ap left_of still, at_rest (record_in s) (record_in t) r.means.1, not_over (record ue { op = Meeting op }) on (not_ended (local_next ue.machine.local) at_call), not_going (local_next ue.machine.local) at_call) r.rest.heap (drafts_here (turn.Waiting spot) r) (held_here (turn.Waiting spot) r);
         }
 
     -- the UE after the turn that ends the barrier
@@ -279,11 +223,6 @@ module _ (ue : UeView) (s t : Sight) (op : BarAt) (tied : Tied (record ue { op =
           }
 
       done_by : (n : Next Local) → local_next ue.machine.local ≡ n → Turns (record ue { op = Meeting op }) s (done_bar n) t turn.Moved
-      done_by Ends is = absurd (subst (IsBarOf op) is of_next)
-      done_by (Goes v) is = absurd (subst (IsBarOf op) is of_next)
-      done_by (Posts message v) is = absurd (subst (IsBarOf op) is of_next)
-      done_by (Sends to head bytes v) is = absurd (subst (IsBarOf op) is of_next)
-      done_by (Recvs from head take_in refuse) is = absurd (subst (IsBarOf op) is of_next)
       done_by (Bars comm v) is =
           let of = subst (IsBarOf op) is of_next in
           let calls : (record_in t).calls ≡ (record_in s).calls ++ Bar comm ∷ [] =
@@ -295,29 +234,18 @@ module _ (ue : UeView) (s t : Sight) (op : BarAt) (tied : Tied (record ue { op =
                 free (hands_kept (record_in s) (record_in t) r.rest.registers tied.hands) tied.room tied.posted_is tied.target
                 (sends_same (record_in s).calls (record_in t).calls _ ue.sent calls refl tied.sent_is)
                 (bytes_same (record_in s).calls (record_in t).calls _ ue.sent_bytes calls refl tied.bytes_are);
-            turned = record {
-              events = r.events;
-              did = r.did;
-              does = r.does;
-              program = (refl, refl, refl);
-              tried = r.tried;
-              rests = λ spot same. absurd (cc);
-              only = tt;
-              means = (
-                let most = entered_left (record ue { machine = record ue.machine { local = v }; core = d; parity = values }) (begun_at ue.machine v tied.begun) in
-                    let rest = falls ue.machine.setup ue.machine.rank ue.machine.local (Bars comm v) is in
-                    let bound = ap (next_bound ue.machine.setup ue.machine.rank) is in
-                    let less : slot_left ue.slot + rest_of ue.machine.setup ue.machine.rank v < left_of (record ue { op = Meeting op }) =
-                    unless_below (is_stopped ue.machine.local) _ _ on (omega (arith, rest, bound)) in
-                    omega (arith, most, less),
-                not_over (record ue { op = Meeting op }) on (not_ended op (local_next ue.machine.local) of_next),
-                Behind (behind_by ue.machine.local v (Bars comm v) is refl) refl,
-              );
-              heap = r.rest.heap;
-              drafts = drafts_here turn.Done r;
-              held = held_here turn.Done r;
-            };
+            turned = turned_by (record ue { op = Meeting op }) s (done_bar (Bars comm v)) t turn.Moved r.events r.did r.does (refl, refl, refl) r.tried (λ spot same. absurd (cc)) tt (
+              let most = entered_left (record ue { machine = record ue.machine { local = v }; core = d; parity = values }) (begun_at ue.machine v tied.begun) in
+                  let rest = falls ue.machine.setup ue.machine.rank ue.machine.local (Bars comm v) is in
+                  let bound = ap (next_bound ue.machine.setup ue.machine.rank) is in
+                  let less : slot_left ue.slot + rest_of ue.machine.setup ue.machine.rank v < left_of (record ue { op = Meeting op }) =
+                  unless_below (is_stopped ue.machine.local) _ _ on (omega (arith, rest, bound)) in
+                  omega (arith, most, less),
+              not_over (record ue { op = Meeting op }) on (not_ended (local_next ue.machine.local) at_call),
+              Behind (behind_by ue.machine.local v (Bars comm v) is refl) refl,
+            ) r.rest.heap (drafts_here turn.Done r) (held_here turn.Done r);
           }
+      done_by _ is = absurd (subst (IsBarOf op) is of_next)
 
       pub bar_done : Turns (record ue { op = Meeting op }) s (done_bar (local_next ue.machine.local)) t turn.Moved
       bar_done = done_by (local_next ue.machine.local) refl

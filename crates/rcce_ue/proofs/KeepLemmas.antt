@@ -1,25 +1,83 @@
 -- What turns have in common: a UE that is in the midst of a call stays there, or comes to what stands next.
-use Rattle.std.proofs.Common.{◌≡◌, ℕ, ◌+◌, ◌<◌, ◌%◌, ◌&&◌, ◌||◌, Bool, true, false, List, length, Option, None, refl, sym, ap, subst, ◌∙◌, inl, inr, sum_by}
-use Rattle.std.specs.List.{count_by}
+use Rattle.std.proofs.Common.{◌≡◌, ℕ, ◌+◌, ◌<◌, ◌%◌, ◌&&◌, ◌||◌, Bool, true, false, List, length, Option, Some, None, refl, sym, ap, subst, ◌∙◌, inl, inr, sum_by, arith}
+use Rattle.std.specs.List.{count_by, list_all}
+use Rattle.std.proofs.lemmas.Bool.{true≢false}
 use Rattle.scc_base.specs.Calls.{DataCall}
-use Rattle.scc_proto.specs.Ports.{Seat, Sight, record_in}
+use Rattle.scc_base.specs.declared.events.Event.{Event}
+use Rattle.scc_base.specs.declared.events.Spot.{Spot}
+use Rattle.scc_base.specs.declared.events.Turn.{Turn}
+use Rattle.scc_base.specs.declared.events.Turn.TheVariants as turn
+use Rattle.scc_proto.specs.Ports.{Did, Seat, Sight, record_in}
+use Rattle.scc_proto.specs.Resting.{is_resting}
 use Rattle.scc_proto.specs.Stages.{FlagWords, Record}
 use Rattle.put_get.specs.Cores.{Private}
 use Rattle.send_recv.specs.Ops.{SlotAt, slot_left, slot_left_by}
 use Rattle.send_recv.specs.Sending.{IsSameOrEmpty, SlotStands}
+use Rattle.send_recv.specs.Steps.{moves_on}
+use Rattle.send_recv.specs.Tries.{aim_at}
+use Rattle.send_recv.specs.Turns.{LastHeld, OnlyTries, StoresFromBuffer, waits_at}
+use Rattle.sync_flags.specs.Tries.{NoTry, Vain, Fruitful, Tried}
 use Rattle.barrier.specs.Flags.{IsParityOf}
 use Rattle.script_plain.specs.Collectives.{started}
 use Rattle.script_plain.specs.Local.{Local, local_next}
 use Rattle.script_plain.specs.Machine.{MachineView}
 use Rattle.script_plain.specs.Moves.{is_ended, is_stopped}
-use Rattle.script_plain.specs.Next.{Next}
+use Rattle.script_plain.specs.Next.{Next, is_going}
+use Rattle.script_plain.specs.Next.Next.{Ends, Goes, Posts, Sends, Recvs, Bars}
 use Rattle.script_plain.specs.declared.posts.Posted.{Posted}
-use Rattle.rcce_ue.specs.Left.{unless}
+use Rattle.rcce_ue.specs.Left.{left_of, unless}
 use Rattle.rcce_ue.specs.Standing.{IsLastTarget, OpStands, Tied, bytes_sent}
-use Rattle.rcce_ue.specs.Turns.{IsBehind, is_over}
+use Rattle.rcce_ue.specs.Turns.{IsBehind, UeDoes, UeMeans, UeTurned, Within, is_over, ue_aim}
 use Rattle.rcce_ue.specs.Ues.{IsBegun, UeView, counted, is_sending}
 use Rattle.rcce_ue.specs.declared.calls.Open.{Open}
 use Rattle.rcce_ue.proofs.PathLemmas.{stood_kept}
+
+-- whether a call stands next
+abbrev pub is_calling : Next Local → Bool
+is_calling Ends = false
+is_calling (Goes after) = false
+is_calling (Posts message after) = true
+is_calling (Sends to head bytes after) = true
+is_calling (Recvs from head take_in refuse) = true
+is_calling (Bars comm after) = true
+
+-- so the program is not at its end, and no statement of the rank's own stands next
+pub not_at_end : (n : Next Local) → is_calling n ≡ true → n ≡ Ends → ⊥
+not_at_end n calls same = true≢false (sym calls ∙ ap (λ (x : Next Local). is_calling x) same)
+
+pub not_ended : (n : Next Local) → is_calling n ≡ true → is_ended n ≡ false
+not_ended Ends calls = absurd (cc)
+not_ended _ calls = refl
+
+pub not_going : (n : Next Local) → is_calling n ≡ true → is_going n ≡ false
+not_going (Goes after) calls = absurd (cc)
+not_going _ calls = refl
+
+-- a turn that tries for nothing waits nowhere
+pub no_try : (events : List Event) (spot : Spot) → Tried None events (Some spot) → ⊥
+no_try events spot (NoTry none waits) = absurd (cc)
+no_try events spot (Vain at is one vain waits) = absurd (cc)
+no_try events spot (Fruitful at is one vain waits) = absurd (cc)
+
+-- a turn of a UE, by what the turn of its call was
+pub turned_by : (ue : UeView) (s : Sight) (now : UeView) (t : Sight) (answer : Turn) (events : List Event) → Did s events t → UeDoes ue s now.parity ue.op (moves_on answer) t now.core
+    → (now.machine.script ≡ ue.machine.script) × (now.machine.setup ≡ ue.machine.setup) × (now.machine.rank ≡ ue.machine.rank) → Tried (ue_aim s.seat ue now.parity) events (waits_at answer)
+    → ((spot : Spot) → answer ≡ turn.Waiting spot → list_all is_resting events ≡ true) → OnlyTries (aim_at s.seat.setup.layout (waits_at answer)) events
+    → UeMeans ue s now t answer → (record_in t).heap ≡ (record_in s).heap → StoresFromBuffer s.seat.setup ue.core events → LastHeld events ue.core.evictions now.core
+    → UeTurned ue s now t answer
+turned_by ue s now t answer events did does program tried rests only means heap drafts held = record {
+  events = events;
+  did = did;
+  does = does;
+  program = program;
+  tried = tried;
+  rests = rests;
+  only = only;
+  means = means;
+  heap = heap;
+  drafts = drafts;
+  held = held;
+}
 
 -- a machine that holds something else
 pub begun_at : (m : MachineView) (u : Local) → IsBegun m → IsBegun (record m { local = u })
@@ -74,6 +132,15 @@ unless_falls false n m on less = less
 pub unless_one : (b : Bool) (n m : ℕ) → b ≡ false → n ≡ m + 1 → unless b n ≡ unless b m + 1
 unless_one true n m on one = absurd (cc)
 unless_one false n m on one = one
+
+-- a turn within a call: one turn fewer is left
+one_fewer : (n m : ℕ) → m ≡ n + 1 → n < m
+one_fewer n m is = omega (arith, is)
+
+pub moved_within : (ue now : UeView) (s t : Sight) → is_stopped ue.machine.local ≡ false → is_ended (local_next ue.machine.local) ≡ false → now.machine ≡ ue.machine → left_of ue ≡ left_of now + 1
+    → UeMeans ue s now t turn.Moved
+moved_within ue now s t on next same one =
+    (one_fewer (left_of now) (left_of ue) one, not_over ue on next, Within same one)
 
 -- what stands next is behind
 pub behind_by : (u v : Local) (n : Next Local) → local_next u ≡ n → IsBehind n v → IsBehind (local_next u) v

@@ -24,61 +24,33 @@ use Rattle.send_recv.proofs.Starts.{slot_stays}
 use Rattle.std.specs.List.{count_by, list_all}
 use Rattle.script_plain.specs.Collectives.{started}
 use Rattle.script_plain.specs.Local.{Local, local_next}
-use Rattle.script_plain.specs.Moves.{is_ended, is_stopped, length_in, refused, taken}
-use Rattle.script_plain.specs.Next.{Next, is_going}
-use Rattle.script_plain.specs.Next.Next.{Ends, Goes, Posts, Sends, Recvs, Bars}
+use Rattle.script_plain.specs.Moves.{is_stopped, length_in, refused, taken}
+use Rattle.script_plain.specs.Next.{Next}
+use Rattle.script_plain.specs.Next.Next.{Recvs}
 use Rattle.script_plain.proofs.OwnWays.StoppedLaws.{refused_stops}
 use Rattle.rcce_ue.specs.Left.{left_of, next_bound, rest_of, unless}
 use Rattle.rcce_ue.specs.Standing.{IsFree, IsRecvOf, Tied, bytes_sent, keeping}
-use Rattle.rcce_ue.specs.Turns.{Behind, IsStill, Turns, Within}
+use Rattle.rcce_ue.specs.Turns.{Behind, IsStill, Turns}
 use Rattle.rcce_ue.specs.Ues.{UeView, counted, entered, is_sending}
 use Rattle.rcce_ue.specs.declared.calls.Open.TheVariants.{Receiving}
 use Rattle.rcce_ue.proofs.CountLemmas.{bytes_same, sends_same}
 use Rattle.rcce_ue.proofs.EnterLemmas.{entered_left, entered_tied}
-use Rattle.rcce_ue.proofs.KeepLemmas.{begun_at, behind_by, hands_kept, kept_tied, not_over, parity_kept, unless_below, unless_falls, unless_one}
+use Rattle.rcce_ue.proofs.KeepLemmas.{begun_at, behind_by, hands_kept, is_calling, kept_tied, moved_within, not_at_end, not_ended, not_going, not_over, parity_kept, turned_by, unless_below, unless_one}
 use Rattle.rcce_ue.proofs.MeasureLemmas.{falls}
 use Rattle.rcce_ue.proofs.PathLemmas.{goes_on, stood_got, stood_refused}
 
--- a receive stands next
-next_there : (op : RecvAt) (n : Next Local) → IsRecvOf op n → n ≡ Ends → ⊥
-next_there op Ends of = λ same. of
-next_there op (Goes after) of = λ same. of
-next_there op (Posts message after) of = λ same. of
-next_there op (Sends to head bytes after) of = λ same. of
-next_there op (Recvs from head take_in refuse) of = λ same. absurd (cc)
-next_there op (Bars comm after) of = λ same. of
-
-not_ended : (op : RecvAt) (n : Next Local) → IsRecvOf op n → is_ended n ≡ false
-not_ended op Ends of = absurd of
-not_ended op (Goes after) of = refl
-not_ended op (Posts message after) of = refl
-not_ended op (Sends to head bytes after) of = refl
-not_ended op (Recvs from head take_in refuse) of = refl
-not_ended op (Bars comm after) of = refl
-
-not_going : (op : RecvAt) (n : Next Local) → IsRecvOf op n → is_going n ≡ false
-not_going op Ends of = absurd of
-not_going op (Goes after) of = absurd of
-not_going op (Posts message after) of = refl
-not_going op (Sends to head bytes after) of = refl
-not_going op (Recvs from head take_in refuse) of = refl
-not_going op (Bars comm after) of = refl
+-- a call stands next
+calls_next : (op : RecvAt) (n : Next Local) → IsRecvOf op n → is_calling n ≡ true
+calls_next op (Recvs from head take_in refuse) of = refl
+calls_next op _ of = absurd of
 
 open_of : (op : RecvAt) (n : Next Local) → IsRecvOf op n → is_received op.stage ≡ false
-open_of op Ends of = absurd of
-open_of op (Goes after) of = absurd of
-open_of op (Posts message after) of = absurd of
-open_of op (Sends to head bytes after) of = absurd of
 open_of op (Recvs from head take_in refuse) of = of.2
-open_of op (Bars comm after) of = absurd of
+open_of op _ of = absurd of
 
 still_of : (op now : RecvAt) (n : Next Local) → (now.from ≡ op.from) × (now.head ≡ op.head) → is_received now.stage ≡ false → IsRecvOf op n → IsRecvOf now n
-still_of op now Ends same on of = of
-still_of op now (Goes after) same on of = of
-still_of op now (Posts message after) same on of = of
-still_of op now (Sends to head bytes after) same on of = of
 still_of op now (Recvs from head take_in refuse) same on of = (same.0 ∙ of.0, same.1 ∙ of.1, on)
-still_of op now (Bars comm after) same on of = of
+still_of op now _ same on of = absurd of
 
 -- the call that is finished
 got_call : (op : RecvAt) (from : ℕ) (head : MessageHead) (bytes : List ℕ) → op.from ≡ from → op.head ≡ head → is_received op.stage ≡ false → recv_call op bytes ≡ Recv from head bytes ∷ []
@@ -92,8 +64,11 @@ module _ (ue : UeView) (s t : Sight) (op : RecvAt) (tied : Tied (record ue { op 
   of_next : IsRecvOf op (local_next ue.machine.local)
   of_next = tied.stands.1
 
+  at_call : is_calling (local_next ue.machine.local) ≡ true
+  at_call = calls_next op (local_next ue.machine.local) of_next
+
   on : is_stopped ue.machine.local ≡ false
-  on = goes_on ue.machine.local (next_there op (local_next ue.machine.local) of_next)
+  on = goes_on ue.machine.local (not_at_end (local_next ue.machine.local) at_call)
 
   -- the front of the inbox that the message fills
   abbrev front_of : List ℕ → List ℕ
@@ -116,23 +91,8 @@ module _ (ue : UeView) (s t : Sight) (op : RecvAt) (tied : Tied (record ue { op 
     pub recv_moved : Turned receive.Moved → Turns (record ue { op = Receiving op }) s later_recv t turn.Moved
     recv_moved r = record {
       tied = kept receive.Moved r r.means.3 r.means.1;
-      turned = record {
-        events = r.events;
-        did = r.did;
-        does = r.does;
-        program = (refl, refl, refl);
-        tried = r.tried;
-        rests = λ spot same. absurd (cc);
-        only = tt;
-        means = (
-          unless_falls (is_stopped ue.machine.local) _ _ on (omega (arith, one)),
-          not_over (record ue { op = Receiving op }) on (not_ended op (local_next ue.machine.local) of_next),
-          Within refl (unless_one (is_stopped ue.machine.local) _ _ on one),
-        );
-        heap = r.rest.heap;
-        drafts = none_stored s.seat.setup ue.core r.events r.no_drafts;
-        held = r.held;
-      };
+      turned = turned_by (record ue { op = Receiving op }) s later_recv t turn.Moved r.events r.did r.does (refl, refl, refl) r.tried (λ spot same. absurd (cc)) tt
+          (moved_within (record ue { op = Receiving op }) later_recv s t on (not_ended (local_next ue.machine.local) at_call) refl (unless_one (is_stopped ue.machine.local) _ _ on one)) r.rest.heap (none_stored s.seat.setup ue.core r.events r.no_drafts) r.held;
     }
       where
         one : (slot_left ue.slot + 1 + recv_left (chunk_of ue.machine.setup) op) + (rest_of ue.machine.setup ue.machine.rank ue.machine.local - (1 + next_bound ue.machine.setup ue.machine.rank (local_next ue.machine.local)))
@@ -146,19 +106,8 @@ module _ (ue : UeView) (s t : Sight) (op : RecvAt) (tied : Tied (record ue { op 
         let still : IsStill (record ue { op = Receiving op }) later_recv = (λ i. record ue { core = d; inbox = inbox; op = Receiving (r.means.0 i) }) in
         record {
           tied = kept (receive.Waiting spot) r (ap (λ (x : RecvAt). is_received x.stage) r.means.0 ∙ open_of op (local_next ue.machine.local) of_next) r.means.2.calls;
-          turned = record {
-            events = r.events;
-            did = r.did;
-            does = r.does;
-            program = (refl, refl, refl);
-            tried = r.tried;
-            rests = λ at same. r.rests spot refl;
-            only = r.only;
-            means = (still, ap left_of still, r.means.2, not_over (record ue { op = Receiving op }) on (not_ended op (local_next ue.machine.local) of_next), not_going op (local_next ue.machine.local) of_next);
-            heap = r.rest.heap;
-            drafts = none_stored s.seat.setup ue.core r.events r.no_drafts;
-            held = r.held;
-          };
+          turned = turned_by (record ue { op = Receiving op }) s later_recv t (turn.Waiting spot) r.events r.did r.does (refl, refl, refl) r.tried (λ at same. r.rests spot refl) r.only
+              (still, ap left_of still, r.means.2, not_over (record ue { op = Receiving op }) on (not_ended (local_next ue.machine.local) at_call), not_going (local_next ue.machine.local) at_call) r.rest.heap (none_stored s.seat.setup ue.core r.events r.no_drafts) r.held;
         }
 
     -- the UE after the turn that ends the receive, or that refuses the message
@@ -187,10 +136,6 @@ module _ (ue : UeView) (s t : Sight) (op : RecvAt) (tied : Tied (record ue { op 
       done_at = subst (λ (at : RecvStage). IsAtStage t.seat (record_in t) d now (front_of inbox) at) r.means.0 stands.at
 
       done_by : (n : Next Local) → local_next ue.machine.local ≡ n → Turns (record ue { op = Receiving op }) s (done_recv n) t turn.Moved
-      done_by Ends is = absurd (subst (IsRecvOf op) is of_next)
-      done_by (Goes v) is = absurd (subst (IsRecvOf op) is of_next)
-      done_by (Posts message v) is = absurd (subst (IsRecvOf op) is of_next)
-      done_by (Sends to head bytes v) is = absurd (subst (IsRecvOf op) is of_next)
       done_by (Recvs from head take_in refuse) is =
           let of = subst (IsRecvOf op) is of_next in
           let asked : length_in (local_next ue.machine.local) ≡ head.len = ap (λ (n : Next Local). length_in n) is in
@@ -207,30 +152,18 @@ module _ (ue : UeView) (s t : Sight) (op : RecvAt) (tied : Tied (record ue { op 
                 (free receive.Done r done_at) (hands_kept (record_in s) (record_in t) r.rest.hold tied.hands) room tied.posted_is tied.target
                 (sends_same (record_in s).calls (record_in t).calls _ ue.sent calls refl tied.sent_is)
                 (bytes_same (record_in s).calls (record_in t).calls _ ue.sent_bytes calls refl tied.bytes_are);
-            turned = record {
-              events = r.events;
-              did = r.did;
-              does = r.does;
-              program = (refl, refl, refl);
-              tried = r.tried;
-              rests = λ spot same. absurd (cc);
-              only = tt;
-              means = (
-                let most = entered_left (record ue { machine = record ue.machine { local = take_in bytes }; core = d; inbox = inbox }) (begun_at ue.machine (take_in bytes) tied.begun) in
-                    let rest = falls ue.machine.setup ue.machine.rank ue.machine.local (Recvs from head take_in refuse) is bytes long in
-                    let bound = ap (next_bound ue.machine.setup ue.machine.rank) is in
-                    let less : slot_left ue.slot + rest_of ue.machine.setup ue.machine.rank (take_in bytes) < left_of (record ue { op = Receiving op }) =
-                    unless_below (is_stopped ue.machine.local) _ _ on (omega (arith, rest, bound)) in
-                    omega (arith, most, less),
-                not_over (record ue { op = Receiving op }) on (not_ended op (local_next ue.machine.local) of_next),
-                Behind (behind_by ue.machine.local (take_in bytes) (Recvs from head take_in refuse) is (inl (bytes, refl))) refl,
-              );
-              heap = r.rest.heap;
-              drafts = none_stored s.seat.setup ue.core r.events r.no_drafts;
-              held = r.held;
-            };
+            turned = turned_by (record ue { op = Receiving op }) s (done_recv (Recvs from head take_in refuse)) t turn.Moved r.events r.did r.does (refl, refl, refl) r.tried (λ spot same. absurd (cc)) tt (
+              let most = entered_left (record ue { machine = record ue.machine { local = take_in bytes }; core = d; inbox = inbox }) (begun_at ue.machine (take_in bytes) tied.begun) in
+                  let rest = falls ue.machine.setup ue.machine.rank ue.machine.local (Recvs from head take_in refuse) is bytes long in
+                  let bound = ap (next_bound ue.machine.setup ue.machine.rank) is in
+                  let less : slot_left ue.slot + rest_of ue.machine.setup ue.machine.rank (take_in bytes) < left_of (record ue { op = Receiving op }) =
+                  unless_below (is_stopped ue.machine.local) _ _ on (omega (arith, rest, bound)) in
+                  omega (arith, most, less),
+              not_over (record ue { op = Receiving op }) on (not_ended (local_next ue.machine.local) at_call),
+              Behind (behind_by ue.machine.local (take_in bytes) (Recvs from head take_in refuse) is (inl (bytes, refl))) refl,
+            ) r.rest.heap (none_stored s.seat.setup ue.core r.events r.no_drafts) r.held;
           }
-      done_by (Bars comm v) is = absurd (subst (IsRecvOf op) is of_next)
+      done_by _ is = absurd (subst (IsRecvOf op) is of_next)
 
       pub recv_done : Turns (record ue { op = Receiving op }) s (done_recv (local_next ue.machine.local)) t turn.Moved
       recv_done = done_by (local_next ue.machine.local) refl
@@ -247,10 +180,6 @@ module _ (ue : UeView) (s t : Sight) (op : RecvAt) (tied : Tied (record ue { op 
       gone n m false is some = absurd (cc)
 
       refused_by : (n : Next Local) → local_next ue.machine.local ≡ n → Turns (record ue { op = Receiving op }) s (refused_recv n sent) t turn.Moved
-      refused_by Ends is = absurd (subst (IsRecvOf op) is of_next)
-      refused_by (Goes v) is = absurd (subst (IsRecvOf op) is of_next)
-      refused_by (Posts message v) is = absurd (subst (IsRecvOf op) is of_next)
-      refused_by (Sends to head bytes v) is = absurd (subst (IsRecvOf op) is of_next)
       refused_by (Recvs from head take_in refuse) is =
           let of = subst (IsRecvOf op) is of_next in
           let other : sent ≢ head = λ same. r.means.4 (same ∙ sym of.1) in
@@ -263,25 +192,13 @@ module _ (ue : UeView) (s t : Sight) (op : RecvAt) (tied : Tied (record ue { op 
                 (free (receive.Mismatch sent) r refused_at) (hands_kept (record_in s) (record_in t) r.rest.hold tied.hands) room tied.posted_is tied.target
                 (tied.sent_is ∙ ap (λ (list : List DataCall). counted (count_by is_sending list)) (sym calls))
                 (tied.bytes_are ∙ ap (λ (list : List DataCall). counted (sum_by bytes_sent list)) (sym calls));
-            turned = record {
-              events = r.events;
-              did = r.did;
-              does = r.does;
-              program = (refl, refl, refl);
-              tried = r.tried;
-              rests = λ spot same. absurd (cc);
-              only = tt;
-              means = (
-                gone _ _ (is_stopped (refuse sent)) (refused_stops ue.machine.local from head sent take_in refuse is) (unless_below (is_stopped ue.machine.local) 0 _ on (omega arith)),
-                not_over (record ue { op = Receiving op }) on (not_ended op (local_next ue.machine.local) of_next),
-                Behind (behind_by ue.machine.local (refuse sent) (Recvs from head take_in refuse) is (inr (sent, refl))) refl,
-              );
-              heap = r.rest.heap;
-              drafts = none_stored s.seat.setup ue.core r.events r.no_drafts;
-              held = r.held;
-            };
+            turned = turned_by (record ue { op = Receiving op }) s (refused_recv (Recvs from head take_in refuse) sent) t turn.Moved r.events r.did r.does (refl, refl, refl) r.tried (λ spot same. absurd (cc)) tt (
+              gone _ _ (is_stopped (refuse sent)) (refused_stops ue.machine.local from head sent take_in refuse is) (unless_below (is_stopped ue.machine.local) 0 _ on (omega arith)),
+              not_over (record ue { op = Receiving op }) on (not_ended (local_next ue.machine.local) at_call),
+              Behind (behind_by ue.machine.local (refuse sent) (Recvs from head take_in refuse) is (inr (sent, refl))) refl,
+            ) r.rest.heap (none_stored s.seat.setup ue.core r.events r.no_drafts) r.held;
           }
-      refused_by (Bars comm v) is = absurd (subst (IsRecvOf op) is of_next)
+      refused_by _ is = absurd (subst (IsRecvOf op) is of_next)
 
       pub recv_refused : Turns (record ue { op = Receiving op }) s (refused_recv (local_next ue.machine.local) sent) t turn.Moved
       recv_refused = refused_by (local_next ue.machine.local) refl

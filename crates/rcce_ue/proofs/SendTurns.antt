@@ -20,63 +20,38 @@ use Rattle.send_recv.proofs.Starts.{slot_left_most}
 use Rattle.script_plain.specs.Collectives.{started}
 use Rattle.script_plain.specs.Local.{Local, local_next}
 use Rattle.script_plain.specs.Machine.{on_its_way}
-use Rattle.script_plain.specs.Moves.{bytes_out, is_ended, is_stopped, passed}
-use Rattle.script_plain.specs.Next.{Next, is_going}
-use Rattle.script_plain.specs.Next.Next.{Ends, Goes, Posts, Sends, Recvs, Bars}
+use Rattle.script_plain.specs.Moves.{bytes_out, is_stopped, passed}
+use Rattle.script_plain.specs.Next.{Next}
+use Rattle.script_plain.specs.Next.Next.{Posts, Sends}
 use Rattle.rcce_ue.specs.Left.{at_end, left_of, next_bound, rest_of}
 use Rattle.rcce_ue.specs.Standing.{IsFree, IsSendOf, Tied, keeping}
-use Rattle.rcce_ue.specs.Turns.{Behind, IsStill, Turns, Within}
+use Rattle.rcce_ue.specs.Turns.{Behind, IsStill, Turns}
 use Rattle.rcce_ue.specs.Ues.{UeView, counted, entered, posted_by}
 use Rattle.rcce_ue.specs.declared.calls.Open.TheVariants.{Sending}
 use Rattle.rcce_ue.proofs.CountLemmas.{bytes_more, sends_more}
 use Rattle.rcce_ue.proofs.EnterLemmas.{entered_left, entered_tied}
-use Rattle.rcce_ue.proofs.KeepLemmas.{begun_at, behind_by, empty_left, hands_kept, kept_tied, not_over, parity_kept, unless_below, unless_falls, unless_one}
+use Rattle.rcce_ue.proofs.KeepLemmas.{begun_at, behind_by, empty_left, hands_kept, is_calling, kept_tied, moved_within, not_at_end, not_ended, not_going, not_over, parity_kept, turned_by, unless_below, unless_one}
 use Rattle.rcce_ue.proofs.MeasureLemmas.{falls}
 use Rattle.rcce_ue.proofs.PathLemmas.{goes_on, stood_left, stood_sent}
 
--- a send or a post stands next
-next_there : (op : SendAt) (n : Next Local) → IsSendOf op n → n ≡ Ends → ⊥
-next_there op Ends of = λ same. of
-next_there op (Goes after) of = λ same. of
-next_there op (Posts message after) of = λ same. absurd (cc)
-next_there op (Sends to head bytes after) of = λ same. absurd (cc)
-next_there op (Recvs from head take refuse) of = λ same. of
-next_there op (Bars comm after) of = λ same. of
-
-not_ended : (op : SendAt) (n : Next Local) → IsSendOf op n → is_ended n ≡ false
-not_ended op Ends of = absurd of
-not_ended op (Goes after) of = refl
-not_ended op (Posts message after) of = refl
-not_ended op (Sends to head bytes after) of = refl
-not_ended op (Recvs from head take refuse) of = refl
-not_ended op (Bars comm after) of = refl
-
-not_going : (op : SendAt) (n : Next Local) → IsSendOf op n → is_going n ≡ false
-not_going op Ends of = absurd of
-not_going op (Goes after) of = absurd of
-not_going op (Posts message after) of = refl
-not_going op (Sends to head bytes after) of = refl
-not_going op (Recvs from head take refuse) of = refl
-not_going op (Bars comm after) of = refl
+-- a call stands next
+calls_next : (op : SendAt) (n : Next Local) → IsSendOf op n → is_calling n ≡ true
+calls_next op (Posts message after) of = refl
+calls_next op (Sends to head bytes after) of = refl
+calls_next op _ of = absurd of
 
 unsent : (op : SendAt) (n : Next Local) → IsSendOf op n → is_sent op.stage ≡ false
-unsent op Ends of = absurd of
-unsent op (Goes after) of = absurd of
 unsent op (Posts message after) of = of.3
 unsent op (Sends to head bytes after) of = of.3
-unsent op (Recvs from head take refuse) of = absurd of
-unsent op (Bars comm after) of = absurd of
+unsent op _ of = absurd of
 
 abbrev IsSameCall : SendAt → SendAt → Type 0
 IsSameCall op now = (now.to ≡ op.to) × (now.head ≡ op.head) × (now.posted ≡ op.posted)
 
 still_of : (op now : SendAt) (n : Next Local) → IsSameCall op now → is_sent now.stage ≡ false → IsSendOf op n → IsSendOf now n
-still_of op now Ends same on of = of
-still_of op now (Goes after) same on of = of
 still_of op now (Posts message after) same on of = (same.0 ∙ of.0, same.1 ∙ of.1, same.2 ∙ of.2, on)
 still_of op now (Sends to head bytes after) same on of = (same.0 ∙ of.0, same.1 ∙ of.1, same.2 ∙ of.2, on)
-still_of op now (Recvs from head take refuse) same on of = of
-still_of op now (Bars comm after) same on of = of
+still_of op now _ same on of = absurd of
 
 -- the call that is finished
 post_call : (op : SendAt) (to : ℕ) (head : MessageHead) (bytes : List ℕ) → op.to ≡ to → op.head ≡ head → op.posted ≡ true → is_sent op.stage ≡ false → send_call op bytes ≡ Post to head bytes ∷ []
@@ -94,8 +69,11 @@ module _ (ue : UeView) (s t : Sight) (op : SendAt) (tied : Tied (record ue { op 
   of_next : IsSendOf op (local_next ue.machine.local)
   of_next = tied.stands.1
 
+  at_call : is_calling (local_next ue.machine.local) ≡ true
+  at_call = calls_next op (local_next ue.machine.local) of_next
+
   on : is_stopped ue.machine.local ≡ false
-  on = goes_on ue.machine.local (next_there op (local_next ue.machine.local) of_next)
+  on = goes_on ue.machine.local (not_at_end (local_next ue.machine.local) at_call)
 
   module _ (d : Private) (now : SendAt) (after : SlotAt) (stands : SendStands t d now after (bytes_out (local_next ue.machine.local))) where
     abbrev Turned : Turn → Type 0
@@ -114,23 +92,8 @@ module _ (ue : UeView) (s t : Sight) (op : SendAt) (tied : Tied (record ue { op 
     pub send_moved : Turned turn.Moved → Turns (record ue { op = Sending op }) s later_send t turn.Moved
     send_moved r = record {
       tied = kept turn.Moved r r.means.3 r.means.1 r.means.4;
-      turned = record {
-        events = r.events;
-        did = r.did;
-        does = r.does;
-        program = (refl, refl, refl);
-        tried = r.tried;
-        rests = r.rests;
-        only = r.only;
-        means = (
-          unless_falls (is_stopped ue.machine.local) _ _ on (omega (arith, one)),
-          not_over (record ue { op = Sending op }) on (not_ended op (local_next ue.machine.local) of_next),
-          Within refl (unless_one (is_stopped ue.machine.local) _ _ on one),
-        );
-        heap = r.rest.heap;
-        drafts = r.drafts;
-        held = r.held;
-      };
+      turned = turned_by (record ue { op = Sending op }) s later_send t turn.Moved r.events r.did r.does (refl, refl, refl) r.tried r.rests r.only
+          (moved_within (record ue { op = Sending op }) later_send s t on (not_ended (local_next ue.machine.local) at_call) refl (unless_one (is_stopped ue.machine.local) _ _ on one)) r.rest.heap r.drafts r.held;
     }
       where
         one : (at_end op.posted + send_left ue.machine.setup.layout (chunk_of ue.machine.setup) op ue.slot) + (rest_of ue.machine.setup ue.machine.rank ue.machine.local - (1 + next_bound ue.machine.setup ue.machine.rank (local_next ue.machine.local)))
@@ -145,19 +108,8 @@ module _ (ue : UeView) (s t : Sight) (op : SendAt) (tied : Tied (record ue { op 
         let still : IsStill (record ue { op = Sending op }) later_send = (λ i. record ue { core = d; slot = r.means.1 i; op = Sending (r.means.0 i) }) in
         record {
           tied = kept (turn.Waiting spot) r (ap (λ (x : SendAt). is_sent x.stage) r.means.0 ∙ unsent op (local_next ue.machine.local) of_next) r.means.2.calls (inr (ap (λ (x : SlotAt). x.to) r.means.1));
-          turned = record {
-            events = r.events;
-            did = r.did;
-            does = r.does;
-            program = (refl, refl, refl);
-            tried = r.tried;
-            rests = r.rests;
-            only = r.only;
-            means = (still, ap left_of still, r.means.2, not_over (record ue { op = Sending op }) on (not_ended op (local_next ue.machine.local) of_next), not_going op (local_next ue.machine.local) of_next);
-            heap = r.rest.heap;
-            drafts = r.drafts;
-            held = r.held;
-          };
+          turned = turned_by (record ue { op = Sending op }) s later_send t (turn.Waiting spot) r.events r.did r.does (refl, refl, refl) r.tried r.rests r.only
+              (still, ap left_of still, r.means.2, not_over (record ue { op = Sending op }) on (not_ended (local_next ue.machine.local) at_call), not_going (local_next ue.machine.local) at_call) r.rest.heap r.drafts r.held;
         }
 
     -- the UE after the turn that ends the call
@@ -192,8 +144,6 @@ module _ (ue : UeView) (s t : Sight) (op : SendAt) (tied : Tied (record ue { op 
           unless_below (is_stopped ue.machine.local) _ _ on (omega (arith, rest, same, less))
 
       done_by : (n : Next Local) → local_next ue.machine.local ≡ n → Turns (record ue { op = Sending op }) s (done_send n) t turn.Moved
-      done_by Ends is = absurd (subst (IsSendOf op) is of_next)
-      done_by (Goes v) is = absurd (subst (IsSendOf op) is of_next)
       done_by (Posts message v) is =
           let of = subst (IsSendOf op) is of_next in
           let out : bytes_out (local_next ue.machine.local) ≡ message.bytes = ap (λ (n : Next Local). bytes_out n) is in
@@ -209,26 +159,14 @@ module _ (ue : UeView) (s t : Sight) (op : SendAt) (tied : Tied (record ue { op 
                 (inr (filled op ue.slot after message.to r.means.1 of.0 of.2 of.3))
                 (sends_more (record_in s).calls (record_in t).calls _ ue.sent calls refl tied.sent_is)
                 (bytes_more (record_in s).calls (record_in t).calls _ ue.sent_bytes (length message.bytes) calls refl tied.bytes_are);
-            turned = record {
-              events = r.events;
-              did = r.did;
-              does = r.does;
-              program = (refl, refl, refl);
-              tried = r.tried;
-              rests = λ spot same. absurd (cc);
-              only = tt;
-              means = (
-                let most = entered_left (record ue { machine = record ue.machine { local = v }; core = d; slot = after; posted = Some (on_its_way message); sent = counted (ue.sent + 1); sent_bytes = counted (ue.sent_bytes + length message.bytes) }) (begun_at ue.machine v tied.begun) in
-                    let less = done_left v (message_bound ue.machine.setup.layout message.head.len) (falls ue.machine.setup ue.machine.rank ue.machine.local (Posts message v) is)
-                    (sym (ap (next_bound ue.machine.setup ue.machine.rank) is)) (omega (arith, few, posted)) in
-                    omega (arith, most, less),
-                not_over (record ue { op = Sending op }) on (not_ended op (local_next ue.machine.local) of_next),
-                Behind (behind_by ue.machine.local v (Posts message v) is refl) refl,
-              );
-              heap = r.rest.heap;
-              drafts = r.drafts;
-              held = r.held;
-            };
+            turned = turned_by (record ue { op = Sending op }) s (done_send (Posts message v)) t turn.Moved r.events r.did r.does (refl, refl, refl) r.tried (λ spot same. absurd (cc)) tt (
+              let most = entered_left (record ue { machine = record ue.machine { local = v }; core = d; slot = after; posted = Some (on_its_way message); sent = counted (ue.sent + 1); sent_bytes = counted (ue.sent_bytes + length message.bytes) }) (begun_at ue.machine v tied.begun) in
+                  let less = done_left v (message_bound ue.machine.setup.layout message.head.len) (falls ue.machine.setup ue.machine.rank ue.machine.local (Posts message v) is)
+                  (sym (ap (next_bound ue.machine.setup ue.machine.rank) is)) (omega (arith, few, posted)) in
+                  omega (arith, most, less),
+              not_over (record ue { op = Sending op }) on (not_ended (local_next ue.machine.local) at_call),
+              Behind (behind_by ue.machine.local v (Posts message v) is refl) refl,
+            ) r.rest.heap r.drafts r.held;
           }
       done_by (Sends to head bytes v) is =
           let of = subst (IsSendOf op) is of_next in
@@ -245,29 +183,16 @@ module _ (ue : UeView) (s t : Sight) (op : SendAt) (tied : Tied (record ue { op 
                 free (hands_kept (record_in s) (record_in t) r.rest.hold tied.hands) tied.room tied.posted_is (inl none)
                 (sends_more (record_in s).calls (record_in t).calls _ ue.sent calls refl tied.sent_is)
                 (bytes_more (record_in s).calls (record_in t).calls _ ue.sent_bytes (length bytes) calls refl tied.bytes_are);
-            turned = record {
-              events = r.events;
-              did = r.did;
-              does = r.does;
-              program = (refl, refl, refl);
-              tried = r.tried;
-              rests = λ spot same. absurd (cc);
-              only = tt;
-              means = (
-                let most = entered_left (record ue { machine = record ue.machine { local = v }; core = d; slot = after; sent = counted (ue.sent + 1); sent_bytes = counted (ue.sent_bytes + length bytes) }) (begun_at ue.machine v tied.begun) in
-                    let less = done_left v (message_bound ue.machine.setup.layout head.len) (falls ue.machine.setup ue.machine.rank ue.machine.local (Sends to head bytes v) is)
-                    (sym (ap (next_bound ue.machine.setup ue.machine.rank) is)) (omega (arith, few, posted)) in
-                    omega (arith, most, less),
-                not_over (record ue { op = Sending op }) on (not_ended op (local_next ue.machine.local) of_next),
-                Behind (behind_by ue.machine.local v (Sends to head bytes v) is refl) refl,
-              );
-              heap = r.rest.heap;
-              drafts = r.drafts;
-              held = r.held;
-            };
+            turned = turned_by (record ue { op = Sending op }) s (done_send (Sends to head bytes v)) t turn.Moved r.events r.did r.does (refl, refl, refl) r.tried (λ spot same. absurd (cc)) tt (
+              let most = entered_left (record ue { machine = record ue.machine { local = v }; core = d; slot = after; sent = counted (ue.sent + 1); sent_bytes = counted (ue.sent_bytes + length bytes) }) (begun_at ue.machine v tied.begun) in
+                  let less = done_left v (message_bound ue.machine.setup.layout head.len) (falls ue.machine.setup ue.machine.rank ue.machine.local (Sends to head bytes v) is)
+                  (sym (ap (next_bound ue.machine.setup ue.machine.rank) is)) (omega (arith, few, posted)) in
+                  omega (arith, most, less),
+              not_over (record ue { op = Sending op }) on (not_ended (local_next ue.machine.local) at_call),
+              Behind (behind_by ue.machine.local v (Sends to head bytes v) is refl) refl,
+            ) r.rest.heap r.drafts r.held;
           }
-      done_by (Recvs from head take refuse) is = absurd (subst (IsSendOf op) is of_next)
-      done_by (Bars comm v) is = absurd (subst (IsSendOf op) is of_next)
+      done_by _ is = absurd (subst (IsSendOf op) is of_next)
 
       pub send_done : Turns (record ue { op = Sending op }) s (done_send (local_next ue.machine.local)) t turn.Moved
       send_done = done_by (local_next ue.machine.local) refl

@@ -17,6 +17,8 @@ use Rattle.script_plain.specs.Printed.{Printed}
 use Rattle.script_plain.proofs.Runs.PlainLaws.{length-plain_end}
 use Rattle.script_gen.specs.Outcome.{all_sends, all_sent_bytes, counts_line, message_bytes, printed_sum, script_line, sends_of, sent_bytes_of}
 use Rattle.script_gen.specs.Scripts.{gen_script_of}
+use Rattle.script_gen.proofs.Sums.{bytes_came, sends_came}
+use Rattle.script_gen.proofs.Usual.{AreUsual, gen_short, gen_usual}
 use Rattle.rcce_ue.specs.Standing.{bytes_sent}
 use Rattle.rcce_ue.specs.Ues.{UeView, counted, is_sending}
 use Rattle.chip_run.specs.declared.members.Member.{Member}
@@ -176,16 +178,16 @@ line_by : (nue other seed sends matches bytes lengths total printed : ℕ) → n
     → counts_line nue seed sends bytes total ≡ counts_line other seed matches lengths printed
 line_by nue other seed sends matches bytes lengths total printed n p q r = λ i. counts_line (n i) seed (p i) (q i) (r i)
 
+-- the ranks of a generated script take few steps
+few_steps : (nue s rank : ℕ) → nue ≤ 48 → cost_of (local_start (gen_script_of nue s) rank) ≤ 110001
+few_steps nue s rank few = let short = gen_short nue s rank few in omega (arith, short)
+
 -- the line of what a crew has counted is that of the script's plain meaning
 pub made_line : (script : Script) (seed : ℕ) (crew : List (Member UeView)) (sent : HaveSent script crew) (d : Member UeView) → script.nue ≤ 48 → script ≡ gen_script_of script.nue seed
-    → ((nue s rank : ℕ) → nue ≤ 48 → cost_of (local_start (gen_script_of nue s) rank) ≤ 110001)
-    → ((nue s : ℕ) → all_sends (plain_end (gen_script_of nue s)) ≡ length (plain_matches (gen_script_of nue s)))
-    → ((nue s : ℕ) → all_sent_bytes (plain_end (gen_script_of nue s)) ≡ message_bytes (plain_matches (gen_script_of nue s)))
     → (nue sends bytes total : ℕ) → nue ≡ script.nue → sends ≡ counted (all_sends (plain_end script)) → bytes ≡ counted (all_sent_bytes (plain_end script)) → total ≡ printed_sum (plain_ends script)
     → counts_line nue seed sends bytes total ≡ script_line seed script
-made_line script seed crew sent d most made few messages lengths nue sends bytes total ranks sends_is bytes_is total_is =
-    let short : (rank : ℕ) → cost_of (local_start script rank) ≤ 110001 = λ rank. subst (λ (x : Script). cost_of (local_start x rank) ≤ 110001) (sym made) (few script.nue seed rank most) in
-    let came : all_sends (plain_end script) ≡ length (plain_matches script) = subst (λ (x : Script). all_sends (plain_end x) ≡ length (plain_matches x)) (sym made) (messages script.nue seed) in
-    let whole : all_sent_bytes (plain_end script) ≡ message_bytes (plain_matches script) = subst (λ (x : Script). all_sent_bytes (plain_end x) ≡ message_bytes (plain_matches x)) (sym made) (lengths script.nue seed) in
+made_line script seed crew sent d most made nue sends bytes total ranks sends_is bytes_is total_is =
+    let short : (rank : ℕ) → cost_of (local_start script rank) ≤ 110001 = λ rank. subst (λ (x : Script). cost_of (local_start x rank) ≤ 110001) (sym made) (few_steps script.nue seed rank most) in
+    let usual : AreUsual script.items = subst (λ (x : Script). AreUsual x.items) (sym made) (gen_usual script.nue seed) in
     line_by nue script.nue seed sends (length (plain_matches script)) bytes (message_bytes (plain_matches script)) total (printed_sum (plain_ends script)) ranks
-    (sends_is ∙ sends_whole script crew sent d most short ∙ came) (bytes_is ∙ bytes_whole script crew sent d most short ∙ whole) total_is
+    (sends_is ∙ sends_whole script crew sent d most short ∙ sends_came script usual) (bytes_is ∙ bytes_whole script crew sent d most short ∙ bytes_came script usual) total_is

@@ -23,7 +23,7 @@ use rcce_words::{
     read_script_file, word_at,
 };
 use scc_base::{CoreId, Layout};
-use script_gen::{gen_script, generated_scripts_are_read};
+use script_gen::gen_script;
 use script_reader::{ReadStop, Scripts, read_script};
 use std::alloc::Global;
 
@@ -81,7 +81,6 @@ fn read_made<'a>(alloc: Global, job: Job, seed: u32, text: &[u8]) -> Result<Load
     requires made { text.now ≡ gen_text job.nue seed }
     ensures { (files : FilesView) → LoadsPlan (made_plan job.nue seed) (AsksMade seed job) files files result }
 {
-    generated_scripts_are_read();
     match read_script(alloc, text, job.nue) {
         Ok(script) => Ok(with_setup(job, script, default_hosts(), Some(seed))),
         Err(ReadStop::Memory) => Err(Complaint::Memory),

@@ -8,7 +8,6 @@ use line_cache::Choice;
 use rcce_io::{Sink, WriteFault};
 use rcce_run::Crew;
 use scc_base::Rank;
-use script_gen::{generated_scripts_are_short, sent_messages_came};
 use script_plain::{PrintedItem, UeEnd};
 use script_reader::Scripts;
 use std::marker::Model;
@@ -70,8 +69,6 @@ impl<'s> Run<'s> {
         ensures { Sends (script_line seed self.now.script) (S.seen sink.old) (S.seen sink.new) result }
     {
         self.scripts.acceptance_law();
-        sent_messages_came();
-        generated_scripts_are_short();
         let sends = sends_in(self.scripts, self.crew.as_slice());
         let bytes = sent_bytes_in(self.scripts, self.crew.as_slice());
         let sum = printed_in(self.scripts, self);

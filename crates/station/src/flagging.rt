@@ -1,5 +1,6 @@
 //! Flags in the heap of a station.
 
+use crate::ports::known;
 use crate::stations::Station;
 use line_cache::Evict;
 use mpb_alloc::MallocFault;
@@ -52,7 +53,7 @@ impl<V: Evict> Station<V> {
         ensures seat { (P.sight port.new).seat ≡ (P.sight port.old).seat }
         ensures same { KeepsSlot self.old self.new }
     {
-        let _nue = port.setup().nue();
+        known(port);
         flag_write(&mut self.core, port, at, flag, value, self.polls)
     }
 
@@ -68,7 +69,7 @@ impl<V: Evict> Station<V> {
         ensures seat { (P.sight port.new).seat ≡ (P.sight port.old).seat }
         ensures same { KeepsSlot self.old self.new }
     {
-        let _nue = port.setup().nue();
+        known(port);
         flag_read(&mut self.core, port, at, flag)
     }
 
@@ -92,8 +93,7 @@ impl<V: Evict> Station<V> {
         ensures seat { (P.sight port.new).seat ≡ (P.sight port.old).seat }
         ensures same { KeepsSlot self.old self.new }
     {
-        let _nue = port.setup().nue();
-        let _rank = port.rank();
+        known(port);
         wait_until(&mut self.core, port, flag, want, self.polls)
     }
 }

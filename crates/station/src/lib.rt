@@ -8,6 +8,7 @@ mod meetings;
 mod memory;
 mod messages;
 mod patience;
+mod ports;
 mod posts;
 mod reductions;
 mod stations;

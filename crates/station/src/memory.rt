@@ -1,5 +1,6 @@
 //! Put and get of a station.
 
+use crate::ports::known;
 use crate::stations::Station;
 use line_cache::Evict;
 use put_get::RangeFault;
@@ -36,7 +37,7 @@ impl<V: Evict> Station<V> {
         ensures seat { (P.sight port.new).seat ≡ (P.sight port.old).seat }
         ensures same { KeepsSlot self.old self.new }
     {
-        let _nue = port.setup().nue();
+        known(port);
         let _first = at.first();
         self.core.put(port, to, at, src)
     }
@@ -64,7 +65,7 @@ impl<V: Evict> Station<V> {
         ensures seat { (P.sight port.new).seat ≡ (P.sight port.old).seat }
         ensures same { KeepsSlot self.old self.new }
     {
-        let _nue = port.setup().nue();
+        known(port);
         let _first = at.first();
         self.core.get(port, from, at, dst)
     }

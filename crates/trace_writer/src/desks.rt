@@ -11,7 +11,7 @@ use crate::lines::{EventLine, FirstLines};
 use rcce_io::{Buffer, Sink, TextSource, WriteFault};
 use scc_base::{Event, Rank};
 use std::marker::{Brand, PhantomData};
-use trace_judge::{Judge, Refusal, ruling_law};
+use trace_judge::{Judge, Refusal};
 use trace_run::Witness;
 
 /// Why no more of a trace is written.
@@ -87,7 +87,6 @@ fn tell<S: Sink>(
     ensures told { (before : SinkView) (run : List RankEvent) → HasWritten before judge.old buffer.old (S.seen sink.old) None run
         → HasWritten before judge.new buffer.new (S.seen sink.new) result (run ++ record { rank = rank; event = event.now } ∷ []) }
 {
-    ruling_law();
     match judge.take(rank, event) {
         Ok(_) => {
             let line = EventLine {

@@ -73,13 +73,12 @@ fn comma_before(number: u8) -> &'static str
 }
 
 /// Writes the core of a rank, behind a comma but for the first.
-fn write_host<S: Sink>(sink: &mut S, setup: &Setup, number: u8) -> Result<(), WriteFault>
-    requires { number < setup.now.nue }
-    ensures { Sends (host_words setup.now number) (S.seen sink.old) (S.seen sink.new) result }
+fn write_host<S: Sink>(sink: &mut S, setup: &Setup, rank: Rank) -> Result<(), WriteFault>
+    requires { rank < setup.now.nue }
+    ensures { Sends (host_words setup.now rank) (S.seen sink.old) (S.seen sink.new) result }
 {
-    let _ = setup.nue();
-    let core = setup.core_of(Rank::of(number));
-    let comma = comma_before(number);
+    let core = setup.core_of(rank);
+    let comma = comma_before(rank.number());
     write_texts(sink, &[Text(comma), Number(u64::from(core.number()))])
 }
 
@@ -87,7 +86,7 @@ fn write_hosts<S: Sink>(sink: &mut S, setup: &Setup) -> Result<(), WriteFault>
     ensures { Sends (joined (map (host_words setup.now) (range_with_len 0 setup.now.nue))) (S.seen sink.old) (S.seen sink.new) result }
 {
     for number in 0..setup.nue() {
-        write_host(sink, setup, number)?;
+        write_host(sink, setup, Rank::of(number))?;
     }
     Ok(())
 }

@@ -1,5 +1,6 @@
 use Rattle.std.proofs.Common.{◌≡◌, ◌∙◌, ℕ, Option, Some, ap, length, sym, arith}
 use Rattle.script_plain.specs.Meaning.{keys_of, plain_ends}
+use Rattle.script_plain.proofs.Messages.HeldUpLaws.{explained}
 use Rattle.check_program.specs.Waiting.{cause_at, least_walked, waits_for}
 use Rattle.check_program.specs.declared.causes.Cause.TheVariants as cause
 use Rattle.check_program.proofs.CauseLaws.{answer_means}
@@ -30,9 +31,9 @@ returns-in-Some-clause-gives c =
 pub returns-in-None-clause-means : goal.returns-in-None-clause-means
 returns-in-None-clause-means c =
     answer_means (keys_of c.args.scripts.now) c.args.end.now (plain_ends c.args.scripts.now) c.args.scripts.now.nue c.args.rank (Some c.stop.result) c.requires.ended
-    (many c.args.scripts.now c.args.end.now c.requires.ended) (c.ends_are_explained.ensures.law c.args.scripts.now c.acceptance_law.ensures.whole) c.requires.below (returns-in-None-clause-gives c)
+    (many c.args.scripts.now c.args.end.now c.requires.ended) (explained c.args.scripts.now c.acceptance_law.ensures.whole) c.requires.below (returns-in-None-clause-gives c)
 
 pub returns-in-Some-clause-means : goal.returns-in-Some-clause-means
 returns-in-Some-clause-means c =
     answer_means (keys_of c.args.scripts.now) c.args.end.now (plain_ends c.args.scripts.now) c.args.scripts.now.nue c.args.rank (Some (cause.Cycle c.least.result)) c.requires.ended
-    (many c.args.scripts.now c.args.end.now c.requires.ended) (c.ends_are_explained.ensures.law c.args.scripts.now c.acceptance_law.ensures.whole) c.requires.below (returns-in-Some-clause-gives c)
+    (many c.args.scripts.now c.args.end.now c.requires.ended) (explained c.args.scripts.now c.acceptance_law.ensures.whole) c.requires.below (returns-in-Some-clause-gives c)

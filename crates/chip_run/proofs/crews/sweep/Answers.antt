@@ -1,5 +1,6 @@
-use Rattle.std.proofs.Common.{◌≡◌, ℕ, ◌<◌, length, refl, subst, arith}
+use Rattle.std.proofs.Common.{◌≡◌, ℕ, ◌<◌, length, ap, refl, subst, arith}
 use Rattle.std.specs.List.{range_with_len}
+use Rattle.scc_base.specs.Setups.{SetupView}
 use Rattle.chip_run.specs.Away.{members_of}
 use Rattle.chip_run.specs.Crews.{SweepStands}
 use Rattle.chip_run.specs.Orders.{TurnsOf}
@@ -12,7 +13,8 @@ use Rattle.chip_run.proofs.crews.sweep.Goals as goal
 pub turn_at_home-came-requires : goal.turn_at_home-came-requires
 turn_at_home-came-requires g c =
     let is_crew = c.loop-at.invariant.swept.stands.is_crew in
-    let low : c.loop-at.at < length c.loop-at.crew = omega (arith, c.loop-at-test.true, c.loop-at.auto.at-end, c.loop-at.invariant.swept.stands.goes.count) in
+    let each = c.requires.crew.each in let gives = c.nue-ranks.ensures.gives in let about = ap (λ (s : SetupView). s.nue) c.setup.ensures.gives in
+    let low : c.loop-at.at < length c.loop-at.crew = omega (arith, c.loop-at-test.true, c.loop-at.auto.at-end, c.loop-at.invariant.swept.stands.goes.count, each, gives, about) in
     record {
       whole = is_crew.whole;
       below = let is = c.of.ensures.gives in let each = is_crew.each in omega (arith, low, is, each);
@@ -26,7 +28,8 @@ loop-at-init g c = record { swept = sweep_first (members_of g.W.Worker.conduct) 
 pub loop-at-preserved : goal.loop-at-preserved
 loop-at-preserved g c =
     let stands = c.loop-at.invariant.swept.stands in
-    let low : c.loop-at.at < length c.loop-at.crew = omega (arith, c.loop-at-test.true, c.loop-at.auto.at-end, stands.goes.count) in
+    let each = c.requires.crew.each in let gives = c.nue-ranks.ensures.gives in let about = ap (λ (s : SetupView). s.nue) c.setup.ensures.gives in
+    let low : c.loop-at.at < length c.loop-at.crew = omega (arith, c.loop-at-test.true, c.loop-at.auto.at-end, stands.goes.count, each, gives, about) in
     let turn = one_member g.W.Worker.conduct c.loop-at.chip c.loop-at.crew c.loop-at.at c.of.result c.index-crew-at.result c.turn_at_home-came.new.worker c.turn_at_home-came.new.chip
     c.turn_at_home-came.result stands.is_crew low c.of.ensures.gives c.turn_at_home-came.ensures.turned in
     record {
@@ -38,7 +41,8 @@ loop-at-preserved g c =
 
 pub returns : goal.returns
 returns g c =
-    let all : c.loop-at.at ≡ length c.args.crew.now = omega (arith, c.loop-at-test.false, c.loop-at.auto.at-end) in
+    let each = c.requires.crew.each in let gives = c.nue-ranks.ensures.gives in let about = ap (λ (s : SetupView). s.nue) c.setup.ensures.gives in
+    let all : c.loop-at.at ≡ length c.args.crew.now = omega (arith, c.loop-at-test.false, c.loop-at.auto.at-end, each, gives, about) in
     record {
       swept = subst (λ (n : ℕ). SweepStands (members_of g.W.Worker.conduct) c.loop-at.so_far n c.args.chip.now c.args.crew.now c.loop-at.chip c.loop-at.crew) all c.loop-at.invariant.swept;
       order = subst (λ (n : ℕ). TurnsOf (members_of g.W.Worker.conduct) (range_with_len 0 n) c.args.chip.now c.args.crew.now c.loop-at.chip c.loop-at.crew) all c.loop-at.invariant.order;

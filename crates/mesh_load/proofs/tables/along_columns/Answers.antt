@@ -1,15 +1,12 @@
-use Rattle.std.proofs.Common.{◌+◌, ◌≤◌, ℕ, Bool, get_or, take, arith}
+use Rattle.std.proofs.Common.{arith}
 use Rattle.mesh_load.specs.Mesh.{link_at}
-use Rattle.mesh_load.specs.Tables.{chosen, in_column, total}
-use Rattle.mesh_load.proofs.TableLaws.{chosen_more_le, left_out, taken_in}
+use Rattle.mesh_load.specs.Tables.{in_column}
+use Rattle.mesh_load.proofs.TableLaws.{left_out, sum_within, taken_in}
 use Rattle.mesh_load.proofs.tables.along_columns.Goals as goal
 use Rattle.mesh_load.proofs.tables.along_columns.Goals.{then-is_in_column, else-is_in_column}
 
 pub overflow_add-sum : goal.overflow_add-sum
-overflow_add-sum c =
-    let test : ℕ → Bool = in_column (link_at c.args.x c.args.y c.args.dir) in
-    let bound : chosen test (take c.loop-cell.cell c.args.columns.now) + get_or c.args.columns.now c.loop-cell.cell 0 ≤ total c.args.columns.now = chosen_more_le test c.args.columns.now c.loop-cell.cell in
-    omega (arith, bound, c.loop-cell.invariant, c.requires.few)
+overflow_add-sum c = omega (arith, sum_within (in_column (link_at c.args.x c.args.y c.args.dir)) c.args.columns.now c.loop-cell.cell c.loop-cell.sum c.loop-cell.invariant, c.requires.few)
 
 pub loop-cell-preserved : goal.loop-cell-preserved
 loop-cell-preserved c =
@@ -21,7 +18,4 @@ loop-cell-preserved c =
     ]
 
 pub returns-clause-few : goal.returns-clause-few
-returns-clause-few c =
-    let test : ℕ → Bool = in_column (link_at c.args.x c.args.y c.args.dir) in
-    let bound : chosen test (take c.loop-cell.cell c.args.columns.now) + get_or c.args.columns.now c.loop-cell.cell 0 ≤ total c.args.columns.now = chosen_more_le test c.args.columns.now c.loop-cell.cell in
-    omega (arith, bound, c.loop-cell.invariant, c.requires.few)
+returns-clause-few c = omega (arith, sum_within (in_column (link_at c.args.x c.args.y c.args.dir)) c.args.columns.now c.loop-cell.cell c.loop-cell.sum c.loop-cell.invariant, c.requires.few)

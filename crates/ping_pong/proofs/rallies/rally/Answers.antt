@@ -1,46 +1,31 @@
-use Rattle.std.proofs.Common.{◌≡◌, inl, inr, [], Result, IfErr, IfOk, ap, subst, sym, ◌∙◌, arith}
+use Rattle.std.proofs.Common.{◌≡◌, inl, inr, [], Result, IfErr, IfOk, refl, ap, subst, sym, ◌∙◌}
 use Rattle.std.proofs.lemmas.Result.{IfErr-weaker}
-use Rattle.scc_base.specs.Setups.{SetupView}
 use Rattle.scc_proto.specs.Records.{record_of}
 use Rattle.scc_mesh.specs.AwayRanks.{Ticket}
-use Rattle.scc_mesh.specs.Scenes.{about_in, records_in, sight_away}
+use Rattle.scc_mesh.specs.Scenes.{sight_away}
 use Rattle.station.specs.declared.stops.Stop.{Stop}
 use Rattle.scc_base.specs.Worlds.{world_setup}
 use Rattle.ping_pong.specs.GivingUp.{ServeStops}
 use Rattle.ping_pong.specs.Rallies.{serves}
-use Rattle.ping_pong.proofs.RallyLemmas.{back_same, map_ok, same_calls, seen_same}
+use Rattle.ping_pong.proofs.RallyLemmas.{map_ok, rallied}
 use Rattle.ping_pong.proofs.rallies.rally.Goals as goal
 
 pub returns-in-Ok-clause-seen : goal.returns-in-Ok-clause-seen
 returns-in-Ok-clause-seen g c =
-    let end = c.gather_both.new.chip in
-    let about = c.gather_both.ensures.about in
-    let two : (about_in end).nue ≡ 2 = ap (λ (s : SetupView). s.nue) about in
-    let events_0 = c.gather_both.ensures.first ∙ ap (λ (t : Ticket). t.events) c.into_token-first.ensures.gives in
-    let events_1 = c.gather_both.ensures.second ∙ ap (λ (t : Ticket). t.events) c.into_token-second.ensures.gives in
-    let balls = c.args.balls.now in
-    let seen = c.play-served.new.seen in
-    let back = c.play-served.new.back in
-    let served = subst (λ (r : Result Unit Stop). IfOk r (λ done. (record_of (world_setup 2) 0 c.play-served.new.at_one.ticket.events).calls ≡ serves balls back)) c.in-Ok.is c.play-served.ensures.served in
+    let served = subst (λ (r : Result Unit Stop). IfOk r (λ done. (record_of (world_setup 2) 0 c.play-served.new.at_one.ticket.events).calls ≡ serves c.args.balls.now c.play-served.new.back)) c.in-Ok.is c.play-served.ensures.served in
     map_ok c.play-served.result.1 _ _
-    (λ done hit. seen_same (about_in end) (records_in end) balls seen back (same_calls 0 about events_0 ∙ served) (same_calls 1 about events_1 ∙ hit)
-    (c.play-served.ensures.as_many.0 ∙ c.requires.as_many.0) c.play-served.ensures.as_many.1 (c.agrees.ensures.messages 0 1 (omega (arith, two))))
+    (λ done hit. (rallied c.gather_both.new.chip (world_setup 2) _ _ c.args.balls.now c.play-served.new.seen c.play-served.new.back c.gather_both.ensures.about refl
+    (c.gather_both.ensures.first ∙ ap (λ (t : Ticket). t.events) c.into_token-first.ensures.gives) (c.gather_both.ensures.second ∙ ap (λ (t : Ticket). t.events) c.into_token-second.ensures.gives)
+    c.agrees.ensures.messages served hit (c.play-served.ensures.as_many.0 ∙ c.requires.as_many.0) c.play-served.ensures.as_many.1).0)
     c.play-served.ensures.hit
 
 pub returns-in-Ok-clause-back : goal.returns-in-Ok-clause-back
 returns-in-Ok-clause-back g c =
-    let end = c.gather_both.new.chip in
-    let about = c.gather_both.ensures.about in
-    let two : (about_in end).nue ≡ 2 = ap (λ (s : SetupView). s.nue) about in
-    let events_0 = c.gather_both.ensures.first ∙ ap (λ (t : Ticket). t.events) c.into_token-first.ensures.gives in
-    let events_1 = c.gather_both.ensures.second ∙ ap (λ (t : Ticket). t.events) c.into_token-second.ensures.gives in
-    let balls = c.args.balls.now in
-    let seen = c.play-served.new.seen in
-    let back = c.play-served.new.back in
-    let served = subst (λ (r : Result Unit Stop). IfOk r (λ done. (record_of (world_setup 2) 0 c.play-served.new.at_one.ticket.events).calls ≡ serves balls back)) c.in-Ok.is c.play-served.ensures.served in
+    let served = subst (λ (r : Result Unit Stop). IfOk r (λ done. (record_of (world_setup 2) 0 c.play-served.new.at_one.ticket.events).calls ≡ serves c.args.balls.now c.play-served.new.back)) c.in-Ok.is c.play-served.ensures.served in
     map_ok c.play-served.result.1 _ _
-    (λ done hit. back_same (about_in end) (records_in end) balls seen back (same_calls 0 about events_0 ∙ served) (same_calls 1 about events_1 ∙ hit)
-    (c.play-served.ensures.as_many.0 ∙ c.requires.as_many.0) c.play-served.ensures.as_many.1 (c.agrees.ensures.messages 0 1 (omega (arith, two))) (c.agrees.ensures.messages 1 0 (omega (arith, two))))
+    (λ done hit. (rallied c.gather_both.new.chip (world_setup 2) _ _ c.args.balls.now c.play-served.new.seen c.play-served.new.back c.gather_both.ensures.about refl
+    (c.gather_both.ensures.first ∙ ap (λ (t : Ticket). t.events) c.into_token-first.ensures.gives) (c.gather_both.ensures.second ∙ ap (λ (t : Ticket). t.events) c.into_token-second.ensures.gives)
+    c.agrees.ensures.messages served hit (c.play-served.ensures.as_many.0 ∙ c.requires.as_many.0) c.play-served.ensures.as_many.1).1)
     c.play-served.ensures.hit
 
 pub returns-in-Err-clause-stopped : goal.returns-in-Err-clause-stopped

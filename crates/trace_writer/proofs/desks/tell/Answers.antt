@@ -2,6 +2,7 @@ use Rattle.std.proofs.Common.{[], ◌∷◌, ◌++◌, refl, subst, sym}
 use Rattle.scc_base.specs.Setups.{SetupView}
 use Rattle.scc_proto.specs.Words.{RankEvent}
 use Rattle.trace_judge.specs.Judged.{chip_of}
+use Rattle.trace_judge.proofs.LegalLists.{ruling_told}
 use Rattle.trace_writer.specs.Desks.{WasRefused}
 use Rattle.trace_writer.proofs.DeskLaws.{refused, wrote_by}
 use Rattle.trace_writer.proofs.desks.tell.Goals as goal
@@ -11,7 +12,7 @@ returns-in-Ok-clause-told g c = λ before run writing.
     let e : RankEvent = record { rank = c.args.rank; event = c.args.event.now } in
     wrote_by before (g.S.Sink.seen c.args.sink.now) (g.S.Sink.seen c.gather.new.sink) c.args.judge.now c.take.new.self c.args.buffer.now c.gather.new.buffer run e writing
     c.setup.result.now c.gather.result c.setup.ensures.gives c.in-Ok.ensures.setup c.requires.below c.requires.event
-    ((c.ruling_law.ensures.law (chip_of c.args.judge.now) e).0 (sym c.in-Ok.ensures.refused)) c.in-Ok.ensures.takes c.gather.ensures.gathered
+    (ruling_told (chip_of c.args.judge.now) e (sym c.in-Ok.ensures.refused)) c.in-Ok.ensures.takes c.gather.ensures.gathered
 
 pub returns-in-Err-clause-told : goal.returns-in-Err-clause-told
 returns-in-Err-clause-told g c = λ before run writing.

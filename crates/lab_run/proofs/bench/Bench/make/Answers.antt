@@ -9,34 +9,25 @@ use Rattle.lab_run.proofs.ToldLaws.{begun_told}
 use Rattle.lab_run.proofs.bench.Bench.make.Goals as goal
 
 pub take-requires-clause-stands : goal.take-requires-clause-stands
-take-requires-clause-stands c =
-    let b = c.args.self.now in
-    let step = c.args.step.now in
-    record {
-      bench = begun_bench b.chip c.turn_to.new.self c.of.result (map holds_of b.cores.items) b.holders c.turn_to.ensures.turns c.requires.stands.bench;
-      told = begun_told b.chip c.turn_to.new.self c.of.result step.line step.text b.said.items c.push.new.self.items c.turn_to.ensures.turns
-          (c.in_ok-push.ensures.items ∙ (λ i. b.said.items ++ Begins step.line ((c.in_ok-text.ensures ∙ c.as_slice.ensures) i) ∷ [])) c.requires.stands.told;
-    }
+take-requires-clause-stands c = record {
+  bench = begun_bench c.args.self.now.chip c.turn_to.new.self c.of.result (map holds_of c.args.self.now.cores.items) c.args.self.now.holders c.turn_to.ensures.turns c.requires.stands.bench;
+  told = begun_told c.args.self.now.chip c.turn_to.new.self c.of.result c.args.step.now.line c.args.step.now.text c.args.self.now.said.items c.push.new.self.items c.turn_to.ensures.turns
+      (c.in_ok-push.ensures.items ∙ (λ i. c.args.self.now.said.items ++ Begins c.args.step.now.line ((c.in_ok-text.ensures ∙ c.as_slice.ensures) i) ∷ [])) c.requires.stands.told;
+}
 
 pub free-requires-clause-stands : goal.free-requires-clause-stands
-free-requires-clause-stands c =
-    let b = c.args.self.now in
-    let step = c.args.step.now in
-    record {
-      bench = begun_bench b.chip c.turn_to.new.self c.of.result (map holds_of b.cores.items) b.holders c.turn_to.ensures.turns c.requires.stands.bench;
-      told = begun_told b.chip c.turn_to.new.self c.of.result step.line step.text b.said.items c.push.new.self.items c.turn_to.ensures.turns
-          (c.in_ok-push.ensures.items ∙ (λ i. b.said.items ++ Begins step.line ((c.in_ok-text.ensures ∙ c.as_slice.ensures) i) ∷ [])) c.requires.stands.told;
-    }
+free-requires-clause-stands c = record {
+  bench = begun_bench c.args.self.now.chip c.turn_to.new.self c.of.result (map holds_of c.args.self.now.cores.items) c.args.self.now.holders c.turn_to.ensures.turns c.requires.stands.bench;
+  told = begun_told c.args.self.now.chip c.turn_to.new.self c.of.result c.args.step.now.line c.args.step.now.text c.args.self.now.said.items c.push.new.self.items c.turn_to.ensures.turns
+      (c.in_ok-push.ensures.items ∙ (λ i. c.args.self.now.said.items ++ Begins c.args.step.now.line ((c.in_ok-text.ensures ∙ c.as_slice.ensures) i) ∷ [])) c.requires.stands.told;
+}
 
 pub act-requires-clause-stands : goal.act-requires-clause-stands
-act-requires-clause-stands c =
-    let b = c.args.self.now in
-    let step = c.args.step.now in
-    record {
-      bench = begun_bench b.chip c.turn_to.new.self c.of.result (map holds_of b.cores.items) b.holders c.turn_to.ensures.turns c.requires.stands.bench;
-      told = begun_told b.chip c.turn_to.new.self c.of.result step.line step.text b.said.items c.push.new.self.items c.turn_to.ensures.turns
-          (c.in_ok-push.ensures.items ∙ (λ i. b.said.items ++ Begins step.line ((c.in_ok-text.ensures ∙ c.as_slice.ensures) i) ∷ [])) c.requires.stands.told;
-    }
+act-requires-clause-stands c = record {
+  bench = begun_bench c.args.self.now.chip c.turn_to.new.self c.of.result (map holds_of c.args.self.now.cores.items) c.args.self.now.holders c.turn_to.ensures.turns c.requires.stands.bench;
+  told = begun_told c.args.self.now.chip c.turn_to.new.self c.of.result c.args.step.now.line c.args.step.now.text c.args.self.now.said.items c.push.new.self.items c.turn_to.ensures.turns
+      (c.in_ok-push.ensures.items ∙ (λ i. c.args.self.now.said.items ++ Begins c.args.step.now.line ((c.in_ok-text.ensures ∙ c.as_slice.ensures) i) ∷ [])) c.requires.stands.told;
+}
 
 pub returns-in-Take : goal.returns-in-Take
 returns-in-Take c =

@@ -24,6 +24,5 @@ returns g c =
     let some : 0 < length inside.crew.items = omega (arith, sent.count, c.acceptance_law.ensures.whole.some) in
     let total : c.printed_in-sum.result ≡ printed_sum (plain_ends script) = c.printed_in-sum.ensures ∙ ap (λ (s : Script). printed_sum (plain_ends s)) (sym same) in
     let line = made_line script c.args.seed inside.crew.items sent (some_worker inside.crew.items some) c.acceptance_law.ensures.whole.most made
-    c.generated_scripts_are_short.ensures c.sent_messages_came.ensures.messages c.sent_messages_came.ensures.bytes
     c.nue.result c.sends_in-sends.result c.sent_bytes_in-bytes.result c.printed_in-sum.result c.nue.ensures.same c.sends_in-sends.ensures c.sent_bytes_in-bytes.ensures total in
     subst (λ (text : List ℕ). Sends text (g.S.Sink.seen c.args.sink.now) (g.S.Sink.seen c.write_counts.new.sink) c.write_counts.result) (line ∙ ap (λ (s : Script). script_line c.args.seed s) same) c.write_counts.ensures

@@ -20,14 +20,14 @@ may_write seat rec r f (Some b) set valid lt high leaves none =
 pub flag_write-requires-clause-permitted : goal.flag_write-requires-clause-permitted
 flag_write-requires-clause-permitted g c =
     let s = g.P.Port.sight c.args.port.now in
-    may_write s.seat (record_in s) c.args.at c.args.flag c.args.flag.bit c.args.value (subst IsSetup c.setup.ensures.gives c.nue-nue.ensures.valid) c.requires.below c.requires.heap
+    may_write s.seat (record_in s) c.args.at c.args.flag c.args.flag.bit c.args.value c.known.ensures.valid c.requires.below c.requires.heap
     (ap leaves_heap c.requires.free.messages.between.stage) c.requires.free.registers
 
 pub returns-clause-free : goal.returns-clause-free
 returns-clause-free g c =
     let s = g.P.Port.sight c.args.port.now in
     let free = subst (λ (a : StationAt). NoCallOpen s a) (sym c.self.view_is) c.requires.free in
-    let call = set_call s.seat (subst IsSetup c.setup.ensures.gives c.nue-nue.ensures.valid) c.args.at c.requires.below s _ c.self.inside.core _ refl
+    let call = set_call s.seat c.known.ensures.valid c.args.at c.requires.below s _ c.self.inside.core _ refl
     (ap leaves_heap free.messages.between.stage) free.registers c.args.flag c.requires.heap c.flag_write.ensures.empty c.args.value c.self.inside.polls c.args.flag.bit c.flag_write.result c.flag_write.ensures.writes in
     free_after_heap _ free call.seat_is call.alone call.empty
 
@@ -35,5 +35,5 @@ pub returns-clause-calls : goal.returns-clause-calls
 returns-clause-calls g c =
     let s = g.P.Port.sight c.args.port.now in
     let free = subst (λ (a : StationAt). NoCallOpen s a) (sym c.self.view_is) c.requires.free in
-    (set_call s.seat (subst IsSetup c.setup.ensures.gives c.nue-nue.ensures.valid) c.args.at c.requires.below s _ c.self.inside.core _ refl
+    (set_call s.seat c.known.ensures.valid c.args.at c.requires.below s _ c.self.inside.core _ refl
     (ap leaves_heap free.messages.between.stage) free.registers c.args.flag c.requires.heap c.flag_write.ensures.empty c.args.value c.self.inside.polls c.args.flag.bit c.flag_write.result c.flag_write.ensures.writes).alone.calls

@@ -4,8 +4,7 @@ use Rattle.trace_run.proofs.ports.WitnessedPortPort.take.Goals as goal
 
 pub note-requires-clause-below : goal.note-requires-clause-below
 note-requires-clause-below g c =
-    let t = c.args.self.now in
-    below_seen (g.N.Witness.setup t.witness) (g.N.Witness.noted t.witness) (g.P.Port.sight t.port) c.rank-rank.result t.seen c.rank-rank.ensures.below
+    below_seen (g.N.Witness.setup c.args.self.now.witness) (g.N.Witness.noted c.args.self.now.witness) (g.P.Port.sight c.args.self.now.port) c.rank-rank.result c.args.self.now.seen c.rank-rank.ensures.below
 
 pub invariant_of-self : goal.invariant_of-self
 invariant_of-self g c =
