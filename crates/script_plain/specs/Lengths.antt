@@ -68,5 +68,15 @@ lengths_after l (Finish reg) = with_register l reg l.accumulator
 
 -- how many bytes a primitive prints, if it prints
 abbrev pub printed_length : Lengths → Act → Option ℕ
+printed_length l (Set reg content) = None
+printed_length l (Apply op ty dst src) = None
 printed_length l (Print reg form) = Some (length_at l reg)
-printed_length l _ = None
+printed_length l (Send to head source) = None
+printed_length l (Post to reg) = None
+printed_length l (Recv from reg head) = None
+printed_length l (Gather from head sized) = None
+printed_length l (Bar comm) = None
+printed_length l (Begin reg) = None
+printed_length l (Fold op ty) = None
+printed_length l (Accept reg) = None
+printed_length l (Finish reg) = None
