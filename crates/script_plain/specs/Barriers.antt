@@ -3,15 +3,17 @@
 use Rattle.std.specs.Prelude.{◌≡◌, ℕ, ◌+◌, ◌≤◌, ◌==◌, Bool, false, if◌then◌else◌, Some, slice_get}
 use Rattle.std.specs.List.{count_by}
 use Rattle.scc_base.specs.Calls.{DataCall}
-use Rattle.scc_base.specs.Calls.DataCall.{Bar}
+use Rattle.scc_base.specs.Calls.DataCall.{Send, Recv, Post, Bar}
 use Rattle.script_plain.specs.Meaning.{State, next_of}
 use Rattle.script_plain.specs.Next.{is_at_barrier}
 use Rattle.script_plain.specs.Step.{Configuration}
 
 -- whether a call is a barrier of this communicator
 abbrev pub is_barrier : ℕ → DataCall → Bool
+is_barrier comm (Send to head bytes) = false
+is_barrier comm (Recv from head bytes) = false
+is_barrier comm (Post to head bytes) = false
 is_barrier comm (Bar asked) = asked == comm
-is_barrier comm _ = false
 
 -- how many barriers of a communicator a rank has finished
 abbrev pub finished_barriers : ℕ → State → ℕ

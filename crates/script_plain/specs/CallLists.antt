@@ -8,17 +8,22 @@ use Rattle.script_reader.specs.Script.{Script}
 use Rattle.script_plain.specs.Lengths.{Lengths, length_at, lengths_after, lengths_of, source_length}
 use Rattle.script_plain.specs.Local.{local_start, with_length}
 use Rattle.script_plain.specs.Program.{Act, Prim, program_of}
-use Rattle.script_plain.specs.Program.Act.{Send, Post, Recv, Gather, Bar}
+use Rattle.script_plain.specs.Program.Act.{Set, Own, Send, Post, Recv, Gather, Bar, Begin, Fold, Accept, Finish}
 
 -- the call that a primitive makes where these are the lengths, if it makes one
 abbrev pub called : Lengths → Act → List Call
+called l (Set reg content) = []
+called l (Own own) = []
 called l (Send to head source) = call.Send to (with_length head (source_length l source)) ∷ []
 called l (Post to reg) = call.Post to (plain_head (min (length_at l reg) most_post)) ∷ []
 called l (Recv from reg head) = call.Recv from head ∷ []
 called l (Gather from head None) = call.Recv from head ∷ []
 called l (Gather from head (Some reg)) = call.Recv from (with_length head (length_at l reg)) ∷ []
 called l (Bar comm) = call.Bar comm ∷ []
-called l _ = []
+called l (Begin reg) = []
+called l (Fold op ty) = []
+called l (Accept reg) = []
+called l (Finish reg) = []
 
 -- the calls of primitives that are left where these are the lengths, in order
 abbrev pub calls_from : Lengths → List Prim → List Call

@@ -14,9 +14,9 @@ use Rattle.script_plain.specs.declared.matches.Match.{Match}
 use Rattle.script_plain.specs.Local.{Local, cost_of, local_next}
 use Rattle.script_plain.specs.Matches.{brought, line_of, step_brought}
 use Rattle.script_plain.specs.Next.{Next, call_of, is_going}
-use Rattle.script_plain.specs.Next.Next.{Ends, Posts, Sends, Recvs}
+use Rattle.script_plain.specs.Next.Next.{Ends, Goes, Posts, Sends, Recvs, Bars}
 use Rattle.script_plain.specs.Program.{Act}
-use Rattle.script_plain.specs.Program.Act.{Set, Own, Begin, Fold, Accept, Finish}
+use Rattle.script_plain.specs.Program.Act.{Set, Own, Send, Post, Recv, Gather, Bar, Begin, Fold, Accept, Finish}
 use Rattle.script_plain.specs.Walk.{act_meant}
 use Rattle.script_plain.specs.Step.{Configuration, same_head, all_at_barrier, step_of, lowest_step, run_on}
 
@@ -32,53 +32,89 @@ config cells slots = record { cells = cells; slots = slots }
 
 -- what stands next is a post; this message was posted, and this is the state after it
 abbrev pub IsAtPost : Next Local → Type 0
+IsAtPost Ends = ⊥
+IsAtPost (Goes after) = ⊥
 IsAtPost (Posts message after) = Unit {0}
-IsAtPost _ = ⊥
+IsAtPost (Sends to head bytes after) = ⊥
+IsAtPost (Recvs from head take refuse) = ⊥
+IsAtPost (Bars comm after) = ⊥
 
 -- a rank went past the post that stood next, and left this message behind
 abbrev pub HasPosted : Next Local → Posted → Local → Type 0
+HasPosted Ends posted new = ⊥
+HasPosted (Goes after) posted new = ⊥
 HasPosted (Posts message after) posted new = (posted ≡ message) × (new ≡ after)
-HasPosted _ posted new = ⊥
+HasPosted (Sends to head bytes after) posted new = ⊥
+HasPosted (Recvs from head take refuse) posted new = ⊥
+HasPosted (Bars comm after) posted new = ⊥
 
 -- what stands next is a send; these bytes were sent, and this is the state after it
 abbrev pub IsAtSend : Next Local → Type 0
+IsAtSend Ends = ⊥
+IsAtSend (Goes after) = ⊥
+IsAtSend (Posts message after) = ⊥
 IsAtSend (Sends to head bytes after) = Unit {0}
-IsAtSend _ = ⊥
+IsAtSend (Recvs from head take refuse) = ⊥
+IsAtSend (Bars comm after) = ⊥
 
 -- a rank went past the send that stood next, whose bytes these are
 abbrev pub HasSent : Next Local → List ℕ → Local → Type 0
+HasSent Ends sent new = ⊥
+HasSent (Goes after) sent new = ⊥
+HasSent (Posts message after) sent new = ⊥
 HasSent (Sends to head bytes after) sent new = (sent ≡ bytes) × (new ≡ after)
-HasSent _ sent new = ⊥
+HasSent (Recvs from head take refuse) sent new = ⊥
+HasSent (Bars comm after) sent new = ⊥
 
 -- the bytes that were sent are as many as the head of the send says
 abbrev pub HasLength : Next Local → List ℕ → Type 0
+HasLength Ends sent = ⊥
+HasLength (Goes after) sent = ⊥
+HasLength (Posts message after) sent = ⊥
 HasLength (Sends to head bytes after) sent = length sent ≡ head.len
-HasLength _ sent = ⊥
+HasLength (Recvs from head take refuse) sent = ⊥
+HasLength (Bars comm after) sent = ⊥
 
 -- what stands next is a receive; the state after taking these bytes, or after refusing this head
 abbrev pub IsAtReceive : Next Local → Type 0
+IsAtReceive Ends = ⊥
+IsAtReceive (Goes after) = ⊥
+IsAtReceive (Posts message after) = ⊥
+IsAtReceive (Sends to head bytes after) = ⊥
 IsAtReceive (Recvs from head take refuse) = Unit {0}
-IsAtReceive _ = ⊥
+IsAtReceive (Bars comm after) = ⊥
 
 -- a rank went past the receive that stood next, with these bytes
 abbrev pub HasTaken : Next Local → List ℕ → Local → Type 0
+HasTaken Ends bytes new = ⊥
+HasTaken (Goes after) bytes new = ⊥
+HasTaken (Posts message after) bytes new = ⊥
+HasTaken (Sends to head sent after) bytes new = ⊥
 HasTaken (Recvs from head take refuse) bytes new = new ≡ take bytes
-HasTaken _ bytes new = ⊥
+HasTaken (Bars comm after) bytes new = ⊥
 
 -- a rank was stopped at the receive that stood next, by a message with this head
 abbrev pub HasRefused : Next Local → MessageHead → Local → Type 0
+HasRefused Ends sent new = ⊥
+HasRefused (Goes after) sent new = ⊥
+HasRefused (Posts message after) sent new = ⊥
+HasRefused (Sends to head bytes after) sent new = ⊥
 HasRefused (Recvs from head take refuse) sent new = new ≡ refuse sent
-HasRefused _ sent new = ⊥
+HasRefused (Bars comm after) sent new = ⊥
 
 -- whether a primitive is one of the rank alone
 abbrev pub is_own_act : Act → Bool
 is_own_act (Set reg content) = true
 is_own_act (Own own) = true
+is_own_act (Send to head source) = false
+is_own_act (Post to reg) = false
+is_own_act (Recv from reg head) = false
+is_own_act (Gather from head sized) = false
+is_own_act (Bar comm) = false
 is_own_act (Begin reg) = true
 is_own_act (Fold op ty) = true
 is_own_act (Accept reg) = true
 is_own_act (Finish reg) = true
-is_own_act _ = false
 
 -- whether an action is the rank's own: it needs no other rank
 abbrev pub is_own : Action → Bool
@@ -97,7 +133,11 @@ post_decision (Some earlier) = step.Stays
 abbrev pub match_decision : ℕ → ℕ → MessageHead → Option Posted → Option Call → Step
 match_decision i to head None (Some (call.Recv from asked)) =
     if (from == i) && same_head head asked then step.Matches to else step.Stays
-match_decision i to head _ _ = step.Stays
+match_decision i to head None None = step.Stays
+match_decision i to head None (Some (call.Post other asked)) = step.Stays
+match_decision i to head None (Some (call.Send other asked)) = step.Stays
+match_decision i to head None (Some (call.Bar comm)) = step.Stays
+match_decision i to head (Some earlier) other = step.Stays
 
 -- a receive of rank i takes the message in the sender's slot if it is for i, and refuses it if it has another head
 abbrev pub fetch_decision : ℕ → ℕ → MessageHead → ℕ → MessageHead → Step
@@ -107,10 +147,13 @@ fetch_decision i from asked to sent =
 -- a receive of rank i, by the sender's slot, and by the sender's own call where the slot is empty: that send takes the step
 -- where the heads are the same, and is refused where they are not
 abbrev pub receive_decision : ℕ → ℕ → MessageHead → Option Posted → Option Call → Step
-receive_decision i from asked (Some message) _ = fetch_decision i from asked message.to message.head
+receive_decision i from asked (Some message) other = fetch_decision i from asked message.to message.head
 receive_decision i from asked None (Some (call.Send to head)) =
     if (to == i) && not (same_head head asked) then step.Mismatches head else step.Stays
-receive_decision i from asked None _ = step.Stays
+receive_decision i from asked None None = step.Stays
+receive_decision i from asked None (Some (call.Post to head)) = step.Stays
+receive_decision i from asked None (Some (call.Recv other head)) = step.Stays
+receive_decision i from asked None (Some (call.Bar comm)) = step.Stays
 
 -- a barrier of rank i is passed where i is the first of its group and all of the group stand at it
 abbrev pub barrier_decision : (ℕ → ℕ → ℕ) → List Local → ℕ → ℕ → Step

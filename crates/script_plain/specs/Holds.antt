@@ -39,10 +39,15 @@ HasRoomFor (action.Set reg content) h = reg < length h.registers.rooms → lengt
 HasRoomFor (action.Own (own.Apply op ty dst src)) h = length (held_at h src) ≤ h.spare.room
 HasRoomFor (action.Own (own.Print reg form)) h =
     (length h.prints.items < h.prints.room) × (printed_bytes h.prints.items + length (held_at h reg) ≤ h.prints.bytes)
+HasRoomFor (action.Send to head source) h = Unit {0}
+HasRoomFor (action.Post to reg) h = Unit {0}
+HasRoomFor (action.Recv from reg head) h = Unit {0}
+HasRoomFor (action.Gather from head sized) h = Unit {0}
+HasRoomFor (action.Bar comm) h = Unit {0}
 HasRoomFor (action.Begin reg) h = length (held_at h reg) ≤ h.folded.room
+HasRoomFor (action.Fold op ty) h = Unit {0}
 HasRoomFor (action.Accept reg) h = reg < length h.registers.rooms → length h.taken.bytes ≤ slice_index_or h.registers.rooms reg 0
 HasRoomFor (action.Finish reg) h = reg < length h.registers.rooms → length h.folded.bytes ≤ slice_index_or h.registers.rooms reg 0
-HasRoomFor _ h = Unit {0}
 
 -- what is held after a register was set to these bytes
 abbrev pub held_with : Held → ℕ → List ℕ → Held
@@ -55,12 +60,12 @@ worked (action.Own (own.Apply op ty dst src)) h =
     record (held_with h dst (folded op ty (held_at h dst) (held_at h src))) { spare = record { bytes = held_at h src; room = h.spare.room } }
 worked (action.Own (own.Print reg form)) h =
     record h { prints = record { items = h.prints.items ++ record { reg = reg; form = form; bytes = held_at h reg } ∷ []; room = h.prints.room; bytes = h.prints.bytes } }
-worked (action.Begin reg) h = record h { folded = record { bytes = held_at h reg; room = h.folded.room } }
-worked (action.Fold op ty) h = record h { folded = record { bytes = folded op ty h.folded.bytes h.taken.bytes; room = h.folded.room } }
-worked (action.Accept reg) h = held_with h reg h.taken.bytes
-worked (action.Finish reg) h = held_with h reg h.folded.bytes
 worked (action.Send to head source) h = h
 worked (action.Post to reg) h = h
 worked (action.Recv from reg head) h = h
 worked (action.Gather from head sized) h = h
 worked (action.Bar comm) h = h
+worked (action.Begin reg) h = record h { folded = record { bytes = held_at h reg; room = h.folded.room } }
+worked (action.Fold op ty) h = record h { folded = record { bytes = folded op ty h.folded.bytes h.taken.bytes; room = h.folded.room } }
+worked (action.Accept reg) h = held_with h reg h.taken.bytes
+worked (action.Finish reg) h = held_with h reg h.folded.bytes

@@ -19,8 +19,17 @@ Holds o n = (n ≡ 0) ⊎ (o ≡ Some n)
 
 -- how many bytes the accumulator and the received bytes have behind an act, or none
 abbrev pub folding : (ℕ → Option ℕ) → Option ℕ → Act → Option ℕ
+folding had acc (Act.Set reg content) = acc
+folding had acc (Act.Own own) = acc
+folding had acc (Act.Send to head source) = acc
+folding had acc (Act.Post to reg) = acc
+folding had acc (Act.Recv from reg head) = acc
+folding had acc (Act.Gather from head sized) = acc
+folding had acc (Act.Bar comm) = acc
 folding had acc (Act.Begin reg) = had reg
-folding had acc _ = acc
+folding had acc (Act.Fold op ty) = acc
+folding had acc (Act.Accept reg) = acc
+folding had acc (Act.Finish reg) = acc
 
 -- how many bytes a message has: as its head says, or as many as the named register has
 abbrev pub sized_by : (ℕ → Option ℕ) → MessageHead → Option ℕ → Option ℕ
@@ -29,17 +38,31 @@ sized_by had head (Some reg) = had reg
 
 -- how many bytes the received bytes have behind an act, or none
 abbrev pub gathering : (ℕ → Option ℕ) → Option ℕ → Act → Option ℕ
+gathering had got (Act.Set reg content) = got
+gathering had got (Act.Own own) = got
+gathering had got (Act.Send to head source) = got
+gathering had got (Act.Post to reg) = got
+gathering had got (Act.Recv from reg head) = got
 gathering had got (Act.Gather from head sized) = sized_by had head sized
-gathering had got _ = got
+gathering had got (Act.Bar comm) = got
+gathering had got (Act.Begin reg) = got
+gathering had got (Act.Fold op ty) = got
+gathering had got (Act.Accept reg) = got
+gathering had got (Act.Finish reg) = got
 
 -- an act sets a register to its length, and posts at most one chunk
 abbrev pub Sets : (ℕ → Option ℕ) → Option ℕ → Option ℕ → Act → Type 0
 Sets had acc got (Act.Set reg content) = had reg ≡ Some (length content)
-Sets had acc got (Act.Recv from reg head) = had reg ≡ Some head.len
+Sets had acc got (Act.Own own) = Unit {0}
+Sets had acc got (Act.Send to head source) = Unit {0}
 Sets had acc got (Act.Post to reg) = (n : ℕ) × (had reg ≡ Some n) × (n ≤ most_post)
+Sets had acc got (Act.Recv from reg head) = had reg ≡ Some head.len
+Sets had acc got (Act.Gather from head sized) = Unit {0}
+Sets had acc got (Act.Bar comm) = Unit {0}
+Sets had acc got (Act.Begin reg) = Unit {0}
+Sets had acc got (Act.Fold op ty) = Unit {0}
 Sets had acc got (Act.Accept reg) = had reg ≡ got
 Sets had acc got (Act.Finish reg) = had reg ≡ acc
-Sets had acc got _ = Unit {0}
 
 -- each primitive that is left keeps the lengths that the reader of the script reckoned
 abbrev pub Keeps : (ℕ → Option ℕ) → Option ℕ → Option ℕ → List Prim → Type 0

@@ -2,7 +2,7 @@
 use Rattle.std.specs.Prelude.{◌≡◌, ℕ, ◌==◌, Bool, ◌&&◌, if◌then◌else◌, List, [], ◌∷◌, ◌++◌, Option, Some, None, slice_get}
 use Rattle.std.specs.List.{filter, flat_map}
 use Rattle.scc_base.specs.Calls.{DataCall, Message}
-use Rattle.scc_base.specs.Calls.DataCall.{Send, Recv, Post}
+use Rattle.scc_base.specs.Calls.DataCall.{Send, Recv, Post, Bar}
 use Rattle.script_plain.specs.declared.posts.Posted.{Posted}
 use Rattle.script_plain.specs.Meaning.{State}
 use Rattle.script_plain.specs.Step.{Configuration, slot_at}
@@ -10,13 +10,16 @@ use Rattle.script_plain.specs.Step.{Configuration, slot_at}
 -- the message that a call sends to a rank, a post among them: one, or none
 abbrev pub sent_by : ℕ → DataCall → List Message
 sent_by rank (Send to head bytes) = if to == rank then record { head = head; bytes = bytes } ∷ [] else []
+sent_by rank (Recv from head bytes) = []
 sent_by rank (Post to head bytes) = if to == rank then record { head = head; bytes = bytes } ∷ [] else []
-sent_by rank _ = []
+sent_by rank (Bar comm) = []
 
 -- the message that a call receives from a rank: one, or none
 abbrev pub received_by : ℕ → DataCall → List Message
+received_by rank (Send to head bytes) = []
 received_by rank (Recv from head bytes) = if from == rank then record { head = head; bytes = bytes } ∷ [] else []
-received_by rank _ = []
+received_by rank (Post to head bytes) = []
+received_by rank (Bar comm) = []
 
 -- the messages that calls sent to a rank, posts among them, in order
 abbrev pub sent_to : ℕ → List DataCall → List Message

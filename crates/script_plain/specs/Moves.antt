@@ -14,62 +14,101 @@ use Rattle.script_plain.specs.Next.Next.{Ends, Goes, Posts, Sends, Recvs, Bars}
 -- whether nothing stands next
 abbrev pub is_ended : {U : Type 0} → Next U → Bool
 is_ended Ends = true
-is_ended _ = false
+is_ended (Goes after) = false
+is_ended (Posts message after) = false
+is_ended (Sends to head bytes after) = false
+is_ended (Recvs from head take refuse) = false
+is_ended (Bars comm after) = false
 
 -- whether a send, a post or a barrier stands next: a call with one state after it
 abbrev pub is_passable : {U : Type 0} → Next U → Bool
+is_passable Ends = false
+is_passable (Goes after) = false
 is_passable (Posts message after) = true
 is_passable (Sends to head bytes after) = true
+is_passable (Recvs from head take refuse) = false
 is_passable (Bars comm after) = true
-is_passable _ = false
 
 -- whether a receive stands next
 abbrev pub is_receiving : {U : Type 0} → Next U → Bool
+is_receiving Ends = false
+is_receiving (Goes after) = false
+is_receiving (Posts message after) = false
+is_receiving (Sends to head bytes after) = false
 is_receiving (Recvs from head take refuse) = true
-is_receiving _ = false
+is_receiving (Bars comm after) = false
 
 -- the state after the rank's own statement that stands next
 abbrev pub went : {U : Type 0} → Next U → U → U
+went Ends u = u
 went (Goes after) u = after
-went _ u = u
+went (Posts message after) u = u
+went (Sends to head bytes after) u = u
+went (Recvs from head take refuse) u = u
+went (Bars comm after) u = u
 
 -- the state after the send, the post or the barrier that stands next
 abbrev pub passed : {U : Type 0} → Next U → U → U
+passed Ends u = u
+passed (Goes after) u = u
 passed (Posts message after) u = after
 passed (Sends to head bytes after) u = after
+passed (Recvs from head take refuse) u = u
 passed (Bars comm after) u = after
-passed _ u = u
 
 -- the state after the receive that stands next, with these bytes
 abbrev pub taken : {U : Type 0} → Next U → List ℕ → U → U
+taken Ends bytes u = u
+taken (Goes after) bytes u = u
+taken (Posts message after) bytes u = u
+taken (Sends to head sent after) bytes u = u
 taken (Recvs from head take refuse) bytes u = take bytes
-taken _ bytes u = u
+taken (Bars comm after) bytes u = u
 
 -- the state after the receive that stands next, where a message with this other head came
 abbrev pub refused : {U : Type 0} → Next U → MessageHead → U → U
+refused Ends sent u = u
+refused (Goes after) sent u = u
+refused (Posts message after) sent u = u
+refused (Sends to head bytes after) sent u = u
 refused (Recvs from head take refuse) sent u = refuse sent
-refused _ sent u = u
+refused (Bars comm after) sent u = u
 
 -- the bytes of the send or post that stands next
 abbrev pub bytes_out : {U : Type 0} → Next U → List ℕ
+bytes_out Ends = []
+bytes_out (Goes after) = []
 bytes_out (Posts message after) = message.bytes
 bytes_out (Sends to head bytes after) = bytes
-bytes_out _ = []
+bytes_out (Recvs from head take refuse) = []
+bytes_out (Bars comm after) = []
 
 -- the post that stands next, without its bytes
 abbrev pub post_of : {U : Type 0} → Next U → Option OnItsWay
+post_of Ends = None
+post_of (Goes after) = None
 post_of (Posts message after) = Some (on_its_way message)
-post_of _ = None
+post_of (Sends to head bytes after) = None
+post_of (Recvs from head take refuse) = None
+post_of (Bars comm after) = None
 
 -- the line of the post that stands next
 abbrev pub line_out : {U : Type 0} → Next U → ℕ
+line_out Ends = 0
+line_out (Goes after) = 0
 line_out (Posts message after) = message.line
-line_out _ = 0
+line_out (Sends to head bytes after) = 0
+line_out (Recvs from head take refuse) = 0
+line_out (Bars comm after) = 0
 
 -- how many bytes the receive that stands next asks for
 abbrev pub length_in : {U : Type 0} → Next U → ℕ
+length_in Ends = 0
+length_in (Goes after) = 0
+length_in (Posts message after) = 0
+length_in (Sends to head bytes after) = 0
 length_in (Recvs from head take refuse) = head.len
-length_in _ = 0
+length_in (Bars comm after) = 0
 
 -- whether a rank was stopped by a mismatch
 abbrev pub is_stopped_by : Standing → Bool

@@ -31,15 +31,27 @@ call_of (Bars comm after) = Some (call.Bar comm)
 
 -- whether a statement of the rank alone stands next
 abbrev pub is_going : {U : Type 0} → Next U → Bool
+is_going Ends = false
 is_going (Goes after) = true
-is_going _ = false
+is_going (Posts message after) = false
+is_going (Sends to head bytes after) = false
+is_going (Recvs from head take refuse) = false
+is_going (Bars comm after) = false
 
 -- whether a barrier of this communicator stands next
 abbrev pub is_at_barrier : {U : Type 0} → ℕ → Next U → Bool
+is_at_barrier comm Ends = false
+is_at_barrier comm (Goes after) = false
+is_at_barrier comm (Posts message after) = false
+is_at_barrier comm (Sends to head bytes after) = false
+is_at_barrier comm (Recvs from head take refuse) = false
 is_at_barrier comm (Bars asked after) = asked == comm
-is_at_barrier comm _ = false
 
 -- a state, past the barrier that stands next there
 abbrev pub past_barrier : {U : Type 0} → Next U → U → U
+past_barrier Ends u = u
+past_barrier (Goes after) u = u
+past_barrier (Posts message after) u = u
+past_barrier (Sends to head bytes after) u = u
+past_barrier (Recvs from head take refuse) u = u
 past_barrier (Bars comm after) u = after
-past_barrier _ u = u

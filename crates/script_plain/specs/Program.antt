@@ -119,7 +119,11 @@ part_of o begun step.Finish = Finish o.dst
 -- the step at which a collective call takes up its value
 abbrev pub is_begin : Step → Bool
 is_begin step.Begin = true
-is_begin _ = false
+is_begin (step.Send to head) = false
+is_begin (step.Recv from head) = false
+is_begin step.Fold = false
+is_begin step.Accept = false
+is_begin step.Finish = false
 
 -- whether the steps begin with the source in the accumulator
 abbrev pub begins : List Step → Bool

@@ -8,7 +8,7 @@ use Rattle.script_plain.specs.declared.reckoning.Needs.{Needs}
 use Rattle.script_plain.specs.Lengths.{Lengths, length_at, lengths_after}
 use Rattle.script_plain.specs.Local.{Local}
 use Rattle.script_plain.specs.Program.{Act, Prim}
-use Rattle.script_plain.specs.Program.Act.{Own}
+use Rattle.script_plain.specs.Program.Act.{Set, Own, Send, Post, Recv, Gather, Bar, Begin, Fold, Accept, Finish}
 use Rattle.script_plain.specs.Walk.{WalkView}
 
 -- bytes, and for how many there is room
@@ -58,8 +58,18 @@ pub record Rooms : Type 0 where
 
 -- how many bytes the copy of a register takes that is applied to one
 abbrev pub spare_length : Lengths → Act → ℕ
+spare_length l (Set reg content) = 0
 spare_length l (Own (own.Apply op ty dst src)) = length_at l src
-spare_length l _ = 0
+spare_length l (Own (own.Print reg form)) = 0
+spare_length l (Send to head source) = 0
+spare_length l (Post to reg) = 0
+spare_length l (Recv from reg head) = 0
+spare_length l (Gather from head sized) = 0
+spare_length l (Bar comm) = 0
+spare_length l (Begin reg) = 0
+spare_length l (Fold op ty) = 0
+spare_length l (Accept reg) = 0
+spare_length l (Finish reg) = 0
 
 -- the rooms hold what the primitives bring, one after the other
 abbrev pub AreWithin : Rooms → Lengths → List Prim → Type 0

@@ -44,13 +44,18 @@ post_step c i message after (Some earlier) = None
 abbrev pub match_step : {U : Type 0} → Configuration U → ℕ → ℕ → MessageHead → List ℕ → U → Option Posted → Next U → Option (Configuration U)
 match_step c i j head bytes after None (Recvs from asked take refuse) =
     if (from == i) && same_head head asked then Some (with_cell (with_cell c i after) j (take bytes)) else None
-match_step c i j head bytes after _ _ = None
+match_step c i j head bytes after None Ends = None
+match_step c i j head bytes after None (Goes other) = None
+match_step c i j head bytes after None (Posts message other) = None
+match_step c i j head bytes after None (Sends to sent out other) = None
+match_step c i j head bytes after None (Bars comm other) = None
+match_step c i j head bytes after (Some earlier) next = None
 
 -- a take: rank j stands at a receive from i, and the slot of i holds a message to j with the head that j asks for. j
 -- takes the bytes and goes on, and the slot is empty. A mismatch: the message in the slot of i, or the one that i
 -- stands at sending while its slot is empty, has another head. j refuses it and is stopped, and i and its slot stay.
 abbrev pub receive_step : {U : Type 0} → Configuration U → ℕ → ℕ → MessageHead → (List ℕ → U) → (MessageHead → U) → Option Posted → Next U → Option (Configuration U)
-receive_step c j i asked take refuse (Some message) _ =
+receive_step c j i asked take refuse (Some message) next =
     if message.to == j
     then (if same_head message.head asked
     then Some (with_slot (with_cell c j (take message.bytes)) i None)
@@ -58,7 +63,11 @@ receive_step c j i asked take refuse (Some message) _ =
     else None
 receive_step c j i asked take refuse None (Sends to sent bytes after) =
     if (to == j) && not (same_head sent asked) then Some (with_cell c j (refuse sent)) else None
-receive_step c j i asked take refuse None _ = None
+receive_step c j i asked take refuse None Ends = None
+receive_step c j i asked take refuse None (Goes after) = None
+receive_step c j i asked take refuse None (Posts message after) = None
+receive_step c j i asked take refuse None (Recvs from head more again) = None
+receive_step c j i asked take refuse None (Bars comm after) = None
 
 -- each rank's state changed by the rank's number
 abbrev pub by_rank : {U : Type 0} → (ℕ → U → U) → List U → List U

@@ -27,7 +27,16 @@ content_of (content.Number ty number) = bytes_of ty (pos number)
 -- a register is set to at most as many bytes as a message may have
 abbrev pub IsShort : Action → Type 0
 IsShort (action.Set reg content) = length (content_of content) ≤ most_message
-IsShort _ = Unit {0}
+IsShort (action.Own own) = Unit {0}
+IsShort (action.Send to head source) = Unit {0}
+IsShort (action.Post to reg) = Unit {0}
+IsShort (action.Recv from reg head) = Unit {0}
+IsShort (action.Gather from head sized) = Unit {0}
+IsShort (action.Bar comm) = Unit {0}
+IsShort (action.Begin reg) = Unit {0}
+IsShort (action.Fold op ty) = Unit {0}
+IsShort (action.Accept reg) = Unit {0}
+IsShort (action.Finish reg) = Unit {0}
 
 -- the primitive that is meant
 abbrev pub act_meant : Action → Act

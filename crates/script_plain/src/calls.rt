@@ -99,20 +99,22 @@ impl<'s> Machine<'s> {
         ensures same { result.now ≡ bytes_out (local_next self.now.local) }
         ensures within { length (bytes_out (local_next self.now.local)) ≤ most_message }
     {
-        match self.prim() {
-            Some(
-                Primitive {
-                    action: Action::Send { source, .. },
-                    ..
-                },
-            ) => self.source(*source),
-            Some(
-                Primitive {
-                    action: Action::Post { reg, .. },
-                    ..
-                },
-            ) => self.source(Source::Own { reg: *reg }),
-            _ => &[],
+        let Some(prim) = self.prim() else {
+            return &[];
+        };
+        match &prim.action {
+            Action::Send { source, .. } => self.source(*source),
+            Action::Post { reg, .. } => self.source(Source::Own { reg: *reg }),
+            Action::Set { .. }
+            | Action::Apply { .. }
+            | Action::Print { .. }
+            | Action::Recv { .. }
+            | Action::Gather { .. }
+            | Action::Bar { .. }
+            | Action::Begin { .. }
+            | Action::Fold { .. }
+            | Action::Accept { .. }
+            | Action::Finish { .. } => &[],
         }
     }
 
@@ -139,7 +141,17 @@ impl<'s> Machine<'s> {
                 to: *to,
                 head: self.post_head(*reg),
             }),
-            _ => None,
+            Action::Set { .. }
+            | Action::Apply { .. }
+            | Action::Print { .. }
+            | Action::Send { .. }
+            | Action::Recv { .. }
+            | Action::Gather { .. }
+            | Action::Bar { .. }
+            | Action::Begin { .. }
+            | Action::Fold { .. }
+            | Action::Accept { .. }
+            | Action::Finish { .. } => None,
         }
     }
 
@@ -147,14 +159,22 @@ impl<'s> Machine<'s> {
     pub fn line(&self) -> u32
         ensures { result ≡ line_out (local_next self.now.local) }
     {
-        match self.prim() {
-            Some(
-                Primitive {
-                    line,
-                    action: Action::Post { .. },
-                },
-            ) => *line,
-            _ => 0,
+        let Some(prim) = self.prim() else {
+            return 0;
+        };
+        match &prim.action {
+            Action::Post { .. } => prim.line,
+            Action::Set { .. }
+            | Action::Apply { .. }
+            | Action::Print { .. }
+            | Action::Send { .. }
+            | Action::Recv { .. }
+            | Action::Gather { .. }
+            | Action::Bar { .. }
+            | Action::Begin { .. }
+            | Action::Fold { .. }
+            | Action::Accept { .. }
+            | Action::Finish { .. } => 0,
         }
     }
 
@@ -168,7 +188,16 @@ impl<'s> Machine<'s> {
         match &prim.action {
             Action::Recv { head, .. } => head.len() as usize,
             Action::Gather { head, sized, .. } => self.asked_head(*head, *sized).len() as usize,
-            _ => 0,
+            Action::Set { .. }
+            | Action::Apply { .. }
+            | Action::Print { .. }
+            | Action::Send { .. }
+            | Action::Post { .. }
+            | Action::Bar { .. }
+            | Action::Begin { .. }
+            | Action::Fold { .. }
+            | Action::Accept { .. }
+            | Action::Finish { .. } => 0,
         }
     }
 }

@@ -51,7 +51,7 @@ fn post_of(slots: &[Option<Left>], rank: Rank) -> Step
 {
     match slots.get(rank.number() as usize) {
         Some(Some(_)) => Step::Stays,
-        _ => Step::Posts,
+        Some(None) | None => Step::Posts,
     }
 }
 
@@ -66,7 +66,8 @@ fn match_of(ues: &[Ue], slots: &[Option<Left>], rank: Rank, to: Rank, head: Head
         Some(Call::Recv { from, head: asked }) if *from == rank && head == *asked => {
             Step::Matches { to }
         }
-        _ => Step::Stays,
+        Some(Call::Recv { .. } | Call::Post { .. } | Call::Send { .. } | Call::Bar { .. }) | None =>
+            Step::Stays,
     }
 }
 
@@ -76,7 +77,7 @@ fn receive_of(ues: &[Ue], slots: &[Option<Left>], rank: Rank, from: Rank, asked:
 {
     match slots.get(from.number() as usize) {
         Some(Some(message)) => fetch_of(message.to(), message.head(), rank, from, asked),
-        _ => mismatch_of(ues, rank, from, asked),
+        Some(None) | None => mismatch_of(ues, rank, from, asked),
     }
 }
 
@@ -103,7 +104,8 @@ fn mismatch_of(ues: &[Ue], rank: Rank, from: Rank, asked: Head) -> Step
         Some(Call::Send { to, head: sent }) if *to == rank && *sent != asked => {
             Step::Mismatches { sent: *sent }
         }
-        _ => Step::Stays,
+        Some(Call::Send { .. } | Call::Post { .. } | Call::Recv { .. } | Call::Bar { .. }) | None =>
+            Step::Stays,
     }
 }
 

@@ -221,7 +221,8 @@ fn note(
     match step {
         Step::Matches { to } => matches.push(match_to(setup, ues, slots, rank, *to)),
         Step::Takes { from } => matches.push(take_from(setup, ues, slots, rank, *from)),
-        _ => Ok(()),
+        Step::Stays | Step::Goes | Step::Posts | Step::Mismatches { .. } | Step::Passes { .. } =>
+            Ok(()),
     }
 }
 

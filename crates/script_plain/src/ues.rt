@@ -99,7 +99,7 @@ impl<'s> Ue<'s> {
     {
         match &self.machine.call() {
             Some(Call::Bar { comm: asked }) => *asked == comm,
-            _ => false,
+            Some(Call::Post { .. } | Call::Send { .. } | Call::Recv { .. }) | None => false,
         }
     }
 
