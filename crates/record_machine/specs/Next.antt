@@ -5,6 +5,7 @@ use Rattle.scc_base.specs.Setups.{SetupView}
 use Rattle.scc_base.specs.declared.events.Access.{Access}
 use Rattle.scc_base.specs.declared.events.Access.TheVariants.{Load, Store, Take, Free}
 use Rattle.scc_base.specs.declared.events.Event.{Event}
+use Rattle.scc_base.specs.declared.signals.Signal.{Signal}
 use Rattle.scc_base.specs.declared.signals.Signal.TheVariants.{Sent, Ready}
 use Rattle.scc_proto.specs.Messages.{Notes, begun, head_of, is_whole}
 use Rattle.scc_proto.specs.Moves.{Move, DraftHeader, DraftChunk, RaiseSignal, LookSignal, ReadHeader, ReadChunk, LowerSignal, FlipGather, LookGather, WriteRelease, LookRelease, StoreHeap, NoMove, Misplaced}
@@ -30,11 +31,19 @@ store_allowed size (Between from message) post notes = if is_some (notes from) t
 store_allowed size (Taking from message chunk) post notes = if is_whole size message chunk then may.RaiseReady from else may.ReadChunk from
 store_allowed size (Barrier comm seen released) post notes = may.Meet comm
 
+-- the rank that has taken the post on its way, if one has
+abbrev pub taker_of : Option OnItsWay → Option ℕ
+taker_of None = None
+taker_of (Some post) = if post.is_answered then Some post.to else None
+
 -- whose `ready` may be lowered beside these, for a post that is taken
 abbrev pub ready_allowed : Stage → Option OnItsWay → Option ℕ
+ready_allowed Idle post = taker_of post
+ready_allowed (Drafting header chunk) post = taker_of post
 ready_allowed (Sending to part message chunk) post = None
-ready_allowed stage None = None
-ready_allowed stage (Some post) = if post.is_answered then Some post.to else None
+ready_allowed (Between from message) post = taker_of post
+ready_allowed (Taking from message chunk) post = taker_of post
+ready_allowed (Barrier comm seen released) post = taker_of post
 
 -- the stores that a record allows next
 abbrev pub stores_allowed : SetupView → Record → NextEvent
@@ -62,48 +71,105 @@ allowed_by s rec Free place = next.TakeRegister
 abbrev pub allowed_for : SetupView → Record → Event → NextEvent
 allowed_for s rec e = allowed_by s rec e.access e.place
 
+-- stores of some kinds: words of a message, the heap, a signal's flag raised or lowered at a rank, the flags of a barrier
+pub record StoreKinds : Type 0 where
+  pub header : Bool
+  pub chunk : Bool
+  pub heap : Bool
+  pub raise : Signal → ℕ → Bool
+  pub lower : Signal → ℕ → Bool
+  pub gather : Bool
+  pub release : ℕ → Bool
+
+-- no store
+abbrev pub no_store : StoreKinds
+no_store = record {
+  header = false;
+  chunk = false;
+  heap = false;
+  raise = λ signal rank. false;
+  lower = λ signal rank. false;
+  gather = false;
+  release = λ comm. false;
+}
+
+-- `sent` of one rank alone, or of any
+abbrev pub sent_at : (ℕ → Bool) → Signal → ℕ → Bool
+sent_at test Sent rank = test rank
+sent_at test Ready rank = false
+
+-- `ready` of one rank alone, or of any
+abbrev pub ready_at : (ℕ → Bool) → Signal → ℕ → Bool
+ready_at test Sent rank = false
+ready_at test Ready rank = test rank
+
+-- the move is a store of these kinds
+abbrev pub is_among : StoreKinds → Move → Bool
+is_among kinds (DraftHeader k v) = kinds.header
+is_among kinds (DraftChunk k v) = kinds.chunk
+is_among kinds (RaiseSignal signal to) = kinds.raise signal to
+is_among kinds (LookSignal signal is_set) = false
+is_among kinds (ReadHeader from k v) = false
+is_among kinds (ReadChunk from k v) = false
+is_among kinds (LowerSignal signal rank) = kinds.lower signal rank
+is_among kinds (FlipGather comm value last) = kinds.gather
+is_among kinds (LookGather comm from place value) = false
+is_among kinds (WriteRelease comm to place value last) = kinds.release comm
+is_among kinds (LookRelease comm value) = false
+is_among kinds (StoreHeap place value) = kinds.heap
+is_among kinds NoMove = false
+is_among kinds Misplaced = false
+
+-- what is named, and permitted as things stand
+abbrev pub kinds_offered : NextStore → StoreKinds
+kinds_offered may.Begin = record no_store { header = true; chunk = true; heap = true }
+kinds_offered (may.BesidePost to) = record no_store { heap = true }
+kinds_offered may.Draft = record no_store { header = true; chunk = true }
+kinds_offered may.Raise = record no_store { header = true; chunk = true; raise = sent_at (λ to. true) }
+kinds_offered (may.FillFirst to) = record no_store { chunk = true; heap = true }
+kinds_offered (may.Fill to) = record no_store { chunk = true }
+kinds_offered (may.RaiseMore j) = record no_store { chunk = true; raise = sent_at (λ to. j == to) }
+kinds_offered (may.SeeReady j) = no_store
+kinds_offered (may.LowerReady j) = record no_store { lower = ready_at (λ by. j == by) }
+kinds_offered (may.SeeSent i) = record no_store { heap = true }
+kinds_offered (may.LowerSent i) = record no_store { heap = true; lower = sent_at (λ from. i == from) }
+kinds_offered (may.ReadChunk i) = no_store
+kinds_offered (may.RaiseReady i) = record no_store { raise = ready_at (λ to. i == to) }
+kinds_offered (may.Meet comm) = no_store
+
+-- what is named under a condition: a flag that is seen, a header that is read, a chunk that is whole, the value of a barrier
+abbrev pub kinds_awaited : NextStore → StoreKinds
+kinds_awaited may.Begin = record no_store { lower = sent_at (λ from. true); gather = true }
+kinds_awaited (may.BesidePost to) = record no_store { lower = sent_at (λ from. true); gather = true }
+kinds_awaited may.Draft = record no_store { raise = sent_at (λ to. true) }
+kinds_awaited may.Raise = no_store
+kinds_awaited (may.FillFirst j) = record no_store { raise = sent_at (λ to. j == to) }
+kinds_awaited (may.Fill j) = record no_store { raise = sent_at (λ to. j == to) }
+kinds_awaited (may.RaiseMore j) = no_store
+kinds_awaited (may.SeeReady j) = record no_store { lower = ready_at (λ by. j == by) }
+kinds_awaited (may.LowerReady j) = no_store
+kinds_awaited (may.SeeSent i) = record no_store { lower = sent_at (λ from. i == from) }
+kinds_awaited (may.LowerSent i) = no_store
+kinds_awaited (may.ReadChunk i) = record no_store { raise = ready_at (λ to. i == to) }
+kinds_awaited (may.RaiseReady i) = no_store
+kinds_awaited (may.Meet c) = record no_store { release = λ comm. c == comm }
+
+-- the `ready` that may be lowered beside the stores
+abbrev pub kinds_beside : Option ℕ → StoreKinds
+kinds_beside None = no_store
+kinds_beside (Some j) = record no_store { lower = ready_at (λ by. j == by) }
+
 -- the move is named, and permitted as things stand
 abbrev pub offers : NextStore → Move → Bool
-offers may.Begin (DraftHeader k v) = true
-offers may.Begin (DraftChunk k v) = true
-offers may.Begin (StoreHeap place v) = true
-offers (may.BesidePost j) (StoreHeap place v) = true
-offers may.Draft (DraftHeader k v) = true
-offers may.Draft (DraftChunk k v) = true
-offers may.Raise (DraftHeader k v) = true
-offers may.Raise (DraftChunk k v) = true
-offers may.Raise (RaiseSignal Sent to) = true
-offers (may.FillFirst j) (DraftChunk k v) = true
-offers (may.FillFirst j) (StoreHeap place v) = true
-offers (may.Fill j) (DraftChunk k v) = true
-offers (may.RaiseMore j) (DraftChunk k v) = true
-offers (may.RaiseMore j) (RaiseSignal Sent to) = j == to
-offers (may.LowerReady j) (LowerSignal Ready by) = j == by
-offers (may.SeeSent i) (StoreHeap place v) = true
-offers (may.LowerSent i) (StoreHeap place v) = true
-offers (may.LowerSent i) (LowerSignal Sent from) = i == from
-offers (may.RaiseReady i) (RaiseSignal Ready to) = i == to
-offers store move = false
+offers store move = is_among (kinds_offered store) move
 
--- the move is named under a condition: a flag that is seen, a header that is read, a chunk that is whole, the value of a barrier
+-- the move is named under a condition
 abbrev pub awaits : NextStore → Move → Bool
-awaits may.Begin (LowerSignal Sent from) = true
-awaits may.Begin (FlipGather comm value last) = true
-awaits (may.BesidePost j) (LowerSignal Sent from) = true
-awaits (may.BesidePost j) (FlipGather comm value last) = true
-awaits may.Draft (RaiseSignal Sent to) = true
-awaits (may.FillFirst j) (RaiseSignal Sent to) = j == to
-awaits (may.Fill j) (RaiseSignal Sent to) = j == to
-awaits (may.SeeReady j) (LowerSignal Ready by) = j == by
-awaits (may.SeeSent i) (LowerSignal Sent from) = i == from
-awaits (may.ReadChunk i) (RaiseSignal Ready to) = i == to
-awaits (may.Meet c) (WriteRelease comm to place value last) = c == comm
-awaits store move = false
+awaits store move = is_among (kinds_awaited store) move
 
 -- the move lowers the `ready` that may be lowered beside the stores
 abbrev pub lowers_beside : Option ℕ → Move → Bool
-lowers_beside (Some j) (LowerSignal Ready by) = j == by
-lowers_beside ready move = false
+lowers_beside ready move = is_among (kinds_beside ready) move
 
 -- the move is named
 abbrev pub names_move : NextStore → Option ℕ → Move → Bool

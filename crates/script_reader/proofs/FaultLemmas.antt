@@ -1,5 +1,5 @@
 -- What a statement without a fault has not.
-use Rattle.std.proofs.Common.{◌≡◌, ℕ, Bool, true, false, ◌&&◌, ◌==◌, not, ap, cond, List, [], ◌∷◌, Option, Some, None, length, refl, subst}
+use Rattle.std.proofs.Common.{◌≡◌, ℕ, Bool, true, false, ◌&&◌, ◌||◌, ◌==◌, not, ap, cond, List, [], ◌∷◌, Option, Some, None, length, refl, subst}
 use Rattle.std.specs.List.{find}
 use Rattle.std.specs.Option.{option_map_or}
 use Rattle.std.specs.Prelude.{is_none, is_some, nat_lt}
@@ -17,7 +17,7 @@ use Rattle.script_reader.specs.Checks.{counts_at, has_no_parent, has_split, is_p
 use Rattle.script_reader.specs.Effects.{comm_needed, effect_of, some_use}
 use Rattle.script_reader.specs.Progress.{Progress, first_fault, has_fault, is_refused, past}
 use Rattle.script_reader.specs.Script.{peer_of}
-use Rattle.script_reader.specs.Tally.{can_have, reads}
+use Rattle.script_reader.specs.Tally.{reads}
 use Rattle.script_reader.proofs.CheckLemmas.{false-left, false-right, neither, nobody}
 
 -- where the search for a fault finds none, no kind of the list is one
@@ -98,35 +98,38 @@ and-left : (a b : Bool) → a ≡ false → (a && b) ≡ false
 and-left true b h = cc
 and-left false b h = refl
 
--- a fault that a statement cannot have is one at no rank
-pub cannot-refuse : (kind : FaultKind) (e : Effect) (nue : ℕ) (before : List Item) (rank : ℕ) → can_have kind e ≡ false → refuses kind nue before e rank ≡ false
-cannot-refuse kind.RankRange e nue before rank none = no-value e.root (is_past_group (run_of nue before) (comm_needed e.group) rank) none
-cannot-refuse kind.SelfMessage e nue before rank none = no-value e.peer (λ peer. peer_of nue peer rank == rank) none
-cannot-refuse kind.NotSplit e nue before rank none = and-left (not (comm_needed e.group == 0)) (not (has_split before rank (comm_needed e.group))) none
-cannot-refuse kind.Unset e nue before rank none =
-    no-use e.uses (λ used. counts_at (run_of nue before) e rank used.at && is_none (length_at nue before rank used.reg)) none
-cannot-refuse kind.Shape e nue before rank none =
-    let run = run_of nue before in
-    let had = length_at nue before rank in
-    let unread = false-left (reads e.uses) (is_some e.sets) none in
-    let unset = no-setting e.sets (λ (target : Target). set_if had target (counts_at run e rank target.at)) (false-right (reads e.uses) (is_some e.sets) none) in
-    neither (resizes had (set_by run had e rank)) (misfits run had e rank) (ap (resizes had) unset)
-    (no-use e.uses (λ used. counts_at run e rank used.at && is_unfit had used.reg used.fit) unread)
-cannot-refuse kind.TooManyOps e nue before rank none = absurd (cc)
-cannot-refuse kind.TooLong e nue before rank none = absurd (cc)
-cannot-refuse kind.NotText e nue before rank none = refl
-cannot-refuse kind.UnknownStatement e nue before rank none = refl
-cannot-refuse kind.WrongCount e nue before rank none = refl
-cannot-refuse kind.BadNumber e nue before rank none = refl
-cannot-refuse kind.BadHex e nue before rank none = refl
-cannot-refuse kind.BadName e nue before rank none = refl
-cannot-refuse kind.UnknownComm e nue before rank none = refl
-cannot-refuse kind.NoSection e nue before rank none = refl
-cannot-refuse kind.UnclosedRepeat e nue before rank none = refl
-cannot-refuse kind.StrayEnd e nue before rank none = refl
-cannot-refuse kind.TooDeep e nue before rank none = refl
-cannot-refuse kind.TooManyNames e nue before rank none = refl
+-- a statement without a root has none past a group
+pub without-root : (p : Progress) (e : Effect) → is_some e.root ≡ false → is_refused kind.RankRange p e ≡ false
+without-root p e none =
+    nobody p.nue p.section (refuses kind.RankRange p.nue (past p) e)
+    (λ rank. no-value e.root (is_past_group (run_of p.nue (past p)) (comm_needed e.group) rank) none)
 
--- and so it refuses no statement
-pub cannot-have : (kind : FaultKind) (p : Progress) (e : Effect) → can_have kind e ≡ false → is_refused kind p e ≡ false
-cannot-have kind p e none = nobody p.nue p.section (refuses kind p.nue (past p) e) (λ rank. cannot-refuse kind e p.nue (past p) rank none)
+-- a statement without a peer is no message to oneself
+pub without-peer : (p : Progress) (e : Effect) → is_some e.peer ≡ false → is_refused kind.SelfMessage p e ≡ false
+without-peer p e none =
+    nobody p.nue p.section (refuses kind.SelfMessage p.nue (past p) e) (λ rank. no-value e.peer (λ peer. peer_of p.nue peer rank == rank) none)
+
+-- a statement of the world needs no split
+pub of-world : (p : Progress) (e : Effect) → not (comm_needed e.group == 0) ≡ false → is_refused kind.NotSplit p e ≡ false
+of-world p e none =
+    nobody p.nue p.section (refuses kind.NotSplit p.nue (past p) e)
+    (λ rank. and-left (not (comm_needed e.group == 0)) (not (has_split (past p) rank (comm_needed e.group))) none)
+
+-- a statement that reads no register reads none that is not set
+pub without-read : (p : Progress) (e : Effect) → reads e.uses ≡ false → is_refused kind.Unset p e ≡ false
+without-read p e none =
+    nobody p.nue p.section (refuses kind.Unset p.nue (past p) e)
+    (λ rank. no-use e.uses (λ used. counts_at (run_of p.nue (past p)) e rank used.at && is_none (length_at p.nue (past p) rank used.reg)) none)
+
+-- nor one of another length than it needs, where it sets none either
+pub without-register : (p : Progress) (e : Effect) → (reads e.uses || is_some e.sets) ≡ false → is_refused kind.Shape p e ≡ false
+without-register p e none = nobody p.nue p.section (refuses kind.Shape p.nue (past p) e) (λ rank. shaped rank)
+  where
+    shaped : (rank : ℕ) → refuses kind.Shape p.nue (past p) e rank ≡ false
+    shaped rank =
+        let run = run_of p.nue (past p) in
+        let had = length_at p.nue (past p) rank in
+        let unread = false-left (reads e.uses) (is_some e.sets) none in
+        let unset = no-setting e.sets (λ (target : Target). set_if had target (counts_at run e rank target.at)) (false-right (reads e.uses) (is_some e.sets) none) in
+        neither (resizes had (set_by run had e rank)) (misfits run had e rank) (ap (resizes had) unset)
+        (no-use e.uses (λ used. counts_at run e rank used.at && is_unfit had used.reg used.fit) unread)

@@ -151,28 +151,6 @@ reads uses.Nothing = false
 reads (uses.One first) = true
 reads (uses.Two first second) = true
 
--- a statement can have this fault for some rank: a message to oneself needs a peer, and so on
-abbrev pub can_have : FaultKind → Effect → Bool
-can_have kind.RankRange e = is_some e.root
-can_have kind.SelfMessage e = is_some e.peer
-can_have kind.NotSplit e = not (comm_needed e.group == 0)
-can_have kind.Unset e = reads e.uses
-can_have kind.Shape e = reads e.uses || is_some e.sets
-can_have kind.TooManyOps e = true
-can_have kind.TooLong e = true
-can_have kind.NotText e = false
-can_have kind.UnknownStatement e = false
-can_have kind.WrongCount e = false
-can_have kind.BadNumber e = false
-can_have kind.BadHex e = false
-can_have kind.BadName e = false
-can_have kind.UnknownComm e = false
-can_have kind.NoSection e = false
-can_have kind.UnclosedRepeat e = false
-can_have kind.StrayEnd e = false
-can_have kind.TooDeep e = false
-can_have kind.TooManyNames e = false
-
 -- a statement that splits a communicator without a rule
 abbrev pub is_new_split : SetupView → Group → Bool
 is_new_split run group.World = false

@@ -17,6 +17,7 @@ mod said_locals;
 mod script;
 mod taking;
 mod tally;
+mod uses;
 mod version;
 mod words;
 

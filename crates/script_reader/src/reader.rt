@@ -1,6 +1,6 @@
 //! The lines so far, and what a line adds to them.
 
-use crate::checks::{can_have, has_no_parent, is_new_split, is_too_long, is_unknown, refuses_by};
+use crate::checks::{has_no_parent, is_new_split, is_unknown, refuses_by};
 use crate::effect::{Effect, effect_of};
 use crate::ends::tell_ends;
 use crate::fault::{FaultKind, LineStop};
@@ -11,6 +11,7 @@ use crate::repeats::{
 use crate::run::Run;
 use crate::script::{Item, Scripts, Stmt, Who, rules_of};
 use crate::tally::{Tally, no_tallies, note_item};
+use crate::uses::{is_too_long, reads};
 use crate::version::Version;
 use arrayvec::ArrayVec;
 use std::alloc::{AllocError, Global};
@@ -201,16 +202,13 @@ impl Reader {
     fn is_refused(&self, kind: FaultKind, effect: &Effect) -> bool
         ensures { result ≡ is_refused kind self.now effect.now }
     {
-        if !can_have(kind, effect) {
-            return false;
-        }
         match &self.section {
             Some(who) => self.is_refused_by(who, kind, effect),
             None => false,
         }
     }
 
-    /// Whether the statement has the fault behind the lines so far.
+    /// Whether the statement has the fault behind the lines so far. No rank is asked where the statement has nothing to ask of.
     fn has_fault(&self, effect: &Effect, kind: FaultKind) -> bool
         ensures { result ≡ has_fault self.now effect.now kind }
     {
@@ -223,11 +221,16 @@ impl Reader {
             | FaultKind::BadHex
             | FaultKind::BadName
             | FaultKind::UnclosedRepeat => false,
-            FaultKind::RankRange | FaultKind::SelfMessage | FaultKind::Unset | FaultKind::Shape =>
-                self.is_refused(kind, effect),
+            FaultKind::RankRange => effect.root.is_some() && self.is_refused(kind, effect),
+            FaultKind::SelfMessage => effect.peer.is_some() && self.is_refused(kind, effect),
+            FaultKind::Unset => reads(effect.uses) && self.is_refused(kind, effect),
+            FaultKind::Shape => {
+                (reads(effect.uses) || effect.sets.is_some()) && self.is_refused(kind, effect)
+            }
             FaultKind::UnknownComm => is_unknown(self.version, &self.run, effect.group),
             FaultKind::NotSplit => {
-                has_no_parent(&self.run, effect.group) || self.is_refused(kind, effect)
+                has_no_parent(&self.run, effect.group)
+                    || (effect.group.needed() != 0 && self.is_refused(kind, effect))
             }
             FaultKind::NoSection => self.section.is_none(),
             FaultKind::StrayEnd => is_stray(repeats, effect.nesting),

@@ -5,10 +5,11 @@ ghost use Rattle.scc_base.specs.Setups.{SetupView};
 ghost use Rattle.script_reader.specs.declared.tally.Tally.{Tally};
 ghost use Rattle.script_reader.specs.Tally.{AreTallies, noted_at};
 
-use crate::checks::{cost_of, prints, set_by};
+use crate::checks::cost_of;
 use crate::effect::{Effect, Group};
 use crate::run::Run;
 use crate::script::Who;
+use crate::uses::{prints, set_by};
 use std::alloc::{AllocError, Global};
 
 /// How many operations a rank may have.
