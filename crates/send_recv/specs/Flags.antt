@@ -35,7 +35,8 @@ pub record WritesFlag (s : Sight) (c : Private) (core : ℕ) (flag : FlagPlace) 
 
 -- one try of a bit's change: the register was taken by another rank, or the word was loaded, stored with the
 -- bit turned over, and the register freed
-pub data TriesBit (s : Sight) (c : Private) (core : ℕ) (flag : FlagPlace) (set : Bool) (done : Bool) (t : Sight) (d : Private) : Type 0 where
+pub data TriesBit (s : Sight) (c : Private) (core : ℕ) (flag : FlagPlace) (set : Bool) (done : Bool) (t : Sight)
+    (d : Private) : Type 0 where
   Missed : done ≡ false → Did s (take_of core false ∷ []) t → d ≡ c → TriesBit s c core flag set done t d
   Changed : done ≡ true → (words : List ℕ) → bit_at (slice_index words flag.word) flag.bit ≡ (if set then 0 else 1)
       → Did s (change_events (flag_word core flag) flag.bit set words) t
@@ -64,7 +65,8 @@ pub record MayWriteFlag (s : Sight) (c : Private) (core : ℕ) (flag : FlagPlace
 pub record MayChangeBit (s : Sight) (c : Private) (core : ℕ) (flag : FlagPlace) (set : Bool) : Type 0 where
   pub empty : c.out ≡ None
   pub hands : (record_in s).held core ≡ None
-  pub permitted : (words : List ℕ) (t : Sight) → Did s (take_of core true ∷ loads_of (line_of_word (flag_word core flag)) words) t → IsSoundPort t
+  pub permitted : (words : List ℕ) (t : Sight) → Did s (take_of core true ∷ loads_of (line_of_word (flag_word core flag)) words) t
+      → IsSoundPort t
       → MayMake t.seat (record_in t) (store_of (flag_word core flag) (with_bit flag.bit set (slice_index words flag.word)))
       × (bit_at (slice_index words flag.word) flag.bit ≡ (if set then 0 else 1))
 

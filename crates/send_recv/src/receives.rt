@@ -93,7 +93,9 @@ impl RecvOp {
         requires peers { IsPeer (P.sight port.old) self.old.from }
         requires empty { core.old.out ≡ None }
         requires seen { (header : Notes) × ((record_in (P.sight port.old)).notes self.old.from ≡ Some header) }
-        ensures reads { (words : List ℕ) × ReadsLine (P.sight port.old) (cleared core.old) (header_line (P.sight port.old) self.old.from) words (P.sight port.new) core.new
+        ensures reads { (words : List ℕ)
+            × ReadsLine (P.sight port.old) (cleared core.old) (header_line (P.sight port.old) self.old.from) words
+            (P.sight port.new) core.new
             × HeadRead words self.old self.new result }
         ensures sound { IsSoundPort (P.sight port.new) }
     {
@@ -146,8 +148,10 @@ impl RecvOp {
             (chunk_line (P.sight port.old) self.old.from line) words (P.sight port.new) core.new
             × ((k : ℕ) → k < 32 → first_byte (P.sight port.old) self.old.chunk line + k < length bytes.old
             → slice_index bytes.new (first_byte (P.sight port.old) self.old.chunk line + k) ≡ byte_of_line words k) }
-        ensures before { (k : ℕ) → k < first_byte (P.sight port.old) self.old.chunk line → slice_index bytes.new k ≡ slice_index bytes.old k }
-        ensures behind { (k : ℕ) → first_byte (P.sight port.old) self.old.chunk line + 32 ≤ k → slice_index bytes.new k ≡ slice_index bytes.old k }
+        ensures before { (k : ℕ) → k < first_byte (P.sight port.old) self.old.chunk line
+            → slice_index bytes.new k ≡ slice_index bytes.old k }
+        ensures behind { (k : ℕ) → first_byte (P.sight port.old) self.old.chunk line + 32 ≤ k
+            → slice_index bytes.new k ≡ slice_index bytes.old k }
         ensures next { self.new ≡ after_line (chunk_at (P.sight port.old)) line self.old }
         ensures answers { result ≡ recv_or_waits true (Register 0) }
     {
@@ -174,7 +178,8 @@ impl RecvOp {
         requires some_left { self.old.chunk < 255 }
         ensures changes { Raises Ready (P.sight port.old) core.old self.old.from (goes_on result) (P.sight port.new) core.new }
         ensures next { self.new ≡ after_raise (chunk_at (P.sight port.old)) (goes_on result) self.old }
-        ensures answers { result ≡ raise_answer (chunk_at (P.sight port.old)) (goes_on result) (register_of (P.sight port.old) self.old.from) self.old }
+        ensures answers { result
+            ≡ raise_answer (chunk_at (P.sight port.old)) (goes_on result) (register_of (P.sight port.old) self.old.from) self.old }
         ensures steps { goes_on result ≡ false → MadeSteps P.stepped (P.sight port.old) (P.sight port.new) }
     {
         let layout = layout_of(port);
@@ -199,7 +204,8 @@ impl RecvOp {
     ) -> RecvTurn
         requires stands { RecvStands (P.sight port.old) core.old self.old bytes.old }
         ensures stands { RecvStands (P.sight port.new) core.new self.new bytes.new }
-        ensures turned { RecvTurned (receiving (P.sight port.old) core.old self.old bytes.old) (receiving (P.sight port.new) core.new self.new bytes.new) result }
+        ensures turned { RecvTurned (receiving (P.sight port.old) core.old self.old bytes.old)
+            (receiving (P.sight port.new) core.new self.new bytes.new) result }
         ensures steps { (spot : Spot) → recv_waits result ≡ Some spot → MadeSteps P.stepped (P.sight port.old) (P.sight port.new) }
     {
         known(port);
@@ -230,7 +236,8 @@ impl RecvOp {
         requires stands { RecvStands (P.sight port.old) core.old self.old bytes.old }
         requires reading { is_reading self.old.stage ≡ true }
         ensures stands { RecvStands (P.sight port.new) core.new self.new bytes.new }
-        ensures read { ReadLines (receiving (P.sight port.old) core.old self.old bytes.old) (receiving (P.sight port.new) core.new self.new bytes.new) }
+        ensures read { ReadLines (receiving (P.sight port.old) core.old self.old bytes.old)
+            (receiving (P.sight port.new) core.new self.new bytes.new) }
         ensures whole { is_reading self.new.stage ≡ false }
     {
         'lines: while let RecvStage::Lines(line) = self.stage {

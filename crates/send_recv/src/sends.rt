@@ -94,7 +94,8 @@ impl SendOp {
     // Writes the header line.
     fn write_header<V: Evict, P: Port>(&mut self, core: &mut Core<V>, port: &mut P) -> Turn
         requires empty { core.old.out ≡ None }
-        ensures writes { WritesLine (P.sight port.old) core.old (own_header_line (P.sight port.old)) (header_words self.old.head self.old.posted) (P.sight port.new) core.new }
+        ensures writes { WritesLine (P.sight port.old) core.old (own_header_line (P.sight port.old))
+            (header_words self.old.head self.old.posted) (P.sight port.new) core.new }
         ensures next { self.new ≡ after_header (P.sight port.old).seat.setup.layout self.old }
         ensures answers { result ≡ Moved }
     {
@@ -199,7 +200,8 @@ impl SendOp {
         requires some_left { self.old.chunk < 255 }
         ensures changes { Lowers Ready (P.sight port.old) core.old self.old.to (moves_on result) (P.sight port.new) core.new }
         ensures next { self.new ≡ after_through (chunk_at (P.sight port.old)) (moves_on result) self.old }
-        ensures answers { result ≡ through_answer (chunk_at (P.sight port.old)) (moves_on result) (own_register (P.sight port.old)) self.old }
+        ensures answers { result
+            ≡ through_answer (chunk_at (P.sight port.old)) (moves_on result) (own_register (P.sight port.old)) self.old }
         ensures steps { moves_on result ≡ false → MadeSteps P.stepped (P.sight port.old) (P.sight port.new) }
     {
         let layout = layout_of(port);
@@ -226,7 +228,8 @@ impl SendOp {
     ) -> Turn
         requires stands { SendStands (P.sight port.old) core.old self.old slot.old bytes.now }
         ensures stands { SendStands (P.sight port.new) core.new self.new slot.new bytes.now }
-        ensures turned { SendTurned (sending (P.sight port.old) core.old self.old slot.old bytes.now) (sending (P.sight port.new) core.new self.new slot.new bytes.now) result }
+        ensures turned { SendTurned (sending (P.sight port.old) core.old self.old slot.old bytes.now)
+            (sending (P.sight port.new) core.new self.new slot.new bytes.now) result }
         ensures steps { (spot : Spot) → waits_at result ≡ Some spot → MadeSteps P.stepped (P.sight port.old) (P.sight port.new) }
     {
         known(port);
@@ -266,7 +269,8 @@ impl SendOp {
         requires stands { SendStands (P.sight port.old) core.old self.old slot.now bytes.now }
         requires writing { is_writing self.old.stage ≡ true }
         ensures stands { SendStands (P.sight port.new) core.new self.new slot.now bytes.now }
-        ensures wrote { WroteLines (sending (P.sight port.old) core.old self.old slot.now bytes.now) (P.sight port.new) core.new self.new slot.now }
+        ensures wrote { WroteLines (sending (P.sight port.old) core.old self.old slot.now bytes.now) (P.sight port.new) core.new
+            self.new slot.now }
         ensures whole { is_writing self.new.stage ≡ false }
     {
         'lines: while let SendStage::Lines(line) = self.stage {

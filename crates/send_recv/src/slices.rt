@@ -52,7 +52,9 @@ fn word_from(bytes: &[u8], at: usize) -> u64
 // The number of four bytes, the lowest first.
 fn four_from(bytes: &[u8], at: usize) -> u32
     requires fits { at ≤ 2 ^ 32 + 4 }
-    ensures gives { result ≡ slice_index bytes.now at + 0x100 * slice_index bytes.now (at + 1) + 0x10000 * slice_index bytes.now (at + 2) + 0x1000000 * slice_index bytes.now (at + 3) }
+    ensures gives { result
+        ≡ slice_index bytes.now at + 0x100 * slice_index bytes.now (at + 1) + 0x10000 * slice_index bytes.now (at + 2)
+        + 0x1000000 * slice_index bytes.now (at + 3) }
 {
     let first = byte_at(bytes, at);
     let second = byte_at(bytes, at + 1);

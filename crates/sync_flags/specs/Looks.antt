@@ -43,17 +43,20 @@ LooksAll s c line (words ∷ rest) t d = (s1 : Sight) × (c1 : Private) × Looks
 -- none of the looks found the flag as wanted
 abbrev pub AreVain : WordAt → Option ℕ → Bool → List (List ℕ) → Type 0
 AreVain place bit want [] = Unit {0}
-AreVain place bit want (words ∷ rest) = (is_unwanted want (is_set_in bit (slice_index words place.word)) ≡ true) × AreVain place bit want rest
+AreVain place bit want (words ∷ rest) =
+    (is_unwanted want (is_set_in bit (slice_index words place.word)) ≡ true) × AreVain place bit want rest
 
 -- n looks in a row, all of them vain
-pub record LooksInVain (s : Sight) (c : Private) (place : WordAt) (bit : Option ℕ) (want : Bool) (n : ℕ) (t : Sight) (d : Private) : Type 0 where
+pub record LooksInVain (s : Sight) (c : Private) (place : WordAt) (bit : Option ℕ) (want : Bool) (n : ℕ) (t : Sight)
+    (d : Private) : Type 0 where
   pub looks : List (List ℕ)
   pub count : length looks ≡ n
   pub vain : AreVain place bit want looks
   pub looked : LooksAll s c (line_of_word place) looks t d
 
 -- after fewer vain looks than were allowed, one that found the flag as wanted
-pub record FindsFlag (s : Sight) (c : Private) (place : WordAt) (bit : Option ℕ) (want : Bool) (polls : ℕ) (t : Sight) (d : Private) : Type 0 where
+pub record FindsFlag (s : Sight) (c : Private) (place : WordAt) (bit : Option ℕ) (want : Bool) (polls : ℕ) (t : Sight)
+    (d : Private) : Type 0 where
   pub vain : ℕ
   pub few : vain < polls
   pub then : Sight

@@ -125,5 +125,6 @@ pub record EndsInVain (aim : Aim) (polls : ℕ) (events : List Event) : Type 0 w
 -- try was vain
 pub data Tried (aim : Option Aim) (events : List Event) (waits : Option Spot) : Type 0 where
   NoTry : aim ≡ None → waits ≡ None → Tried aim events waits
-  Vain : (at : Aim) → aim ≡ Some at → tries_at at events ≡ 1 → all_vain at false events ≡ true → waits ≡ Some (spot_of at) → Tried aim events waits
+  Vain : (at : Aim) → aim ≡ Some at → tries_at at events ≡ 1 → all_vain at false events ≡ true → waits ≡ Some (spot_of at)
+      → Tried aim events waits
   Fruitful : (at : Aim) → aim ≡ Some at → tries_at at events ≡ 1 → all_vain at false events ≡ false → waits ≡ None → Tried aim events waits

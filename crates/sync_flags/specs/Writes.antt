@@ -37,7 +37,8 @@ pub record WasLoaded (seat : Seat) (rec : Record) (events : List Event) : Type 0
 -- were made after these events
 abbrev pub MayChange : Seat → Record → List Event → WordAt → ℕ → Bool → Type 0
 MayChange seat rec before place b set = (words : List ℕ) → WasLoaded seat rec (before ++ loads_of (line_of_word place) words)
-    → MayMake seat (record_on seat rec (before ++ loads_of (line_of_word place) words)) (store_of place (with_bit b set (slice_index words place.word)))
+    → MayMake seat (record_on seat rec (before ++ loads_of (line_of_word place) words))
+    (store_of place (with_bit b set (slice_index words place.word)))
 
 -- the record permits the one store that a write of the flag makes; for a bit the store comes after the take
 -- of a register that the rank does not hold yet
@@ -69,9 +70,11 @@ pub record ChangesBit (s : Sight) (c : Private) (place : WordAt) (b : ℕ) (set 
 -- in and has the new word
 pub data TriesChange (s : Sight) (c : Private) (place : WordAt) (b : ℕ) (set : Bool) (done : Bool) (t : Sight) (d : Private) : Type 0 where
   RegisterTaken : done ≡ false → Did s (take_of place.core false ∷ []) t → d ≡ c → TriesChange s c place b set done t d
-  BitChanged : done ≡ true → (words : List ℕ) → WasLoaded s.seat (record_in s) (take_of place.core true ∷ loads_of (line_of_word place) words)
+  BitChanged : done ≡ true → (words : List ℕ)
+      → WasLoaded s.seat (record_in s) (take_of place.core true ∷ loads_of (line_of_word place) words)
       → Did s (change_events place b set words) t → (loaded : Private) → Fills (record c { lines = [] }) (line_of_word place) words loaded
-      → d ≡ record loaded { lines = noted loaded.lines place (with_bit b set (slice_index words place.word)) } → TriesChange s c place b set done t d
+      → d ≡ record loaded { lines = noted loaded.lines place (with_bit b set (slice_index words place.word)) }
+      → TriesChange s c place b set done t d
 
 -- a flag that is a bit was written: after fewer vain takes than were allowed, the events of its change; the
 -- line came in and has the new word

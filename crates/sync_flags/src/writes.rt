@@ -146,8 +146,10 @@ pub fn flag_write<V: Evict, P: Port>(
     requires below { at < (P.sight port.old).seat.setup.nue }
     requires empty { core.old.out ≡ None }
     requires some { 1 ≤ polls }
-    requires permitted { MayWrite (P.sight port.old).seat (record_in (P.sight port.old)) (flag_of (P.sight port.old).seat.setup at f) f.bit set }
-    ensures writes { WritesFlag (P.sight port.old) core.old (flag_of (P.sight port.old).seat.setup at f) f.bit set polls (P.sight port.new) core.new result }
+    requires permitted { MayWrite (P.sight port.old).seat (record_in (P.sight port.old))
+        (flag_of (P.sight port.old).seat.setup at f) f.bit set }
+    ensures writes { WritesFlag (P.sight port.old) core.old (flag_of (P.sight port.old).seat.setup at f) f.bit set polls
+        (P.sight port.new) core.new result }
     ensures steps { MadeSteps P.stepped (P.sight port.old) (P.sight port.new) }
     ensures freed { IfSome f.bit (λ b. IsNotHolding (record_in (P.sight port.new)) (flag_of (P.sight port.old).seat.setup at f).core) }
     ensures stalls { (events : List Event) → Did (P.sight port.old) events (P.sight port.new) → (IsErr result
