@@ -37,7 +37,8 @@ pub record IsRow (most : ℕ) (answers : List Turn) : Type 0 where
   pub first : (n : ℕ) → EndsRow most (drop (suc n) answers) → ⊥
 
 -- turns through a port, one after the other
-pub record SomeTurns {A : Type 0} (c : Conduct A) (stepped : List Event → Event → Type 0) (answers : List Turn) (old : A) (s : Sight) (new : A) (t : Sight) : Type 0 where
+pub record SomeTurns {A : Type 0} (c : Conduct A) (stepped : List Event → Event → Type 0) (answers : List Turn) (old : A) (s : Sight)
+    (new : A) (t : Sight) : Type 0 where
   pub events : List Event
   pub did : Did s events t
   pub later : Later c old new
@@ -46,7 +47,8 @@ pub record SomeTurns {A : Type 0} (c : Conduct A) (stepped : List Event → Even
   pub took : TookTurns c stepped answers old s new t
 
 -- a row of turns: until the rank is over, or has waited in a thousand turns in a row
-pub record RowOfTurns {A : Type 0} (c : Conduct A) (stepped : List Event → Event → Type 0) (old : A) (s : Sight) (new : A) (t : Sight) : Type 0 where
+pub record RowOfTurns {A : Type 0} (c : Conduct A) (stepped : List Event → Event → Type 0) (old : A) (s : Sight) (new : A)
+    (t : Sight) : Type 0 where
   pub answers : List Turn
   pub is_row : IsRow 1000 answers
   pub turns : SomeTurns c stepped answers old s new t
@@ -73,7 +75,8 @@ row_left most left vain = most * left + (most - vain)
 
 -- the next stretch of a row of a rank that is away, with the number of its last turns that were vain, before the
 -- stretch and behind it
-pub record NextStretch {A : Type 0} (c : Conduct A) (s : SetupView) (old : A) (token : Option Ticket) (vain : ℕ) (new : A) (later : Option Ticket) (now : ℕ) : Type 0 where
+pub record NextStretch {A : Type 0} (c : Conduct A) (s : SetupView) (old : A) (token : Option Ticket) (vain : ℕ) (new : A)
+    (later : Option Ticket) (now : ℕ) : Type 0 where
   pub going : vain < 1000
   pub first : Ticket
   pub last : Ticket
@@ -84,7 +87,8 @@ pub record NextStretch {A : Type 0} (c : Conduct A) (s : SetupView) (old : A) (t
   pub counts : now ≡ vain_by 1000 answer vain
 
 -- stretches of a row of a rank that is away, one after the other
-pub data Stretches {A : Type 0} (c : Conduct A) (s : SetupView) (old : A) (token : Option Ticket) (vain : ℕ) : A → Option Ticket → ℕ → Type 0 where
+pub data Stretches {A : Type 0} (c : Conduct A) (s : SetupView) (old : A) (token : Option Ticket) (vain : ℕ) : A → Option Ticket → ℕ
+    → Type 0 where
   NoStretch : Stretches c s old token vain old token vain
   OneStretch : (mid new : A) (some later : Option Ticket) (half now : ℕ) → Stretches c s old token vain mid some half
       → NextStretch c s mid some half new later now → Stretches c s old token vain new later now
@@ -95,7 +99,8 @@ IsAway stands s table r None = ⊥
 IsAway stands s table r (Some t) = (t.table ≡ table) × (t.rank ≡ r) × stands s r t.events
 
 -- a worker stands where its rank's events stand, and the place for the rank's token is empty
-pub record IsAtHome (tied : SetupView → ℕ → List Event → Type 0) (token : Option Ticket) (s : SetupView) (r : ℕ) (events : List Event) : Type 0 where
+pub record IsAtHome (tied : SetupView → ℕ → List Event → Type 0) (token : Option Ticket) (s : SetupView) (r : ℕ)
+    (events : List Event) : Type 0 where
   pub ties : tied s r events
   pub empty : token ≡ None
 

@@ -33,7 +33,8 @@ pub record GoesOn {A : Type 0} (c : Conduct A) (chip : ChipView) (crew : List A)
   pub left : all_left c (about_in chip) later ≤ all_left c (about_in chip) crew
 
 -- one of the workers took a turn
-pub record OneTurn {A : Type 0} (c : Conduct A) (chip : ChipView) (crew : List A) (at : ℕ) (now : ChipView) (later : List A) (came : Rest) : Type 0 where
+pub record OneTurn {A : Type 0} (c : Conduct A) (chip : ChipView) (crew : List A) (at : ℕ) (now : ChipView) (later : List A)
+    (came : Rest) : Type 0 where
   pub within : at < length crew
   pub old : A
   pub new : A
@@ -43,7 +44,8 @@ pub record OneTurn {A : Type 0} (c : Conduct A) (chip : ChipView) (crew : List A
 
 -- a worker rests: it has finished, or it was stopped or waits
 abbrev pub WorkerRests : {A : Type 0} → Conduct A → Bool → ChipView → List A → ℕ → A → Type 0
-WorkerRests c finished chip crew k d = RestsAt finished (about_in chip) (records_in chip) k (c.seen (about_in chip) k (slice_index_or crew k d))
+WorkerRests c finished chip crew k d =
+    RestsAt finished (about_in chip) (records_in chip) k (c.seen (about_in chip) k (slice_index_or crew k d))
 
 -- the first n workers have finished
 abbrev pub AllFinished : {A : Type 0} → Conduct A → ChipView → List A → ℕ → Type 0
@@ -71,7 +73,8 @@ pub record CrewStands {A : Type 0} (c : Conduct A) (chip : ChipView) (crew : Lis
   pub goes : GoesOn c chip crew now later
 
 -- after turns of the first n workers, one after the other, the crew is tied to the chip again, and they came to this
-pub record SweepStands {A : Type 0} (c : Conduct A) (came : Rest) (n : ℕ) (chip : ChipView) (crew : List A) (now : ChipView) (later : List A) : Type 0 where
+pub record SweepStands {A : Type 0} (c : Conduct A) (came : Rest) (n : ℕ) (chip : ChipView) (crew : List A) (now : ChipView)
+    (later : List A) : Type 0 where
   pub stands : CrewStands c chip crew now later
   pub swept : SweptTo c came n chip crew now later
 

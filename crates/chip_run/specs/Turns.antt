@@ -32,7 +32,8 @@ NoneElseHolds s records me = (k core : ℕ) → k < s.nue → k ≢ me → (reco
 -- one event of a turn is the look that makes the rank wait. On all words that agree with the records of the ranks, the look,
 -- where it is a step of them, shows that the rank waits for what it wants. (The rank's record is the one before the look, and
 -- no other rank holds a register.)
-pub record LookedAt (stepped : List Event → Event → Type 0) (s : SetupView) (rank : ℕ) (own events : List Event) (want : Want) : Type 0 where
+pub record LookedAt (stepped : List Event → Event → Type 0) (s : SetupView) (rank : ℕ) (own events : List Event)
+    (want : Want) : Type 0 where
   pub before : List Event
   pub look : Event
   pub behind : List Event
@@ -48,7 +49,8 @@ pub record HasMoved {A : Type 0} (c : Conduct A) (s : SetupView) (rank : ℕ) (o
 
 -- a turn that waited: it stored nothing, left the record alike and what is seen of the worker as it was, and its look shows
 -- what it waits for
-pub record HasWaited {A : Type 0} (c : Conduct A) (stepped : List Event → Event → Type 0) (s : SetupView) (rank : ℕ) (own events : List Event) (old new : A) : Type 0 where
+pub record HasWaited {A : Type 0} (c : Conduct A) (stepped : List Event → Event → Type 0) (s : SetupView) (rank : ℕ)
+    (own events : List Event) (old new : A) : Type 0 where
   pub stays : c.stays old new
   pub seen : c.seen s rank new ≡ c.seen s rank old
   pub rests : list_all is_resting events ≡ true
@@ -68,13 +70,15 @@ pub record IsDone {A : Type 0} (c : Conduct A) (s : SetupView) (rank : ℕ) (own
   pub over : IsOver (record_of s rank own) (c.seen s rank old)
 
 -- what each answer of a turn means
-abbrev pub TurnMeans : {A : Type 0} → Conduct A → (List Event → Event → Type 0) → SetupView → ℕ → List Event → List Event → A → A → Turn → Type 0
+abbrev pub TurnMeans : {A : Type 0} → Conduct A → (List Event → Event → Type 0) → SetupView → ℕ → List Event → List Event → A → A
+    → Turn → Type 0
 TurnMeans c stepped s rank own events old new turn.Moved = HasMoved c s rank old new
 TurnMeans c stepped s rank own events old new (turn.Waiting spot) = HasWaited c stepped s rank own events old new
 TurnMeans c stepped s rank own events old new turn.Done = IsDone c s rank own events old new
 
 -- a turn through a port
-pub record Turned {A : Type 0} (c : Conduct A) (stepped : List Event → Event → Type 0) (old : A) (s : Sight) (new : A) (t : Sight) (answer : Turn) : Type 0 where
+pub record Turned {A : Type 0} (c : Conduct A) (stepped : List Event → Event → Type 0) (old : A) (s : Sight) (new : A) (t : Sight)
+    (answer : Turn) : Type 0 where
   pub events : List Event
   pub did : Did s events t
   pub means : TurnMeans c stepped s.seat.setup s.seat.rank s.events events old new answer
@@ -82,10 +86,12 @@ pub record Turned {A : Type 0} (c : Conduct A) (stepped : List Event → Event �
 -- turns in a row, each of which moved
 pub data TurnsMoved {A : Type 0} (c : Conduct A) (stepped : List Event → Event → Type 0) (old : A) (s : Sight) : A → Sight → Type 0 where
   OneMoved : (new : A) (t : Sight) → Turned c stepped old s new t turn.Moved → TurnsMoved c stepped old s new t
-  MoreMoved : (mid new : A) (m t : Sight) → TurnsMoved c stepped old s mid m → Turned c stepped mid m new t turn.Moved → TurnsMoved c stepped old s new t
+  MoreMoved : (mid new : A) (m t : Sight) → TurnsMoved c stepped old s mid m → Turned c stepped mid m new t turn.Moved
+      → TurnsMoved c stepped old s new t
 
 -- a stretch: one turn, whatever it came to, or turns in a row, each of which moved
-pub data Stretched {A : Type 0} (c : Conduct A) (stepped : List Event → Event → Type 0) (old : A) (s : Sight) (new : A) (t : Sight) (answer : Turn) : Type 0 where
+pub data Stretched {A : Type 0} (c : Conduct A) (stepped : List Event → Event → Type 0) (old : A) (s : Sight) (new : A) (t : Sight)
+    (answer : Turn) : Type 0 where
   OneTurn : Turned c stepped old s new t answer → Stretched c stepped old s new t answer
   InARow : TurnsMoved c stepped old s new t → answer ≡ turn.Moved → Stretched c stepped old s new t answer
 
@@ -140,7 +146,8 @@ CameTo c rest.Finished chip r now old new = HasStayed c true chip r now old new
 CameTo c rest.Unfinished chip r now old new = HasStayed c false chip r now old new
 
 -- a turn of a rank at home, through a port of its own
-pub record OwnTurn {A : Type 0} (c : Conduct A) (chip : ChipView) (r : ℕ) (old : A) (now : ChipView) (new : A) (answer : Turn) : Type 0 where
+pub record OwnTurn {A : Type 0} (c : Conduct A) (chip : ChipView) (r : ℕ) (old : A) (now : ChipView) (new : A)
+    (answer : Turn) : Type 0 where
   pub turned : IsTurned chip r now
   pub events : List Event
   pub longer : events_in now r ≡ events_in chip r ++ events
@@ -148,7 +155,8 @@ pub record OwnTurn {A : Type 0} (c : Conduct A) (chip : ChipView) (r : ℕ) (old
   pub means : TurnMeans c (Saw now r) (about_in chip) r (events_in chip r) events old new answer
 
 -- a turn of a rank at home, and what it came to
-pub record TurnedAtHome {A : Type 0} (c : Conduct A) (chip : ChipView) (r : ℕ) (old : A) (now : ChipView) (new : A) (came : Rest) : Type 0 where
+pub record TurnedAtHome {A : Type 0} (c : Conduct A) (chip : ChipView) (r : ℕ) (old : A) (now : ChipView) (new : A)
+    (came : Rest) : Type 0 where
   pub turned : IsTurned chip r now
   pub ties : c.tied new (about_in now) r (events_in now r)
   pub comes : CameTo c came chip r now old new

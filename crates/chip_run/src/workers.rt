@@ -31,7 +31,8 @@ pub trait Worker {
     fn stretch<P: Port>(&mut self, port: P) -> (Turn, P)
         requires ties { conduct.tied self.old (P.sight port).seat.setup (P.sight port).seat.rank (P.sight port).events }
         ensures ties { conduct.tied self.new (P.sight result.1).seat.setup (P.sight result.1).seat.rank (P.sight result.1).events }
-        ensures stretched { Stretched conduct (P.stepped (P.sight port).seat) self.old (P.sight port) self.new (P.sight result.1) result.0 };
+        ensures stretched { Stretched conduct (P.stepped (P.sight port).seat) self.old (P.sight port) self.new
+            (P.sight result.1) result.0 };
 
     /// Whether a mismatch stopped it.
     fn is_stopped(&self) -> bool

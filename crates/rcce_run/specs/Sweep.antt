@@ -34,7 +34,8 @@ pub record Refused {U : Type 0} (next : U → Next U) (s : SetupView) (me : ℕ)
 
 -- a rank's state against its record: from its start the rank has done of its program the finished calls of its record,
 -- with their bytes; or it has come so to a receive, and a message with another head stopped it there
-pub data Stood {U : Type 0} (next : U → Next U) (s : SetupView) (me : ℕ) (start : U) (rec : Record) (u : U) (last : Option Posted) : Type 0 where
+pub data Stood {U : Type 0} (next : U → Next U) (s : SetupView) (me : ℕ) (start : U) (rec : Record) (u : U)
+    (last : Option Posted) : Type 0 where
   Running : Did next u last start None rec.calls → Stood next s me start rec u last
   Stopped : (before : U) → Did next before last start None rec.calls → Refused next s me rec before u → Stood next s me start rec u last
 

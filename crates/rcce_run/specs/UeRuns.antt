@@ -124,7 +124,8 @@ pub record RunGives (script : Script) (end : RunEnd) (chip : ChipView) (crew : L
   pub sent : (k : ℕ) (d : Member UeView) → k < script.nue → CountsSends script k (records_in chip k) (slice_index_or crew k d).worker
   -- a call that a rank has open is the one at which the plain meaning leaves it waiting. None is open where the rank waits
   -- for its posted message at its end
-  pub opened : (k : ℕ) (call : DataCall) → k < script.nue → open_call (about_in chip) (records_in chip k) ≡ Some call → WaitsOpen script k call
+  pub opened : (k : ℕ) (call : DataCall) → k < script.nue → open_call (about_in chip) (records_in chip k) ≡ Some call
+      → WaitsOpen script k call
   -- in the states that the UEs show, each broadcast that a rank has done gave it the bytes that the root sent, and each
   -- reduction the fold of what the members gave, whatever messages stand in the slots
   pub collectives : (slots : List (Option Posted)) → CollectivesHold script (shown chip crew slots)

@@ -37,7 +37,8 @@ state_at u calls = record { local = u; matched = calls }
 -- came so to a receive, and was stopped there by a message whose header the record has noted, and which has another head
 pub data Stood (start : State) (rec : Record) (u : Local) (last : Option Posted) : Type 0 where
   Runs : Came next_of start (state_at u rec.calls) last → Stood start rec u last
-  Refused : (v : Local) → (from : ℕ) → (head : MessageHead) → (sent : MessageHead) → (take : List ℕ → Local) → (refuse : MessageHead → Local) → (header : Notes)
+  Refused : (v : Local) → (from : ℕ) → (head : MessageHead) → (sent : MessageHead) → (take : List ℕ → Local)
+      → (refuse : MessageHead → Local) → (header : Notes)
       → Came next_of start (state_at v rec.calls) last → local_next v ≡ Recvs from head take refuse → sent ≢ head
       → rec.notes from ≡ Some header → SaysHead header sent → u ≡ refuse sent → is_stopped u ≡ true → Stood start rec u last
 

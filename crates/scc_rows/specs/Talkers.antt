@@ -15,6 +15,7 @@ IsAtCall s core slot bytes None (Some op) = RecvStands s core op bytes × SlotSt
 IsAtCall s core slot bytes None None = IsBetweenMessages s core slot
 
 -- the calls of a rank with its peer stand where its events stand
-pub record IsTalking (s : Sight) (core : Private) (slot : SlotAt) (peer : ℕ) (bytes : List ℕ) (send : Option SendAt) (receive : Option RecvAt) : Type 0 where
+pub record IsTalking (s : Sight) (core : Private) (slot : SlotAt) (peer : ℕ) (bytes : List ℕ) (send : Option SendAt)
+    (receive : Option RecvAt) : Type 0 where
   pub peers : are_peers s.seat.setup s.seat.rank peer ≡ true
   pub at : IsAtCall s core slot bytes send receive

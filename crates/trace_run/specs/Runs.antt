@@ -13,14 +13,16 @@ use Rattle.chip_run.specs.Waiting.{NoneDrafts}
 
 -- a run on one thread is over: each worker rests, it has ended so, a rank that has no call open is in the midst of nothing, and
 -- the turns were those of the ranks that the seed's generator names, with a sweep behind each round
-pub record RunsToEnd {A : Type 0} (c : Conduct A) (seed : ℕ) (end : RunEnd) (chip : ChipView) (crew : List A) (now : ChipView) (later : List A) : Type 0 where
+pub record RunsToEnd {A : Type 0} (c : Conduct A) (seed : ℕ) (end : RunEnd) (chip : ChipView) (crew : List A) (now : ChipView)
+    (later : List A) : Type 0 where
   pub rests : AllRest c now later (length later)
   pub answer : EndsWith c end now later
   pub no_draft : NoneDrafts (about_in now) (records_in now)
   pub order : InOrder c (mode.Serial seed) chip crew now later
 
 -- a run ended before its time, behind some of its rounds: its witness does not want to be told more
-pub record RunsInPart {A : Type 0} (c : Conduct A) (listens : Bool) (seed : ℕ) (chip : ChipView) (crew : List A) (now : ChipView) (later : List A) : Type 0 where
+pub record RunsInPart {A : Type 0} (c : Conduct A) (listens : Bool) (seed : ℕ) (chip : ChipView) (crew : List A) (now : ChipView)
+    (later : List A) : Type 0 where
   pub deaf : listens ≡ false
   pub rounds : ℕ
   pub order : TurnsOf c (ranks_by pcg32 (length crew) rounds (pcg32_of_seed (pcg32_seed 16 seed))) chip crew now later
