@@ -91,7 +91,8 @@ HasRefused (ue_end.Mismatch line from sent asked) = Unit {0}
 abbrev pub IsCause : (ℕ → Option ℕ) → List Ended → ℕ → Cause → Type 0
 IsCause next ends rank (cause.Finished k) = ReachesIn next (length ends) rank k × ((ended_at ends k).end ≡ ue_end.Finished)
 IsCause next ends rank (cause.Mismatch k) = ReachesIn next (length ends) rank k × HasRefused (ended_at ends k).end
-IsCause next ends rank (cause.Cycle k) = ReachesIn next (length ends) rank k × IsInRing next k × ((other : ℕ) → Reaches next k other → k ≤ other)
+IsCause next ends rank (cause.Cycle k) =
+    ReachesIn next (length ends) rank k × IsInRing next k × ((other : ℕ) → Reaches next k other → k ≤ other)
 
 -- why a walk ends at a rank that does not wait
 abbrev pub stopped_by : ℕ → UeEnd → Cause

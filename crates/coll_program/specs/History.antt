@@ -16,7 +16,8 @@ use Rattle.coll_program.specs.declared.command.Job.{Job}
 pub record HasRun (job : Job) (chip : ChipView) : Type 0 where
   pub setup : about_in chip ≡ setup_of job.nue
   pub whole : IsWhole chip
-  pub calls : (rank : ℕ) → rank < job.nue → (records_in chip rank).calls ≡ data_calls job.more rank job.nue job.len (src_of job rank) (got_by job rank)
+  pub calls : (rank : ℕ) → rank < job.nue
+      → (records_in chip rank).calls ≡ data_calls job.more rank job.nue job.len (src_of job rank) (got_by job rank)
   pub none_open : (rank : ℕ) → rank < job.nue → open_call (about_in chip) (records_in chip rank) ≡ None
   pub idle : (rank : ℕ) → rank < job.nue → (records_in chip rank).stage ≡ Idle
 

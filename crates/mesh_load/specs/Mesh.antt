@@ -80,7 +80,8 @@ carried at matches link = sum_by (λ one. if holds link (route_of at one) then l
 abbrev pub links_at : ℕ → List Link
 links_at number =
     let tile : Tile = record { x = number % 6; y = number / 6 } in
-    record { tile = tile; dir = East } ∷ record { tile = tile; dir = West } ∷ record { tile = tile; dir = North } ∷ record { tile = tile; dir = South } ∷ []
+    record { tile = tile; dir = East } ∷ record { tile = tile; dir = West } ∷ record { tile = tile; dir = North }
+    ∷ record { tile = tile; dir = South } ∷ []
 
 -- the links of all tiles, those over the edge of the mesh too
 abbrev pub all_links : List Link

@@ -27,7 +27,8 @@ fn lines(head: Head) -> u64
 
 /// The lines that go from tile to tile, for each pair of tiles.
 pub fn add_pairs(matches: &Matches, at: &[CoreId; 48]) -> [u64; 576]
-    ensures sums { (test : ℕ → Bool) → chosen test result ≡ sum_by (λ one. if test (pair_of at.now one) then lines_of one.head.len else 0) matches.now }
+    ensures sums { (test : ℕ → Bool)
+        → chosen test result ≡ sum_by (λ one. if test (pair_of at.now one) then lines_of one.head.len else 0) matches.now }
     ensures placed { All (IsPlaced at.now) matches.now }
     ensures few { total result ≤ 2 ^ 52 }
 {

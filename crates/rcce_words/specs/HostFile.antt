@@ -88,7 +88,8 @@ host_list nue cores = map (host_at nue cores) (range_with_len 0 48)
 
 -- the cores of a file of `lines` lines, if there is one for each of the `nue` ranks
 abbrev pub enough : ℕ → ℕ → List ℕ → Result (List ℕ) HostFault
-enough nue lines cores = if nat_lt (length cores) nue then Err (record { line = lines + 1; kind = kind.TooFew }) else Ok (host_list nue cores)
+enough nue lines cores =
+    if nat_lt (length cores) nue then Err (record { line = lines + 1; kind = kind.TooFew }) else Ok (host_list nue cores)
 
 -- the most bytes of a host file
 abbrev pub most_host_bytes : ℕ

@@ -145,7 +145,8 @@ fn word_behind(words: &[String], at: usize) -> &str
 
 /// The complaint that says why these words are refused.
 pub fn complaint(words: &[String], fault: WordFault) -> Complaint<'_>
-    ensures gives { (program : List ℕ) → complaint_outcome program result ≡ words_refused program (fault_text (map string_bytes words.now) fault) }
+    ensures gives { (program : List ℕ)
+        → complaint_outcome program result ≡ words_refused program (fault_text (map string_bytes words.now) fault) }
 {
     let (text, at) = match fault {
         WordFault::NoNue => return Complaint::words("-nue is missing"),

@@ -30,7 +30,8 @@ setup_by job hosts script = record { nue = job.nue; layout = layout_by job.bits;
 
 -- a host file of at most 65,536 bytes has these hosts, where files are told
 abbrev pub HostsIn : List ℕ → Option (List NamedFile) → ℕ → List ℕ → Type 0
-HostsIn file told nue hosts = (bytes : List ℕ) × (length bytes ≤ most_host_bytes) × Holds told file bytes × (parse_hosts bytes nue ≡ Ok hosts)
+HostsIn file told nue hosts =
+    (bytes : List ℕ) × (length bytes ≤ most_host_bytes) × Holds told file bytes × (parse_hosts bytes nue ≡ Ok hosts)
 
 -- the hosts that words ask for: rank r on core r, or those of the host file
 abbrev pub AreHosts : List (List ℕ) → Option (List NamedFile) → ℕ → Option ℕ → List ℕ → Type 0

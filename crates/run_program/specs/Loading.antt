@@ -28,7 +28,8 @@ asked_by loaded = record { job = loaded.job; setup = loaded.setup; script = load
 
 -- a run was loaded as the plan says, and the plan comes to what it comes to
 pub record Leads (plan : Plan) (asks : Asked → Type 0) (before after : FilesView) (loaded : Loaded) : Type 0 where
-  pub goes : (o : Outcome) → Comes (codes "rccerun") (Runs (asked_ran (asked_by loaded))) after after o → Comes (codes "rccerun") plan before after o
+  pub goes : (o : Outcome) → Comes (codes "rccerun") (Runs (asked_ran (asked_by loaded))) after after o
+      → Comes (codes "rccerun") plan before after o
   pub asked : asks (asked_by loaded)
 
 -- what `load` ensures for this plan: Ok has a run that the plan asks for, Err is an outcome of the plan
@@ -44,7 +45,8 @@ LoadsBy (Err text) asks before after (Err why) = IsMeant (codes "rccerun") (Err 
 
 -- what `load` ensures for the launcher's words: a run that they ask for, or why there is none
 abbrev pub LoadsWords : List (List ℕ) → Result Job WordFault → FilesView → FilesView → Result Loaded Complaint → Type 0
-LoadsWords words command before after answer = LoadsBy (words_plan words command) (WordsAskFor words command before.told) before after answer
+LoadsWords words command before after answer =
+    LoadsBy (words_plan words command) (WordsAskFor words command before.told) before after answer
 
 -- a run of the script in a file on these hosts
 pub record AsksOn (file : List ℕ) (told : Option (List NamedFile)) (job : Job) (hosts : List ℕ) (asked : Asked) : Type 0 where
@@ -60,7 +62,8 @@ pub record AsksListed (list file : List ℕ) (told : Option (List NamedFile)) (j
   pub on : AsksOn file told job hosts asked
 
 -- a run of the script in a file on the hosts that words ask for
-pub record AsksBehind (words : List (List ℕ)) (told : Option (List NamedFile)) (job : Job) (at : Option ℕ) (file : List ℕ) (asked : Asked) : Type 0 where
+pub record AsksBehind (words : List (List ℕ)) (told : Option (List NamedFile)) (job : Job) (at : Option ℕ) (file : List ℕ)
+    (asked : Asked) : Type 0 where
   pub hosts : List ℕ
   pub are_hosts : AreHosts words told job.nue at hosts
   pub on : AsksOn file told job hosts asked

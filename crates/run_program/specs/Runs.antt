@@ -18,7 +18,8 @@ use Rattle.scc_base.specs.Heads.{most_message}
 -- each rank has come to what the plain meaning of the script leaves of it
 pub record HaveEnded (script : Script) (crew : List (Member UeView)) : Type 0 where
   pub count : length crew ≡ script.nue
-  pub each : (rank : ℕ) (d : Member UeView) → rank < script.nue → ShowsEnd (ended_at (plain_ends script) rank) (slice_index_or crew rank d).worker
+  pub each : (rank : ℕ) (d : Member UeView) → rank < script.nue
+      → ShowsEnd (ended_at (plain_ends script) rank) (slice_index_or crew rank d).worker
 
 -- A unit of execution has counted what its rank sent in the plain meaning of the script: no more messages than the rank takes
 -- steps, each of at most 65,536 bytes.

@@ -49,7 +49,8 @@ item_line rank name (form.Decimal ty) bytes =
 
 -- a unit of execution that waits at a line of the script
 abbrev pub waiting_line : ℕ → ℕ → List (List ℕ) → List ℕ
-waiting_line rank line pieces = joined ((codes "ue " ∷ decimal rank ∷ codes " waits at line " ∷ decimal line ∷ codes ": " ∷ []) ++ pieces ++ (codes "\n" ∷ []))
+waiting_line rank line pieces =
+    joined ((codes "ue " ∷ decimal rank ∷ codes " waits at line " ∷ decimal line ∷ codes ": " ∷ []) ++ pieces ++ (codes "\n" ∷ []))
 
 -- a unit of execution whose receive met another head than it asked for
 abbrev pub mismatch_line : ℕ → ℕ → ℕ → MessageHead → MessageHead → List ℕ

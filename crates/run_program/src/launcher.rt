@@ -50,7 +50,8 @@ pub fn rccerun<R: Threads + Sync, F: Files, O: Sink, E: Sink, G: Gate + Sync>(
         (sinks (O.seen out.old) (E.seen err.old)) (sinks (O.seen out.new) (E.seen err.new)) result }
     // The chip history theorem: with the statuses 0 and 3 the chip has the history of the run that the words ask for, and with
     // 1, 2, 4 and 5 it is blank. Where a write failed, it is as the outcome says that was to be written.
-    ensures history { EndsWith (ChipTells (map string_bytes words.now) (parse_command (map string_bytes words.now)) (F.seen files.old).told chip.new)
+    ensures history { EndsWith
+        (ChipTells (map string_bytes words.now) (parse_command (map string_bytes words.now)) (F.seen files.old).told chip.new)
         rccerun (map string_bytes words.now) (F.seen files.old) (F.seen files.new)
         (sinks (O.seen out.old) (E.seen err.old)) (sinks (O.seen out.new) (E.seen err.new)) result }
     // The legality theorem, whatever the status. (A blank chip has no calls.)

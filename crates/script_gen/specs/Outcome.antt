@@ -47,12 +47,14 @@ printed_sum ends = sum_by item_bytes ends % 2 ^ 32
 -- the line, by its numbers
 abbrev pub counts_line : ℕ → ℕ → ℕ → ℕ → ℕ → List ℕ
 counts_line nue s sends bytes sum =
-    joined (codes "gen " ∷ decimal s ∷ codes " ues " ∷ decimal nue ∷ codes " sends " ∷ decimal sends ∷ codes " bytes " ∷ decimal bytes ∷ codes " sum " ∷ decimal sum ∷ codes "\n" ∷ [])
+    joined (codes "gen " ∷ decimal s ∷ codes " ues " ∷ decimal nue ∷ codes " sends " ∷ decimal sends ∷ codes " bytes " ∷ decimal bytes
+    ∷ codes " sum " ∷ decimal sum ∷ codes "\n" ∷ [])
 
 -- the line of a run of a script that was made of a number: how many messages came, with how many bytes, and the sum of what was
 -- printed
 abbrev pub script_line : ℕ → Script → List ℕ
-script_line s script = counts_line script.nue s (length (plain_matches script)) (message_bytes (plain_matches script)) (printed_sum (plain_ends script))
+script_line s script =
+    counts_line script.nue s (length (plain_matches script)) (message_bytes (plain_matches script)) (printed_sum (plain_ends script))
 
 -- the line of the script of a number s for nue ranks
 abbrev pub gen_line : ℕ → ℕ → List ℕ

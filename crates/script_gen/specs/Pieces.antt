@@ -13,5 +13,6 @@ piece_text (Number n) = decimal n
 -- a section, where the lines of a turn round the ring, and those that print what came, are given as they stand in the text
 unfoldable pub section_text : List ℕ → ℕ → List ℕ → List ℕ → List ℕ
 section_text ranks s exchange shown =
-    joined (ranks ∷ codes "\nfill h " ∷ decimal s ∷ codes " " ∷ decimal s ∷ codes "\nrank me long\nrepeat " ∷ decimal (turns_of s) ∷ codes "\n"
+    joined (ranks ∷ codes "\nfill h " ∷ decimal s ∷ codes " " ∷ decimal s ∷ codes "\nrank me long\nrepeat "
+    ∷ decimal (turns_of s) ∷ codes "\n"
     ∷ exchange ∷ codes "allreduce 0 sum long me me\nend\n" ∷ shown ∷ codes "print long me\n" ∷ [])
