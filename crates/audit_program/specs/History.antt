@@ -25,7 +25,12 @@ setup_by script = default_setup script.nue (rules_of script.items)
 
 -- the log of the finished calls of a chip's ranks
 abbrev pub chip_log : ChipView → LogView
-chip_log chip = record { nue = (about_in chip).nue; comms = (about_in chip).comms; lists = map (λ rank. (records_in chip rank).calls) (range_with_len 0 48) }
+chip_log chip =
+    record {
+      nue = (about_in chip).nue;
+      comms = (about_in chip).comms;
+      lists = map (λ rank. (records_in chip rank).calls) (range_with_len 0 48);
+    }
 
 -- A script was run on the chip, and its log, which the plain meaning tells, is the log of the chip's finished calls. The text
 -- of this log is read as this log, and its verdict is that it is legal.

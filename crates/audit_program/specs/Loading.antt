@@ -18,7 +18,8 @@ use Rattle.audit_program.specs.Program.{log_ran, run_plan}
 
 -- a call ended with an outcome that its plan comes to, of which this is also true
 abbrev pub Ends : (Outcome → Type 0) → Result Plan (List ℕ) → FilesView → FilesView → Sinks → Sinks → Status → Type 0
-Ends also plan files files_after before after s = (o : Outcome) × IsMeant (codes "rcceaudit") plan files files_after o × Delivers o before after s × also o
+Ends also plan files files_after before after s =
+    (o : Outcome) × IsMeant (codes "rcceaudit") plan files files_after o × Delivers o before after s × also o
 
 -- what a run comes to
 abbrev pub logged_ran : Logged → Ran
@@ -27,7 +28,9 @@ logged_ran logged = log_ran logged.run
 -- what the run of a script comes to, or why there is none
 abbrev pub Launches : List ℕ → Script → ChipView → Result Logged Complaint → Type 0
 Launches file script chip (Ok logged) = (logged.run ≡ script) × (has_room_for_all script ≡ true) × HasLogged script chip
-Launches file script chip (Err why) = ((files : FilesView) → Comes (codes "rcceaudit") (run_plan file script) files files (complaint_outcome (codes "rcceaudit") why)) × (chip ≡ None)
+Launches file script chip (Err why) =
+    ((files : FilesView) → Comes (codes "rcceaudit") (run_plan file script) files files (complaint_outcome (codes "rcceaudit") why))
+    × (chip ≡ None)
 
 -- the run of a script was carried out and its log written, or why there is none
 pub record HasRan (file : List ℕ) (script : Script) (chip : ChipView) (before after : Sinks) (s : Status) : Type 0 where

@@ -27,7 +27,11 @@ use Rattle.log_run.specs.Sizes.{has_room_for_all}
 abbrev pub verdict_ran : Verdict → Ran
 verdict_ran verdict.Yes = record { finished = true; out = codes "legal\n"; err = [] }
 verdict_ran (verdict.No rank call) =
-    record { finished = false; out = joined (codes "not legal: ue " ∷ decimal rank ∷ codes " call " ∷ decimal call ∷ codes "\n" ∷ []); err = [] }
+    record {
+      finished = false;
+      out = joined (codes "not legal: ue " ∷ decimal rank ∷ codes " call " ∷ decimal call ∷ codes "\n" ∷ []);
+      err = [];
+    }
 
 -- what a judged log comes to: the line of its verdict
 abbrev pub judged_ran : Judged → Ran

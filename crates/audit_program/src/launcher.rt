@@ -55,12 +55,14 @@ pub fn rcceaudit<F: Files, O: Sink, E: Sink>(
     // that the plain meaning did for each rank, in order, and they are legal; reading this text gives back exactly this log, and
     // its verdict is Yes. Else the chip is blank.
     ensures logs_history { file_named (map string_bytes words.now) ≡ None
-        → EndsWith (ChipTells (F.seen files.old).told (file_named (map string_bytes words.now)) (command_of (map string_bytes words.now)) chip.new)
+        → EndsWith (ChipTells (F.seen files.old).told (file_named (map string_bytes words.now))
+        (command_of (map string_bytes words.now)) chip.new)
         rcceaudit_log (map string_bytes words.now) (F.seen files.old) (F.seen files.new)
         (sinks (O.seen out.old) (E.seen err.old)) (sinks (O.seen out.new) (E.seen err.new)) result }
     // The same whatever the words are.
     ensures history { (judge : LogView → Verdict) → IsJudge judge
-        → EndsWith (ChipTells (F.seen files.old).told (file_named (map string_bytes words.now)) (command_of (map string_bytes words.now)) chip.new)
+        → EndsWith (ChipTells (F.seen files.old).told (file_named (map string_bytes words.now))
+        (command_of (map string_bytes words.now)) chip.new)
         (rcceaudit judge) (map string_bytes words.now) (F.seen files.old) (F.seen files.new)
         (sinks (O.seen out.old) (E.seen err.old)) (sinks (O.seen out.new) (E.seen err.new)) result }
     // The finished calls of the chip are legal, whatever the status. (A blank chip has no calls.)
@@ -80,7 +82,8 @@ fn judge_log<F: Files, O: Sink, E: Sink>(
     out: &mut O,
     err: &mut E,
 ) -> Status
-    ensures { (judge : LogView → Verdict) → IsJudge judge → Ends (λ o. Unit {0}) (Ok (file_plan judge file.now)) (F.seen files.old) (F.seen files.new)
+    ensures { (judge : LogView → Verdict) → IsJudge judge
+        → Ends (λ o. Unit {0}) (Ok (file_plan judge file.now)) (F.seen files.old) (F.seen files.new)
         (sinks (O.seen out.old) (E.seen err.old)) (sinks (O.seen out.new) (E.seen err.new)) result }
 {
     let ending = judge_file(alloc, files, file);

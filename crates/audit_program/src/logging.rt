@@ -78,7 +78,8 @@ fn log_script<O: Sink, E: Sink>(
     chip: &mut Chip,
 ) -> Status
     requires blank { chip.old ≡ None }
-    ensures ran { HasRan file.now scripts.now chip.new (sinks (O.seen out.old) (E.seen err.old)) (sinks (O.seen out.new) (E.seen err.new)) result }
+    ensures ran { HasRan file.now scripts.now chip.new (sinks (O.seen out.old) (E.seen err.old))
+        (sinks (O.seen out.new) (E.seen err.new)) result }
     ensures legal { IsOpen chip.new → AreLegalCalls chip.new }
 {
     let ending = launch(alloc, scripts, file, chip);

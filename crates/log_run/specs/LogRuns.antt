@@ -79,7 +79,8 @@ pub record HasRun (script : Script) (s : SetupView) (chip : ChipView) : Type 0 w
   pub finished : (rank : ℕ) → (records_in chip rank).calls ≡ plain_calls script rank
   pub own : (rank : ℕ) → rank < script.nue → AreOwnCalls script rank (plain_calls script rank)
   pub legal : AreLegalCalls chip
-  pub opened : (rank : ℕ) (call : DataCall) → rank < script.nue → open_call (about_in chip) (records_in chip rank) ≡ Some call → WaitsOpen script rank call
+  pub opened : (rank : ℕ) (call : DataCall) → rank < script.nue → open_call (about_in chip) (records_in chip rank) ≡ Some call
+      → WaitsOpen script rank call
   pub no_draft : NoneDrafts (about_in chip) (records_in chip)
 
 -- before the run: one logger for each rank

@@ -33,7 +33,8 @@ pub fn log_run<V: Evict + Drop>(chip: &mut Chip, crew: &mut [Logger<Ue<'_, V>>])
     // It answers Finished where every rank finishes in the plain meaning of the script, and Stuck where one does not.
     ensures answer { (script : Script) → IsFreshCrew script chip.old crew.old → EndsAs result script }
     // The finished calls of each rank are those that the plain meaning has done for it, with their bytes and in order.
-    ensures calls { (script : Script) → IsFreshCrew script chip.old crew.old → (k : ℕ) → (records_in chip.new k).calls ≡ plain_calls script k }
+    ensures calls { (script : Script) → IsFreshCrew script chip.old crew.old → (k : ℕ)
+        → (records_in chip.new k).calls ≡ plain_calls script k }
     // They are legal: all of them can be used up.
     ensures legal { AreLegalCalls chip.new }
     // A call that a rank has open is the one at which the plain meaning leaves it waiting. None is open where the rank waits
@@ -47,10 +48,13 @@ pub fn log_run<V: Evict + Drop>(chip: &mut Chip, crew: &mut [Logger<Ue<'_, V>>])
         → (k : ℕ) (d : Logger UeView) → k < script.nue → has_room_for (calls_of script k) ≡ true
         → KeepsCalls (slice_index_or crew.new k d).tap (records_in chip.new k).calls }
     // Each of them has the bytes that its head says.
-    ensures long { (script : Script) → IsFreshCrew script chip.old crew.old → (k : ℕ) → k < script.nue → All HasItsBytes (records_in chip.new k).calls }
+    ensures long { (script : Script) → IsFreshCrew script chip.old crew.old → (k : ℕ) → k < script.nue
+        → All HasItsBytes (records_in chip.new k).calls }
     // Each of them is one that the rank can make, and a tap has room for them where it has room for all calls of the program.
-    ensures own { (script : Script) → IsFreshCrew script chip.old crew.old → (k : ℕ) → k < script.nue → All (IsOwnCall script k) (records_in chip.new k).calls }
-    ensures room { (script : Script) → IsFreshCrew script chip.old crew.old → (k : ℕ) → k < script.nue → has_room_for (calls_of script k) ≡ true
+    ensures own { (script : Script) → IsFreshCrew script chip.old crew.old → (k : ℕ) → k < script.nue
+        → All (IsOwnCall script k) (records_in chip.new k).calls }
+    ensures room { (script : Script) → IsFreshCrew script chip.old crew.old → (k : ℕ) → k < script.nue
+        → has_room_for (calls_of script k) ≡ true
         → HasRoom (records_in chip.new k).calls }
 {
     let _ = chip.setup().nue();

@@ -44,7 +44,8 @@ ends_said nue rank peer = rank_said nue rank >>= λ r. rank_said nue peer >>= en
 
 -- a head is one of the world where its message is plain
 abbrev pub head_of : Kind → ℕ → ℕ → Option MessageHead
-head_of kind comm len = only_if (not (kind_number kind == 0 && not (comm == 0))) (record { kind = kind_number kind; comm = comm; len = len })
+head_of kind comm len =
+    only_if (not (kind_number kind == 0 && not (comm == 0))) (record { kind = kind_number kind; comm = comm; len = len })
 
 -- the head that three words say: a kind, a communicator from 0 to 15 and a length up to 65,536
 abbrev pub head_said : List ℕ → List ℕ → List ℕ → Option MessageHead
@@ -86,7 +87,8 @@ barrier_said nue comms rank verb comm =
 
 -- the call of a line of seven words: a message
 abbrev pub long_said : ℕ → List (List ℕ) → Option RankedCall
-long_said nue (rank ∷ verb ∷ peer ∷ kind ∷ comm ∷ len ∷ hex ∷ []) = ends_said nue rank peer >>= λ ends. head_said kind comm len >>= λ head. message_said ends head verb hex
+long_said nue (rank ∷ verb ∷ peer ∷ kind ∷ comm ∷ len ∷ hex ∷ []) =
+    ends_said nue rank peer >>= λ ends. head_said kind comm len >>= λ head. message_said ends head verb hex
 long_said nue words = None
 
 -- the call of a line of three words: a barrier
@@ -109,7 +111,8 @@ rule_named how parent k =
 abbrev pub split_said : ℕ → List CommRule → (word comm parent how k : List ℕ) → Option CommSplit
 split_said last comms word comm parent how k =
     range_said (last + 1) 15 comm >>= λ c. range_said 0 15 parent >>= λ p. range_said 1 48 k >>= λ parts.
-    rule_named how p parts >>= λ rule. only_if (bytes_eq word (codes "comm") && is_present (rule_of comms p)) (record { comm = c; rule = rule })
+    rule_named how p parts >>= λ rule.
+    only_if (bytes_eq word (codes "comm") && is_present (rule_of comms p)) (record { comm = c; rule = rule })
 
 -- the communicator of a line, by its words: above the last one, with a parent that has a rule
 abbrev pub comm_said : ℕ → List CommRule → List (List ℕ) → Option CommSplit
@@ -118,7 +121,8 @@ comm_said last comms words = None
 
 -- a communicator stands before all calls
 abbrev pub with_comm : Reading → Option ℕ → CommSplit → Option Reading
-with_comm reading None split = Some (record reading { log = record reading.log { comms = slice_set reading.log.comms split.comm split.rule }; comm = split.comm })
+with_comm reading None split =
+    Some (record reading { log = record reading.log { comms = slice_set reading.log.comms split.comm split.rule }; comm = split.comm })
 with_comm reading (Some rank) split = None
 
 -- the lists with one more call of a rank
@@ -186,7 +190,8 @@ nue_of words = None
 
 -- the rules where the world alone stands
 abbrev pub world_alone : List CommRule
-world_alone = World ∷ Absent ∷ Absent ∷ Absent ∷ Absent ∷ Absent ∷ Absent ∷ Absent ∷ Absent ∷ Absent ∷ Absent ∷ Absent ∷ Absent ∷ Absent ∷ Absent ∷ Absent ∷ []
+world_alone = World ∷ Absent ∷ Absent ∷ Absent ∷ Absent ∷ Absent ∷ Absent ∷ Absent ∷ Absent ∷ Absent ∷ Absent ∷ Absent ∷ Absent ∷ Absent
+    ∷ Absent ∷ Absent ∷ []
 
 -- the lists where no rank has a call
 unfoldable pub no_calls : List (List DataCall)

@@ -73,7 +73,8 @@ pub record Acts (s : SetupView) (lists : List (List DataCall)) (step : CallStep)
   pub makes : Makes s.nue (setup_key s) step (standing_of lists old) (standing_of lists new)
   pub kept : (b : ℕ) → Sleeps new b → Sleeps old b
   pub woken_callers : (k : ℕ) → callers s.nue (setup_key s) step k ≡ true → Sleeps new k → ⊥
-  pub woken_partners : (k : ℕ) → callers s.nue (setup_key s) step k ≡ true → Sleeps new (partner_of (setup_key s) k (left_of lists new.next k)) → ⊥
+  pub woken_partners : (k : ℕ) → callers s.nue (setup_key s) step k ≡ true
+      → Sleeps new (partner_of (setup_key s) k (left_of lists new.next k)) → ⊥
   pub woken_slot : (k : ℕ) → slot_at step k ≡ true → Sleeps new k → ⊥
   pub woken_taker : (m : Outgoing) → slot_after step ≡ Some m → Sleeps new m.to → ⊥
 

@@ -72,8 +72,11 @@ fn all_turn<M: Player + Drop + Send, R: Threads + Sync>(
     count: u32,
 )
     requires some { 0 < length ranks.old }
-    requires away { (i : ℕ) (d : _) → i < length ranks.old → let m = slice_index_or ranks.old i d in IsAway (M.stands m.player) words.space.now.about words.space.now.table m.token }
-    ensures away { (i : ℕ) (d : _) → i < length ranks.old → let m = slice_index_or ranks.new i d in IsAway (M.stands m.player) words.entry.space.now.about words.entry.space.now.table m.token }
+    requires away { (i : ℕ) (d : _) → i < length ranks.old
+        → let m = slice_index_or ranks.old i d in IsAway (M.stands m.player) words.space.now.about words.space.now.table m.token }
+    ensures away { (i : ℕ) (d : _) → i < length ranks.old
+        → let m = slice_index_or ranks.new i d in IsAway (M.stands m.player) words.entry.space.now.about
+        words.entry.space.now.table m.token }
 {
     let threads = ranks.len();
     thread::for_each_mut(
@@ -98,7 +101,8 @@ fn rounds<M: Player + Drop + Send, R: Threads + Sync>(
     count: usize,
 )
     requires some { 0 < length ranks.old }
-    requires away { (i : ℕ) (d : _) → i < length ranks.old → let m = slice_index_or ranks.old i d in IsAway (M.stands m.player) words.space.now.about words.space.now.table m.token }
+    requires away { (i : ℕ) (d : _) → i < length ranks.old
+        → let m = slice_index_or ranks.old i d in IsAway (M.stands m.player) words.space.now.about words.space.now.table m.token }
 {
     for _ in 0..count {
         all_turn(rt, words, ranks, 10);
