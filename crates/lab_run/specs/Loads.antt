@@ -11,7 +11,8 @@ use Rattle.lab_run.specs.Turns.{IsKept, IsReady, memory_in}
 
 -- A line was loaded: its words are the shared ones, by four loads; it came in, and the named line left, if it was cached then;
 -- the shared words stayed.
-pub record LoadsLine (evict : Option LineAt) (c : Private) (s : LabChipView) (line : LineAt) (loaded : Loaded) (d : Private) (t : LabChipView) : Type 0 where
+pub record LoadsLine (evict : Option LineAt) (c : Private) (s : LabChipView) (line : LineAt) (loaded : Loaded) (d : Private)
+    (t : LabChipView) : Type 0 where
   pub words : loaded.words ≡ line_in (memory_in s) line
   pub left : loaded.left ≡ is_evicted evict (filled c.lines line (line_in (memory_in s) line))
   pub lines : d.lines ≡ left_by evict (filled c.lines line (line_in (memory_in s) line))

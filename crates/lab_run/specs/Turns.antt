@@ -53,7 +53,8 @@ pub record IsTold (s : LabChipView) (said : List Said) (t : LabChipView) (told :
 
 -- A turn of a core: it changed the shared words, what it holds and what was printed as a function says, and may go on. The
 -- accesses that were printed are the chip's.
-pub record CoreTurned (op : CoreScene → CoreScene) (c : Private) (s : LabChipView) (said : List Said) (d : Private) (t : LabChipView) (told : List Said) : Type 0 where
+pub record CoreTurned (op : CoreScene → CoreScene) (c : Private) (s : LabChipView) (said : List Said) (d : Private) (t : LabChipView)
+    (told : List Said) : Type 0 where
   pub scene : scene_of d t told ≡ op (scene_of c s said)
   pub ready : IsReady d t
   pub kept : IsKept s t
