@@ -22,7 +22,8 @@ use Rattle.record_machine.specs.declared.next.NextStore.TheVariants as may
 abbrev pub store_allowed : ℕ → Stage → Option OnItsWay → (ℕ → Option Notes) → NextStore
 store_allowed size Idle None notes = may.Begin
 store_allowed size Idle (Some post) notes = may.BesidePost post.to
-store_allowed size (Drafting header chunk) post notes = if is_whole_header header && is_drafted size (begun (head_of header)) chunk then may.Raise else may.Draft
+store_allowed size (Drafting header chunk) post notes =
+    if is_whole_header header && is_drafted size (begun (head_of header)) chunk then may.Raise else may.Draft
 store_allowed size (Sending to Filling message chunk) post notes =
     if is_empty chunk then may.FillFirst to else (if is_drafted size message chunk then may.RaiseMore to else may.Fill to)
 store_allowed size (Sending to Raised message chunk) post notes = may.SeeReady to
