@@ -35,8 +35,10 @@ word_of_flag memory core flag = memory.word core flag.line flag.word
 -- the words of a memory, read by what they are for
 abbrev pub view_of : SetupView → Memory → View
 view_of s memory = record {
-  sent = λ from to. flag_in s.layout (word_of_flag memory (host_of s.hosts to) (signal_at s.layout Sent from)) (signal_at s.layout Sent from);
-  ready = λ from to. flag_in s.layout (word_of_flag memory (host_of s.hosts from) (signal_at s.layout Ready to)) (signal_at s.layout Ready to);
+  sent =
+      λ from to. flag_in s.layout (word_of_flag memory (host_of s.hosts to) (signal_at s.layout Sent from)) (signal_at s.layout Sent from);
+  ready =
+      λ from to. flag_in s.layout (word_of_flag memory (host_of s.hosts from) (signal_at s.layout Ready to)) (signal_at s.layout Ready to);
   header = λ r k. memory.word (host_of s.hosts r) 0 k;
   chunk = λ r k. if nat_lt k (4 * chunk_lines s.layout) then memory.word (host_of s.hosts r) (first_chunk s.layout + k / 4) (k % 4) else 0;
   gather = λ comm r. word_of_flag memory (host_of s.hosts r) (gather_at s.layout comm);
