@@ -51,7 +51,8 @@ AreTallies tallies nue past = (rank : ℕ) (d : Tally) → rank < nue → IsTall
 
 -- what is kept of the statements so far: their groups, the open repeats and the tallies are those of the statements, and
 -- their lengths and registers fit
-pub record IsKept (version : Version) (nue : ℕ) (items : List Item) (names : List (List ℕ)) (run : SetupView) (repeats : List Open) (tallies : List Tally) : Type 0 where
+pub record IsKept (version : Version) (nue : ℕ) (items : List Item) (names : List (List ℕ)) (run : SetupView) (repeats : List Open)
+    (tallies : List Tally) : Type 0 where
   pub some : 1 ≤ nue
   pub most : nue ≤ 48
   pub sized : All (λ item. IsSized item.stmt) items
@@ -131,7 +132,8 @@ refuses_by kind.NotSplit run tally turns e rank = is_not_split (split_in tally) 
 refuses_by kind.Unset run tally turns e rank = is_unset run (length_in tally) e rank
 refuses_by kind.Shape run tally turns e rank = is_misshapen run (length_in tally) e rank
 refuses_by kind.TooManyOps run tally turns e rank = is_overworked run tally.operations turns e.cost rank
-refuses_by kind.TooLong run tally turns e rank = posts_too_much (length_in tally) e || prints_too_much (length_in tally) tally.printed turns e
+refuses_by kind.TooLong run tally turns e rank =
+    posts_too_much (length_in tally) e || prints_too_much (length_in tally) tally.printed turns e
 refuses_by kind.NotText run tally turns e rank = false
 refuses_by kind.UnknownStatement run tally turns e rank = false
 refuses_by kind.WrongCount run tally turns e rank = false

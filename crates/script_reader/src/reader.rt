@@ -188,7 +188,8 @@ impl Reader {
 
     /// Whether the statement has the fault for some of these ranks.
     fn is_refused_by(&self, who: &Who, kind: FaultKind, effect: &Effect) -> bool
-        ensures { result ≡ some_below self.now.nue (λ rank. has_rank who.now rank && refuses kind self.now.nue (past self.now) effect.now rank) }
+        ensures { result ≡ some_below self.now.nue (λ rank. has_rank who.now rank
+            && refuses kind self.now.nue (past self.now) effect.now rank) }
     {
         for rank in 0..self.nue {
             if who.has(rank) && self.refuses(kind, effect, rank) {
