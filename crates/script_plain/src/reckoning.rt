@@ -29,7 +29,8 @@ impl Model for Lengths {
 
     ghost Value = { Lengths };
 
-    ghost view = { λ l. record { registers = l.registers.items; accumulator = l.accumulator; received = l.received; items = l.items; printed = l.printed } };
+    ghost view = { λ l.
+        record { registers = l.registers.items; accumulator = l.accumulator; received = l.received; items = l.items; printed = l.printed } };
 }
 
 /// The lengths at a point of a program, and the greatest so far.
@@ -155,7 +156,8 @@ impl Lengths {
 
     /// A register is printed.
     fn print_register(&mut self, reg: u8) -> Result<(), AllocError>
-        ensures { OnOk result (self.new ≡ record self.old { items = self.old.items + 1; printed = self.old.printed + length_at self.old reg }) }
+        ensures { OnOk result (self.new
+            ≡ record self.old { items = self.old.items + 1; printed = self.old.printed + length_at self.old reg }) }
     {
         let len = self.len(reg).get() as usize;
         let items = self.items().checked_add(1).ok_or(AllocError)?;
@@ -258,7 +260,10 @@ impl Reckoning {
 
     /// A register is printed.
     fn print(&mut self, reg: u8) -> Result<(), AllocError>
-        ensures after { OnOk result (self.new.lengths ≡ record self.old.lengths { items = self.old.lengths.items + 1; printed = self.old.lengths.printed + length_at self.old.lengths reg }) }
+        ensures after { OnOk result (self.new.lengths ≡ record self.old.lengths {
+          items = self.old.lengths.items + 1;
+          printed = self.old.lengths.printed + length_at self.old.lengths reg;
+        }) }
         ensures wider { OnOk result (IsWider self.old.most self.new.most) }
     {
         let len = self.here.len(reg).get() as usize;
