@@ -24,7 +24,9 @@ abbrev pub waits_at : Turn → Option Spot
 waits_at (turn.Waiting spot) = Some spot
 waits_at answer = None
 
--- what each stage does: it writes one flag, looks at one, or does nothing
+-- what each stage does: it writes one flag, looks at one, or does nothing. Eight parameters: of the stage its place (the
+-- seat, the communicator), itself and the value that this barrier writes; of the rank its sight and its core, before the
+-- turn and after it.
 abbrev pub Does : Seat → ℕ → BarStage → (value : ℕ) → Sight → Private → Sight → Private → Type 0
 Does seat comm Flip value s c t d = StoresWord s c (gather_word seat comm seat.rank) value t d
 Does seat comm (Gather seen) value s c t d =

@@ -71,7 +71,8 @@ SlotMeans slot now (turn.Waiting spot) = now ≡ slot
 SlotMeans slot now turn.Done = (slot.to ≡ None) × (now ≡ slot)
 
 -- what a turn of a slot does, by its target and whether `ready` was seen: it looks at `ready`, then lowers it; the
--- look or the change is done where the flag was found set, or its register free
+-- look or the change is done where the flag was found set, or its register free. Seven parameters: the slot's target and
+-- whether `ready` was seen, whether it was done, and the rank's sight and core before and after.
 abbrev pub SlotDoesBy : Sight → Private → (to : Option ℕ) → (seen : Bool) → (done : Bool) → Sight → Private → Type 0
 SlotDoesBy s c None seen done t d = (t ≡ s) × (d ≡ c)
 SlotDoesBy s c (Some to) false done t d = LooksFor Ready s c to done t d
@@ -210,7 +211,9 @@ abbrev pub of_chunk : Layout → Bool → ℕ
 of_chunk LineFlags posted = from_raise posted
 of_chunk BitFlags posted = 1 + from_raise posted
 
--- how many turns that do not wait are left of a send, by its stage: of the slot, of each further chunk, of this one's flags and lines
+-- how many turns that do not wait are left of a send, by its stage: of the slot, of each further chunk, of this one's flags
+-- and lines. Seven parameters: the turns of the slot, of a further chunk and from a raise on, the chunks to come, the lines
+-- of this one and those in hand, and the stage; each is a number that `send_left` works out once.
 abbrev pub send_left_by : (slot each raise more lines now : ℕ) → SendStage → ℕ
 send_left_by slot each raise more lines now Header = slot + 1 + lines + each * more
 send_left_by slot each raise more lines now (Lines i) = (lines - i) + each * more

@@ -53,15 +53,18 @@ words_of_line bytes s chunk line = words_at bytes (first_byte s chunk line)
 
 -- ---- the two signals of a message: `sent` at the receiver, `ready` at the sender
 
--- a rank looks at its own flag of a signal that another rank raises
+-- a rank looks at its own flag of a signal that another rank raises. Seven parameters: the signal and who raises it, what
+-- was found, and the rank's sight and core before and after.
 abbrev pub LooksFor : Signal → Sight → Private → (by : ℕ) → (found : Bool) → Sight → Private → Type 0
 LooksFor signal s c by found t d = Looks s c (own_core s.seat) (signal_flag s.seat signal by) found t d
 
--- a rank lowers its own flag of a signal that another rank raised
+-- a rank lowers its own flag of a signal that another rank raised. Seven parameters: the signal and who raised it, whether
+-- it was done, and the rank's sight and core before and after.
 abbrev pub Lowers : Signal → Sight → Private → (by : ℕ) → (done : Bool) → Sight → Private → Type 0
 Lowers signal s c by done t d = Changes s c (own_core s.seat) (signal_flag s.seat signal by) false done t d
 
--- a rank raises its flag of a signal at another rank
+-- a rank raises its flag of a signal at another rank. Seven parameters: the signal and at whom it is raised, whether it was
+-- done, and the rank's sight and core before and after.
 abbrev pub Raises : Signal → Sight → Private → (at : ℕ) → (done : Bool) → Sight → Private → Type 0
 Raises signal s c at done t d = Changes s c (core_of s.seat at) (signal_flag s.seat signal s.seat.rank) true done t d
 

@@ -24,7 +24,8 @@ pub record LooksAt (s : Sight) (c : Private) (place : WordAt) (value : ℕ) (t :
   pub looks : Looks s c (line_of_word place) words t d
   pub is : value ≡ slice_index words place.word
 
--- a flag's word was looked at once, and this is what was found
+-- a flag's word was looked at once, and this is what was found. Seven parameters: the flag (its word, its bit where it is
+-- one), what was found, and the caller's sight and core before and after.
 pub record ReadsFlag (s : Sight) (c : Private) (place : WordAt) (bit : Option ℕ) (found : Bool) (t : Sight) (d : Private) : Type 0 where
   pub words : List ℕ
   pub looks : Looks s c (line_of_word place) words t d
@@ -46,7 +47,8 @@ AreVain place bit want [] = Unit {0}
 AreVain place bit want (words ∷ rest) =
     (is_unwanted want (is_set_in bit (slice_index words place.word)) ≡ true) × AreVain place bit want rest
 
--- n looks in a row, all of them vain
+-- n looks in a row, all of them vain. Eight parameters: the flag (its word, its bit where it is one), the value that is
+-- waited for, n, and the caller's sight and core before and after.
 pub record LooksInVain (s : Sight) (c : Private) (place : WordAt) (bit : Option ℕ) (want : Bool) (n : ℕ) (t : Sight)
     (d : Private) : Type 0 where
   pub looks : List (List ℕ)
@@ -54,7 +56,8 @@ pub record LooksInVain (s : Sight) (c : Private) (place : WordAt) (bit : Option 
   pub vain : AreVain place bit want looks
   pub looked : LooksAll s c (line_of_word place) looks t d
 
--- after fewer vain looks than were allowed, one that found the flag as wanted
+-- after fewer vain looks than were allowed, one that found the flag as wanted. Eight parameters, those of `LooksInVain`,
+-- with how many looks are allowed in place of n.
 pub record FindsFlag (s : Sight) (c : Private) (place : WordAt) (bit : Option ℕ) (want : Bool) (polls : ℕ) (t : Sight)
     (d : Private) : Type 0 where
   pub vain : ℕ
@@ -64,7 +67,7 @@ pub record FindsFlag (s : Sight) (c : Private) (place : WordAt) (bit : Option �
   pub looks : LooksInVain s c place bit want vain then core
   pub reads : ReadsFlag then core place bit want t d
 
--- what a wait came to
+-- what a wait came to. Nine parameters: those of `FindsFlag`, and the answer.
 abbrev pub WaitsFor : Sight → Private → WordAt → Option ℕ → Bool → ℕ → Sight → Private → Result Unit Stalled → Type 0
 WaitsFor s c place bit want polls t d (Ok done) = FindsFlag s c place bit want polls t d
 WaitsFor s c place bit want polls t d (Err stalled) =

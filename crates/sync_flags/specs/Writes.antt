@@ -57,7 +57,8 @@ TakesWithin s core polls t None = Did s (vain_takes core polls) t
 TakesWithin s core polls t (Some held) = (held ≡ core) × ((n : ℕ) × (n < polls) × Did s (vain_takes core n ++ take_of core true ∷ []) t)
 
 -- a bit was changed under a register that is held: the line came in and has the new word, and the record was sound
--- after its loads
+-- after its loads. Seven parameters: the bit (its word, its place in it), its value, and the caller's sight and core before
+-- and after.
 pub record ChangesBit (s : Sight) (c : Private) (place : WordAt) (b : ℕ) (set : Bool) (t : Sight) (d : Private) : Type 0 where
   pub words : List ℕ
   pub did : Did s (loads_of (line_of_word place) words ++ store_of place (with_bit b set (slice_index words place.word)) ∷ []) t
@@ -67,7 +68,7 @@ pub record ChangesBit (s : Sight) (c : Private) (place : WordAt) (b : ℕ) (set 
   pub is : d ≡ record loaded { lines = noted loaded.lines place (with_bit b set (slice_index words place.word)) }
 
 -- one try at a bit's change: the register was found taken, or the events of the change were made, and the line came
--- in and has the new word
+-- in and has the new word. Eight parameters: those of `ChangesBit`, and whether the try was done.
 pub data TriesChange (s : Sight) (c : Private) (place : WordAt) (b : ℕ) (set : Bool) (done : Bool) (t : Sight) (d : Private) : Type 0 where
   RegisterTaken : done ≡ false → Did s (take_of place.core false ∷ []) t → d ≡ c → TriesChange s c place b set done t d
   BitChanged : done ≡ true → (words : List ℕ)
@@ -77,7 +78,7 @@ pub data TriesChange (s : Sight) (c : Private) (place : WordAt) (b : ℕ) (set :
       → TriesChange s c place b set done t d
 
 -- a flag that is a bit was written: after fewer vain takes than were allowed, the events of its change; the
--- line came in and has the new word
+-- line came in and has the new word. Eight parameters: those of `ChangesBit`, and how many takes are allowed.
 pub record WritesBit (s : Sight) (c : Private) (place : WordAt) (b : ℕ) (set : Bool) (polls : ℕ) (t : Sight) (d : Private) : Type 0 where
   pub vain : ℕ
   pub few : vain < polls
@@ -92,7 +93,8 @@ pub record GivesUp (s : Sight) (c : Private) (place : WordAt) (polls : ℕ) (t :
   pub did : Did s (vain_takes place.core polls) t
   pub is : d ≡ c
 
--- what a write of a flag came to: a word is always written
+-- what a write of a flag came to: a word is always written. Nine parameters: the flag (its word, its bit where it is one),
+-- its value, how many takes are allowed, the caller's sight and core before and after, and the answer.
 abbrev pub WritesFlag : Sight → Private → WordAt → Option ℕ → Bool → ℕ → Sight → Private → Result Unit Stalled → Type 0
 WritesFlag s c place None set polls t d (Ok done) = StoresWord s c place (flag_value set) t d
 WritesFlag s c place None set polls t d (Err stalled) = ⊥
