@@ -32,7 +32,8 @@ pub record GoesOn {A : Type 0} (c : Conduct A) (chip : ChipView) (crew : List A)
   pub each : (k : ℕ) (d : A) → k < length crew → Later c (slice_index_or crew k d) (slice_index_or later k d)
   pub left : all_left c (about_in chip) later ≤ all_left c (about_in chip) crew
 
--- one of the workers took a turn
+-- one of the workers took a turn. Seven parameters: the workers' conduct, the chip and the crew before and after, which of
+-- the crew it was, and what the turn came to.
 pub record OneTurn {A : Type 0} (c : Conduct A) (chip : ChipView) (crew : List A) (at : ℕ) (now : ChipView) (later : List A)
     (came : Rest) : Type 0 where
   pub within : at < length crew
@@ -61,7 +62,8 @@ pub record OneUnfinished {A : Type 0} (c : Conduct A) (chip : ChipView) (crew : 
   pub below : one < n
   pub rests : (d : A) → WorkerRests c false chip crew one d
 
--- what turns of the first n workers, one after the other, came to
+-- what turns of the first n workers, one after the other, came to. Seven parameters: the workers' conduct, what the turns
+-- came to, how many workers took one, and the chip and the crew before and after.
 abbrev pub SweptTo : {A : Type 0} → Conduct A → Rest → ℕ → ChipView → List A → ChipView → List A → Type 0
 SweptTo c rest.Moved n chip crew now later = all_left c (about_in chip) later < all_left c (about_in chip) crew
 SweptTo c rest.Finished n chip crew now later = AllFinished c now later n
@@ -72,7 +74,8 @@ pub record CrewStands {A : Type 0} (c : Conduct A) (chip : ChipView) (crew : Lis
   pub is_crew : IsCrew c now later
   pub goes : GoesOn c chip crew now later
 
--- after turns of the first n workers, one after the other, the crew is tied to the chip again, and they came to this
+-- after turns of the first n workers, one after the other, the crew is tied to the chip again, and they came to this. Seven
+-- parameters, those of `SweptTo`: a sweep that is not over is one of its first n turns.
 pub record SweepStands {A : Type 0} (c : Conduct A) (came : Rest) (n : ℕ) (chip : ChipView) (crew : List A) (now : ChipView)
     (later : List A) : Type 0 where
   pub stands : CrewStands c chip crew now later

@@ -48,7 +48,8 @@ pub record HasMoved {A : Type 0} (c : Conduct A) (s : SetupView) (rank : ℕ) (o
   pub less : (c.seen s rank new).left < (c.seen s rank old).left
 
 -- a turn that waited: it stored nothing, left the record alike and what is seen of the worker as it was, and its look shows
--- what it waits for
+-- what it waits for. Eight parameters: the workers' conduct, what a step of their port is, whose turn it was (the setup, the
+-- rank), the rank's events before the turn and in it, and the worker before and after.
 pub record HasWaited {A : Type 0} (c : Conduct A) (stepped : List Event → Event → Type 0) (s : SetupView) (rank : ℕ)
     (own events : List Event) (old new : A) : Type 0 where
   pub stays : c.stays old new
@@ -62,21 +63,23 @@ pub record IsOver (rec : Record) (w : WorkerView) : Type 0 where
   pub ends : w.want ≡ Want.Nothing
   pub idle : rec.stage ≡ Idle
 
--- a turn of a rank that is over did nothing
+-- a turn of a rank that is over did nothing. Seven parameters: those of `HasWaited` without the port's steps, since there
+-- were none.
 pub record IsDone {A : Type 0} (c : Conduct A) (s : SetupView) (rank : ℕ) (own events : List Event) (old new : A) : Type 0 where
   pub stays : c.stays old new
   pub seen : c.seen s rank new ≡ c.seen s rank old
   pub nothing : events ≡ []
   pub over : IsOver (record_of s rank own) (c.seen s rank old)
 
--- what each answer of a turn means
+-- what each answer of a turn means. Nine parameters: those of `HasWaited`, and the answer.
 abbrev pub TurnMeans : {A : Type 0} → Conduct A → (List Event → Event → Type 0) → SetupView → ℕ → List Event → List Event → A → A
     → Turn → Type 0
 TurnMeans c stepped s rank own events old new turn.Moved = HasMoved c s rank old new
 TurnMeans c stepped s rank own events old new (turn.Waiting spot) = HasWaited c stepped s rank own events old new
 TurnMeans c stepped s rank own events old new turn.Done = IsDone c s rank own events old new
 
--- a turn through a port
+-- a turn through a port. Seven parameters: the workers' conduct, what a step of their port is, the worker and its sight
+-- before and after, and the answer.
 pub record Turned {A : Type 0} (c : Conduct A) (stepped : List Event → Event → Type 0) (old : A) (s : Sight) (new : A) (t : Sight)
     (answer : Turn) : Type 0 where
   pub events : List Event
@@ -89,7 +92,8 @@ pub data TurnsMoved {A : Type 0} (c : Conduct A) (stepped : List Event → Event
   MoreMoved : (mid new : A) (m t : Sight) → TurnsMoved c stepped old s mid m → Turned c stepped mid m new t turn.Moved
       → TurnsMoved c stepped old s new t
 
--- a stretch: one turn, whatever it came to, or turns in a row, each of which moved
+-- a stretch: one turn, whatever it came to, or turns in a row, each of which moved. Seven parameters, those of `Turned`: the
+-- answer is that of the last turn.
 pub data Stretched {A : Type 0} (c : Conduct A) (stepped : List Event → Event → Type 0) (old : A) (s : Sight) (new : A) (t : Sight)
     (answer : Turn) : Type 0 where
   OneTurn : Turned c stepped old s new t answer → Stretched c stepped old s new t answer
@@ -132,20 +136,23 @@ abbrev pub RestsAt : Bool → SetupView → (ℕ → Record) → ℕ → WorkerV
 RestsAt true s now me w = HasFinished (now me) w
 RestsAt false s now me w = HasStopped (now me) w ⊎ WaitsThen s now me w.want
 
--- a turn of a rank at home that did not move
+-- a turn of a rank at home that did not move. Seven parameters: the workers' conduct, whether it is finished, the rank, and
+-- the chip and the worker before and after.
 pub record HasStayed {A : Type 0} (c : Conduct A) (finished : Bool) (chip : ChipView) (r : ℕ) (now : ChipView) (old new : A) : Type 0 where
   pub stays : c.stays old new
   pub seen : c.seen (about_in chip) r new ≡ c.seen (about_in chip) r old
   pub alike : Like (records_in chip r) (records_in now r)
   pub rests : RestsAt finished (about_in chip) (records_in now) r (c.seen (about_in chip) r new)
 
--- what a turn of a rank at home came to: it went on, or it has stayed, finished or not
+-- what a turn of a rank at home came to: it went on, or it has stayed, finished or not. Seven parameters: those of
+-- `HasStayed`, with what the turn came to in place of whether it is finished.
 abbrev pub CameTo : {A : Type 0} → Conduct A → Rest → ChipView → ℕ → ChipView → A → A → Type 0
 CameTo c rest.Moved chip r now old new = HasMoved c (about_in chip) r old new
 CameTo c rest.Finished chip r now old new = HasStayed c true chip r now old new
 CameTo c rest.Unfinished chip r now old new = HasStayed c false chip r now old new
 
--- a turn of a rank at home, through a port of its own
+-- a turn of a rank at home, through a port of its own. Seven parameters: the workers' conduct, the rank, the chip and the
+-- worker before and after, and the answer.
 pub record OwnTurn {A : Type 0} (c : Conduct A) (chip : ChipView) (r : ℕ) (old : A) (now : ChipView) (new : A)
     (answer : Turn) : Type 0 where
   pub turned : IsTurned chip r now
@@ -154,7 +161,8 @@ pub record OwnTurn {A : Type 0} (c : Conduct A) (chip : ChipView) (r : ℕ) (old
   pub ties : c.tied new (about_in now) r (events_in now r)
   pub means : TurnMeans c (Saw now r) (about_in chip) r (events_in chip r) events old new answer
 
--- a turn of a rank at home, and what it came to
+-- a turn of a rank at home, and what it came to. Seven parameters, those of `OwnTurn`, with what the turn came to in place
+-- of the answer of its port.
 pub record TurnedAtHome {A : Type 0} (c : Conduct A) (chip : ChipView) (r : ℕ) (old : A) (now : ChipView) (new : A)
     (came : Rest) : Type 0 where
   pub turned : IsTurned chip r now

@@ -79,7 +79,8 @@ pub record IsFree (s : Sight) (own : OwnState) : Type 0 where
   pub messages : IsBetweenMessages s own.core own.slot
   pub parity : IsParityOf (record_in s) own.parity
 
--- the record, the core and the bytes stand where the call stands that comes next
+-- the record, the core and the bytes stand where the call stands that comes next. Seven parameters: what stands (the sight,
+-- the core, the slot, the parity, the bytes received so far), the call that is open, and what is next in the program.
 abbrev pub OpStands : Sight → Private → SlotAt → List Bool → List ℕ → Open → Next Local → Type 0
 OpStands s c slot parity inbox Nothing next = IsBetweenCalls s c × IsNoCall next
 OpStands s c slot parity inbox (Sending op) next = SendStands s c op slot (bytes_out next) × IsSendOf op next

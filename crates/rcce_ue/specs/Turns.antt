@@ -87,7 +87,8 @@ abbrev pub AloneDoes : UeView → Sight → (at_end : Bool) → (done : Bool) �
 AloneDoes ue s true done t d = SlotDoes (with_slot s ue.core ue.slot) done t d
 AloneDoes ue s false done t d = (t ≡ s) × (d ≡ ue.core)
 
--- what a turn does: what the call does that stands next, with the parity after the turn
+-- what a turn does: what the call does that stands next, with the parity after the turn. Seven parameters: the UE, the
+-- parity and the call that is open, whether the try was done, and the sight before and the sight and the core after.
 abbrev pub UeDoes : UeView → Sight → (parity : List Bool) → Open → (done : Bool) → Sight → Private → Type 0
 UeDoes ue s parity Nothing done t d = AloneDoes ue s (not (is_stopped ue.machine.local) && is_ended (local_next ue.machine.local)) done t d
 UeDoes ue s parity (Sending op) done t d =
