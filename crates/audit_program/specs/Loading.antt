@@ -16,7 +16,8 @@ use Rattle.audit_program.specs.History.{HasLogged}
 use Rattle.audit_program.specs.declared.logged.Logged.{Logged}
 use Rattle.audit_program.specs.Program.{log_ran, run_plan}
 
--- a call ended with an outcome that its plan comes to, of which this is also true
+-- a call ended with an outcome that its plan comes to, of which this is also true. Seven parameters: what else is true, the
+-- plan, the files and the sinks before and after the call, and its status.
 abbrev pub Ends : (Outcome → Type 0) → Result Plan (List ℕ) → FilesView → FilesView → Sinks → Sinks → Status → Type 0
 Ends also plan files files_after before after s =
     (o : Outcome) × IsMeant (codes "rcceaudit") plan files files_after o × Delivers o before after s × also o

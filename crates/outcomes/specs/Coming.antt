@@ -14,7 +14,8 @@ ByTest true first second = first
 ByTest false first second = second
 
 -- what the answer of a reading leads to: the outcome that it stands for, with no further call on the files, or what the
--- bytes lead to
+-- bytes lead to. Eight parameters: the names of the program and the file, for the texts, the most bytes that are read, what
+-- the bytes lead to, the files and the outcome that it came to, and the answer.
 abbrev pub LeadsOn : List ℕ → List ℕ → ℕ → (List ℕ → Type 0) → FilesView → FilesView → Outcome → Result (List ℕ) ReadEnd → Type 0
 LeadsOn program file limit on between after o (Ok bytes) =
     ByTest (nat_lt limit (length bytes)) ((after ≡ between) × (o ≡ too_long program file)) (on bytes)
@@ -22,7 +23,8 @@ LeadsOn program file limit on between after o (Err ends.Absent) = (after ≡ bet
 LeadsOn program file limit on between after o (Err ends.Failed) = (after ≡ between) × (o ≡ read_fault program file)
 LeadsOn program file limit on between after o (Err ends.Memory) = (after ≡ between) × (o ≡ no_memory program)
 
--- one reading, and then what its answer leads to
+-- one reading, and then what its answer leads to. Seven parameters: those of `LeadsOn` without the answer, which the reading
+-- gives.
 abbrev pub ReadsOn : List ℕ → List ℕ → ℕ → (FilesView → List ℕ → Type 0) → FilesView → FilesView → Outcome → Type 0
 ReadsOn program file limit on before after o = (between : FilesView) × (answer : Result (List ℕ) ReadEnd)
     × ReadsAll file limit before between answer × LeadsOn program file limit (on between) between after o answer

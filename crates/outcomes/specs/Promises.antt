@@ -12,18 +12,21 @@ use Rattle.outcomes.specs.Coming.{IsMeant, IsAsked}
 use Rattle.outcomes.specs.Delivery.{Sinks, AreSteady, Delivers, Shows, ShowsOr, TakesFront}
 
 -- The run ended with an outcome that the words and the files mean, and the sinks took its texts as far as the status says.
--- Of the outcome this is also true.
+-- Of the outcome this is also true. Eight parameters: those of `EndsAsMeant`, and what else is true.
 abbrev pub EndsWith : (Outcome → Type 0) → Program → List (List ℕ) → FilesView → FilesView → Sinks → Sinks → Status → Type 0
 EndsWith also program words files files_after before after s =
     (o : Outcome) × IsMeant program.name (program.plan words) files files_after o × Delivers o before after s × also o
 
 -- The run ended with an outcome that the words and the files mean, and the sinks took its texts as far as the status says.
+-- Seven parameters: the call (the program, its words), all that it can touch (the files and the sinks, before and after),
+-- and its status.
 abbrev pub EndsAsMeant : Program → List (List ℕ) → FilesView → FilesView → Sinks → Sinks → Status → Type 0
 EndsAsMeant program words files files_after before after s =
     (o : Outcome) × IsMeant program.name (program.plan words) files files_after o × Delivers o before after s
 
 -- What every program promises of a call: of its words, of the files and the sinks before and after it, and of the status
--- that it answered.
+-- that it answered. Seven parameters, since a promise names the whole world of a call: the program, the words, the files
+-- twice, the sinks twice, the status.
 pub record Promises (program : Program) (words : List (List ℕ)) (files files_after : FilesView) (before after : Sinks)
     (s : Status) : Type 0 where
   -- The output theorem: where the files tell their contents and no call failed, the status and both texts are those of the

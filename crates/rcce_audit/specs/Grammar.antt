@@ -107,7 +107,9 @@ rule_named how parent k =
     else if bytes_eq how (codes "div") then Some (Div parent k)
     else None
 
--- the split that a line's words say, of a communicator past `last` and a parent that has a rule
+-- the split that a line's words say, of a communicator past `last` and a parent that has a rule. Seven parameters: what was
+-- read so far (the last communicator that was split, the rules), and the line's five words behind its number's, each by what
+-- it says.
 abbrev pub split_said : ℕ → List CommRule → (word comm parent how k : List ℕ) → Option CommSplit
 split_said last comms word comm parent how k =
     range_said (last + 1) 15 comm >>= λ c. range_said 0 15 parent >>= λ p. range_said 1 48 k >>= λ parts.

@@ -89,7 +89,8 @@ TracesLoaded asked chip before after (end.Ended s) =
     (Delivers (no_memory (codes "rccetrace")) before after s × (chip ≡ None)) ⊎ TracesRun asked chip before after (end.Ended s)
 TracesLoaded asked chip before after end.Refused = TracesRun asked chip before after end.Refused
 
--- nothing ran: it complains, by its own name, of what the launcher would complain of for the same words
+-- nothing ran: it complains, by its own name, of what the launcher would complain of for the same words. Seven parameters,
+-- the whole world of a call: the words, the files twice, the chip, the sinks twice, the status.
 pub record HasComplained (words : List (List ℕ)) (files files_after : FilesView) (chip : ChipView) (before after : Sinks)
     (s : Status) : Type 0 where
   pub why : Complaint
@@ -97,7 +98,8 @@ pub record HasComplained (words : List (List ℕ)) (files files_after : FilesVie
   pub delivers : Delivers (complaint_outcome (codes "rccetrace") why) before after s
   pub blank : chip ≡ None
 
--- the run that the words ask of the launcher was traced
+-- the run that the words ask of the launcher was traced. Seven parameters: those of `HasComplained`, with how the call ended
+-- in place of the status.
 pub record HasTraced (words : List (List ℕ)) (files files_after : FilesView) (chip : ChipView) (before after : Sinks)
     (answer : TraceEnd) : Type 0 where
   pub asked : Asked
@@ -105,7 +107,7 @@ pub record HasTraced (words : List (List ℕ)) (files files_after : FilesView) (
   pub meant : IsMeant (codes "rccerun") (rccerun.plan words) files files_after (run_outcome (asked_ran asked))
   pub traced : TracesRun asked chip before after answer
 
--- what a call with the launcher's words leaves
+-- what a call with the launcher's words leaves. Seven parameters, those of `HasTraced`.
 abbrev pub TracesWords : List (List ℕ) → FilesView → FilesView → ChipView → Sinks → Sinks → TraceEnd → Type 0
 TracesWords words files files_after chip before after (end.Ended s) =
     HasComplained words files files_after chip before after s ⊎ HasTraced words files files_after chip before after (end.Ended s)
