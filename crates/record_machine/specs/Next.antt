@@ -61,7 +61,8 @@ lacks_flags rec core (ReleaseFlag comm owner) = false
 lacks_flags rec core HeapWord = false
 lacks_flags rec core IdleWord = false
 
--- what a record allows in place of an access that it does not permit (each load is permitted, so of a load this tells only what may be stored)
+-- what a record allows in place of an access that it does not permit (each load is permitted, so of a load this tells only
+-- what may be stored)
 abbrev pub allowed_by : SetupView → Record → Access → WordAt → NextEvent
 allowed_by s rec Load place = stores_allowed s rec
 allowed_by s rec Store place = if lacks_flags rec place.core (role_of s place) then next.LoadFlags else stores_allowed s rec

@@ -66,7 +66,8 @@ move_at move None = Misplaced
 move_at move (Some j) = move j
 
 -- the move that a change of a word of bit flags is: at the own core a bit of another rank is lowered, at
--- another core the own bit is raised
+-- another core the own bit is raised. Seven parameters: the moves of a bit that is lowered and of one that is raised, the
+-- rank in its setup, at whose core the word is, the new word, and the old one where it was read.
 abbrev pub change_at : (lower raise : ℕ → Move) → SetupView → (me owner new : ℕ) → Option ℕ → Move
 change_at lower raise s me owner new None = Misplaced
 change_at lower raise s me owner new (Some old) = if owner == me then move_at lower (lowered_below me old new s.nue)

@@ -33,7 +33,8 @@ word_at memory place = memory.word place.core place.line place.word
 abbrev pub is_at : WordAt → ℕ → ℕ → ℕ → Bool
 is_at place core line word = (core == place.core) && ((line == place.line) && (word == place.word))
 
--- an access is a step: a load tells the word; a store and a free always are; a take has 1 where it found the register free, and 0 where it found it taken
+-- an access is a step: a load tells the word; a store and a free always are; a take has 1 where it found the register free,
+-- and 0 where it found it taken
 abbrev pub IsStepBy : Access → WordAt → ℕ → Memory → Type 0
 IsStepBy Load place value memory = word_at memory place ≡ value
 IsStepBy Store place value memory = Unit {0}
