@@ -139,7 +139,9 @@ AreBroadcast script c =
     → sends_of kind.Bcast comm rank begun ≡ receipts_of kind.Bcast comm root before
     → after.local.registers ≡ slice_set before.local.registers dst (register_at begun.local reg)
 
--- the root came to the broadcast that a rank came to when it held `before`, and sent it these bytes
+-- the root came to the broadcast that a rank came to when it held `before`, and sent it these bytes. Eight parameters: the
+-- script and where its run stands, which broadcast it is (the communicator, the root's place in the group and its rank), and
+-- of the other its rank, its state and its bytes.
 pub record Casts (script : Script) (c : Configuration State) (comm place root rank : ℕ) (before : State) (bytes : List ℕ) : Type 0 where
   pub reg : ℕ
   pub len : ℕ
@@ -161,7 +163,9 @@ RootCame script c =
     → (bytes : List ℕ) × Casts script c comm place root rank before bytes
     × (after.local.registers ≡ slice_set before.local.registers dst bytes)
 
--- one of the others came to its part in the fold that the root began when it held `begun`, with these bytes
+-- one of the others came to its part in the fold that the root began when it held `begun`, with these bytes. Nine
+-- parameters: the script and where its run stands, which fold it is (its statement, the kind of its messages, the
+-- communicator, the root, the root's state when it began), and of the other its rank and its bytes.
 pub record Gives (script : Script) (c : Configuration State) (call : Op → Ty → ℕ → ℕ → Stmt) (kind : Kind) (comm root : ℕ)
     (begun : State) (rank : ℕ) (bytes : List ℕ) : Type 0 where
   pub op : Op
@@ -175,12 +179,14 @@ pub record Gives (script : Script) (c : Configuration State) (call : Op → Ty �
   pub same : sends_of kind comm root before ≡ receipts_of kind comm rank begun
   pub given : register_at before.local src ≡ bytes
 
--- each of the others came to its part in the root's fold, with these bytes by rank
+-- each of the others came to its part in the root's fold, with these bytes by rank. Nine parameters: those of `Gives` with
+-- the root's place in the group, by which the others are known, in place of the one rank.
 abbrev pub AllGive : Script → Configuration State → (Op → Ty → ℕ → ℕ → Stmt) → Kind → ℕ → ℕ → ℕ → State → (ℕ → List ℕ) → Type 0
 AllGive script c call kind comm place root begun bytes =
     (rank : ℕ) → IsOther (setup_of script) comm place root rank → Gives script c call kind comm root begun rank (bytes rank)
 
--- the fold of the root's bytes with those of the others, in rank order
+-- the fold of the root's bytes with those of the others, in rank order. Eight parameters: the group (the setup, the
+-- communicator, the root's place and rank), the operation on its type, and the bytes of the root and of each rank.
 abbrev pub fold_at : SetupView → ℕ → ℕ → ℕ → Op → Ty → List ℕ → (ℕ → List ℕ) → List ℕ
 fold_at s comm place root op ty own bytes = fold_of op ty own (map bytes (others_of s comm root place))
 
@@ -241,7 +247,8 @@ AreToldAll script c =
     (fold_at (setup_of script) comm 0 root op ty (register_at begun.local src) bytes)
 
 -- member 0 came to the reduction to all that a rank came to when it held `before`, and so did each of the others; what the
--- rank gave itself is `own`, and `told` is the fold of what all gave
+-- rank gave itself is `own`, and `told` is the fold of what all gave. Eight parameters: the script and where its run stands,
+-- the communicator and its member 0, and of the other its rank, its state, what it gave and what it was told.
 pub record Tells (script : Script) (c : Configuration State) (comm root rank : ℕ) (before : State) (own told : List ℕ) : Type 0 where
   pub op : Op
   pub ty : Ty

@@ -41,8 +41,7 @@ struct Reckoning {
     spare: Length,
 }
 
-/// How much room the program of a rank needs: for each register, for each work buffer, for the items that it prints and
-/// for their bytes.
+/// How much room the program of a rank needs: for each register and work buffer, for the items that it prints and their bytes.
 #[derive(Drop)]
 pub struct Needs {
     pub registers: Vec<Length>,
@@ -156,8 +155,8 @@ impl Lengths {
 
     /// A register is printed.
     fn print_register(&mut self, reg: u8) -> Result<(), AllocError>
-        ensures { OnOk result (self.new
-            ≡ record self.old { items = self.old.items + 1; printed = self.old.printed + length_at self.old reg }) }
+        ensures { OnOk result
+            (self.new ≡ record self.old { items = self.old.items + 1; printed = self.old.printed + length_at self.old reg }) }
     {
         let len = self.len(reg).get() as usize;
         let items = self.items().checked_add(1).ok_or(AllocError)?;

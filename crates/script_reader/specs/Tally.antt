@@ -50,7 +50,8 @@ abbrev pub AreTallies : List Tally → ℕ → List Item → Type 0
 AreTallies tallies nue past = (rank : ℕ) (d : Tally) → rank < nue → IsTally (slice_index_or tallies rank d) nue past rank
 
 -- what is kept of the statements so far: their groups, the open repeats and the tallies are those of the statements, and
--- their lengths and registers fit
+-- their lengths and registers fit. Seven parameters: what the reader is told (the version, the number of ranks), what was
+-- read (the statements, the names of registers), and the three that it keeps of them.
 pub record IsKept (version : Version) (nue : ℕ) (items : List Item) (names : List (List ℕ)) (run : SetupView) (repeats : List Open)
     (tallies : List Tally) : Type 0 where
   pub some : 1 ≤ nue
