@@ -55,7 +55,7 @@ module _ (program : List ℕ) (files : List NamedFile) (next : Script → Plan) 
 
 of_command : (command : Option Command) (files : List NamedFile) → (words_outcome check.rccecheck.name (plan_of check.command_plan command) files).status ≡ command_status command files
 of_command None files = refl
-of_command (Some command) files = of_file check.rccecheck.name files check.run_plan (λ script. refl) command.script command.nue
+of_command (Some command) files = of_file check.rccecheck.name files check.check_run_plan (λ script. refl) command.script command.nue
 
 pub check_status : (words : List (List ℕ)) (told : List NamedFile) → (expected check.rccecheck words told).status ≡ run_status words told
 check_status words told = of_command (script_command words) told

@@ -9,7 +9,7 @@ ghost use Rattle.rcce_words.specs.CommandLine.{parse_command};
 ghost use Rattle.run_program.specs.Asking.{ChipTells};
 ghost use Rattle.run_program.specs.Evictors.{HaveEvictors};
 ghost use Rattle.run_program.specs.History.{mode_by};
-ghost use Rattle.run_program.specs.Loading.{Launches, Ran, asked_by};
+ghost use Rattle.run_program.specs.Loading.{Launches, IsCarriedOut, asked_by};
 ghost use Rattle.run_program.specs.Program.{rccerun};
 ghost use Rattle.run_program.specs.Runs.{IsMadeOf, IsOver};
 
@@ -75,7 +75,7 @@ fn run_loaded<R: Threads + Sync, O: Sink, E: Sink, G: Gate + Sync>(
 ) -> Status
     requires blank { chip.old ≡ None }
     requires made { IsMadeOf loaded.now.script loaded.now.seed }
-    ensures ran { Ran (asked_by loaded.now) chip.new (sinks (O.seen out.old) (E.seen err.old))
+    ensures ran { IsCarriedOut (asked_by loaded.now) chip.new (sinks (O.seen out.old) (E.seen err.old))
         (sinks (O.seen out.new) (E.seen err.new)) result }
     ensures legal { IsOpen chip.new → AreLegal chip.new }
 {
