@@ -88,6 +88,6 @@ end_by rest.Finished = Some run_end.Finished
 end_by rest.Unfinished = Some run_end.Stuck
 
 -- how a run ended: all workers have finished; or all rest, and one has not finished
-abbrev pub EndsWith : {A : Type 0} → Conduct A → RunEnd → ChipView → List A → Type 0
-EndsWith c run_end.Finished chip crew = AllFinished c chip crew (length crew)
-EndsWith c run_end.Stuck chip crew = AllRest c chip crew (length crew) × OneUnfinished c chip crew (length crew)
+abbrev pub RunEndedAs : {A : Type 0} → Conduct A → RunEnd → ChipView → List A → Type 0
+RunEndedAs c run_end.Finished chip crew = AllFinished c chip crew (length crew)
+RunEndedAs c run_end.Stuck chip crew = AllRest c chip crew (length crew) × OneUnfinished c chip crew (length crew)

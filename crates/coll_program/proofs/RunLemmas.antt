@@ -4,7 +4,7 @@ use Rattle.scc_base.specs.Setups.{SetupView}
 use Rattle.scc_mesh.specs.Scenes.{ChipView, IsNew, about_in}
 use Rattle.coll_more.specs.Ops.{data_calls}
 use Rattle.coll_more.specs.Pieces.{pieces_for}
-use Rattle.coll_run.specs.Teams.{AreFresh, HaveEnded, IsFreshTeam, MemberView, srcs_of}
+use Rattle.coll_run.specs.Teams.{AreFresh, TeamHasEnded, IsFreshTeam, MemberView, srcs_of}
 use Rattle.outcomes.specs.Coming.{IsMeant}
 use Rattle.outcomes.specs.Complaints.{complaint_outcome}
 use Rattle.outcomes.specs.Outcomes.{Outcome, no_memory, run_outcome, words_refused}
@@ -37,7 +37,7 @@ some_member [] some = absurd (omega (arith, some))
 some_member (m ∷ ms) some = m
 
 module _ (job : Job) (chip now : ChipView) (team later : List MemberView) (some : 1 ≤ job.nue) (new : IsNew (coll_setup_of job.nue) chip) (is : IsTeamOf job team)
-    (ended : HaveEnded job.more job.len chip team now later) where
+    (ended : TeamHasEnded job.more job.len chip team now later) where
   nue_is : (about_in chip).nue ≡ job.nue
   nue_is = ap (λ (s : SetupView). s.nue) new.about
 

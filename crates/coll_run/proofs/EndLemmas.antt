@@ -30,7 +30,7 @@ use Rattle.coll_more.specs.declared.ops.Stage.TheVariants.{Own, Between, Sending
 use Rattle.coll_more.proofs.EndLemmas.{begins, ended_by}
 use Rattle.coll_more.proofs.PieceLemmas.{pieces_there}
 use Rattle.coll_run.specs.Resting.{AtEnd, HaveRested, Looks, Met, Rests, want_at}
-use Rattle.coll_run.specs.Teams.{HaveEnded, IsFreshMember, IsFreshTeam, MemberStands, MemberView, seat_of, sight_of, srcs_of}
+use Rattle.coll_run.specs.Teams.{TeamHasEnded, IsFreshMember, IsFreshTeam, MemberStands, MemberView, seat_of, sight_of, srcs_of}
 use Rattle.coll_run.specs.Workers.{IsTied, member_conduct, member_seen, member_want}
 use Rattle.coll_run.proofs.RestLemmas.{all_over, passed_is}
 
@@ -219,7 +219,7 @@ module _ (more : More) (len : ℕ) (chip now : ChipView) (team later : List Memb
   some_at [] k low = absurd (omega (arith, low))
   some_at (x ∷ xs) k low = x
 
-  pub have_ended : HaveEnded more len chip team now later
+  pub have_ended : TeamHasEnded more len chip team now later
   have_ended = record {
     about = goes.about;
     whole = is.whole;

@@ -72,7 +72,7 @@ pub record IsFreshTeam (more : More) (len : ℕ) (chip : ChipView) (team : List 
 
 -- A run is over: it is the same chip, all its ranks are at home, and each has got its pieces of what the ranks handed in. Its
 -- finished calls are exactly those of its table, in order and with their bytes; no call is open, and no message is in draft.
-pub record HaveEnded (more : More) (len : ℕ) (chip : ChipView) (team : List MemberView) (now : ChipView)
+pub record TeamHasEnded (more : More) (len : ℕ) (chip : ChipView) (team : List MemberView) (now : ChipView)
     (later : List MemberView) : Type 0 where
   pub about : about_in now ≡ about_in chip
   pub whole : IsWhole now

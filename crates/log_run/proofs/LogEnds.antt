@@ -28,12 +28,12 @@ use Rattle.script_plain.specs.Paths.{Came, Did}
 use Rattle.script_plain.specs.Ready.{IsReady}
 use Rattle.script_plain.specs.declared.posts.Posted.{Posted}
 use Rattle.call_tap.specs.declared.taps.Tap.{Tap}
-use Rattle.call_tap.specs.Kept.{AreKept, HasRoom}
+use Rattle.call_tap.specs.Kept.{AreKept, HasTapRoom}
 use Rattle.call_tap.specs.Planned.{has_room_for}
 use Rattle.call_tap.specs.Taps.{HasRead}
 use Rattle.rcce_ue.specs.Ues.{UeView}
 use Rattle.chip_run.specs.Crews.{AllRest, IsCrew}
-use Rattle.rcce_run.specs.Crews.{AllRun, IsAtEnd, locals_of}
+use Rattle.rcce_run.specs.Crews.{AllRun, IsAtEnd, crew_locals}
 use Rattle.rcce_run.specs.UeRuns.{WaitsOpen}
 use Rattle.rcce_run.specs.Sweep.{Stood, slots_by}
 use Rattle.rcce_run.specs.Ues.{Fits, state_of}
@@ -64,8 +64,8 @@ loggers_run = record {
 }
 
 -- a tap in its place keeps what it has read, where it has room
-tap_keeps : (kept : (tap : Tap) (s : SetupView) (rank : ℕ) (events : List Event) → HasRead tap s rank events → HasRoom (record_of s rank events).calls → AreKept tap.kept (record_of s rank events).calls)
-    → (tap : Option Tap) (s : SetupView) (rank : ℕ) (events : List Event) → IsTapped tap s rank events → HasRoom (record_of s rank events).calls → KeepsCalls tap (record_of s rank events).calls
+tap_keeps : (kept : (tap : Tap) (s : SetupView) (rank : ℕ) (events : List Event) → HasRead tap s rank events → HasTapRoom (record_of s rank events).calls → AreKept tap.kept (record_of s rank events).calls)
+    → (tap : Option Tap) (s : SetupView) (rank : ℕ) (events : List Event) → IsTapped tap s rank events → HasTapRoom (record_of s rank events).calls → KeepsCalls tap (record_of s rank events).calls
 tap_keeps kept None s rank events tapped room = tapped
 tap_keeps kept (Some tap) s rank events tapped room = kept tap s rank events tapped room
 
@@ -78,7 +78,7 @@ module _ (script : Script) (chip : ChipView) (crew : List (Logger UeView)) (memo
   records = records_in chip
 
   abbrev locals : ℕ → Local
-  locals = locals_of ue_of crew d
+  locals = crew_locals ue_of crew d
 
   within : (k : ℕ) → k < s.nue → k < length crew
   within k low = subst (λ (n : ℕ). k < n) (sym is_crew.each) low
@@ -98,15 +98,15 @@ module _ (script : Script) (chip : ChipView) (crew : List (Logger UeView)) (memo
         (subst (λ (x : Script). Stood next_of s k (started x k) (records k) (state_of (locals k) (records k)) fits.last) (all_run k d (within k below)) fits.stood)
 
     -- there is room for them, where there is for the program's
-    pub room_at : ((planned rest : List Call) (done : List DataCall) → has_room_for planned ≡ true → planned ≡ map calls.call_of done ++ rest → All HasItsBytes done → HasRoom done)
-        → (k : ℕ) → k < script.nue → has_room_for (calls_of script k) ≡ true → HasRoom (records k).calls
+    pub room_at : ((planned rest : List Call) (done : List DataCall) → has_room_for planned ≡ true → planned ≡ map calls.call_of done ++ rest → All HasItsBytes done → HasTapRoom done)
+        → (k : ℕ) → k < script.nue → has_room_for (calls_of script k) ≡ true → HasTapRoom (records k).calls
     room_at room k low planned =
         let first = first_at k low in
         room (calls_of script k) first.rest (records k).calls planned first.planned first.long
 
     -- and its tap keeps them
-    pub kept_at : ((tap : Tap) (s : SetupView) (rank : ℕ) (events : List Event) → HasRead tap s rank events → HasRoom (record_of s rank events).calls → AreKept tap.kept (record_of s rank events).calls)
-        → ((planned rest : List Call) (done : List DataCall) → has_room_for planned ≡ true → planned ≡ map calls.call_of done ++ rest → All HasItsBytes done → HasRoom done)
+    pub kept_at : ((tap : Tap) (s : SetupView) (rank : ℕ) (events : List Event) → HasRead tap s rank events → HasTapRoom (record_of s rank events).calls → AreKept tap.kept (record_of s rank events).calls)
+        → ((planned rest : List Call) (done : List DataCall) → has_room_for planned ≡ true → planned ≡ map calls.call_of done ++ rest → All HasItsBytes done → HasTapRoom done)
         → (k : ℕ) → k < script.nue → has_room_for (calls_of script k) ≡ true → KeepsCalls (slice_index_or crew k d).tap (records k).calls
     kept_at kept room k low planned =
         let below : k < s.nue = subst (λ (n : ℕ). k < n) (sym ranks) low in

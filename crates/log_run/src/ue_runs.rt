@@ -1,7 +1,7 @@
 //! A run of UEs whose calls are kept.
 
 ghost use Rattle.std.specs.Prelude.{◌≡◌, ◌<◌, All, length, ℕ, slice_index_or, Some, true};
-ghost use Rattle.call_tap.specs.Kept.{HasRoom};
+ghost use Rattle.call_tap.specs.Kept.{HasTapRoom};
 ghost use Rattle.call_tap.specs.Planned.{has_room_for};
 ghost use Rattle.rcce_run.specs.Crews.{EndsAs};
 ghost use Rattle.chip_run.specs.Waiting.{NoneDrafts};
@@ -55,7 +55,7 @@ pub fn log_run<V: Evict + Drop>(chip: &mut Chip, crew: &mut [Logger<Ue<'_, V>>])
         → All (IsOwnCall script k) (records_in chip.new k).calls }
     ensures room { (script : Script) → IsFreshCrew script chip.old crew.old → (k : ℕ) → k < script.nue
         → has_room_for (calls_of script k) ≡ true
-        → HasRoom (records_in chip.new k).calls }
+        → HasTapRoom (records_in chip.new k).calls }
 {
     let _ = chip.setup().nue();
     let end = run_by_sweeps(chip, crew);

@@ -3,7 +3,7 @@ use Rattle.std.proofs.Common.{◌≡◌, ◌≢◌, ℕ, zero, suc, ◌+◌, ◌
 use Rattle.std.proofs.lemmas.Bool.{cases_eq, eqb-true}
 use Rattle.std.proofs.lemmas.List.Sums.{sum_by-cons, sum_by_more}
 use Rattle.std.proofs.lemmas.Option.{get_or_from_slice_get, slice_get_within}
-use Rattle.mesh_load.specs.Mesh.{Link, Tile, all_links, carried, core_of, distance, distance_of, holds, lines_of, route, route_of, tile_of}
+use Rattle.mesh_load.specs.Mesh.{Link, Tile, all_links, carried, mesh_core_of, distance, distance_of, holds, lines_of, route, route_of, tile_of}
 use Rattle.mesh_load.specs.Tables.{IsPlaced, Loads, load_on, chosen, column_cell, in_column, in_row, pair_of, passes_column, passes_row, row_cell}
 use Rattle.mesh_load.proofs.RouteLaws.{column_place, row_place, shared}
 use Rattle.mesh_load.proofs.TableLaws.{chosen-set}
@@ -112,7 +112,7 @@ counted from to below other =
 alone : (at : List ℕ) (one : Match) → IsPlaced at one → sum_by (λ link. cond (holds link (route_of at one)) (lines_of one.head.len) 0) all_links ≡ lines_of one.head.len * distance_of at one
 alone at one placed =
     times (λ link. holds link (route_of at one)) (lines_of one.head.len) all_links
-    ∙ ap (λ (n : ℕ). lines_of one.head.len * n) (counted (core_of at one.from) (core_of at one.to) placed.from placed.to)
+    ∙ ap (λ (n : ℕ). lines_of one.head.len * n) (counted (mesh_core_of at one.from) (mesh_core_of at one.to) placed.from placed.to)
 
 none : (at : List ℕ) (links : List Link) → sum_by (carried at []) links ≡ 0
 none at [] = refl
@@ -144,8 +144,8 @@ each at matches pairs rows columns placed of_pairs of_rows of_columns link =
         ≡ cond (in_row link (row_cell (pair_of at one))) (lines_of one.head.len) 0 + cond (in_column link (column_cell (pair_of at one))) (lines_of one.head.len) 0
     both one is =
         let n : ℕ = lines_of one.head.len in
-        let from : ℕ = core_of at one.from in
-        let to : ℕ = core_of at one.to in
+        let from : ℕ = mesh_core_of at one.from in
+        let to : ℕ = mesh_core_of at one.to in
         shared link (tile_of from) (tile_of to) n
         ∙ ap (λ (p : Bool). cond p n 0 + cond (passes_column link (tile_of to).x (tile_of from).y (tile_of to).y link.dir) n 0) (sym (row_place link from to is.from is.to))
         ∙ ap (λ (p : Bool). cond (in_row link (row_cell (pair_of at one))) n 0 + cond p n 0) (sym (column_place link from to is.from is.to))

@@ -64,12 +64,12 @@ abbrev pub lines_of : ℕ → ℕ
 lines_of bytes = 1 + (bytes + 31) / 32
 
 -- the core of a rank
-abbrev pub core_of : List ℕ → ℕ → ℕ
-core_of at rank = slice_index_or at rank 0
+abbrev pub mesh_core_of : List ℕ → ℕ → ℕ
+mesh_core_of at rank = slice_index_or at rank 0
 
 -- the route of a message, where each rank is on its core
 abbrev pub route_of : List ℕ → Match → List Link
-route_of at one = route (tile_of (core_of at one.from)) (tile_of (core_of at one.to))
+route_of at one = route (tile_of (mesh_core_of at one.from)) (tile_of (mesh_core_of at one.to))
 
 -- the lines that go over a link: the sum over the messages whose route holds it
 abbrev pub carried : List ℕ → List Match → Link → ℕ
@@ -93,4 +93,4 @@ distance a b = (b.x - a.x) + (a.x - b.x) + ((b.y - a.y) + (a.y - b.y))
 
 -- how many links lie on the way of a message
 abbrev pub distance_of : List ℕ → Match → ℕ
-distance_of at one = distance (tile_of (core_of at one.from)) (tile_of (core_of at one.to))
+distance_of at one = distance (tile_of (mesh_core_of at one.from)) (tile_of (mesh_core_of at one.to))

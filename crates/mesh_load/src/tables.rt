@@ -2,7 +2,7 @@
 
 ghost use Rattle.std.specs.Prelude.{◌≡◌, ◌*◌, ◌/◌, ◌<◌, ◌≤◌, ◌^◌, ℕ, Bool, if◌then◌else◌, sum_by};
 ghost use Rattle.std.specs.List.{All};
-ghost use Rattle.mesh_load.specs.Mesh.{core_of, lines_of, link_at};
+ghost use Rattle.mesh_load.specs.Mesh.{mesh_core_of, lines_of, link_at};
 ghost use Rattle.mesh_load.specs.Tables.{IsPlaced, chosen, column_cell, in_column, in_row, pair_of, row_cell, total};
 
 use crate::links::Dir;
@@ -11,8 +11,8 @@ use script_plain::Matches;
 
 /// The number of the tile of a rank.
 fn tile(at: &[CoreId; 48], rank: Rank) -> usize
-    ensures same { result ≡ core_of at.now rank / 2 }
-    ensures placed { core_of at.now rank < 48 }
+    ensures same { result ≡ mesh_core_of at.now rank / 2 }
+    ensures placed { mesh_core_of at.now rank < 48 }
 {
     (at[rank.number() as usize].number() / 2) as usize
 }

@@ -3,7 +3,7 @@ use Rattle.std.specs.Prelude.{ℕ, ◌+◌, ◌-◌, ◌*◌, ◌==◌, ◌&&◌
 use Rattle.std.specs.Char.{is_ascii_digit}
 use Rattle.std.specs.List.{list_all, list_any, range_with_len, slice_split}
 use Rattle.std.specs.Option.{unwrap_or}
-use Rattle.mesh_load.specs.Mesh.{core_of}
+use Rattle.mesh_load.specs.Mesh.{mesh_core_of}
 
 -- a number that the chip has a core for
 abbrev pub chip_core : ℕ → Option ℕ
@@ -56,7 +56,7 @@ rank_numbers = range_with_len 0 48
 
 -- the cores by rank. (Core 0 stands for those of ranks that are not there.)
 abbrev pub by_rank : List ℕ → List ℕ
-by_rank cores = map (core_of cores) rank_numbers
+by_rank cores = map (mesh_core_of cores) rank_numbers
 
 -- the cores by rank of a word that lists as many as there are ranks
 abbrev pub listed_cores : ℕ → List ℕ → Option (List ℕ)

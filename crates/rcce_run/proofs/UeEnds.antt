@@ -35,7 +35,7 @@ use Rattle.chip_run.specs.Crews.{AllRest, IsCrew}
 use Rattle.chip_run.specs.Turns.{RestsAt}
 use Rattle.chip_run.proofs.WaitsLike.{slot_like}
 use Rattle.rcce_run.specs.Crews.{AllRun}
-use Rattle.rcce_run.specs.UeRuns.{HasPlainCalls, IsFreshCrew, ShowsEnd, WaitsOpen, shown, state_shown, ue_members, ue_of}
+use Rattle.rcce_run.specs.UeRuns.{HasPlainCalls, IsFreshCrew, ShowsEnd, WaitsOpen, shown_states, state_shown, ue_members, ue_of}
 use Rattle.rcce_run.specs.Scripts.{IsSwept}
 use Rattle.chip_run.specs.Waiting.{SlotWaits}
 use Rattle.rcce_run.specs.Sweep.{Holds, Stood, slots_by}
@@ -216,7 +216,7 @@ module _ (script : Script) (chip : ChipView) (crew : List (Member UeView)) (memo
   abbrev numbered : List (ℕ × Member UeView)
   numbered = enumerate_from 0 crew
 
-  shown_at : (k : ℕ) → (k < length crew) ⊎ (length crew ≤ k) → slice_get (shown chip crew []).cells k ≡ slice_get (plain_end script).cells k
+  shown_at : (k : ℕ) → (k < length crew) ⊎ (length crew ≤ k) → slice_get (shown_states chip crew []).cells k ≡ slice_get (plain_end script).cells k
   shown_at k (inl low) =
       let first : 0 + k ≡ k = omega arith in
       slice_get-map (state_shown chip) numbered k
@@ -232,8 +232,8 @@ module _ (script : Script) (chip : ChipView) (crew : List (Member UeView)) (memo
   whole = subst (λ (x : Script). IsWhole x.nue x.items) (all_run 0 d some) (tied_at 0 (subst (λ (n : ℕ). 0 < n) is_crew.each some)).begun.whole
 
   -- so collective calls have given in them what they give
-  pub collectives_hold : (slots : List (Option Posted)) → CollectivesHold script (shown chip crew slots)
+  pub collectives_hold : (slots : List (Option Posted)) → CollectivesHold script (shown_states chip crew slots)
   collectives_hold slots =
       subst (λ (cells : List State). CollectivesHold script (record { cells = cells; slots = slots }))
-      (list_same (plain_end script).cells (shown chip crew []).cells (λ k. sym (shown_at k (cases_lt k (length crew)))))
+      (list_same (plain_end script).cells (shown_states chip crew []).cells (λ k. sym (shown_at k (cases_lt k (length crew)))))
       (any_slots script (plain_end script).cells (plain_end script).slots slots (plain_end_collectives script whole))

@@ -30,8 +30,8 @@ abbrev pub no_setup : SetupView
 no_setup = record { nue = 0; layout = LineFlags; hosts = []; comms = [] }
 
 -- the name of the table of a chip that is blank
-abbrev pub no_table : ChipId
-no_table = record { words = 0; slots = 0; views_name = 0; atom = 0; block = 0; offset = 0; slot_names = [] }
+abbrev pub blank_table : ChipId
+blank_table = record { words = 0; slots = 0; views_name = 0; atom = 0; block = 0; offset = 0; slot_names = [] }
 
 -- the chip's setup
 abbrev pub about_in : ChipView → SetupView
@@ -40,7 +40,7 @@ about_in (Some scene) = scene.about
 
 -- which chip it is
 abbrev pub table_in : ChipView → ChipId
-table_in None = no_table
+table_in None = blank_table
 table_in (Some scene) = scene.table
 
 -- the lists of the ranks at home
@@ -92,13 +92,13 @@ pub record IsHomeBelow (chip : ChipView) (n : ℕ) : Type 0 where
   pub home : (r : ℕ) → r < n → IsHome chip r
 
 -- whether the rank is at home
-abbrev pub is_known : Option (List Event) → Bool
-is_known None = false
-is_known (Some events) = true
+abbrev pub is_at_home : Option (List Event) → Bool
+is_at_home None = false
+is_at_home (Some events) = true
 
 -- whether a port of the rank can be on the chip
 abbrev pub is_port_of : ChipView → ℕ → Bool
-is_port_of chip r = is_open chip && (is_known (known (home_in chip) r) && nat_lt r (about_in chip).nue)
+is_port_of chip r = is_open chip && (is_at_home (known (home_in chip) r) && nat_lt r (about_in chip).nue)
 
 -- a chip that was just opened: all ranks are at home and have made no event
 pub record IsNew (s : SetupView) (chip : ChipView) : Type 0 where

@@ -13,10 +13,10 @@ use Rattle.script_reader.specs.Script.{Script}
 use Rattle.script_gen.specs.Scripts.{gen_script_of}
 
 -- how many messages a call has sent: a send or a post one, another call none
-abbrev pub sends_of : DataCall → ℕ
-sends_of (Send to head bytes) = 1
-sends_of (Post to head bytes) = 1
-sends_of _ = 0
+abbrev pub sends_of_call : DataCall → ℕ
+sends_of_call (Send to head bytes) = 1
+sends_of_call (Post to head bytes) = 1
+sends_of_call _ = 0
 
 -- how many bytes a call has sent
 abbrev pub sent_bytes_of : DataCall → ℕ
@@ -26,7 +26,7 @@ sent_bytes_of _ = 0
 
 -- how many messages all ranks have sent
 abbrev pub all_sends : Configuration State → ℕ
-all_sends c = sum_by (λ u. sum_by sends_of u.matched) c.cells
+all_sends c = sum_by (λ u. sum_by sends_of_call u.matched) c.cells
 
 -- how many bytes all ranks have sent
 abbrev pub all_sent_bytes : Configuration State → ℕ

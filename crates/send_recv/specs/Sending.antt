@@ -248,8 +248,8 @@ abbrev pub send_call : SendAt → List ℕ → List DataCall
 send_call op bytes = if is_sent op.stage then [] else (if op.posted then Post op.to op.head bytes ∷ [] else Send op.to op.head bytes ∷ [])
 
 -- after its last turn a post is in the slot
-abbrev pub slot_after : SendAt → SlotAt → SlotAt
-slot_after op slot = if is_sent op.stage then slot else (if op.posted then record { to = Some op.to; seen = false } else slot)
+abbrev pub slot_after_send : SendAt → SlotAt → SlotAt
+slot_after_send op slot = if is_sent op.stage then slot else (if op.posted then record { to = Some op.to; seen = false } else slot)
 
 -- what each answer means for the op, the slot and the record
 abbrev pub SendMeans : Sender → Sender → Turn → Type 0
@@ -259,7 +259,7 @@ SendMeans old now turn.Moved =
     × ((record_in now.sight).calls ≡ (record_in old.sight).calls) × (is_sent old.op.stage ≡ false) × (is_sent now.op.stage ≡ false)
     × IsSameOrEmpty old.slot now.slot
 SendMeans old now (turn.Waiting spot) = (now.op ≡ old.op) × (now.slot ≡ old.slot) × IsAtRest (record_in old.sight) (record_in now.sight)
-SendMeans old now turn.Done = (now.op.stage ≡ Finished) × (now.slot ≡ slot_after old.op old.slot)
+SendMeans old now turn.Done = (now.op.stage ≡ Finished) × (now.slot ≡ slot_after_send old.op old.slot)
     × ((record_in now.sight).calls ≡ (record_in old.sight).calls ++ send_call old.op old.bytes)
     × (old.op.posted ≡ false → is_sent old.op.stage ≡ false → now.slot.to ≡ None)
 

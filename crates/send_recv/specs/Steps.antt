@@ -50,8 +50,8 @@ abbrev pub head_said : List ℕ → MessageHead
 head_said words = record { kind = slice_index words 0; comm = slice_index words 1; len = slice_index words 2 }
 
 -- whether two heads are one
-abbrev pub same_head : MessageHead → MessageHead → Bool
-same_head one other = one.kind == other.kind && one.comm == other.comm && one.len == other.len
+abbrev pub is_same_head : MessageHead → MessageHead → Bool
+is_same_head one other = one.kind == other.kind && one.comm == other.comm && one.len == other.len
 
 -- ---- a receive
 

@@ -6,7 +6,7 @@ use Rattle.scc_mesh.specs.Scenes.{ChipView, about_in, records_in}
 use Rattle.chip_run.specs.declared.ends.RunEnd.{RunEnd}
 use Rattle.chip_run.specs.declared.runs.Mode.TheVariants as mode
 use Rattle.chip_run.specs.Conducts.{Conduct}
-use Rattle.chip_run.specs.Crews.{AllRest, EndsWith}
+use Rattle.chip_run.specs.Crews.{AllRest, RunEndedAs}
 use Rattle.chip_run.specs.Orders.{TurnsOf, ranks_by}
 use Rattle.chip_run.specs.Runs.{InOrder}
 use Rattle.chip_run.specs.Waiting.{NoneDrafts}
@@ -17,7 +17,7 @@ use Rattle.chip_run.specs.Waiting.{NoneDrafts}
 pub record RunsToEnd {A : Type 0} (c : Conduct A) (seed : ℕ) (end : RunEnd) (chip : ChipView) (crew : List A) (now : ChipView)
     (later : List A) : Type 0 where
   pub rests : AllRest c now later (length later)
-  pub answer : EndsWith c end now later
+  pub answer : RunEndedAs c end now later
   pub no_draft : NoneDrafts (about_in now) (records_in now)
   pub order : InOrder c (mode.Serial seed) chip crew now later
 
