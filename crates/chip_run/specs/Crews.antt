@@ -25,7 +25,7 @@ abbrev pub all_left : {A : Type 0} → Conduct A → SetupView → List A → �
 all_left c s crew = sum_from (λ k x. (c.seen s k x).left) 0 crew
 
 -- turns were taken: it is the same chip with the same workers, each as it is after some turns, and no more turns are left
-pub record GoesOn {A : Type 0} (c : Conduct A) (chip : ChipView) (crew : List A) (now : ChipView) (later : List A) : Type 0 where
+pub record CrewGoesOn {A : Type 0} (c : Conduct A) (chip : ChipView) (crew : List A) (now : ChipView) (later : List A) : Type 0 where
   pub about : about_in now ≡ about_in chip
   pub table : table_in now ≡ table_in chip
   pub count : length later ≡ length crew
@@ -72,7 +72,7 @@ SweptTo c rest.Unfinished n chip crew now later = AllRest c now later n × OneUn
 -- after turns of workers the crew is tied to its chip again, and has gone on
 pub record CrewStands {A : Type 0} (c : Conduct A) (chip : ChipView) (crew : List A) (now : ChipView) (later : List A) : Type 0 where
   pub is_crew : IsCrew c now later
-  pub goes : GoesOn c chip crew now later
+  pub goes : CrewGoesOn c chip crew now later
 
 -- after turns of the first n workers, one after the other, the crew is tied to the chip again, and they came to this. Seven
 -- parameters, those of `SweptTo`: a sweep that is not over is one of its first n turns.

@@ -22,8 +22,8 @@ use Rattle.chip_run.specs.Waiting.{Waits}
 use Rattle.chip_run.specs.Wants.{Want}
 
 -- a rank holds no test-and-set register
-abbrev pub HoldsNone : SetupView → ℕ → List Event → Type 0
-HoldsNone s rank events = (core : ℕ) → (record_of s rank events).held core ≡ None
+abbrev pub RankHoldsNone : SetupView → ℕ → List Event → Type 0
+RankHoldsNone s rank events = (core : ℕ) → (record_of s rank events).held core ≡ None
 
 -- no other rank holds a test-and-set register
 abbrev pub NoneElseHolds : SetupView → (ℕ → Record) → ℕ → Type 0
@@ -146,10 +146,10 @@ pub record HasStayed {A : Type 0} (c : Conduct A) (finished : Bool) (chip : Chip
 
 -- what a turn of a rank at home came to: it went on, or it has stayed, finished or not. Seven parameters: those of
 -- `HasStayed`, with what the turn came to in place of whether it is finished.
-abbrev pub CameTo : {A : Type 0} → Conduct A → Rest → ChipView → ℕ → ChipView → A → A → Type 0
-CameTo c rest.Moved chip r now old new = HasMoved c (about_in chip) r old new
-CameTo c rest.Finished chip r now old new = HasStayed c true chip r now old new
-CameTo c rest.Unfinished chip r now old new = HasStayed c false chip r now old new
+abbrev pub TurnCameTo : {A : Type 0} → Conduct A → Rest → ChipView → ℕ → ChipView → A → A → Type 0
+TurnCameTo c rest.Moved chip r now old new = HasMoved c (about_in chip) r old new
+TurnCameTo c rest.Finished chip r now old new = HasStayed c true chip r now old new
+TurnCameTo c rest.Unfinished chip r now old new = HasStayed c false chip r now old new
 
 -- a turn of a rank at home, through a port of its own. Seven parameters: the workers' conduct, the rank, the chip and the
 -- worker before and after, and the answer.
@@ -167,4 +167,4 @@ pub record TurnedAtHome {A : Type 0} (c : Conduct A) (chip : ChipView) (r : ℕ)
     (came : Rest) : Type 0 where
   pub turned : IsTurned chip r now
   pub ties : c.tied new (about_in now) r (events_in now r)
-  pub comes : CameTo c came chip r now old new
+  pub comes : TurnCameTo c came chip r now old new

@@ -15,7 +15,7 @@ pub trait Worker {
     ghost use Rattle.scc_base.specs.Setups.{SetupView};
     ghost use Rattle.scc_base.specs.declared.events.Event.{Event};
     ghost use Rattle.chip_run.specs.Conducts.{Conduct};
-    ghost use Rattle.chip_run.specs.Turns.{HoldsNone, Stretched, Turned};
+    ghost use Rattle.chip_run.specs.Turns.{RankHoldsNone, Stretched, Turned};
 
     // What a run knows of it.
     ghost conduct: { Conduct Self };
@@ -39,7 +39,8 @@ pub trait Worker {
         ensures tells { (s : SetupView) (rank : ℕ) → result ≡ (conduct.seen s rank self.now).is_stopped };
 
     // Its rank holds no register between turns.
-    ghost hands: { (x : Self) (s : SetupView) (rank : ℕ) (events : List Event) → conduct.tied x s rank events → HoldsNone s rank events };
+    ghost hands: { (x : Self) (s : SetupView) (rank : ℕ) (events : List Event) → conduct.tied x s rank events
+        → RankHoldsNone s rank events };
 }
 
 /// One turn of a rank at home.

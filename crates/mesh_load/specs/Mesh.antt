@@ -60,8 +60,8 @@ abbrev pub holds : Link → List Link → Bool
 holds link links = list_any (same_link link) links
 
 -- the lines that a message of n bytes moves: its header, and the lines of its bytes. (Flags are not counted.)
-abbrev pub lines_of : ℕ → ℕ
-lines_of bytes = 1 + (bytes + 31) / 32
+abbrev pub lines_moved : ℕ → ℕ
+lines_moved bytes = 1 + (bytes + 31) / 32
 
 -- the core of a rank
 abbrev pub mesh_core_of : List ℕ → ℕ → ℕ
@@ -73,7 +73,7 @@ route_of at one = route (tile_of (mesh_core_of at one.from)) (tile_of (mesh_core
 
 -- the lines that go over a link: the sum over the messages whose route holds it
 abbrev pub carried : List ℕ → List Match → Link → ℕ
-carried at matches link = sum_by (λ one. if holds link (route_of at one) then lines_of one.head.len else 0) matches
+carried at matches link = sum_by (λ one. if holds link (route_of at one) then lines_moved one.head.len else 0) matches
 
 -- the links from a tile, and those of the mesh: by tile number, and then east, west, north and south. (A link over the edge
 -- is on no route.)

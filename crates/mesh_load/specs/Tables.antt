@@ -15,8 +15,8 @@ abbrev pub total : List ℕ → ℕ
 total values = chosen (λ place. true) values
 
 -- the place of a message in the table of pairs: the tile of its sender, and then that of its receiver
-abbrev pub pair_of : List ℕ → Match → ℕ
-pair_of at one = mesh_core_of at one.from / 2 * 24 + mesh_core_of at one.to / 2
+abbrev pub pair_place : List ℕ → Match → ℕ
+pair_place at one = mesh_core_of at one.from / 2 * 24 + mesh_core_of at one.to / 2
 
 -- its place in the table of rows: the tile of its sender, and then the column to which it goes
 abbrev pub row_cell : ℕ → ℕ

@@ -13,7 +13,7 @@ use Rattle.std.proofs.lemmas.List.Folds.{list_any-append}
 use Rattle.std.proofs.lemmas.List.Sums.{fails_before_first}
 use Rattle.std.proofs.lemmas.List.Splits.{length-slice_split, slice_split_at, slice_split_none}
 use Rattle.mesh_load.specs.Mesh.{mesh_core_of}
-use Rattle.mesh_program.specs.Cores.{are_different, by_rank, core_number, core_value, cores_in, is_comma, is_core, listed_cores, parts_behind, between_commas, rank_numbers}
+use Rattle.mesh_program.specs.Cores.{are_different, cores_by_rank, core_number, core_value, cores_in, is_comma, is_core, listed_cores, parts_behind, between_commas, rank_numbers}
 
 -- a word with a comma at a place
 pub cut_at : (word : List ℕ) (i : ℕ) → position is_comma word ≡ Some i → between_commas word ≡ take i word ∷ between_commas (drop (i + 1) word)
@@ -143,14 +143,14 @@ numbers = refl
 
 refuse_count : (nue : ℕ) (word : List ℕ) → (length (between_commas word) == nue) ≡ false → listed_cores nue word ≡ None
 refuse_count nue word fails =
-    ap (λ (b : Bool). cond (b && list_all is_core (between_commas word) && are_different (cores_in word)) (Some (by_rank (cores_in word))) None) fails
+    ap (λ (b : Bool). cond (b && list_all is_core (between_commas word) && are_different (cores_in word)) (Some (cores_by_rank (cores_in word))) None) fails
 
 refuse_twice : (nue : ℕ) (word : List ℕ) → are_different (cores_in word) ≡ false → listed_cores nue word ≡ None
 refuse_twice nue word fails =
-    ap (λ (b : Bool). cond ((length (between_commas word) == nue) && list_all is_core (between_commas word) && b) (Some (by_rank (cores_in word))) None) fails
+    ap (λ (b : Bool). cond ((length (between_commas word) == nue) && list_all is_core (between_commas word) && b) (Some (cores_by_rank (cores_in word))) None) fails
     ∙ by (length (between_commas word) == nue) (list_all is_core (between_commas word))
   where
-    by : (a b : Bool) → cond (a && b && false) (Some (by_rank (cores_in word))) None ≡ None
+    by : (a b : Bool) → cond (a && b && false) (Some (cores_by_rank (cores_in word))) None ≡ None
     by true true = refl
     by true false = refl
     by false b = refl
@@ -167,11 +167,11 @@ finished word nue at most so_far =
     let many : (length (between_commas word) == nue) ≡ true = eq-eqb (length (between_commas word)) nue (ap length parts ∙ so_far.count) in
     let each : list_all is_core (between_commas word) ≡ true = ap (list_all is_core) parts ∙ are.0 in
     let odd : are_different (cores_in word) ≡ true = ap are_different cores ∙ so_far.different in
-    let by : at ≡ by_rank (take nue at) = fill_by_all (mesh_core_of (take nue at)) at 48 0 so_far.room (λ k low. place k) ∙ ap (map (mesh_core_of (take nue at))) (sym numbers) in
-    ap (λ (b : Bool). cond (b && list_all is_core (between_commas word) && are_different (cores_in word)) (Some (by_rank (cores_in word))) None) many
-    ∙ ap (λ (b : Bool). cond (b && are_different (cores_in word)) (Some (by_rank (cores_in word))) None) each
-    ∙ ap (λ (b : Bool). cond b (Some (by_rank (cores_in word))) None) odd
-    ∙ ap (λ (l : List ℕ). Some (by_rank l)) cores ∙ ap Some (sym by)
+    let by : at ≡ cores_by_rank (take nue at) = fill_by_all (mesh_core_of (take nue at)) at 48 0 so_far.room (λ k low. place k) ∙ ap (map (mesh_core_of (take nue at))) (sym numbers) in
+    ap (λ (b : Bool). cond (b && list_all is_core (between_commas word) && are_different (cores_in word)) (Some (cores_by_rank (cores_in word))) None) many
+    ∙ ap (λ (b : Bool). cond (b && are_different (cores_in word)) (Some (cores_by_rank (cores_in word))) None) each
+    ∙ ap (λ (b : Bool). cond b (Some (cores_by_rank (cores_in word))) None) odd
+    ∙ ap (λ (l : List ℕ). Some (cores_by_rank l)) cores ∙ ap Some (sym by)
   where
     place : (k : ℕ) → get_or at k 0 ≡ mesh_core_of (take nue at) k
     place k =

@@ -55,9 +55,9 @@ unfoldable pub rank_numbers : List ℕ
 rank_numbers = range_with_len 0 48
 
 -- the cores by rank. (Core 0 stands for those of ranks that are not there.)
-abbrev pub by_rank : List ℕ → List ℕ
-by_rank cores = map (mesh_core_of cores) rank_numbers
+abbrev pub cores_by_rank : List ℕ → List ℕ
+cores_by_rank cores = map (mesh_core_of cores) rank_numbers
 
 -- the cores by rank of a word that lists as many as there are ranks
 abbrev pub listed_cores : ℕ → List ℕ → Option (List ℕ)
-listed_cores nue word = if lists_cores nue word then Some (by_rank (cores_in word)) else None
+listed_cores nue word = if lists_cores nue word then Some (cores_by_rank (cores_in word)) else None

@@ -200,12 +200,12 @@ unfoldable pub no_calls : List (List DataCall)
 no_calls = replicate 48 []
 
 -- the reading behind the first line, which says the number of ranks
-abbrev pub start_of : ℕ → Reading
-start_of nue = record { log = record { nue = nue; comms = world_alone; lists = no_calls }; comm = 0; rank = None }
+abbrev pub reading_start : ℕ → Reading
+reading_start nue = record { log = record { nue = nue; comms = world_alone; lists = no_calls }; comm = 0; rank = None }
 
 -- what the first line says, or BadHead
 abbrev pub first_said : List ℕ → Result Reading LogFault
-first_said line = ok_or (option_map start_of (nue_of (words_of line))) (record { line = 1; kind = kind.BadHead })
+first_said line = ok_or (option_map reading_start (nue_of (words_of line))) (record { line = 1; kind = kind.BadHead })
 
 -- what these lines say, each with its line feed, and what stands behind the last line feed
 abbrev pub all_said : List (List ℕ) → List ℕ → Result LogView LogFault

@@ -108,11 +108,11 @@ count_left s zero = 0
 count_left s (suc n) = count_left s n + length (s.calls n)
 
 -- what a visit of a rank does: a step of the rank, or the rank falls asleep
-abbrev pub Visits : SetupView → List (List DataCall) → ℕ → Progress → Progress → Bool → Type 0
-Visits s lists a old new true = OwnStep s.nue (setup_key s) a (standing_of lists old) (standing_of lists new)
-Visits s lists a old new false = (standing_of lists new ≡ standing_of lists old) × Sleeps new a × ((b : ℕ) → Sleeps old b → Sleeps new b)
+abbrev pub VisitDoes : SetupView → List (List DataCall) → ℕ → Progress → Progress → Bool → Type 0
+VisitDoes s lists a old new true = OwnStep s.nue (setup_key s) a (standing_of lists old) (standing_of lists new)
+VisitDoes s lists a old new false = (standing_of lists new ≡ standing_of lists old) × Sleeps new a × ((b : ℕ) → Sleeps old b → Sleeps new b)
 
 -- what a sweep over the ranks does: some steps, or all ranks fall asleep
-abbrev pub Sweeps : List (List DataCall) → Progress → Progress → Bool → Type 0
-Sweeps lists old new true = count_left (standing_of lists new) 48 < count_left (standing_of lists old) 48
-Sweeps lists old new false = (standing_of lists new ≡ standing_of lists old) × ((b : ℕ) → b < 48 → Sleeps new b)
+abbrev pub SweepDoes : List (List DataCall) → Progress → Progress → Bool → Type 0
+SweepDoes lists old new true = count_left (standing_of lists new) 48 < count_left (standing_of lists old) 48
+SweepDoes lists old new false = (standing_of lists new ≡ standing_of lists old) × ((b : ℕ) → b < 48 → Sleeps new b)

@@ -22,7 +22,7 @@ use Rattle.rcce_ue.specs.Ues.{UeView}
 use Rattle.chip_run.specs.declared.ends.RunEnd.{RunEnd}
 use Rattle.chip_run.specs.declared.ends.RunEnd.TheVariants as run_end
 use Rattle.chip_run.specs.Conducts.{Conduct, Later, WorkerView}
-use Rattle.chip_run.specs.Crews.{AllRest, RunEndedAs, GoesOn, IsCrew}
+use Rattle.chip_run.specs.Crews.{AllRest, RunEndedAs, CrewGoesOn, IsCrew}
 use Rattle.chip_run.specs.Turns.{HasFinished, IsOver, RestsAt}
 use Rattle.chip_run.specs.Waiting.{SlotWaits, Waits}
 use Rattle.chip_run.proofs.LaterLaws.{later_keeps}
@@ -46,7 +46,7 @@ pub record RunsUes {A : Type 0} (c : Conduct A) (ue : A → UeView) : Type 0 whe
   pub stayed : (x y : A) → c.stays x y → (ue y).machine.script ≡ (ue x).machine.script
 
 -- they run the same script as before
-pub still_run : {A : Type 0} (c : Conduct A) (ue : A → UeView) → RunsUes c ue → (script : Script) (chip now : ChipView) (crew later : List A) → GoesOn c chip crew now later → AllRun ue script crew → AllRun ue script later
+pub still_run : {A : Type 0} (c : Conduct A) (ue : A → UeView) → RunsUes c ue → (script : Script) (chip now : ChipView) (crew later : List A) → CrewGoesOn c chip crew now later → AllRun ue script crew → AllRun ue script later
 still_run {A} c ue runs script chip now crew later goes all k d low =
     let within : k < length crew = subst (λ (n : ℕ). k < n) goes.count low in
     later_keeps c (λ (x : A). (ue x).machine.script) runs.moved runs.stayed (slice_index_or crew k d) (slice_index_or later k d) (goes.each k d within) ∙ all k d within

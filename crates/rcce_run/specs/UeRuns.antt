@@ -55,8 +55,8 @@ pub record IsFreshCrew (script : Script) (chip : ChipView) (crew : List (Member 
   pub members : AreFresh script (about_in chip) (about_in chip).nue crew
 
 -- the UE of a member
-abbrev pub ue_of : Member UeView → UeView
-ue_of m = m.worker
+abbrev pub member_ue : Member UeView → UeView
+member_ue m = m.worker
 
 -- how members with UEs conduct themselves in a run
 abbrev pub ue_members : Conduct (Member UeView)

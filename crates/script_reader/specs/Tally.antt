@@ -167,5 +167,5 @@ pub record IsUpTo (version : Version) (line : ℕ) (p : Progress) : Type 0 where
   pub counted : length p.items ≤ line
 
 -- the numbers of two registers, of which the first is named first
-abbrev pub pair_of : Progress → List ℕ → List ℕ → Pair
-pair_of p dst src = record { dst = register_of p.names dst; src = register_of (named p dst).names src }
+abbrev pub register_pair : Progress → List ℕ → List ℕ → Pair
+register_pair p dst src = record { dst = register_of p.names dst; src = register_of (named p dst).names src }

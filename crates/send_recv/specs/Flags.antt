@@ -31,7 +31,7 @@ Looks s c core flag found t d = ReadsFlag s c (flag_word core flag) (bit_of s.se
 
 -- a line flag was written: what the buffer held was stored first. Seven parameters: at which core and which flag, the value,
 -- and the rank's sight and core before and after.
-pub record WritesFlag (s : Sight) (c : Private) (core : ℕ) (flag : FlagPlace) (set : Bool) (t : Sight) (d : Private) : Type 0 where
+pub record WritesLineFlag (s : Sight) (c : Private) (core : ℕ) (flag : FlagPlace) (set : Bool) (t : Sight) (d : Private) : Type 0 where
   pub did : Did s (stores_of c.out ++ (store_of (flag_word core flag) (if set then 1 else 0)) ∷ []) t
   pub is : d ≡ record c { lines = noted c.lines (flag_word core flag) (if set then 1 else 0); out = None }
 
@@ -50,7 +50,7 @@ pub data TriesBit (s : Sight) (c : Private) (core : ℕ) (flag : FlagPlace) (set
 -- one turn changes a flag: with line flags it is written, with bit flags its bit is tried. Nine parameters: those of
 -- `TriesBit`, and the layout.
 abbrev pub ChangesBy : Layout → Sight → Private → ℕ → FlagPlace → Bool → Bool → Sight → Private → Type 0
-ChangesBy LineFlags s c core flag set done t d = (done ≡ true) × WritesFlag s c core flag set t d
+ChangesBy LineFlags s c core flag set done t d = (done ≡ true) × WritesLineFlag s c core flag set t d
 ChangesBy BitFlags s c core flag set done t d = TriesBit s c core flag set done t d
 
 -- one turn changes a flag, in the layout of the port's setup. Eight parameters, those of `TriesBit`.

@@ -26,7 +26,7 @@ use Rattle.put_get.specs.Accesses.{whole_line}
 use Rattle.put_get.specs.Cores.{Private, WritesLine, Flushes}
 use Rattle.send_recv.specs.declared.stages.SendStage.{SendStage}
 use Rattle.send_recv.specs.declared.stages.SendStage.TheVariants.{Header, Lines, Flush, Raise, Look, Lower, Finished}
-use Rattle.send_recv.specs.Bytes.{word_at, words_at}
+use Rattle.send_recv.specs.Bytes.{word_of_bytes, words_at}
 use Rattle.send_recv.specs.Chunks.{chunk_count, chunk_start, chunk_lines_of, lines_from}
 use Rattle.send_recv.specs.Ops.{SendAt, SlotAt, is_sent, slot_left}
 use Rattle.send_recv.specs.Ranks.{Sender, SlotHolder, with_slot}
@@ -137,7 +137,8 @@ HasHeader header op = (k : ℕ) → k < 4 → noted header k ≡ Some (header_wo
 
 -- the words of the first lines of the chunk in hand are drafted
 abbrev pub HasLines : ℕ → Notes → SendAt → List ℕ → ℕ → Type 0
-HasLines size chunk op bytes lines = (k : ℕ) → k < 4 * lines → noted chunk k ≡ Some (word_at bytes (chunk_start size op.chunk + 8 * k))
+HasLines size chunk op bytes lines =
+    (k : ℕ) → k < 4 * lines → noted chunk k ≡ Some (word_of_bytes bytes (chunk_start size op.chunk + 8 * k))
 
 -- the header, where it is the first chunk, and these lines of the chunk in hand are drafted
 pub data HasDrafted (size : ℕ) (stage : Stage) (op : SendAt) (bytes : List ℕ) (lines : ℕ) : Type 0 where

@@ -24,8 +24,8 @@ abbrev pub chunk_at : Sight → ℕ
 chunk_at s = chunk_of s.seat.setup
 
 -- the own rank may have messages with this rank
-abbrev pub IsPeer : Sight → ℕ → Type 0
-IsPeer s j = are_peers s.seat.setup s.seat.rank j ≡ true
+abbrev pub IsSeatPeer : Sight → ℕ → Type 0
+IsSeatPeer s j = are_peers s.seat.setup s.seat.rank j ≡ true
 
 -- the first byte of a message that stands in this line of a chunk
 abbrev pub first_byte : Sight → (chunk line : ℕ) → ℕ
@@ -87,5 +87,5 @@ abbrev pub own_register : Sight → Spot
 own_register s = Register (own_core s.seat)
 
 -- a turn that changes a bit flag of another rank's core waits at that core's register
-abbrev pub register_of : Sight → ℕ → Spot
-register_of s j = Register (core_of s.seat j)
+abbrev pub register_spot : Sight → ℕ → Spot
+register_spot s j = Register (core_of s.seat j)

@@ -13,7 +13,7 @@ ghost use Rattle.put_get.specs.Cores.{Private};
 ghost use Rattle.sync_flags.specs.Tries.{Aim};
 ghost use Rattle.sync_flags.specs.Turns.{at_port};
 ghost use Rattle.send_recv.specs.declared.answers.RecvTurn.TheVariants as recv_turn;
-ghost use Rattle.send_recv.specs.Chunks.{chunk_count, lines_of};
+ghost use Rattle.send_recv.specs.Chunks.{chunk_count, lines_of_bytes};
 ghost use Rattle.send_recv.specs.Ops.{SlotAt, RecvAt, SendAt, new_receive, new_send, empty_slot, slot_left};
 ghost use Rattle.send_recv.specs.Receiving.{RecvStands, RecvTurned, recv_left};
 ghost use Rattle.send_recv.specs.Turns.{HoldsNone};
@@ -25,9 +25,9 @@ ghost use Rattle.send_recv.specs.Ranks.{receiving, sending, with_slot, with_byte
 /// and l lines of chunks; a slot has at most two.
 pub fn turns_law()
     ensures receive { (size from : ℕ) (head : MessageHead)
-        → recv_left size (new_receive from head) ≤ 4 + 5 * chunk_count size head.len + lines_of head.len }
+        → recv_left size (new_receive from head) ≤ 4 + 5 * chunk_count size head.len + lines_of_bytes head.len }
     ensures send { (layout : Layout) (size to : ℕ) (head : MessageHead) (posted : Bool) (slot : SlotAt)
-        → send_left layout size (new_send to head posted) slot ≤ 4 + 5 * chunk_count size head.len + lines_of head.len }
+        → send_left layout size (new_send to head posted) slot ≤ 4 + 5 * chunk_count size head.len + lines_of_bytes head.len }
     ensures slot { (slot : SlotAt) → slot_left slot ≤ 2 }
 {}
 

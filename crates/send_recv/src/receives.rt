@@ -42,7 +42,7 @@ impl RecvOp {
     ghost use Rattle.send_recv.specs.Ops.{new_receive};
     ghost use Rattle.send_recv.specs.Receiving.{RecvStands, RecvTurned, recv_waits};
     ghost use Rattle.scc_base.specs.declared.signals.Signal.TheVariants.{Sent, Ready};
-    ghost use Rattle.send_recv.specs.Sights.{chunk_at, IsPeer, first_byte, header_line, chunk_line, LooksFor, Lowers, Raises, MayLower, MayRaise, signal_spot, own_register, register_of};
+    ghost use Rattle.send_recv.specs.Sights.{chunk_at, IsSeatPeer, first_byte, header_line, chunk_line, LooksFor, Lowers, Raises, MayLower, MayRaise, signal_spot, own_register, register_spot};
     ghost use Rattle.send_recv.specs.Steps.{cleared, goes_on, recv_or_waits, after_look, after_lower, after_line, after_raise, raise_answer, HeadRead, before_line};
     ghost use Rattle.send_recv.specs.Ranks.{receiving};
     ghost use Rattle.send_recv.specs.Stretches.{ReadLines, is_reading};
@@ -90,7 +90,7 @@ impl RecvOp {
 
     // Reads the header line of the sender.
     fn read_head<V: Evict, P: Port>(&mut self, core: &mut Core<V>, port: &mut P) -> RecvTurn
-        requires peers { IsPeer (P.sight port.old) self.old.from }
+        requires peers { IsSeatPeer (P.sight port.old) self.old.from }
         requires empty { core.old.out ≡ None }
         requires seen { (header : Notes) × ((record_in (P.sight port.old)).notes self.old.from ≡ Some header) }
         ensures reads { (words : List ℕ)
@@ -141,7 +141,7 @@ impl RecvOp {
         bytes: &mut [u8],
         line: u8,
     ) -> RecvTurn
-        requires peers { IsPeer (P.sight port.old) self.old.from }
+        requires peers { IsSeatPeer (P.sight port.old) self.old.from }
         requires empty { core.old.out ≡ None }
         requires in_chunk { line < chunk_lines_of (chunk_at (P.sight port.old)) self.old.head.len self.old.chunk }
         ensures reads { (words : List ℕ) × ReadsLine (P.sight port.old) (before_line line core.old)
@@ -173,13 +173,13 @@ impl RecvOp {
 
     // Raises the `ready` flag at the sender.
     fn raise_ready<V: Evict, P: Port>(&mut self, core: &mut Core<V>, port: &mut P) -> RecvTurn
-        requires peers { IsPeer (P.sight port.old) self.old.from }
+        requires peers { IsSeatPeer (P.sight port.old) self.old.from }
         requires may { MayRaise Ready (P.sight port.old) core.old self.old.from }
         requires some_left { self.old.chunk < 255 }
         ensures changes { Raises Ready (P.sight port.old) core.old self.old.from (goes_on result) (P.sight port.new) core.new }
         ensures next { self.new ≡ after_raise (chunk_at (P.sight port.old)) (goes_on result) self.old }
         ensures answers { result
-            ≡ raise_answer (chunk_at (P.sight port.old)) (goes_on result) (register_of (P.sight port.old) self.old.from) self.old }
+            ≡ raise_answer (chunk_at (P.sight port.old)) (goes_on result) (register_spot (P.sight port.old) self.old.from) self.old }
         ensures steps { goes_on result ≡ false → MadeSteps P.stepped (P.sight port.old) (P.sight port.new) }
     {
         let layout = layout_of(port);

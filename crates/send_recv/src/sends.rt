@@ -59,7 +59,7 @@ impl SendOp {
     ghost use Rattle.send_recv.specs.Ops.{new_send};
     ghost use Rattle.send_recv.specs.Sending.{SendStands, SendTurned, header_words};
     ghost use Rattle.scc_base.specs.declared.signals.Signal.TheVariants.{Sent, Ready};
-    ghost use Rattle.send_recv.specs.Sights.{chunk_at, IsPeer, own_header_line, own_chunk_line, words_of_line, LooksFor, Raises, Lowers, MayRaise, MayLower, signal_spot, own_register, register_of};
+    ghost use Rattle.send_recv.specs.Sights.{chunk_at, IsSeatPeer, own_header_line, own_chunk_line, words_of_line, LooksFor, Raises, Lowers, MayRaise, MayLower, signal_spot, own_register, register_spot};
     ghost use Rattle.send_recv.specs.Steps.{moves_on, moved_or_waits, after_header, after_written, after_flush, after_sent, sent_answer, slot_sent, after_seen, after_through, through_answer};
     ghost use Rattle.send_recv.specs.Turns.{waits_at};
     ghost use Rattle.send_recv.specs.Ranks.{sending};
@@ -158,12 +158,12 @@ impl SendOp {
         port: &mut P,
         slot: &mut Slot,
     ) -> Turn
-        requires peers { IsPeer (P.sight port.old) self.old.to }
+        requires peers { IsSeatPeer (P.sight port.old) self.old.to }
         requires may { MayRaise Sent (P.sight port.old) core.old self.old.to }
         ensures changes { Raises Sent (P.sight port.old) core.old self.old.to (moves_on result) (P.sight port.new) core.new }
         ensures next { self.new ≡ after_sent (moves_on result) self.old }
         ensures fills { slot.new ≡ slot_sent (moves_on result) self.old slot.old }
-        ensures answers { result ≡ sent_answer (moves_on result) (register_of (P.sight port.old) self.old.to) self.old }
+        ensures answers { result ≡ sent_answer (moves_on result) (register_spot (P.sight port.old) self.old.to) self.old }
         ensures steps { moves_on result ≡ false → MadeSteps P.stepped (P.sight port.old) (P.sight port.new) }
     {
         if let Some(spot) = raise(core, port, Signal::Sent, self.to) {

@@ -8,7 +8,7 @@ use Rattle.scc_base.specs.declared.events.Event.{Event}
 use Rattle.scc_base.specs.declared.events.Spot.{Spot}
 use Rattle.scc_base.specs.declared.events.Spot.TheVariants.{Flag, Register}
 use Rattle.put_get.specs.Transfers.{is_load}
-use Rattle.sync_flags.specs.Flags.{is_set_in, flag_spot}
+use Rattle.sync_flags.specs.Flags.{is_set_in, spot_of_flag}
 
 -- what a call tries for: that a flag is found as wanted, that a word has this value (a flag of a barrier, which is
 -- flipped), or that a core's register is taken
@@ -19,7 +19,7 @@ pub data Aim : Type 0 where
 
 -- where a call waits that has tried in vain
 abbrev pub spot_of : Aim → Spot
-spot_of (AtFlag place bit want) = flag_spot place bit
+spot_of (AtFlag place bit want) = spot_of_flag place bit
 spot_of (AtWord place value) = Flag place 0
 spot_of (AtRegister core) = Register core
 

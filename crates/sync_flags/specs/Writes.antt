@@ -35,8 +35,8 @@ pub record WasLoaded (seat : Seat) (rec : Record) (events : List Event) : Type 0
 
 -- the record permits the store of a word with that bit as asked, whatever the loads of its line answered that
 -- were made after these events
-abbrev pub MayChange : Seat → Record → List Event → WordAt → ℕ → Bool → Type 0
-MayChange seat rec before place b set = (words : List ℕ) → WasLoaded seat rec (before ++ loads_of (line_of_word place) words)
+abbrev pub MayStoreBit : Seat → Record → List Event → WordAt → ℕ → Bool → Type 0
+MayStoreBit seat rec before place b set = (words : List ℕ) → WasLoaded seat rec (before ++ loads_of (line_of_word place) words)
     → MayMake seat (record_on seat rec (before ++ loads_of (line_of_word place) words))
     (store_of place (with_bit b set (slice_index words place.word)))
 
@@ -44,7 +44,7 @@ MayChange seat rec before place b set = (words : List ℕ) → WasLoaded seat re
 -- of a register that the rank does not hold yet
 abbrev pub MayWrite : Seat → Record → WordAt → Option ℕ → Bool → Type 0
 MayWrite seat rec place None set = MayMake seat rec (store_of place (flag_value set))
-MayWrite seat rec place (Some b) set = IsNotHolding rec place.core × MayChange seat rec (take_of place.core true ∷ []) place b set
+MayWrite seat rec place (Some b) set = IsNotHolding rec place.core × MayStoreBit seat rec (take_of place.core true ∷ []) place b set
 
 -- a word was written and sent out: one store, and the cached line has the new word
 pub record StoresWord (s : Sight) (c : Private) (place : WordAt) (value : ℕ) (t : Sight) (d : Private) : Type 0 where
