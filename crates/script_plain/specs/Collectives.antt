@@ -185,10 +185,9 @@ abbrev pub AllGive : Script → Configuration State → (Op → Ty → ℕ → �
 AllGive script c call kind comm place root begun bytes =
     (rank : ℕ) → IsOther (setup_of script) comm place root rank → Gives script c call kind comm root begun rank (bytes rank)
 
--- the fold of the root's bytes with those of the others, in rank order. Eight parameters: the group (the setup, the
--- communicator, the root's place and rank), the operation on its type, and the bytes of the root and of each rank.
-abbrev pub fold_at : SetupView → ℕ → ℕ → ℕ → Op → Ty → List ℕ → (ℕ → List ℕ) → List ℕ
-fold_at s comm place root op ty own bytes = fold_of op ty own (map bytes (others_of s comm root place))
+-- the fold of a rank's own bytes with those of others, in the order in which they are named
+abbrev pub fold_with : Op → Ty → List ℕ → (ℕ → List ℕ) → List ℕ → List ℕ
+fold_with op ty own bytes others = fold_of op ty own (map bytes others)
 
 -- the n-th reduction of a communicator and root: the root that has done it holds the fold that starts with its own bytes
 -- and goes on with those of the others, by its own operation and type, and its other registers are as they were
@@ -199,7 +198,7 @@ AreReduced script c =
     → HasDone script root (stmt.Reduce comm place op ty dst src) u begun after
     → AllGive script c (stmt.Reduce comm place) kind.Reduce comm place root begun bytes
     → after.local.registers ≡ slice_set begun.local.registers dst
-    (fold_at (setup_of script) comm place root op ty (register_at begun.local src) bytes)
+    (fold_with op ty (register_at begun.local src) bytes (others_of (setup_of script) comm root place))
 
 -- where the root has done its n-th reduction of a communicator, each of the others came to its n-th, and the root holds the
 -- fold of what they gave then
@@ -210,7 +209,8 @@ OthersGave script c =
     → HasDone script root (stmt.Reduce comm place op ty dst src) u begun after
     → (bytes : ℕ → List ℕ) × AllGive script c (stmt.Reduce comm place) kind.Reduce comm place root begun bytes
     × (after.local.registers
-    ≡ slice_set begun.local.registers dst (fold_at (setup_of script) comm place root op ty (register_at begun.local src) bytes))
+    ≡ slice_set begun.local.registers dst
+    (fold_with op ty (register_at begun.local src) bytes (others_of (setup_of script) comm root place)))
 
 -- the n-th reduction to all of a communicator: member 0 that has done it holds the fold of all members' bytes in rank
 -- order, by its own operation and type
@@ -221,7 +221,7 @@ AreReducedToAll script c =
     → HasDone script root (stmt.Allreduce comm op ty dst src) u begun after
     → AllGive script c (stmt.Allreduce comm) kind.AllUp comm 0 root begun bytes
     → after.local.registers ≡ slice_set begun.local.registers dst
-    (fold_at (setup_of script) comm 0 root op ty (register_at begun.local src) bytes)
+    (fold_with op ty (register_at begun.local src) bytes (others_of (setup_of script) comm root 0))
 
 -- where member 0 has done its n-th reduction to all of a communicator, each of the others came to its n-th
 abbrev pub OthersGaveToAll : Script → Configuration State → Type 0
@@ -231,7 +231,8 @@ OthersGaveToAll script c =
     → HasDone script root (stmt.Allreduce comm op ty dst src) u begun after
     → (bytes : ℕ → List ℕ) × AllGive script c (stmt.Allreduce comm) kind.AllUp comm 0 root begun bytes
     × (after.local.registers
-    ≡ slice_set begun.local.registers dst (fold_at (setup_of script) comm 0 root op ty (register_at begun.local src) bytes))
+    ≡ slice_set begun.local.registers dst
+    (fold_with op ty (register_at begun.local src) bytes (others_of (setup_of script) comm root 0)))
 
 -- each of the others that has done the n-th reduction to all holds that fold too, whatever operation and type it names
 abbrev pub AreToldAll : Script → Configuration State → Type 0
@@ -244,7 +245,7 @@ AreToldAll script c =
     → HasDone script rank (stmt.Allreduce comm other width to from) v before after
     → sends_of kind.AllDown comm rank begun ≡ receipts_of kind.AllDown comm root before
     → after.local.registers ≡ slice_set before.local.registers to
-    (fold_at (setup_of script) comm 0 root op ty (register_at begun.local src) bytes)
+    (fold_with op ty (register_at begun.local src) bytes (others_of (setup_of script) comm root 0))
 
 -- member 0 came to the reduction to all that a rank came to when it held `before`, and so did each of the others; what the
 -- rank gave itself is `own`, and `told` is the fold of what all gave. Eight parameters: the script and where its run stands,
@@ -262,7 +263,7 @@ pub record Tells (script : Script) (c : Configuration State) (comm root rank : �
   pub same : sends_of kind.AllDown comm rank begun ≡ receipts_of kind.AllDown comm root before
   pub given : AllGive script c (stmt.Allreduce comm) kind.AllUp comm 0 root begun bytes
   pub mine : bytes rank ≡ own
-  pub result : fold_at (setup_of script) comm 0 root op ty (register_at begun.local src) bytes ≡ told
+  pub result : fold_with op ty (register_at begun.local src) bytes (others_of (setup_of script) comm root 0) ≡ told
 
 -- where one of the others has done the n-th reduction to all of a communicator, member 0 came to its n-th, and so did each
 -- of the others
